@@ -1,5 +1,4 @@
--- What is counted: changes outside of roots, the words of the graph, and the classes that are told.
-pub mod Counting
+-- What is counted: the words of the graph, and the classes that are told.
 pub mod Merged
 pub mod Concluded
 pub mod Merges

@@ -1,8 +1,6 @@
-pub mod Alike
-pub mod Local
 pub mod OutOfMemory
 pub mod Lists
 pub mod Keyed
 pub mod Layers
 pub mod Counts
-pub mod Parted
+pub mod Opened

@@ -1,7 +1,4 @@
 -- Whoever found no memory tells of it; a run in which nobody does had memory for all.
-pub mod OutOfMemoryCalls
-pub mod OutOfMemoryWorlds
 pub mod Lucky
 pub mod LikeEnds
-pub mod JustOne
 pub mod Followed

@@ -5,16 +5,16 @@ use Rattle.tree_model.specs.declared.tree.TheConstants.{NUMBERS_MAX}
 use Rattle.tree_model.specs.StepLaws.{open_count}
 use Rattle.race_core.specs.Book.{tree_now, free_lines}
 use Rattle.race_core.specs.Worlds.{WorldView, turn}
-use Rattle.explore.specs.declared.keys.Effect.{Effect}
-use Rattle.explore.specs.declared.memo.MemoKey.{MemoKey}
-use Rattle.explore.specs.declared.memo.Entry.{Entry}
-use Rattle.explore.specs.declared.world_counts.Counts.{Counts}
-use Rattle.explore.specs.declared.world_counts.Start.{Start}
-use Rattle.explore.specs.Alike.{full}
-use Rattle.explore.specs.Counting.{bumped}
-use Rattle.explore.specs.Keys.{ComponentsView, IsPartAt, AreRows}
-use Rattle.explore.specs.Local.{AreNumbered, AreAllGiven}
-use Rattle.explore.specs.Outside.{roots_of, outside_of}
+use Rattle.local_states.specs.declared.keys.Effect.{Effect}
+use Rattle.explore.specs.declared.turns.memo.MemoKey.{MemoKey}
+use Rattle.explore.specs.declared.turns.memo.Entry.{Entry}
+use Rattle.explore.specs.declared.turns.world_counts.Counts.{Counts}
+use Rattle.explore.specs.declared.turns.world_counts.Start.{Start}
+use Rattle.local_states.specs.Alike.{full}
+use Rattle.local_states.specs.Counting.{bumped}
+use Rattle.local_states.specs.Keys.{ComponentsView, IsPartAt, AreRows}
+use Rattle.local_states.specs.Local.{AreNumbered, AreAllGiven}
+use Rattle.local_states.specs.Outside.{roots_of, outside_of}
 
 -- ---- a turn
 

@@ -2,21 +2,22 @@
 use Rattle.std.specs.Prelude.{◌≡◌, ◌<◌, ◌≤◌, ◌⊎◌, ◌^◌, ◌+◌, ◌++◌, ◌∷◌, [], ℕ, List, Bool, true, false, length, Option, Some, slice_get}
 use Rattle.smallvec.specs.SmallVec.{SmallVec}
 use Rattle.race_core.specs.Worlds.{WorldView, turn, is_busy_at}
-use Rattle.explore.specs.declared.keys.Key.{Key}
-use Rattle.explore.specs.declared.layer.Layer.{Layer}
-use Rattle.explore.specs.declared.layer.Visited.{Visited}
-use Rattle.explore.specs.declared.layer.Configuration.{Configuration}
+use Rattle.local_states.specs.declared.keys.Key.{Key}
+use Rattle.explore.specs.declared.frontier.layer.Layer.{Layer}
+use Rattle.explore.specs.declared.frontier.layer.Visited.{Visited}
+use Rattle.explore.specs.declared.frontier.layer.Configuration.{Configuration}
 use Rattle.explore.specs.declared.limits.Bounds.{Bounds}
-use Rattle.explore.specs.declared.transitions.Transition.{Transition}
-use Rattle.explore.specs.Alike.{full, after_turns}
+use Rattle.explore.specs.declared.frontier.transitions.Transition.{Transition}
+use Rattle.local_states.specs.Alike.{full, after_turns}
 use Rattle.explore.specs.Effects.{KnownView, IsSound}
 use Rattle.explore.specs.Explored.{ClassView}
 use Rattle.explore.specs.Kept.{visited_of, layer_of, AreKeys, HaveKeys, ConfigurationsHaveKeys, AreAfter}
-use Rattle.explore.specs.Keys.{ComponentsView, Grows, IsKey, AreFew}
-use Rattle.explore.specs.Layers.{VisitedView, Keeps, AreApartClasses, AreFoundIn, AreOn, IsReportOf, IsEndClass}
+use Rattle.local_states.specs.Keys.{ComponentsView, Grows, IsKey, AreFew}
+use Rattle.explore.specs.Layers.{VisitedView, AreApartClasses, AreFoundIn, AreOn, IsReportOf, IsEndClass}
+use Rattle.local_states.specs.Distinct.{Keeps}
 use Rattle.explore.specs.Transitions.{AreTransitions}
 use Rattle.explore.specs.Search.{IsOver}
-use Rattle.explore.specs.OutOfMemory.{EndsWell}
+use Rattle.local_states.specs.OutOfMemory.{EndsWell}
 
 -- whether nobody has anything left to do; else somebody has
 abbrev pub IsEnd : Bool → WorldView → Type 0

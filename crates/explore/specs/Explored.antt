@@ -13,12 +13,12 @@ use Rattle.explore.specs.declared.limits.Scope.{Scope}
 use Rattle.explore.specs.declared.limits.Limits.{Limits}
 use Rattle.schedule_graph.specs.declared.fault.SearchFault.{SearchFault}
 use Rattle.schedule_graph.specs.declared.fault.SearchFault.TheVariants as fault
-use Rattle.explore.specs.Renamed.{replies_by}
-use Rattle.explore.specs.Alike.{full, after_turns}
+use Rattle.race_core.specs.Renamed.{replies_by}
+use Rattle.local_states.specs.Alike.{full, after_turns}
 use Rattle.explore.specs.Search.{IsFull}
 use Rattle.explore.specs.Lists.{cuts, rank}
-use Rattle.explore.specs.Local.{SameParts}
-use Rattle.explore.specs.Outside.{outside_of}
+use Rattle.local_states.specs.Local.{SameParts}
+use Rattle.local_states.specs.Outside.{outside_of}
 
 -- ---- which lists are asked for, and what they tell
 

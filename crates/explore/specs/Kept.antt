@@ -2,13 +2,13 @@
 use Rattle.std.specs.Prelude.{◌≡◌, ◌≤◌, ℕ, List, [], ◌∷◌, Bool, true, length, map, Some, slice_get}
 use Rattle.race_core.specs.declared.opening.TheConstants.{ACTORS_MAX}
 use Rattle.race_core.specs.Worlds.{WorldView}
-use Rattle.explore.specs.declared.keys.Key.{Key}
-use Rattle.explore.specs.declared.layer.Layer.{Layer}
-use Rattle.explore.specs.declared.layer.Visited.{Visited}
-use Rattle.explore.specs.declared.layer.Configuration.{Configuration}
-use Rattle.explore.specs.Alike.{after_turns}
+use Rattle.local_states.specs.declared.keys.Key.{Key}
+use Rattle.explore.specs.declared.frontier.layer.Layer.{Layer}
+use Rattle.explore.specs.declared.frontier.layer.Visited.{Visited}
+use Rattle.explore.specs.declared.frontier.layer.Configuration.{Configuration}
+use Rattle.local_states.specs.Alike.{after_turns}
 use Rattle.explore.specs.Effects.{KnownView, IsSound}
-use Rattle.explore.specs.Keys.{ComponentsView, IsKey, AreFew}
+use Rattle.local_states.specs.Keys.{ComponentsView, IsKey, AreFew}
 use Rattle.explore.specs.Layers.{VisitedView, LayerView}
 use Rattle.explore.specs.Points.{start, along, no_cost}
 

@@ -11,21 +11,18 @@ use Rattle.schedule_graph.specs.declared.graph.Node.TheVariants.{Ends, Goes}
 use Rattle.schedule_graph.specs.Words.{edge_of, AreApart}
 use Rattle.explore.specs.declared.limits.Bounds.{Bounds}
 use Rattle.explore.specs.declared.limits.Scope.{Scope}
-use Rattle.explore.specs.declared.layer.Configuration.{Configuration}
-use Rattle.explore.specs.declared.cost.Cost.{Cost}
+use Rattle.explore.specs.declared.frontier.layer.Configuration.{Configuration}
+use Rattle.explore.specs.declared.turns.cost.Cost.{Cost}
 use Rattle.explore.specs.Explored.{AreBusy, EndingView, ClassView, bounds_at}
 use Rattle.explore.specs.Lists.{is_another, is_cut}
 use Rattle.explore.specs.Merged.{bounded_cuts}
-use Rattle.explore.specs.Outside.{outside_of}
+use Rattle.local_states.specs.Distinct.{Keeps}
+use Rattle.local_states.specs.Outside.{outside_of}
 use Rattle.explore.specs.Points.{Point, no_cost, cost_after, start, along, AreWithin, MayGo}
 use Rattle.explore.specs.Points as points
 use Rattle.explore.specs.Search.{IsOver, IsLike}
 use Rattle.explore.specs.Tally.{SameOutcome}
-use Rattle.explore.specs.OutOfMemory.{EndsWell}
-
--- what was there stays in its place
-abbrev pub Keeps : {A : Type 0} → List A → List A → Type 0
-Keeps {A} old new = (k : ℕ) (x : A) → slice_get old k ≡ Some x → slice_get new k ≡ Some x
+use Rattle.local_states.specs.OutOfMemory.{EndsWell}
 
 -- ---- worlds
 

@@ -1,17 +1,7 @@
-pub mod Alike
-pub mod Renamed
-pub mod OutOfMemory
 pub mod Search
-pub mod JustOne
 pub mod Lists
-pub mod Outside
-pub mod Local
-pub mod Counting
 pub mod Explored
 pub mod Points
-pub mod Paired
-pub mod Same
-pub mod Keys
 pub mod Effects
 pub mod Kept
 pub mod Expanded
@@ -23,9 +13,6 @@ pub mod Concluded
 pub mod Layers
 pub mod Transitions
 pub mod Spreading
-pub mod Fingerprint
 pub mod Chained
 pub mod Marked
-pub mod Distinct
-pub mod HandleTables
 pub mod States

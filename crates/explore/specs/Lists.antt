@@ -4,7 +4,7 @@ use Rattle.std.specs.Prelude.{ℕ, ◌==◌, ◌&&◌, List, [], ◌∷◌, Bool
 use Rattle.race_core.specs.declared.seat.Seat.{Seat}
 use Rattle.race_core.specs.Worlds.{WorldView, turn, is_within_at}
 pub use Rattle.schedule_graph.specs.Words.{plus, is_less_or, is_not_after, Rank, is_at_most}
-use Rattle.explore.specs.Alike.{full}
+use Rattle.local_states.specs.Alike.{full}
 
 abbrev pub is_another : Option ℕ → ℕ → Bool
 is_another None j = false

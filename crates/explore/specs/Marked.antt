@@ -1,8 +1,8 @@
 -- The worlds of a layer, looked up by the numbers of their keys: which have one key, and which count as states.
 use Rattle.std.specs.Prelude.{◌≡◌, ◌<◌, ℕ, List, Bool, true, false, map, Some, slice_get}
-use Rattle.explore.specs.declared.keys.Key.{Key}
-use Rattle.explore.specs.declared.layer.Visited.{Visited}
-use Rattle.explore.specs.Keys.{AreSameKeys, AreSameKeysButOutside, print_of}
+use Rattle.local_states.specs.declared.keys.Key.{Key}
+use Rattle.explore.specs.declared.frontier.layer.Visited.{Visited}
+use Rattle.local_states.specs.Keys.{AreSameKeys, AreSameKeysButOutside, print_of}
 
 -- ---- worlds at places
 

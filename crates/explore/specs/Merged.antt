@@ -11,7 +11,7 @@ use Rattle.schedule_graph.specs.Words.{node_at, edge_of, IsWordOf}
 use Rattle.schedule_graph.specs.Words as words
 use Rattle.explore.specs.declared.limits.Bounds.{Bounds}
 use Rattle.explore.specs.declared.limits.Scope.{Scope}
-use Rattle.explore.specs.Alike.{full, after_turns}
+use Rattle.local_states.specs.Alike.{full, after_turns}
 use Rattle.explore.specs.Search.{IsOver, IsLike}
 use Rattle.explore.specs.Lists.{is_another, is_cut, plus, cuts, changes}
 use Rattle.explore.specs.Explored.{IsWithin, IsAsked, IsOnly, bounds_at, AreBusy, TellAlike, AgreeIn, ClassView}

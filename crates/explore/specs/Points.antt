@@ -4,8 +4,8 @@ use Rattle.race_core.specs.declared.seat.Seat.{Seat}
 use Rattle.race_core.specs.Turns.{Luck}
 use Rattle.race_core.specs.Worlds.{WorldView, turn, is_busy_at}
 use Rattle.explore.specs.declared.limits.Bounds.{Bounds}
-use Rattle.explore.specs.declared.cost.Cost.{Cost}
-use Rattle.explore.specs.Alike.{full}
+use Rattle.explore.specs.declared.turns.cost.Cost.{Cost}
+use Rattle.local_states.specs.Alike.{full}
 use Rattle.explore.specs.Lists.{is_another, is_cut, plus}
 use Rattle.explore.specs.Explored.{IsWithin, IsOnly}
 

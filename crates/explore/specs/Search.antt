@@ -6,10 +6,10 @@ use Rattle.handles.specs.Objects.{StandingObject}
 use Rattle.race_core.specs.declared.report.Outcome.{Outcome}
 use Rattle.race_core.specs.Book.{tree_now}
 use Rattle.race_core.specs.Worlds.{WorldView, turn, is_busy_at, ledgers_in, replies_in, RunsTo}
-use Rattle.explore.specs.Alike.{full, after_turns}
-use Rattle.explore.specs.Local.{TellAlike}
-use Rattle.explore.specs.Same.{IsSame}
-use Rattle.explore.specs.OutOfMemory.{replies_out_of_memory}
+use Rattle.local_states.specs.Alike.{full, after_turns}
+use Rattle.local_states.specs.Local.{TellAlike}
+use Rattle.local_states.specs.Same.{IsSame}
+use Rattle.local_states.specs.OutOfMemory.{replies_out_of_memory}
 
 -- nobody has anything left to do
 abbrev pub IsOver : WorldView → Type 0

@@ -4,9 +4,9 @@ use Rattle.smallvec.specs.SmallVec.{SmallVec}
 use Rattle.schedule_graph.specs.declared.graph.Node.{Node}
 use Rattle.schedule_graph.specs.declared.graph.Edge.{Edge}
 use Rattle.explore.specs.declared.limits.Bounds.{Bounds}
-use Rattle.explore.specs.declared.layer.Configuration.{Configuration}
-use Rattle.explore.specs.declared.cost.Cost.{Cost}
-use Rattle.explore.specs.declared.transitions.Choice.{Choice}
+use Rattle.explore.specs.declared.frontier.layer.Configuration.{Configuration}
+use Rattle.explore.specs.declared.turns.cost.Cost.{Cost}
+use Rattle.explore.specs.declared.frontier.transitions.Choice.{Choice}
 use Rattle.explore.specs.Merged.{bounded_cuts}
 use Rattle.explore.specs.Layers.{IsThere, graph_node_by}
 

@@ -1,14 +1,14 @@
 -- How the states are counted while a search goes from layer to layer.
 use Rattle.std.specs.Prelude.{◌≡◌, ◌<◌, ◌≤◌, ℕ, List, length, Some, slice_get}
 use Rattle.race_core.specs.Worlds.{WorldView}
-use Rattle.explore.specs.declared.layer.Layer.{Layer}
-use Rattle.explore.specs.declared.layer.Visited.{Visited}
-use Rattle.explore.specs.declared.layer.Configuration.{Configuration}
+use Rattle.explore.specs.declared.frontier.layer.Layer.{Layer}
+use Rattle.explore.specs.declared.frontier.layer.Visited.{Visited}
+use Rattle.explore.specs.declared.frontier.layer.Configuration.{Configuration}
 use Rattle.explore.specs.declared.limits.Scope.{Scope}
-use Rattle.explore.specs.declared.cost.Cost.{Cost}
-use Rattle.explore.specs.Alike.{after_turns}
+use Rattle.explore.specs.declared.turns.cost.Cost.{Cost}
+use Rattle.local_states.specs.Alike.{after_turns}
 use Rattle.explore.specs.Explored.{IsWithin, GoAlong, AreBusy, IsOnWay, AreApartStates, HasItsState}
-use Rattle.explore.specs.Keys.{ComponentsView, IsKey, AreSameKeysButOutside}
+use Rattle.local_states.specs.Keys.{ComponentsView, IsKey, AreSameKeysButOutside}
 use Rattle.explore.specs.Merged.{bounded_cuts}
 use Rattle.explore.specs.Points.{start, along}
 

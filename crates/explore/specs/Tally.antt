@@ -1,7 +1,7 @@
 -- Which of the outcomes so far is a list's.
 use Rattle.std.specs.Prelude.{◌≡◌, ◌<◌, ◌≤◌, ℕ, List, length, slice_get, Some}
 use Rattle.tree_model.specs.Steps.{held_count}
-use Rattle.explore.specs.Renamed.{replies_by}
+use Rattle.race_core.specs.Renamed.{replies_by}
 use Rattle.explore.specs.Lists.{Rank}
 use Rattle.explore.specs.Explored.{EndingView, ClassView}
 

@@ -2,14 +2,15 @@
 use Rattle.std.specs.Prelude.{◌≡◌, ◌<◌, ◌≤◌, ℕ, List, [], length, Option, Some, slice_get}
 use Rattle.smallvec.specs.SmallVec.{SmallVec}
 use Rattle.explore.specs.declared.limits.Bounds.{Bounds}
-use Rattle.explore.specs.declared.layer.Configuration.{Configuration}
-use Rattle.explore.specs.declared.transitions.Transition.{Transition}
-use Rattle.explore.specs.declared.transitions.Choice.{Choice}
+use Rattle.explore.specs.declared.frontier.layer.Configuration.{Configuration}
+use Rattle.explore.specs.declared.frontier.transitions.Transition.{Transition}
+use Rattle.explore.specs.declared.frontier.transitions.Choice.{Choice}
 use Rattle.explore.specs.Explored.{ClassView}
 use Rattle.explore.specs.Points.{Point, cost_after, MayGo}
 use Rattle.explore.specs.Search.{IsOver}
-use Rattle.explore.specs.OutOfMemory.{EndsWell}
-use Rattle.explore.specs.Layers.{VisitedView, LayerView, Keeps, Leads, AreSuccessorWorlds, AreApartClasses, AreFoundIn, IsEndClass, point_at}
+use Rattle.local_states.specs.OutOfMemory.{EndsWell}
+use Rattle.explore.specs.Layers.{VisitedView, LayerView, Leads, AreSuccessorWorlds, AreApartClasses, AreFoundIn, IsEndClass, point_at}
+use Rattle.local_states.specs.Distinct.{Keeps}
 
 -- ---- who may go
 

@@ -1,16 +1,7 @@
-//! What holds of every call and of all schedules: laws, the contracts of functions without a body.
+//! What holds of all schedules: laws, the contracts of functions without a body.
 ghost use Rattle.explore.specs.Concluded.{FoundClassesHaveLeasts, CountsConclude};
 ghost use Rattle.explore.specs.Search.{ChosenListsStandForAll, ReportsAreOfFullLists, FullListsAreReported};
 ghost use Rattle.explore.specs.Merged.{WordsAreLists};
-ghost use Rattle.explore.specs.OutOfMemory.{OutOfMemoryIsTold, OutOfMemoryStays, RunsWithoutOutOfMemoryAreFull};
-
-/// Want of memory is told: a turn that lacked some is the turn with memory, or else its actor's call closes what it
-/// holds and fails so, whatever comes. So a run to the end without such a reply is the run with memory for all.
-pub fn out_of_memory_is_told()
-    ensures told { OutOfMemoryIsTold }
-    ensures stays { OutOfMemoryStays }
-    ensures runs { RunsWithoutOutOfMemoryAreFull }
-{}
 
 /// What all schedules come to. A full list of turns has only turns of actors who have something left to do, and
 /// leaves nobody any. The report on a run of any schedule is that of a full list, and that on a full list is the

@@ -5,64 +5,38 @@
 //! may be asked for those alone that begin with some turns.
 //! The layer above uses that contract alone.
 //!
-//! A world is told apart by its nodes and by each actor's *part*: what the actor has to do, to tell and to hold, but
-//! for the numbers of handles (`specs/Local.antt`). These are the world's *components*. The search meets each of them
-//! once and knows it by its place (`components.rt`), as model checkers do that compress states by components. A *key*
-//! is the places of a world's components, and how much the world has grown since the beginning (`specs/Keys.antt`).
+//! The search tells worlds apart by their *keys*: the places of their nodes and of each actor's part (`local_states`).
+//! It goes on with one of the worlds that have one key, layer by layer (`specs/Layers.antt`). It keeps the key and a
+//! list of turns that leads there. `src/` has, by subject:
 //!
-//! The search goes on with one of the worlds that have one key, layer by layer (`specs/Layers.antt`). It keeps the key
-//! and a list of turns that leads there (`layer.rt`). What a turn comes to depends on the nodes, the actor's part, and
-//! how full the book is (`world_counts.rt`); so the search remembers it by these (`memo.rt`, `specs/Effects.antt`). It
-//! finds a turn that it doesn't know by a run from the beginning (`replayed.rt`), and on to the end: whoever lacked
-//! memory tells so there. The turns after it that aren't known are found by the same run (`known_turns.rt`). The
-//! configurations of lists on the worlds make a graph, and the laws say that its words are the lists.
+//! - `worlds`: where each schedule begins, and runs from there (`replayed.rt`). Whoever lacked memory says so at the
+//!   end of a run.
+//! - `turns`: what counts in a list of turns (`cost.rt`), and what turns come to. That depends on the nodes, the
+//!   actor's part, and how full the book is (`world_counts.rt`); so the search remembers it by these (`memo.rt`,
+//!   `specs/Effects.antt`). It finds a turn that it doesn't know by a run from the beginning, and the turns after it
+//!   that aren't known by the same run (`known_turns.rt`).
+//! - `frontier`: the layer that the search goes on from, and the next one: worlds, the configurations of lists on them,
+//!   transitions and edges. These make a graph, and the laws say that its words are the lists.
+//! - `outcomes`: what is found, and which worlds come to the same.
+//! - `search.rt` puts these together; `limits.rt` has what is asked for.
 //!
-//! Where it is asked for, what an actor changes outside of its root (`specs/Outside.antt`) is a part of an outcome:
-//! worlds are taken for one then only where each actor has made as many such changes.
+//! Where it is asked for, what an actor changes outside of its root is a part of an outcome: worlds are taken for one
+//! then only where each actor has made as many such changes.
 #![tactic(auto)]
 
-mod begin;
-mod beginnings;
-mod components;
-mod cost;
-mod edges;
-mod ends;
-mod fingerprint;
-mod found;
-mod handle_tables;
-mod keys;
-mod known_turns;
+mod frontier;
 mod laws;
-mod layer;
 mod limits;
-mod local_laws;
-mod memo;
-mod nodes;
-mod out_of_memory;
-mod outcome_table;
-mod outside;
-mod parts;
-mod passing;
+mod outcomes;
 mod progress;
-mod replayed;
-mod report_laws;
-mod same;
-mod scene;
 mod search;
-mod table;
-mod tally;
-mod transitions;
-mod visited_set;
-mod world_counts;
+mod turns;
+mod worlds;
 
-pub use beginnings::Beginnings;
-pub use found::{Class, Ending, Findings};
-pub use laws::{
-    chosen_lists_stand_for_all, counts_conclude, out_of_memory_is_told, words_are_lists,
-};
+pub use laws::{chosen_lists_stand_for_all, counts_conclude, words_are_lists};
 pub use limits::{Limits, Scope, SearchFault};
-pub use local_laws::{same_parts_go_alike, turns_are_local};
+pub use outcomes::found::{Class, Ending, Findings};
 pub use progress::{Progress, Silent};
-pub use report_laws::reports_without_out_of_memory_are_one;
-pub use scene::Scene;
 pub use search::explore;
+pub use worlds::beginnings::Beginnings;
+pub use worlds::scene::Scene;

@@ -4,7 +4,7 @@ use Rattle.std.specs.Global.{Vec}
 use Rattle.std.proofs.Common.{inl, inr, sym, ap, subst, ⊎_elim, below_more}
 use Rattle.std.proofs.lemmas.Option.{same_Some, none-some}
 use Rattle.explore.specs.declared.limits.Limits.{Limits}
-use Rattle.explore.specs.Alike.{after_turns}
+use Rattle.local_states.specs.Alike.{after_turns}
 use Rattle.explore.specs.Explored.{IsWithin}
 use Rattle.explore.specs.Lists.{cuts}
 use Rattle.race_core.specs.Worlds.{WorldView, is_busy_at}

@@ -2,7 +2,7 @@
 use Rattle.std.specs.Prelude.{◌≡◌, ◌≢◌, ℕ, List, [], ◌∷◌, false}
 use Rattle.race_core.specs.Worlds.{WorldView, turn, is_within_at}
 use Rattle.explore.specs.declared.limits.Scope.{Scope}
-use Rattle.explore.specs.Alike.{full}
+use Rattle.local_states.specs.Alike.{full}
 use Rattle.explore.specs.Explored.{EndingView, IsEnding}
 
 -- nobody has a call under way

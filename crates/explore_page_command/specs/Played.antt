@@ -6,7 +6,7 @@ use Rattle.draw_command.specs.declared.drawing.DrawFault.{DrawFault}
 use Rattle.draw_command.specs.declared.drawing.DrawFault.TheVariants.{Run, TooManyActors, TooManyLines}
 use Rattle.draw_command.specs.Drawing.{HasManyLines}
 use Rattle.draw_command.specs.Page.{run_played}
-use Rattle.explore.specs.declared.scene.Scene.{Scene}
+use Rattle.explore.specs.declared.worlds.scene.Scene.{Scene}
 use Rattle.explore_page_command.specs.declared.chosen.TheConstants.{PLAYED_MAX}
 use Rattle.outcome_text.specs.declared.survey.Told.{Told}
 use Rattle.outcome_text.specs.Schedule.{without_tail}

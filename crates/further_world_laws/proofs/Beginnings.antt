@@ -4,7 +4,7 @@ use Rattle.std.proofs.Common.{◌∙◌, inl, inr, sym, ap, subst, ⊎_elim, ari
 use Rattle.std.proofs.lemmas.Bool.{true≢false}
 use Rattle.std.proofs.lemmas.List.{append-nil, take-append-drop, length-take-le, take_all, take_at}
 use Rattle.race_core.specs.Worlds.{WorldView, turn}
-use Rattle.explore.specs.Alike.{full}
+use Rattle.local_states.specs.Alike.{full}
 use Rattle.explore.specs.Lists.{plus, is_cut, cuts_after}
 use Rattle.explore.specs.Search.{IsFull}
 use Rattle.explore.specs.Explored.{IsWithin, AreBusy}

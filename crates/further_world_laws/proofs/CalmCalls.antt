@@ -37,7 +37,7 @@ use Rattle.root_ops.specs.declared.op.Op.{Op}
 use Rattle.root_ops.specs.declared.op.Op.TheVariants.{Resolve, ResolveNoFollow, ReadLink, CreateFile, CreateDir, CreateLink, RemoveFile, RemoveDir, Rename, MkdirAll, RemoveAll, Single, Release}
 use Rattle.root_ops.specs.Order.{Reply, fault, kept, Doing, walking, acting, checking, closing, making, removing, releasing, CallTurn, more, ends, rename_step, reply_to, way_of, make_way, makes, removing_turn, reached, checked, is_single, same_owner, starts, take}
 use Rattle.root_ops.specs.Order as call
-use Rattle.explore.specs.OutOfMemory.{is_out_of_memory, walk_out_of_memory, walk_turn_out_of_memory, making_out_of_memory, make_turn_out_of_memory, removing_out_of_memory, remove_turn_out_of_memory, reply_out_of_memory, doing_out_of_memory, turn_out_of_memory}
+use Rattle.local_states.specs.OutOfMemory.{is_out_of_memory, walk_out_of_memory, walk_turn_out_of_memory, making_out_of_memory, make_turn_out_of_memory, removing_out_of_memory, remove_turn_out_of_memory, reply_out_of_memory, doing_out_of_memory, turn_out_of_memory}
 use Rattle.further_world_laws.proofs.CalmSteps.{fault_wants, result_wants, text_calm, split_calm, rest_calm, answer_wants, refusal_calm}
 
 -- ---- a walk

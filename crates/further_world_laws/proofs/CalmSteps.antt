@@ -33,7 +33,7 @@ use Rattle.step_resolver.specs.Order.{refusal_of}
 use Rattle.bulk_ops.specs.MakeAllOrder.{rest_fault}
 use Rattle.race_core.specs.Book.{BookedHistory, tree_now, free_lines, lines_needed, closes_nothing}
 use Rattle.race_core.specs.Turns.{unless_refused, stepped_by}
-use Rattle.explore.specs.OutOfMemory.{is_out_of_memory}
+use Rattle.local_states.specs.OutOfMemory.{is_out_of_memory}
 
 -- ---- texts
 

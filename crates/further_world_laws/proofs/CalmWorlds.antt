@@ -22,7 +22,7 @@ use Rattle.race_core.specs.OneReport.{full, HadMemory, AllHadMemory}
 use Rattle.race_core.specs.Turns.{Luck, stepped_by, outcome_of, comes, begins, begins_next, begun, goes_on, turned, request_of, left_by}
 use Rattle.race_core.specs.Worlds.{WorldView, turn_of, turn, Runs, again, AllGoToEnd, numbers_below, ledgers_in, replies_in}
 use Rattle.race_core.proofs.WorldSoFar.{placed_there}
-use Rattle.explore.specs.OutOfMemory.{reply_out_of_memory, outcome_out_of_memory, any_out_of_memory, call_out_of_memory, seat_out_of_memory, seats_out_of_memory, replies_out_of_memory}
+use Rattle.local_states.specs.OutOfMemory.{reply_out_of_memory, outcome_out_of_memory, any_out_of_memory, call_out_of_memory, seat_out_of_memory, seats_out_of_memory, replies_out_of_memory}
 use Rattle.further_world_laws.specs.WantCauses.{BringsNoWant, MemoryBringsNoWant, LackedMemory, WantHasATurn, ReportsWithMemoryTellNone}
 use Rattle.further_world_laws.proofs.CalmCalls.{TurnIsCalm, take_calm, starts_calm}
 use Rattle.further_world_laws.proofs.CalmSteps.{stepped_calm}

@@ -6,10 +6,10 @@ use Rattle.race_core.specs.Book.{tree_now}
 use Rattle.race_core.specs.Worlds.{WorldView, ledgers_in, replies_in, kept_in}
 use Rattle.schedule_graph.specs.Counted.{IsAmong, EachOnce}
 use Rattle.explore.specs.declared.limits.Scope.{Scope}
-use Rattle.explore.specs.Alike.{after_turns}
+use Rattle.local_states.specs.Alike.{after_turns}
 use Rattle.explore.specs.Lists.{cuts, changes, Rank, rank}
 use Rattle.explore.specs.Explored.{IsAsked, AgreeIn, EndingView, ClassView, IsEnding, HasClass, IsLongest}
-use Rattle.explore.specs.Outside.{outside_of}
+use Rattle.local_states.specs.Outside.{outside_of}
 use Rattle.explore.specs.Promise.{IsMergedClass, IsMerged}
 use Rattle.explore.proofs.Lists.Told.{agree_same, agree_turned, agree_on}
 use Rattle.further_world_laws.specs.OneAnswer.{AnswersAreOne}

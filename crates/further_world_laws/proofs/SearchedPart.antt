@@ -3,9 +3,9 @@ use Rattle.std.specs.Prelude.{◌++◌, ℕ, List, [], ◌∷◌, Bool, Option, 
 use Rattle.std.proofs.Common.{◌∙◌, inr, sym, ap, subst}
 use Rattle.race_core.specs.Worlds.{WorldView}
 use Rattle.explore.specs.declared.limits.Scope.{Scope}
-use Rattle.explore.specs.Alike.{after_turns}
+use Rattle.local_states.specs.Alike.{after_turns}
 use Rattle.explore.specs.Lists.{cuts}
-use Rattle.explore.specs.Outside.{outside_of}
+use Rattle.local_states.specs.Outside.{outside_of}
 use Rattle.explore.specs.Explored.{IsWithin, BeginsWith, IsAsked, TellAlike, AgreeIn, ClassView, HasClass}
 use Rattle.explore.specs.Promise.{IsMergedClass, IsMerged}
 use Rattle.further_world_laws.specs.Parts.{Begins, IsAskedFrom, IsPartClass, part_with, IsPart, IsWholeOf, SearchesTellParts}

@@ -9,7 +9,7 @@ use Rattle.race_core.specs.Book.{BookedHistory}
 use Rattle.race_core.specs.OneReport.{full, RanWithMemory}
 use Rattle.race_core.specs.Turns.{turned}
 use Rattle.race_core.specs.Worlds.{WorldView, turn, Runs, RunsTo}
-use Rattle.explore.specs.OutOfMemory.{any_out_of_memory, call_out_of_memory, seat_out_of_memory, seats_out_of_memory, replies_out_of_memory}
+use Rattle.local_states.specs.OutOfMemory.{any_out_of_memory, call_out_of_memory, seat_out_of_memory, seats_out_of_memory, replies_out_of_memory}
 
 -- What a turn adds to its actor's outcomes tells of no want of memory, nor is the call under way about to.
 pub record BringsNoWant (old new : Seat) : Type 0 where

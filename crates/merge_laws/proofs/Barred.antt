@@ -5,7 +5,7 @@ use Rattle.std.proofs.lemmas.Bool.{true≢false}
 use Rattle.std.proofs.lemmas.Option.{same_Some, none-some}
 use Rattle.explore.specs.declared.limits.Limits.{Limits}
 use Rattle.explore.specs.declared.limits.Scope.{Scope}
-use Rattle.explore.specs.Alike.{full, after_turns}
+use Rattle.local_states.specs.Alike.{full, after_turns}
 use Rattle.explore.specs.Explored.{IsWithin}
 use Rattle.explore.specs.Lists.{is_cut, cuts, cuts_after}
 use Rattle.explore.specs.Search.{IsFull}

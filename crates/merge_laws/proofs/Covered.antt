@@ -4,11 +4,11 @@ use Rattle.std.proofs.Common.{◌∙◌, sym, ap, subst, ⊎_elim, arith, drop}
 use Rattle.std.proofs.lemmas.Bool.{true≢false, false≢true}
 use Rattle.std.proofs.lemmas.List.{append-nil, append_assoc, take-append-drop}
 use Rattle.explore.specs.declared.limits.Limits.{Limits}
-use Rattle.explore.specs.Alike.{full, after_turns}
+use Rattle.local_states.specs.Alike.{full, after_turns}
 use Rattle.explore.specs.Explored.{BeginsWith, IsAsked}
 use Rattle.explore.specs.Search.{IsFull}
 use Rattle.explore.specs.Opened.{opened_world}
-use Rattle.explore.proofs.Lists.Told.{actors_stay}
+use Rattle.local_states.proofs.Lists.Runs.{actors_stay}
 use Rattle.explore_command.specs.declared.search.Asked.{Asked}
 use Rattle.explore_command.specs.Part.{IsBarred, HasLists}
 use Rattle.race_core.specs.declared.plan.ActorPlan.{ActorPlan}

@@ -3,7 +3,7 @@ use Rattle.std.specs.Prelude.{◌≡◌, ◌<◌, ℕ, List, length, refl}
 use Rattle.std.proofs.Common.{◌∙◌, sym, ap, subst}
 use Rattle.explore.specs.declared.limits.Scope.{Scope}
 use Rattle.explore.specs.Explored.{AgreeIn, EndingView, ClassView, IsEnding}
-use Rattle.explore.proofs.Lists.Told.{actors_stay}
+use Rattle.local_states.proofs.Lists.Runs.{actors_stay}
 use Rattle.explore_command.specs.Classes.{IsTold}
 use Rattle.race_core.specs.declared.report.Outcome.{Outcome}
 use Rattle.race_core.specs.Worlds.{WorldView}

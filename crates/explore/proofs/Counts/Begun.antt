@@ -3,7 +3,7 @@ use Rattle.std.specs.Prelude.{ℕ, zero, suc, List, [], ◌∷◌, ◌++◌, len
 use Rattle.std.proofs.Common.{sym, ◌∙◌, subst}
 use Rattle.std.proofs.lemmas.Bool.{true≢false}
 use Rattle.race_core.specs.Worlds.{WorldView, turn}
-use Rattle.explore.specs.Alike.{full}
+use Rattle.local_states.specs.Alike.{full}
 use Rattle.explore.specs.Search.{IsFull}
 use Rattle.explore.specs.Explored.{BeginsWith, GoAlong, IsOnly, AreBusy}
 

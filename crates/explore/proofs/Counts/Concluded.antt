@@ -18,7 +18,7 @@ use Rattle.explore.specs.Explored.{IsAsked, AgreeIn, ClassView, HasClass, IsLong
 use Rattle.explore.specs.Promise.{IsMergedClass, IsMerged}
 use Rattle.explore.specs.Merged.{Places, IsFit, IsListOf}
 use Rattle.explore.specs.Concluded.{AreFound, IsToldBy, AreToldBy, HasLeast, FoundClassesHaveLeasts, CountsConclude}
-use Rattle.explore.proofs.Lists.Indices.{within_some}
+use Rattle.local_states.proofs.Lists.Places.{within_some}
 use Rattle.explore.proofs.Lists.Told.{agree_same, agree_turned, agree_on}
 use Rattle.explore.proofs.Counts.Merged.{list_word, word_list}
 use Rattle.explore.proofs.Layers.Reached.{some_word}

@@ -13,15 +13,15 @@ use Rattle.schedule_graph.specs.declared.graph.Node.TheVariants.{Ends, Goes}
 use Rattle.schedule_graph.specs.Words.{node_at, edges_from, edge_of, IsWord, IsWordOf}
 use Rattle.schedule_graph.specs.Words as words
 use Rattle.explore.specs.declared.limits.Scope.{Scope}
-use Rattle.explore.specs.Alike.{full, after_turns}
-use Rattle.explore.specs.Local as local
+use Rattle.local_states.specs.Alike.{full, after_turns}
+use Rattle.local_states.specs.Local as local
 use Rattle.explore.specs.Search.{IsFull, IsLike, same, onward}
 use Rattle.explore.specs.Lists.{is_another, is_cut, plus, cuts_after, changes_after}
 use Rattle.explore.specs.Explored.{IsWithin, IsAsked, BeginsWith, GoAlong, bounds_at, TellAlike, ClassView}
 use Rattle.explore.specs.Merged.{Place, bounded_cuts, cuts_with, MayFollow, IsEdge, IsFit, IsListOf, WordsAreLists}
 use Rattle.explore.proofs.Counts.Begun.{along_none, along_more, begin_first, begins_full}
 use Rattle.explore.proofs.Lists.SearchLaws.{like_turns, like_trans, like_busy, like_actors, like_tells, like_outside}
-use Rattle.explore.proofs.Local.Wholes.{busy_alike}
+use Rattle.local_states.proofs.Local.Wholes.{busy_alike}
 
 -- ---- worlds like one another
 

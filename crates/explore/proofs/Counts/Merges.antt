@@ -15,24 +15,23 @@ use Rattle.schedule_graph.specs.Words as words
 use Rattle.schedule_graph.specs.Counted.{IsLeast, AreCounts}
 use Rattle.explore.specs.declared.limits.Bounds.{Bounds}
 use Rattle.explore.specs.declared.limits.Scope.{Scope}
-use Rattle.explore.specs.declared.layer.Configuration.{Configuration}
-use Rattle.explore.specs.declared.transitions.Choice.{Choice}
-use Rattle.explore.specs.Alike.{full, after_turns}
+use Rattle.explore.specs.declared.frontier.layer.Configuration.{Configuration}
+use Rattle.explore.specs.declared.frontier.transitions.Choice.{Choice}
+use Rattle.local_states.specs.Alike.{full, after_turns}
 use Rattle.explore.specs.Concluded.{IsToldBy, AreToldBy, HasLeast, AreShort, AsksIn, AskIn, AreToldIn}
 use Rattle.explore.specs.Explored.{IsAsked, EndingView, ClassView, IsEnding}
 use Rattle.explore.specs.Layers.{VisitedView, LayerView, IsSure, AreOn, IsEndClass, AreEndClasses, AreEdgesBy, AreAllEdges, HasEdge, IsReportOf, IsGraphNode, AreGraphNodes, IsPassed, graph_node_by}
 use Rattle.explore.specs.Lists.{cuts, changes}
 use Rattle.explore.specs.Transitions.{AreAllChoices, Going, AreGone}
-use Rattle.explore.specs.Outside.{outside_of}
+use Rattle.local_states.specs.Outside.{outside_of}
 use Rattle.explore.specs.Points.{Point, start}
 use Rattle.explore.specs.Search.{IsOver, IsFull}
 use Rattle.explore.specs.Spreading.{AllGoOn, AreEdgesTo, AreEdgesOfAll, AreGraphNodesBy}
 use Rattle.explore.proofs.Counts.Concluded.{found_have_leasts}
-use Rattle.explore.proofs.Lists.Indices.{within_some}
+use Rattle.local_states.proofs.Lists.Places.{within_some, get_push}
 use Rattle.explore.proofs.Layers.Fitting.{Fits}
 use Rattle.explore.proofs.Layers.EdgesFound.{after_joined, after_on, after_edges, end_classes_many}
 use Rattle.explore.proofs.OutOfMemory.Followed.{cuts_there, changes_there}
-use Rattle.explore.proofs.Lists.Told.{get_push}
 use Rattle.explore.proofs.Lists.Along.{along_world}
 
 -- ---- the graph nodes of a layer

@@ -5,17 +5,17 @@ use Rattle.std.proofs.Common.{sym, ap, ◌∙◌, subst, arith}
 use Rattle.race_core.specs.Worlds.{WorldView}
 use Rattle.schedule_graph.specs.declared.graph.Node.{Node}
 use Rattle.schedule_graph.specs.declared.graph.Edge.{Edge}
-use Rattle.explore.specs.declared.layer.Layer.{Layer}
-use Rattle.explore.specs.declared.layer.Visited.{Visited}
-use Rattle.explore.specs.declared.layer.Configuration.{Configuration}
+use Rattle.explore.specs.declared.frontier.layer.Layer.{Layer}
+use Rattle.explore.specs.declared.frontier.layer.Visited.{Visited}
+use Rattle.explore.specs.declared.frontier.layer.Configuration.{Configuration}
 use Rattle.explore.specs.declared.limits.Bounds.{Bounds}
 use Rattle.explore.specs.declared.limits.Scope.{Scope}
-use Rattle.explore.specs.declared.transitions.Choice.{Choice}
-use Rattle.explore.specs.declared.transitions.Transition.{Transition}
+use Rattle.explore.specs.declared.frontier.transitions.Choice.{Choice}
+use Rattle.explore.specs.declared.frontier.transitions.Transition.{Transition}
 use Rattle.explore.specs.Effects.{KnownView}
 use Rattle.explore.specs.Explored.{ClassView, bounds_at}
 use Rattle.explore.specs.Kept.{all_visited_of, layer_of, AreKeys, HaveKeys, ConfigurationsHaveKeys, AreAfter, AreKept}
-use Rattle.explore.specs.Keys.{ComponentsView, AreInterned}
+use Rattle.local_states.specs.Keys.{ComponentsView, AreInterned}
 use Rattle.explore.specs.Layers.{VisitedView, AreOn, IsPassed}
 use Rattle.explore.specs.Transitions.{AreTransitions, AreAllChoices, Going, AreGone}
 use Rattle.explore.specs.Spreading.{AreFit, AreApartChoices, AllGoOn, AreEdgesOfAll, AreGraphNodesBy}

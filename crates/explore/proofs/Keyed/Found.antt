@@ -16,28 +16,29 @@ use Rattle.race_core.specs.declared.seat.Seat.{Seat}
 use Rattle.race_core.specs.Book.{BookedHistory, tree_now}
 use Rattle.race_core.specs.Turns.{Luck}
 use Rattle.race_core.specs.Worlds.{WorldView, turn}
-use Rattle.explore.specs.declared.keys.Effect.{Effect}
-use Rattle.explore.specs.declared.keys.Key.{Key}
-use Rattle.explore.specs.declared.keys.Own.{Own}
-use Rattle.explore.specs.declared.memo.MemoKey.{MemoKey}
-use Rattle.explore.specs.declared.memo.Entry.{Entry}
-use Rattle.explore.specs.declared.world_counts.Counts.{Counts}
-use Rattle.explore.specs.Alike.{full, after_turns}
+use Rattle.local_states.specs.declared.keys.Effect.{Effect}
+use Rattle.local_states.specs.declared.keys.Key.{Key}
+use Rattle.local_states.specs.declared.keys.Own.{Own}
+use Rattle.explore.specs.declared.turns.memo.MemoKey.{MemoKey}
+use Rattle.explore.specs.declared.turns.memo.Entry.{Entry}
+use Rattle.explore.specs.declared.turns.world_counts.Counts.{Counts}
+use Rattle.local_states.specs.Alike.{full, after_turns}
 use Rattle.explore.specs.Effects.{AreCountsIn, AreCompared, IsEffectFrom, IsMemoKeyOf, IsRemembered, KnownView, IsSound}
-use Rattle.explore.specs.Keys.{ComponentsView, Grows, IsPartAt, IsKey, IsKeyAfter, AreSameKeys, AreSameKeysButParts, AreFew, outside_in, own_after}
+use Rattle.local_states.specs.Keys.{ComponentsView, Grows, IsPartAt, IsKey, IsKeyAfter, AreSameKeys, AreSameKeysButParts, AreFew, outside_in, own_after}
 use Rattle.explore.specs.Layers.{VisitedView, IsReplayed, point_of}
-use Rattle.explore.specs.Local.{AreNumbered}
-use Rattle.explore.specs.Outside.{outside_after, outside_from, outside_of, roots_from}
+use Rattle.local_states.specs.Local.{AreNumbered}
+use Rattle.local_states.specs.Outside.{outside_after, outside_from, outside_of, roots_from}
 use Rattle.explore.specs.Points.{Point, start, onward, AreWithin, Goes}
-use Rattle.explore.specs.OutOfMemory.{EndsWell}
-use Rattle.explore.proofs.Alike.PairedLists.{there_is, there_was}
-use Rattle.explore.proofs.Alike.Steps.{set_at, set_other}
+use Rattle.local_states.specs.OutOfMemory.{EndsWell}
+use Rattle.local_states.proofs.Alike.PairedLists.{there_is, there_was}
+use Rattle.local_states.proofs.Alike.Steps.{set_at, set_other}
 use Rattle.explore.proofs.Keyed.Growing.{part_grows, effect_grows, sound_grows, grows_on}
 use Rattle.explore.proofs.Keyed.KnownTurn.{same_outside, found_turn, found_whole}
 use Rattle.explore.proofs.Keyed.OneTurn.{grown_by, numbered_stays}
 use Rattle.explore.proofs.Lists.Along.{along_world}
 use Rattle.explore.proofs.Lists.Turning.{turn_within}
-use Rattle.explore.proofs.OutOfMemory.Lucky.{full_turn, well_turned, goes_full}
+use Rattle.local_states.proofs.OutOfMemory.Lucky.{full_turn, well_turned}
+use Rattle.explore.proofs.OutOfMemory.Lucky.{goes_full}
 
 -- ---- the opening world
 

@@ -3,16 +3,16 @@ use Rattle.std.specs.Prelude.{◌≡◌, ◌<◌, ℕ, length, refl}
 use Rattle.std.proofs.Common.{sym, ap, ◌∙◌, subst, arith}
 use Rattle.std.proofs.lemmas.Option.{same_Some}
 use Rattle.race_core.specs.Worlds.{WorldView, turn}
-use Rattle.explore.specs.declared.keys.Effect.{Effect}
-use Rattle.explore.specs.declared.keys.Key.{Key}
-use Rattle.explore.specs.declared.memo.MemoKey.{MemoKey}
-use Rattle.explore.specs.declared.memo.Entry.{Entry}
-use Rattle.explore.specs.Alike.{full}
+use Rattle.local_states.specs.declared.keys.Effect.{Effect}
+use Rattle.local_states.specs.declared.keys.Key.{Key}
+use Rattle.explore.specs.declared.turns.memo.MemoKey.{MemoKey}
+use Rattle.explore.specs.declared.turns.memo.Entry.{Entry}
+use Rattle.local_states.specs.Alike.{full}
 use Rattle.explore.specs.Effects.{HasGrown, IsEffectFrom, IsMemoKeyOf, IsRemembered, KnownView, IsSound}
-use Rattle.explore.specs.Keys.{PartsView, ComponentsView, AreRows, Grows, IsPartAt, IsKey, outside_in}
-use Rattle.explore.specs.Outside.{roots_of, outside_of}
-use Rattle.explore.proofs.Alike.PairedLists.{there_is, there_was}
-use Rattle.explore.proofs.Parted.Parts.{more_itself, more_on, in_more}
+use Rattle.local_states.specs.Keys.{PartsView, ComponentsView, AreRows, Grows, IsPartAt, IsKey, outside_in}
+use Rattle.local_states.specs.Outside.{roots_of, outside_of}
+use Rattle.local_states.proofs.Alike.PairedLists.{there_is, there_was}
+use Rattle.local_states.proofs.Parted.Parts.{more_itself, more_on, in_more}
 
 pub grows_same : {c : ComponentsView} → Grows c c
 grows_same = record {

@@ -10,28 +10,27 @@ use Rattle.tree_model.specs.declared.tree.TheConstants.{NUMBERS_MAX}
 use Rattle.race_core.specs.declared.seat.Seat.{Seat}
 use Rattle.race_core.specs.Book.{BookedHistory, tree_now, free_lines}
 use Rattle.race_core.specs.Worlds.{WorldView, turn}
-use Rattle.explore.specs.declared.keys.Effect.{Effect}
-use Rattle.explore.specs.declared.keys.Key.{Key}
-use Rattle.explore.specs.declared.keys.Own.{Own}
-use Rattle.explore.specs.declared.memo.MemoKey.{MemoKey}
-use Rattle.explore.specs.declared.world_counts.Start.{Start}
-use Rattle.explore.specs.Alike.{full}
-use Rattle.explore.specs.Counting.{bumped}
+use Rattle.local_states.specs.declared.keys.Effect.{Effect}
+use Rattle.local_states.specs.declared.keys.Key.{Key}
+use Rattle.local_states.specs.declared.keys.Own.{Own}
+use Rattle.explore.specs.declared.turns.memo.MemoKey.{MemoKey}
+use Rattle.explore.specs.declared.turns.world_counts.Start.{Start}
+use Rattle.local_states.specs.Alike.{full}
+use Rattle.local_states.specs.Counting.{bumped}
 use Rattle.explore.specs.Effects.{HasGrown, IsEffectFrom, IsMemoKeyOf, IsRemembered, IsStart}
-use Rattle.explore.specs.Keys.{ComponentsView, AreRows, Grows, IsPartAt, IsKey, IsKeyAfter, AreSameKeysButParts, outside_in, own_after}
-use Rattle.explore.specs.Lists.{plus}
-use Rattle.explore.specs.Local.{actor_of, SamePartAt, AreAllGiven, GrownAlike, SameGround, changes_outside}
-use Rattle.explore.specs.Outside.{outside_from, roots_of}
-use Rattle.explore.proofs.Alike.OutsideAlike.{roots_stay}
-use Rattle.explore.proofs.Alike.PairedLists.{there_is}
-use Rattle.explore.proofs.Alike.Steps.{set_at, set_other}
-use Rattle.explore.proofs.Counts.Counting.{bumped_none, bumped_first, bumped_next}
+use Rattle.local_states.specs.Keys.{ComponentsView, AreRows, Grows, IsPartAt, IsKey, IsKeyAfter, AreSameKeysButParts, outside_in, own_after}
+use Rattle.local_states.specs.Outside.{plus, outside_from, roots_of}
+use Rattle.local_states.specs.Local.{actor_of, SamePartAt, AreAllGiven, GrownAlike, SameGround, changes_outside}
+use Rattle.local_states.proofs.Alike.OutsideAlike.{roots_stay}
+use Rattle.local_states.proofs.Alike.PairedLists.{there_is}
+use Rattle.local_states.proofs.Alike.Steps.{set_at, set_other}
+use Rattle.local_states.proofs.Counting.{bumped_none, bumped_first, bumped_next}
 use Rattle.explore.proofs.Keyed.Growing.{grows_same, rows_grow, key_grows}
 use Rattle.explore.proofs.Keyed.OneTurn.{lines_stay, numbered_stays}
-use Rattle.explore.proofs.Keyed.SameKeys.{part_given, one_part, part_of_same}
-use Rattle.explore.proofs.Lists.Turning.{turn_stays}
-use Rattle.explore.proofs.Local.Parts.{parts_stay}
-use Rattle.explore.proofs.Local.Worlds.{turns_are_local, given_stay}
+use Rattle.local_states.proofs.Parted.SameKeys.{part_given, one_part, part_of_same}
+use Rattle.local_states.proofs.Lists.Runs.{turn_stays}
+use Rattle.local_states.proofs.Local.Parts.{parts_stay}
+use Rattle.local_states.proofs.Local.Worlds.{turns_are_local, given_stay}
 
 -- ---- the turn of one who asks the same
 

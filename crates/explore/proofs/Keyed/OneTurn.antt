@@ -17,17 +17,17 @@ use Rattle.race_core.specs.declared.seat.Seat.{Seat}
 use Rattle.race_core.specs.Book.{BookedHistory, tree_now, answer_now, booked}
 use Rattle.race_core.specs.Turns.{Luck, turned}
 use Rattle.race_core.specs.Worlds.{WorldView, turn_of, turn}
-use Rattle.explore.specs.declared.keys.Effect.{Effect}
-use Rattle.explore.specs.Counting.{bumped}
+use Rattle.local_states.specs.declared.keys.Effect.{Effect}
+use Rattle.local_states.specs.Counting.{bumped}
 use Rattle.explore.specs.Effects.{HasGrown}
-use Rattle.explore.specs.Local.{AreNumbered, SameParts}
-use Rattle.explore.specs.Outside.{acts_outside, outside_from, outside_of, roots_from, roots_of}
-use Rattle.explore.proofs.Alike.OutsideAlike.{IsOneOn, as_it_was, one_more, turn_books, roots_stay}
-use Rattle.explore.proofs.Alike.PairedLists.{there_is}
-use Rattle.explore.proofs.Counts.Counting.{bumped_none, bumped_next, counts_long, counted_more}
-use Rattle.explore.proofs.Local.Parts as parts
-use Rattle.explore.proofs.Local.Parts.{IsOneBy, part_itself, turned_books, turn_is}
-use Rattle.explore.proofs.Local.Wholes.{same_turns}
+use Rattle.local_states.specs.Local.{AreNumbered, SameParts}
+use Rattle.local_states.specs.Outside.{acts_outside, outside_from, outside_of, roots_from, roots_of}
+use Rattle.local_states.proofs.Alike.OutsideAlike.{IsOneOn, as_it_was, one_more, turn_books, roots_stay}
+use Rattle.local_states.proofs.Alike.PairedLists.{there_is}
+use Rattle.local_states.proofs.Counting.{bumped_none, bumped_next, counts_long, counted_more}
+use Rattle.local_states.proofs.Local.Parts as parts
+use Rattle.local_states.proofs.Local.Parts.{IsOneBy, part_itself, turned_books, turn_is}
+use Rattle.local_states.proofs.Local.Wholes.{same_turns}
 
 -- ---- what stays
 

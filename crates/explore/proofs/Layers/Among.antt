@@ -4,16 +4,15 @@ use Rattle.std.specs.List.{count_by}
 use Rattle.std.proofs.Common.{⊎_elim, sym, ap, ◌∙◌, subst, cond, arith, length-append}
 use Rattle.std.proofs.lemmas.Option.{same_Some, none-some}
 use Rattle.tree_model.proofs.Places.{slice_get-last}
-use Rattle.explore.specs.declared.keys.Key.{Key}
-use Rattle.explore.specs.declared.layer.Visited.{Visited}
-use Rattle.explore.specs.Keys.{AreSameKeysButOutside}
-use Rattle.explore.specs.Layers.{Keeps}
+use Rattle.local_states.specs.declared.keys.Key.{Key}
+use Rattle.explore.specs.declared.frontier.layer.Visited.{Visited}
+use Rattle.local_states.specs.Keys.{AreSameKeysButOutside}
+use Rattle.local_states.specs.Distinct.{Keeps}
 use Rattle.explore.specs.Marked.{IsNew, AreMarked}
 use Rattle.explore.specs.States.{AreStatesAmong}
-use Rattle.explore.proofs.Alike.PairedLists.{there_is}
+use Rattle.local_states.proofs.Alike.PairedLists.{there_is}
 use Rattle.explore.proofs.Layers.Markings.{states as states_in, states_are}
-use Rattle.explore.proofs.Lists.Indices.{at_or_below}
-use Rattle.explore.proofs.Lists.Told.{get_push, get_left}
+use Rattle.local_states.proofs.Lists.Places.{at_or_below, get_push, get_left}
 
 -- ---- keys that are the same but for changes outside of roots
 

@@ -5,12 +5,13 @@ use Rattle.std.proofs.lemmas.List.{take_more, length-take-le}
 use Rattle.std.proofs.lemmas.Option.{slice_get-get_or}
 use Rattle.race_core.specs.Worlds.{WorldView, is_busy_at}
 use Rattle.explore.specs.declared.limits.Scope.{Scope}
-use Rattle.explore.specs.Alike.{after_turns}
+use Rattle.local_states.specs.Alike.{after_turns}
 use Rattle.explore.specs.Lists.{cuts}
 use Rattle.explore.specs.Explored.{IsWithin, GoAlong, AreBusy, IsIdle, IsTooLong}
 use Rattle.explore.specs.Points.{Point, start, Goes, IsTurn}
-use Rattle.explore.specs.OutOfMemory.{EndsWell}
-use Rattle.explore.proofs.OutOfMemory.Lucky.{well_turned, goes_full}
+use Rattle.local_states.specs.OutOfMemory.{EndsWell}
+use Rattle.local_states.proofs.OutOfMemory.Lucky.{well_turned}
+use Rattle.explore.proofs.OutOfMemory.Lucky.{goes_full}
 use Rattle.explore.proofs.OutOfMemory.Followed.{cuts_there}
 use Rattle.explore.proofs.Lists.Along.{along_world}
 use Rattle.explore.proofs.Counts.Begun.{along_take}

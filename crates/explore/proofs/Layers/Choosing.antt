@@ -9,15 +9,15 @@ use Rattle.race_core.specs.declared.seat.Seat.{Seat}
 use Rattle.race_core.specs.Worlds.{is_busy_in, is_busy_at}
 use Rattle.schedule_graph.proofs.Spreading.{get_set}
 use Rattle.explore.specs.declared.limits.Bounds.{Bounds}
-use Rattle.explore.specs.declared.layer.Configuration.{Configuration}
-use Rattle.explore.specs.declared.cost.Cost.{Cost}
-use Rattle.explore.specs.declared.transitions.Transition.{Transition}
-use Rattle.explore.specs.declared.transitions.Choice.{Choice}
-use Rattle.explore.specs.Layers.{VisitedView, LayerView, Keeps, point_at}
+use Rattle.explore.specs.declared.frontier.layer.Configuration.{Configuration}
+use Rattle.explore.specs.declared.turns.cost.Cost.{Cost}
+use Rattle.explore.specs.declared.frontier.transitions.Transition.{Transition}
+use Rattle.explore.specs.declared.frontier.transitions.Choice.{Choice}
+use Rattle.explore.specs.Layers.{VisitedView, LayerView, point_at}
+use Rattle.local_states.specs.Distinct.{Keeps}
 use Rattle.explore.specs.Transitions.{IsOf, IsOneOf, IsChoice, IsChosen, AreChoices, AreFirstChoices, IsTransitionFrom, AreTransitions}
 use Rattle.explore.specs.Points.{Point, AreWithin, MayGo}
-use Rattle.explore.proofs.Lists.Indices.{at_or_below}
-use Rattle.explore.proofs.Lists.Told.{get_push, length_set}
+use Rattle.local_states.proofs.Lists.Places.{at_or_below, get_push, length_set}
 use Rattle.explore.proofs.Layers.EdgesGrown.{keeps_push}
 
 -- ---- the transition of an actor

@@ -10,22 +10,23 @@ use Rattle.schedule_graph.specs.declared.graph.Edge.{Edge}
 use Rattle.schedule_graph.specs.Words.{edge_of, AreApart}
 use Rattle.schedule_graph.proofs.Leading.{own_edge}
 use Rattle.explore.specs.declared.limits.Bounds.{Bounds}
-use Rattle.explore.specs.declared.layer.Configuration.{Configuration}
-use Rattle.explore.specs.declared.cost.Cost.{Cost}
-use Rattle.explore.specs.declared.transitions.Transition.{Transition}
-use Rattle.explore.specs.declared.transitions.Choice.{Choice}
-use Rattle.explore.specs.Alike.{full}
+use Rattle.explore.specs.declared.frontier.layer.Configuration.{Configuration}
+use Rattle.explore.specs.declared.turns.cost.Cost.{Cost}
+use Rattle.explore.specs.declared.frontier.transitions.Transition.{Transition}
+use Rattle.explore.specs.declared.frontier.transitions.Choice.{Choice}
+use Rattle.local_states.specs.Alike.{full}
 use Rattle.explore.specs.Explored.{ClassView}
 use Rattle.explore.specs.Lists.{is_another, is_cut, plus}
 use Rattle.explore.specs.Merged.{bounded_cuts}
 use Rattle.explore.specs.Transitions.{AreChoices, AreAllChoices, AreLeads, Going, AreGone}
 use Rattle.explore.specs.Points.{cost_after, onward, AreWithin}
-use Rattle.explore.specs.Layers.{VisitedView, LayerView, Keeps, Leads, IsOn, AreOn, point_at, IsOnward, IsTransition, IsSuccessorConfiguration, AreJoined, AreEdgesBy, AreAllEdges, IsEdgeBy, IsThere}
+use Rattle.explore.specs.Layers.{VisitedView, LayerView, Leads, IsOn, AreOn, point_at, IsOnward, IsTransition, IsSuccessorConfiguration, AreJoined, AreEdgesBy, AreAllEdges, IsEdgeBy, IsThere}
+use Rattle.local_states.specs.Distinct.{Keeps}
 use Rattle.explore.specs.Spreading.{IsConfigurationBy, IsEdgeTo, AreEachEdge, AreEdgesTo, AreConfigurationsBy, IsFitting, AreFit, AreConfigurationsFrom, AreFirstEdges, AreEdgesOfAll, AreApartChoices}
-use Rattle.explore.proofs.Lists.Indices.{within_some}
-use Rattle.explore.proofs.Lists.Told.{get_push}
+use Rattle.local_states.proofs.Lists.Places.{within_some, get_push}
 use Rattle.explore.proofs.Lists.SearchLaws.{like_actors}
-use Rattle.explore.proofs.Lists.Turning.{turn_stays, turn_within}
+use Rattle.local_states.proofs.Lists.Runs.{turn_stays}
+use Rattle.explore.proofs.Lists.Turning.{turn_within}
 
 -- ---- a configuration that is put last
 

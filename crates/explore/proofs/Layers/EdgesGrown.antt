@@ -1,7 +1,7 @@
 -- Lists that grow: what was there stays in its place.
 use Rattle.std.specs.Prelude.{zero, suc, List, [], ◌∷◌, ◌++◌}
 use Rattle.std.proofs.lemmas.Option.{none-some}
-use Rattle.explore.specs.Layers.{Keeps}
+use Rattle.local_states.specs.Distinct.{Keeps}
 
 pub keeps_on : {A : Type 0} (xs ys zs : List A) → Keeps xs ys → Keeps ys zs → Keeps xs zs
 keeps_on xs ys zs first then k x e = then k x (first k x e)

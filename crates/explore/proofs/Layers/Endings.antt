@@ -8,14 +8,13 @@ use Rattle.race_core.specs.Worlds.{is_busy_in, is_busy_at}
 use Rattle.schedule_graph.specs.declared.graph.Edge.{Edge}
 use Rattle.schedule_graph.specs.declared.graph.Node.{Node}
 use Rattle.schedule_graph.specs.Words.{AreApart, IsLayer, edges_from}
-use Rattle.explore.specs.declared.layer.Configuration.{Configuration}
+use Rattle.explore.specs.declared.frontier.layer.Configuration.{Configuration}
 use Rattle.explore.specs.Explored.{EndingView, ClassView}
 use Rattle.explore.specs.Tally.{SameOutcome, IsPlace}
-use Rattle.explore.specs.Layers.{Keeps, AreApartClasses, graph_node_by}
-use Rattle.explore.proofs.Lists.Indices.{at_or_below}
-use Rattle.explore.proofs.Lists.Indices.{within_some}
+use Rattle.local_states.specs.Distinct.{Keeps}
+use Rattle.explore.specs.Layers.{AreApartClasses, graph_node_by}
+use Rattle.local_states.proofs.Lists.Places.{at_or_below, within_some, get_push}
 use Rattle.explore.proofs.Lists.Mapped.{other_reply_lengths}
-use Rattle.explore.proofs.Lists.Told.{get_push}
 
 -- ---- lists
 

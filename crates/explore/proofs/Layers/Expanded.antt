@@ -4,27 +4,27 @@ use Rattle.smallvec.specs.SmallVec.{SmallVec}
 use Rattle.std.proofs.Common.{sym, ap, ◌∙◌, subst}
 use Rattle.std.proofs.lemmas.Option.{same_Some}
 use Rattle.race_core.specs.Worlds.{WorldView, turn}
-use Rattle.explore.specs.declared.layer.Visited.{Visited}
-use Rattle.explore.specs.declared.layer.Configuration.{Configuration}
-use Rattle.explore.specs.declared.transitions.Choice.{Choice}
-use Rattle.explore.specs.declared.transitions.Transition.{Transition}
-use Rattle.explore.specs.Alike.{full, after_turns}
+use Rattle.explore.specs.declared.frontier.layer.Visited.{Visited}
+use Rattle.explore.specs.declared.frontier.layer.Configuration.{Configuration}
+use Rattle.explore.specs.declared.frontier.transitions.Choice.{Choice}
+use Rattle.explore.specs.declared.frontier.transitions.Transition.{Transition}
+use Rattle.local_states.specs.Alike.{full, after_turns}
 use Rattle.explore.specs.Effects.{KnownView}
 use Rattle.explore.specs.Explored.{ClassView}
 use Rattle.explore.specs.Kept.{visited_of, all_visited_of, layer_of, ConfigurationsHaveKeys}
-use Rattle.explore.specs.Keys.{IsKey}
+use Rattle.local_states.specs.Keys.{IsKey}
 use Rattle.explore.specs.Layers.{VisitedView, LayerView, Leads, IsEndClass, IsSuccessorWorld}
 use Rattle.explore.specs.Transitions.{AreAllChoices, AreLeads, Going, AreGone}
 use Rattle.explore.specs.Points.{MayGo}
-use Rattle.explore.specs.Same.{IsSame}
+use Rattle.local_states.specs.Same.{IsSame}
 use Rattle.explore.specs.Search.{IsLike, same, onward, IsOver}
 use Rattle.explore.specs.Spreading.{AreConfigurationsFrom}
-use Rattle.explore.specs.OutOfMemory.{EndsWell}
+use Rattle.local_states.specs.OutOfMemory.{EndsWell}
 use Rattle.explore.specs.Expanded.{Expansion, Follows, LeadTo, AreExpanded}
-use Rattle.explore.proofs.Keyed.SameKeys.{same_keys}
+use Rattle.local_states.proofs.Parted.SameKeys.{same_keys}
 use Rattle.explore.proofs.Layers.Kept.{visited_at, view_at, views_many}
-use Rattle.explore.proofs.Lists.Indices.{within_some}
-use Rattle.explore.proofs.Lists.SearchLaws.{after_append}
+use Rattle.local_states.proofs.Lists.Places.{within_some}
+use Rattle.local_states.proofs.Lists.Runs.{after_append}
 
 -- ---- the layer
 

@@ -11,19 +11,19 @@ use Rattle.schedule_graph.specs.declared.graph.Node.TheVariants.{Ends, Goes}
 use Rattle.schedule_graph.specs.Words.{node_in, node_at}
 use Rattle.schedule_graph.proofs.Leading.{edge_in}
 use Rattle.explore.specs.declared.limits.Scope.{Scope}
-use Rattle.explore.specs.declared.layer.Configuration.{Configuration}
-use Rattle.explore.specs.declared.cost.Cost.{Cost}
-use Rattle.explore.specs.Alike.{after_turns}
+use Rattle.explore.specs.declared.frontier.layer.Configuration.{Configuration}
+use Rattle.explore.specs.declared.turns.cost.Cost.{Cost}
+use Rattle.local_states.specs.Alike.{after_turns}
 use Rattle.explore.specs.Lists.{is_another, is_cut, plus}
 use Rattle.explore.specs.Explored.{IsWithin, bounds_at, TellAlike, AgreeIn, ClassView}
 use Rattle.explore.specs.Points.{no_cost, MayGo}
 use Rattle.explore.specs.Merged.{Place, begins, bounded_cuts, MayFollow, IsNextPlace, Places, IsEdge, AreEdges, IsEndOf, IsFit}
 use Rattle.explore.specs.Concluded.{AreFound}
 use Rattle.explore.specs.Tally.{SameOutcome}
-use Rattle.explore.specs.OutOfMemory.{EndsWell}
+use Rattle.local_states.specs.OutOfMemory.{EndsWell}
 use Rattle.explore.specs.Layers.{VisitedView, point_at, LayerView, IsFirst, IsAfter, IsEdgeBy, AreEdgesBy, HasEdge, IsPlaced, IsGraphNode, IsSearched, HasSearched}
-use Rattle.explore.proofs.OutOfMemory.OutOfMemoryWorlds.{ap_at, join}
-use Rattle.explore.proofs.Lists.Indices.{within_some}
+use Rattle.local_states.proofs.OutOfMemory.OutOfMemoryWorlds.{ap_at, join}
+use Rattle.local_states.proofs.Lists.Places.{within_some}
 use Rattle.explore.proofs.Counts.Merged.{bounded_within}
 use Rattle.explore.proofs.Layers.Reached.{may_some}
 use Rattle.explore.proofs.Lists.Told.{tell_turned, tell_on, worlds_tell, worlds_same}

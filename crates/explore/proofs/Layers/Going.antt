@@ -6,32 +6,32 @@ use Rattle.std.proofs.lemmas.List.{length-map}
 use Rattle.std.proofs.lemmas.Option.{same_Some, slice_get_within}
 use Rattle.tree_model.proofs.Places.{slice_get-last}
 use Rattle.race_core.specs.Worlds.{WorldView, turn, ledgers_in, Reports}
-use Rattle.explore.specs.declared.keys.Key.{Key}
-use Rattle.explore.specs.declared.layer.Layer.{Layer}
-use Rattle.explore.specs.declared.layer.Visited.{Visited}
-use Rattle.explore.specs.declared.layer.Configuration.{Configuration}
-use Rattle.explore.specs.declared.cost.Cost.{Cost}
-use Rattle.explore.specs.declared.transitions.Transition.{Transition}
-use Rattle.explore.specs.Alike.{full, after_turns}
+use Rattle.local_states.specs.declared.keys.Key.{Key}
+use Rattle.explore.specs.declared.frontier.layer.Layer.{Layer}
+use Rattle.explore.specs.declared.frontier.layer.Visited.{Visited}
+use Rattle.explore.specs.declared.frontier.layer.Configuration.{Configuration}
+use Rattle.explore.specs.declared.turns.cost.Cost.{Cost}
+use Rattle.explore.specs.declared.frontier.transitions.Transition.{Transition}
+use Rattle.local_states.specs.Alike.{full, after_turns}
 use Rattle.explore.specs.Effects.{KnownView, IsSound}
 use Rattle.explore.specs.Explored.{EndingView, ClassView}
 use Rattle.explore.specs.Kept.{visited_of, layer_of}
-use Rattle.explore.specs.Keys.{ComponentsView, Grows, IsKey, AreFew}
-use Rattle.explore.specs.Layers.{VisitedView, Keeps, AreApartClasses, IsReplayed, IsReportOf, IsEndClass, point_of}
+use Rattle.local_states.specs.Keys.{ComponentsView, Grows, IsKey, AreFew}
+use Rattle.explore.specs.Layers.{VisitedView, AreApartClasses, IsReplayed, IsReportOf, IsEndClass, point_of}
+use Rattle.local_states.specs.Distinct.{Keeps}
 use Rattle.explore.specs.Marked.{IsSameAt, IsPut}
 use Rattle.explore.specs.Transitions.{IsTransitionFrom}
-use Rattle.explore.specs.Outside.{outside_of}
+use Rattle.local_states.specs.Outside.{outside_of}
 use Rattle.explore.specs.Points.{Point, start, along}
 use Rattle.explore.specs.Search.{IsOver}
 use Rattle.explore.specs.Tally.{SameOutcome}
-use Rattle.explore.specs.OutOfMemory.{EndsWell}
+use Rattle.local_states.specs.OutOfMemory.{EndsWell}
 use Rattle.explore.specs.Expanded.{Follows, CanGoOn, AreThere, IsAfterTurn, IsTaken, IsAfterOneOf, LeadTo, AreTaken, IsEndClassBy, Expansion, IsExpansion, IsNext, IsAfterTransition, AreExpanded}
 use Rattle.explore.proofs.Keyed.Growing.{grows_same, grows_on, key_grows}
-use Rattle.explore.proofs.Keyed.SameKeys.{key_again}
+use Rattle.local_states.proofs.Parted.SameKeys.{key_again}
 use Rattle.explore.proofs.Lists.Along.{along_world}
-use Rattle.explore.proofs.Lists.Indices.{at_or_below}
-use Rattle.explore.proofs.Lists.SearchLaws.{after_append}
-use Rattle.explore.proofs.Lists.Told.{get_push, actors_stay}
+use Rattle.local_states.proofs.Lists.Places.{at_or_below, get_push}
+use Rattle.local_states.proofs.Lists.Runs.{after_append, actors_stay}
 use Rattle.explore.proofs.Layers.Choosing.{busy_within}
 use Rattle.explore.proofs.Layers.Kept.{view_at}
 use Rattle.explore.proofs.Layers.EdgesGrown.{keeps_on, keeps_push}

@@ -8,16 +8,16 @@ use Rattle.tree_model.specs.State.{State}
 use Rattle.handles.specs.Objects.{StandingObject}
 use Rattle.race_core.specs.declared.report.Outcome.{Outcome}
 use Rattle.race_core.specs.Worlds.{WorldView, RunsTo, Reports, ledgers_in}
-use Rattle.explore.specs.Alike.{after_turns}
-use Rattle.explore.specs.Outside.{outside_of}
+use Rattle.local_states.specs.Alike.{after_turns}
+use Rattle.local_states.specs.Outside.{outside_of}
 use Rattle.explore.specs.Layers.{VisitedView, IsReportOf}
 use Rattle.explore.specs.Points.{Point, IsTurn, Goes}
 use Rattle.explore.specs.Search.{IsOver}
-use Rattle.explore.specs.OutOfMemory.{replies_out_of_memory}
+use Rattle.local_states.specs.OutOfMemory.{replies_out_of_memory}
 use Rattle.explore.proofs.OutOfMemory.Lucky.{goes_push}
 use Rattle.explore.proofs.Lists.SearchLaws.{over_rests, reported}
-use Rattle.explore.proofs.Lists.Told.{replies_of_seats, actors_stay}
-use Rattle.explore.proofs.OutOfMemory.OutOfMemoryWorlds.{ap_at, join}
+use Rattle.local_states.proofs.Lists.Runs.{replies_of_seats, actors_stay}
+use Rattle.local_states.proofs.OutOfMemory.OutOfMemoryWorlds.{ap_at, join}
 
 -- the turn at that place of the list
 pub goes_turn_at : (p q r : Point) (turns : List ℕ) (k : ℕ) → k < length turns → Goes p (take k turns) q → IsTurn q (get_or turns k 0) r

@@ -5,15 +5,15 @@ use Rattle.std.proofs.lemmas.List.{length-map}
 use Rattle.std.proofs.lemmas.Option.{same_Some, none-some}
 use Rattle.race_core.specs.declared.opening.TheConstants.{ACTORS_MAX}
 use Rattle.race_core.specs.Worlds.{WorldView}
-use Rattle.explore.specs.declared.keys.Key.{Key}
-use Rattle.explore.specs.declared.layer.Layer.{Layer}
-use Rattle.explore.specs.declared.layer.Visited.{Visited}
-use Rattle.explore.specs.declared.layer.Configuration.{Configuration}
+use Rattle.local_states.specs.declared.keys.Key.{Key}
+use Rattle.explore.specs.declared.frontier.layer.Layer.{Layer}
+use Rattle.explore.specs.declared.frontier.layer.Visited.{Visited}
+use Rattle.explore.specs.declared.frontier.layer.Configuration.{Configuration}
 use Rattle.explore.specs.declared.limits.Scope.{Scope}
-use Rattle.explore.specs.Alike.{after_turns}
+use Rattle.local_states.specs.Alike.{after_turns}
 use Rattle.explore.specs.Effects.{KnownView, IsSound}
 use Rattle.explore.specs.Kept.{visited_of, all_visited_of, layer_of, AreKept, IsFirstOf}
-use Rattle.explore.specs.Keys.{IsKey, AreFew}
+use Rattle.local_states.specs.Keys.{IsKey, AreFew}
 use Rattle.explore.specs.Layers.{VisitedView, IsFirst}
 use Rattle.explore.specs.Points.{start, along}
 use Rattle.explore.proofs.Layers.Passing.{only_one}

@@ -6,16 +6,16 @@ use Rattle.std.proofs.lemmas.List.{map_push, at_drop_more}
 use Rattle.std.proofs.lemmas.List.Recursion.{is_count_by}
 use Rattle.std.proofs.lemmas.Option.{same_Some, none-some, slice_get-map, slice_get_read, slice_get_within}
 use Rattle.std.specs.Option.{option_map}
-use Rattle.explore.specs.declared.keys.Key.{Key}
-use Rattle.explore.specs.declared.keys.Own.{Own}
-use Rattle.explore.specs.declared.layer.Visited.{Visited}
-use Rattle.explore.specs.Fingerprint.{mixed}
-use Rattle.explore.specs.Keys.{AreSameKeys, AreSameKeysButOutside, print_of}
-use Rattle.explore.specs.Layers.{Keeps}
+use Rattle.local_states.specs.declared.keys.Key.{Key}
+use Rattle.local_states.specs.declared.keys.Own.{Own}
+use Rattle.explore.specs.declared.frontier.layer.Visited.{Visited}
+use Rattle.local_states.specs.Fingerprint.{mixed}
+use Rattle.local_states.specs.Keys.{AreSameKeys, AreSameKeysButOutside, print_of}
+use Rattle.local_states.specs.Distinct.{Keeps}
 use Rattle.explore.specs.Marked.{IsSameAt, IsSameAtButOutside, IsNew, AreMarked, AreMerged, AreLookedUp, IsPut, prints_of}
 use Rattle.explore.proofs.Layers.EdgesGrown.{keeps_push}
 use Rattle.explore.proofs.Lists.Chains.{IsAlong, gone_along}
-use Rattle.explore.proofs.Lists.Told.{get_push, get_left, get_last}
+use Rattle.local_states.proofs.Lists.Places.{get_push, get_left, get_last}
 
 -- ---- whoever has the key has its number
 

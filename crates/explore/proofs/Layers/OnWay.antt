@@ -5,18 +5,18 @@ use Rattle.std.proofs.Common.{sym, ap, ◌∙◌, subst, arith}
 use Rattle.std.proofs.lemmas.Option.{same_Some, slice_get_within}
 use Rattle.race_core.specs.Worlds.{WorldView, turn, is_busy_at}
 use Rattle.schedule_graph.specs.declared.graph.Edge.{Edge}
-use Rattle.explore.specs.declared.layer.Layer.{Layer}
-use Rattle.explore.specs.declared.layer.Visited.{Visited}
-use Rattle.explore.specs.declared.layer.Configuration.{Configuration}
+use Rattle.explore.specs.declared.frontier.layer.Layer.{Layer}
+use Rattle.explore.specs.declared.frontier.layer.Visited.{Visited}
+use Rattle.explore.specs.declared.frontier.layer.Configuration.{Configuration}
 use Rattle.explore.specs.declared.limits.Bounds.{Bounds}
 use Rattle.explore.specs.declared.limits.Scope.{Scope}
-use Rattle.explore.specs.declared.cost.Cost.{Cost}
-use Rattle.explore.specs.declared.transitions.Choice.{Choice}
-use Rattle.explore.specs.Alike.{full, after_turns}
+use Rattle.explore.specs.declared.turns.cost.Cost.{Cost}
+use Rattle.explore.specs.declared.frontier.transitions.Choice.{Choice}
+use Rattle.local_states.specs.Alike.{full, after_turns}
 use Rattle.explore.specs.Effects.{KnownView}
 use Rattle.explore.specs.Explored.{ClassView, IsWithin, IsOnly, GoAlong, AreBusy, IsOnWay, bounds_at}
 use Rattle.explore.specs.Kept.{visited_of, layer_of}
-use Rattle.explore.specs.Keys.{IsKey}
+use Rattle.local_states.specs.Keys.{IsKey}
 use Rattle.explore.specs.Layers.{VisitedView, point_at}
 use Rattle.explore.specs.Lists.{plus, is_cut}
 use Rattle.explore.specs.Merged.{bounded_cuts}
@@ -28,14 +28,15 @@ use Rattle.explore.specs.States.{IsSoFar, HasConfiguration, AreAllOnWay}
 use Rattle.explore.specs.Expanded.{Expansion, AreExpanded}
 use Rattle.explore.proofs.Counts.Merged.{like_cut}
 use Rattle.explore.proofs.Keyed.Growing.{key_grows}
-use Rattle.explore.proofs.Keyed.SameKeys.{same_keys}
+use Rattle.local_states.proofs.Parted.SameKeys.{same_keys}
 use Rattle.explore.proofs.Layers.SoFar.{on_so_far}
 use Rattle.explore.proofs.Layers.Kept.{view_at, views_many}
 use Rattle.explore.proofs.Lists.Along.{along_append, along_world}
-use Rattle.explore.proofs.Lists.Indices.{within_some}
-use Rattle.explore.proofs.Lists.SearchLaws.{after_append, like_busy}
+use Rattle.local_states.proofs.Lists.Places.{within_some}
+use Rattle.local_states.proofs.Lists.Runs.{after_append}
+use Rattle.explore.proofs.Lists.SearchLaws.{like_busy}
 use Rattle.explore.proofs.OutOfMemory.Followed.{cuts_there}
-use Rattle.explore.proofs.OutOfMemory.OutOfMemoryWorlds.{ap_at}
+use Rattle.local_states.proofs.OutOfMemory.OutOfMemoryWorlds.{ap_at}
 
 -- ---- the last turn of a list
 

@@ -9,14 +9,15 @@ use Rattle.schedule_graph.specs.declared.graph.Node.{Node}
 use Rattle.schedule_graph.specs.declared.graph.Node.TheVariants.{Ends, Goes}
 use Rattle.explore.specs.declared.limits.Bounds.{Bounds}
 use Rattle.explore.specs.declared.limits.Scope.{Scope}
-use Rattle.explore.specs.declared.layer.Configuration.{Configuration}
-use Rattle.explore.specs.declared.cost.Cost.{Cost}
+use Rattle.explore.specs.declared.frontier.layer.Configuration.{Configuration}
+use Rattle.explore.specs.declared.turns.cost.Cost.{Cost}
 use Rattle.explore.specs.Explored.{AreBusy, ClassView, IsTooLong, bounds_at}
-use Rattle.explore.specs.Layers.{Keeps, VisitedView, LayerView, IsGraphNode, AreGraphNodes, AreJoined, AreWell, IsOn, AreOn, IsFirst, IsFoundIn, IsPassed, HasSearched}
+use Rattle.local_states.specs.Distinct.{Keeps}
+use Rattle.explore.specs.Layers.{VisitedView, LayerView, IsGraphNode, AreGraphNodes, AreJoined, AreWell, IsOn, AreOn, IsFirst, IsFoundIn, IsPassed, HasSearched}
 use Rattle.explore.specs.Points.{no_cost, AreWithin}
-use Rattle.explore.specs.OutOfMemory.{EndsWell}
+use Rattle.local_states.specs.OutOfMemory.{EndsWell}
 use Rattle.explore.proofs.Layers.SoFar.{too_long}
-use Rattle.explore.proofs.Lists.Told.{get_push, get_left, get_last}
+use Rattle.local_states.proofs.Lists.Places.{get_push, get_left, get_last}
 
 pub length_push : {A : Type 0} (xs : List A) (y : A) → length (xs ++ y ∷ []) ≡ suc (length xs)
 length_push [] y = refl

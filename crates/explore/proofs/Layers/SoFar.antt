@@ -6,25 +6,26 @@ use Rattle.std.proofs.lemmas.Option.{same_Some, none-some}
 use Rattle.race_core.specs.Worlds.{WorldView, turn}
 use Rattle.schedule_graph.specs.declared.graph.Node.{Node}
 use Rattle.explore.specs.declared.limits.Scope.{Scope}
-use Rattle.explore.specs.declared.layer.Configuration.{Configuration}
-use Rattle.explore.specs.declared.cost.Cost.{Cost}
-use Rattle.explore.specs.Alike.{full, after_turns}
+use Rattle.explore.specs.declared.frontier.layer.Configuration.{Configuration}
+use Rattle.explore.specs.declared.turns.cost.Cost.{Cost}
+use Rattle.local_states.specs.Alike.{full, after_turns}
 use Rattle.explore.specs.Search.{IsOver, IsFull, IsLike, same}
 use Rattle.explore.specs.Lists.{plus, is_another, cuts}
 use Rattle.explore.specs.Explored.{IsWithin, IsAsked, bounds_at, AreBusy, TellAlike, ClassView, IsTooLong}
 use Rattle.explore.specs.Points.{Point, no_cost, cost_after, start, along, MayGo}
 use Rattle.explore.specs.States.{IsSoFar}
-use Rattle.explore.specs.OutOfMemory.{EndsWell}
+use Rattle.local_states.specs.OutOfMemory.{EndsWell}
 use Rattle.explore.specs.Layers.{VisitedView, point_at, LayerView, IsFirst, IsOnward, IsTransition, IsSuccessorWorld, IsSuccessorConfiguration, IsReportOf, IsFoundIn, IsSearched}
-use Rattle.explore.proofs.Lists.SearchLaws.{after_append, like_turns, like_trans, like_busy}
+use Rattle.local_states.proofs.Lists.Runs.{after_append}
+use Rattle.explore.proofs.Lists.SearchLaws.{like_turns, like_trans, like_busy}
 use Rattle.explore.proofs.OutOfMemory.LikeEnds.{turned_full, well_from}
 use Rattle.explore.proofs.Counts.Merged.{like_cut, like_tells_on}
 use Rattle.explore.proofs.Lists.Told.{tell_same, tell_turned}
 use Rattle.explore.proofs.Lists.Along.{along_append, along_world}
 use Rattle.explore.proofs.Counts.Begun.{along_none, along_push, begins_full}
 use Rattle.explore.proofs.OutOfMemory.Followed.{cuts_there, within_none}
-use Rattle.explore.proofs.Lists.Indices.{within_some}
-use Rattle.explore.proofs.OutOfMemory.OutOfMemoryWorlds.{ap_at}
+use Rattle.local_states.proofs.Lists.Places.{within_some}
+use Rattle.local_states.proofs.OutOfMemory.OutOfMemoryWorlds.{ap_at}
 
 -- ---- worlds like one another
 

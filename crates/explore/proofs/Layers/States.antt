@@ -7,31 +7,31 @@ use Rattle.std.proofs.lemmas.List.{length-map}
 use Rattle.std.proofs.lemmas.Option.{same_Some, none-some, slice_get-map}
 use Rattle.race_core.specs.Worlds.{WorldView}
 use Rattle.schedule_graph.specs.declared.graph.Edge.{Edge}
-use Rattle.explore.specs.declared.keys.Key.{Key}
-use Rattle.explore.specs.declared.layer.Layer.{Layer}
-use Rattle.explore.specs.declared.layer.Visited.{Visited}
-use Rattle.explore.specs.declared.layer.Configuration.{Configuration}
+use Rattle.local_states.specs.declared.keys.Key.{Key}
+use Rattle.explore.specs.declared.frontier.layer.Layer.{Layer}
+use Rattle.explore.specs.declared.frontier.layer.Visited.{Visited}
+use Rattle.explore.specs.declared.frontier.layer.Configuration.{Configuration}
 use Rattle.explore.specs.declared.limits.Scope.{Scope}
-use Rattle.explore.specs.declared.cost.Cost.{Cost}
-use Rattle.explore.specs.declared.transitions.Choice.{Choice}
-use Rattle.explore.specs.declared.transitions.Transition.{Transition}
-use Rattle.explore.specs.Alike.{after_turns}
+use Rattle.explore.specs.declared.turns.cost.Cost.{Cost}
+use Rattle.explore.specs.declared.frontier.transitions.Choice.{Choice}
+use Rattle.explore.specs.declared.frontier.transitions.Transition.{Transition}
+use Rattle.local_states.specs.Alike.{after_turns}
 use Rattle.explore.specs.Effects.{KnownView}
 use Rattle.explore.specs.Explored.{ClassView, bounds_at, IsOnWay, HaveOneState, AreApartStates, HasItsState, AreStates, HasMoreStates}
-use Rattle.explore.specs.Keys.{ComponentsView, AreRows, AreInterned, IsKey}
+use Rattle.local_states.specs.Keys.{ComponentsView, AreRows, AreInterned, IsKey}
 use Rattle.explore.specs.Kept.{layer_of, HaveKeys, IsFirstOf}
-use Rattle.explore.specs.Local.{SameParts}
+use Rattle.local_states.specs.Local.{SameParts}
 use Rattle.explore.specs.Merged.{bounded_cuts}
 use Rattle.explore.specs.Transitions.{AreAllChoices}
 use Rattle.explore.specs.Points.{no_cost}
 use Rattle.explore.specs.Spreading.{AreEdgesOfAll}
 use Rattle.explore.specs.States.{AreStatesAmong, IsSoFar, HasConfiguration, AreAllOnWay, AreStatesUpTo, IsCounted}
 use Rattle.explore.specs.Expanded.{Expansion, IsExpansion, AreExpanded}
-use Rattle.explore.proofs.Alike.PairedLists.{there_was}
+use Rattle.local_states.proofs.Alike.PairedLists.{there_was}
 use Rattle.explore.proofs.Layers.OnWay.{on_way_of, on_way_front, born_on_way, all_on_way}
 use Rattle.explore.proofs.Layers.SoFar.{none_so_far, only}
-use Rattle.explore.proofs.Lists.Indices.{at_or_below}
-use Rattle.explore.proofs.Keyed.SameKeys.{same_but_outside_parts, parts_same_but_outside, same_itself}
+use Rattle.local_states.proofs.Lists.Places.{at_or_below}
+use Rattle.local_states.proofs.Parted.SameKeys.{same_but_outside_parts, parts_same_but_outside, same_itself}
 use Rattle.explore.proofs.Layers.Among.{plus_suc}
 
 -- ---- two lists, one after the other

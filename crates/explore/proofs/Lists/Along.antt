@@ -2,7 +2,7 @@
 use Rattle.std.specs.Prelude.{◌≡◌, ℕ, ◌+◌, List, [], ◌∷◌, ◌++◌, Bool, true, false, Some, refl}
 use Rattle.std.proofs.Common.{◌∙◌, arith}
 use Rattle.race_core.specs.Worlds.{turn}
-use Rattle.explore.specs.Alike.{full, after_turns}
+use Rattle.local_states.specs.Alike.{full, after_turns}
 use Rattle.explore.specs.Lists.{plus, is_cut, is_another, cuts_after, changes_after}
 use Rattle.explore.specs.Points.{Point, onward, along}
 

@@ -4,9 +4,9 @@ use Rattle.std.proofs.Common.{sym, ap, ◌∙◌, subst, ⊎_elim, arith, eqb-tr
 use Rattle.std.proofs.lemmas.Bool.{true≢false}
 use Rattle.std.proofs.lemmas.Option.{slice_get_read}
 use Rattle.explore.specs.Chained.{IsLastBelow, AreChained}
-use Rattle.explore.proofs.Alike.PairedLists.{there_is, there_was}
+use Rattle.local_states.proofs.Alike.PairedLists.{there_is, there_was}
 use Rattle.explore.proofs.Lists.Indices.{up_to}
-use Rattle.explore.proofs.Lists.Told.{get_push, get_left, get_last}
+use Rattle.local_states.proofs.Lists.Places.{get_push, get_left, get_last}
 
 -- ---- a longer list
 

@@ -1,10 +1,5 @@
--- Places in lists.
-use Rattle.std.specs.Prelude.{◌≡◌, ◌<◌, ℕ, ◌+◌, suc, Option, Some, None}
-use Rattle.std.proofs.Common.{◌⊎◌, arith}
-pub use Rattle.step_resolver.proofs.Meaning.PlainResolution.{slice_get-some as within_some}
-
-pub at_or_below : (i n : ℕ) → i < n + 1 → (i < n) ⊎ (i ≡ n)
-at_or_below i n lt = grind arith
+-- How many places of a chain are left.
+use Rattle.std.specs.Prelude.{ℕ, suc, Option, Some, None}
 
 -- ---- a chain of places
 

@@ -3,7 +3,7 @@ use Rattle.std.specs.Prelude.{◌≡◌, ◌<◌, ℕ, List, [], ◌∷◌, leng
 use Rattle.std.proofs.Common.{sym, ap, ◌∙◌, get_or}
 use Rattle.bulk_ops.proofs.MappedLists.{same_lengths, same_at}
 use Rattle.race_core.specs.declared.report.Outcome.{Outcome}
-use Rattle.explore.specs.Renamed.{outcomes_by, replies_by}
+use Rattle.race_core.specs.Renamed.{outcomes_by, replies_by}
 
 pub replies_map : (f : ℕ → ℕ) (xs : List (List Outcome)) → replies_by f xs ≡ map (outcomes_by f) xs
 replies_map f [] = refl

@@ -1,32 +1,22 @@
 -- Turns of those who have nothing left to do change nothing; and closed sets of lists stand for all.
-use Rattle.std.specs.Prelude.{◌≡◌, ◌<◌, ℕ, zero, suc, List, [], ◌∷◌, ◌++◌, Bool, true, false, length, refl}
+use Rattle.std.specs.Prelude.{◌≡◌, ◌<◌, ℕ, List, [], ◌∷◌, ◌++◌, Bool, true, false, length, refl}
 use Rattle.std.proofs.Common.{sym, ap, ◌∙◌, subst}
 use Rattle.tree_model.specs.declared.answer.Event.{Event}
 use Rattle.tree_model.specs.State.{State}
 use Rattle.race_core.specs.declared.report.Outcome.{Outcome}
 use Rattle.handles.specs.Objects.{StandingObject}
-use Rattle.race_core.specs.declared.seat.Seat.{Seat}
 use Rattle.race_core.specs.Book.{tree_now}
-use Rattle.race_core.specs.Worlds.{WorldView, turn, is_busy_at, ledgers_in, replies_in, AllOver, Runs, RunsTo, again, AllGoToEnd, numbers_below}
+use Rattle.race_core.specs.Worlds.{WorldView, turn, is_busy_at, ledgers_in, replies_in, RunsTo, numbers_below}
 use Rattle.race_core.proofs.OneEnd.{idle_turn_by}
-use Rattle.explore.specs.Alike.{full, after_turns}
-use Rattle.explore.specs.Local.{TellAlike}
-use Rattle.explore.specs.OutOfMemory.{replies_out_of_memory}
+use Rattle.local_states.specs.Alike.{full, after_turns}
+use Rattle.local_states.specs.Local.{TellAlike}
+use Rattle.local_states.specs.OutOfMemory.{replies_out_of_memory}
 use Rattle.explore.specs.Search.{IsOver, IsFull, IsLike, same, onward, IsClosed, ChosenListsStandForAll, ReportsAreOfFullLists, FullListsAreReported}
-use Rattle.explore.specs.Outside.{outside_of}
-use Rattle.explore.proofs.Local.OutsideSame.{same_worlds_act}
-use Rattle.explore.proofs.Local.Wholes.{busy_alike, tell_alike}
-use Rattle.explore.proofs.OutOfMemory.OutOfMemoryWorlds.{runs_are_full, ap_at, join}
-
--- ---- turns one after another
-
-pub after_append : (w : WorldView) (is js : List ℕ) → after_turns w (is ++ js) ≡ after_turns (after_turns w is) js
-after_append w [] js = refl
-after_append w (i ∷ is) js = after_append (turn full w i) is js
-
-pub runs_append : (w u v : WorldView) (is js : List ℕ) → Runs w is u → Runs u js v → Runs w (is ++ js) v
-runs_append w u v [] js run more = subst (λ x. Runs x js v) run more
-runs_append w u v (i ∷ is) js run more = (run.0, runs_append (turn run.0 w i) u v is js run.1 more)
+use Rattle.local_states.specs.Outside.{outside_of}
+use Rattle.local_states.proofs.Local.OutsideSame.{same_worlds_act}
+use Rattle.local_states.proofs.Local.Wholes.{busy_alike, tell_alike}
+use Rattle.local_states.proofs.OutOfMemory.OutOfMemoryWorlds.{runs_are_full, ap_at, join}
+use Rattle.local_states.proofs.Lists.Runs.{after_append, runs_append, ends_run, over_at}
 
 -- ---- worlds like one another
 
@@ -104,21 +94,6 @@ tight w (i ∷ is) over = by (λ u rest. tight u is rest) (is_busy_at w.seats i)
         (rest.0, (rest.1.0, join (after_turns (turn full w i) is) (after_turns w is) (after_turns w rest.0) moved rest.1.1))
 
 -- ---- runs to the end
-
-pub ends_run : (w v : WorldView) (is : List ℕ) → AllGoToEnd w is v → (js : List ℕ) × Runs w js v
-ends_run w v [] e = ([], e)
-ends_run w v (i ∷ is) goes =
-    let rest = ends_run goes.0 v is goes.2 in
-    (again i goes.1.turns ++ rest.0, runs_append w goes.0 v (again i goes.1.turns) rest.0 goes.1.run rest.1)
-
-pub over_at : (seats : List Seat) (i : ℕ) → AllOver seats → is_busy_at seats i ≡ false
-over_at [] i over = refl
-over_at (seat ∷ seats) zero over = over.0
-over_at (seat ∷ seats) (suc i) over = over_at seats i over.1
-
-pub all_over : (seats : List Seat) → ((i : ℕ) → is_busy_at seats i ≡ false) → AllOver seats
-all_over [] none = tt
-all_over (seat ∷ seats) none = (none 0, all_over seats (λ i. none (suc i)))
 
 -- what a report is of: the turns of the schedule and more, with memory for all
 pub reported : (w : WorldView) (schedule : List ℕ) (tree : State) (events : List Event) (replies : List (List Outcome)) (kept : List StandingObject)

@@ -1,38 +1,17 @@
--- When two endings tell the same outcome; and what stands where in a list with one more at its end.
-use Rattle.std.specs.Prelude.{◌≡◌, ◌<◌, ℕ, zero, suc, List, [], ◌∷◌, ◌++◌, Bool, length, slice_get, Option, Some, None, refl}
-use Rattle.std.proofs.Common.{◌⊎◌, inl, inr, sym, ap, ◌∙◌, subst, ⊎_elim}
-use Rattle.std.proofs.lemmas.Option.{same_Some, none-some}
+-- When two endings tell the same outcome.
+use Rattle.std.specs.Prelude.{◌≡◌, ◌<◌, ℕ, List, Bool, length, refl}
+use Rattle.std.proofs.Common.{sym, ap, ◌∙◌, subst}
 use Rattle.tree_model.specs.Steps.{held_count}
-use Rattle.race_core.specs.declared.seat.Seat.{Seat}
-use Rattle.race_core.specs.Worlds.{WorldView, turn, turn_of, ledgers_in, replies_in}
-use Rattle.race_core.specs.Turns.{turned}
-pub use Rattle.tree_model.proofs.Places.{slice_get-last as get_last}
-pub use Rattle.schedule_graph.proofs.Spreading.{length_set}
+use Rattle.race_core.specs.Worlds.{WorldView, ledgers_in, replies_in}
 use Rattle.explore.specs.declared.limits.Scope.{Scope}
-use Rattle.explore.specs.Renamed.{replies_by}
-use Rattle.explore.specs.Alike.{full, after_turns}
+use Rattle.race_core.specs.Renamed.{replies_by}
+use Rattle.local_states.specs.Alike.{after_turns}
 use Rattle.explore.specs.Explored.{TellAlike, AgreeIn, EndingView}
 use Rattle.explore.specs.Layers.{VisitedView, IsReportOf}
-use Rattle.explore.specs.Outside.{outside_of}
+use Rattle.local_states.specs.Outside.{outside_of}
 use Rattle.explore.specs.Tally.{SameOutcome}
 use Rattle.explore.proofs.Lists.Mapped.{other_reply_lengths}
-
--- ---- as many actors as ever
-
-turn_keeps : (w : WorldView) (i : ℕ) → length (turn full w i).seats ≡ length w.seats
-turn_keeps w i = by (slice_get w.seats i)
-  where
-    by : (seat : Option Seat) → length (turn_of full w i seat).seats ≡ length w.seats
-    by None = refl
-    by (Some seat) = length_set w.seats i (turned full w.book seat.ledger seat.doing).seat
-
-pub actors_stay : (w : WorldView) (is : List ℕ) → length (after_turns w is).seats ≡ length w.seats
-actors_stay w [] = refl
-actors_stay w (i ∷ is) = actors_stay (turn full w i) is ∙ turn_keeps w i
-
-pub replies_of_seats : (seats : List Seat) → length (replies_in (ledgers_in seats)) ≡ length seats
-replies_of_seats [] = refl
-replies_of_seats (seat ∷ seats) = ap suc (replies_of_seats seats)
+use Rattle.local_states.proofs.Lists.Runs.{replies_of_seats}
 
 -- ---- worlds that tell the same outcome
 
@@ -105,14 +84,3 @@ module _ (visited other : VisitedView) (e d : EndingView) (is : IsReportOf visit
       many = ap length are.report.are_replies ∙ (replies_of_seats other.world.seats ∙ sym (tell_actors visited.told visited.world other.world h))
 
 -- ---- places
-
-pub get_push : {A : Type 0} (xs : List A) (y : A) (k : ℕ) (x : A) → slice_get (xs ++ y ∷ []) k ≡ Some x → (slice_get xs k ≡ Some x) ⊎ ((k ≡ length xs) × (x ≡ y))
-get_push [] y zero x e = inr (refl, sym (same_Some y x e))
-get_push [] y (suc k) x e = absurd (none-some x e)
-get_push (z ∷ zs) y zero x e = inl e
-get_push (z ∷ zs) y (suc k) x e = ⊎_elim (λ h. inl h) (λ h. inr (ap suc h.0, h.1)) (get_push zs y k x e)
-
-pub get_left : {A : Type 0} (xs : List A) (y : A) (k : ℕ) (x : A) → slice_get xs k ≡ Some x → slice_get (xs ++ y ∷ []) k ≡ Some x
-get_left [] y k x e = absurd (none-some x e)
-get_left (z ∷ zs) y zero x e = e
-get_left (z ∷ zs) y (suc k) x e = get_left zs y k x e

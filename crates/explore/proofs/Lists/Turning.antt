@@ -1,19 +1,11 @@
 -- A turn taken, and the cost after it.
-use Rattle.std.specs.Prelude.{◌≡◌, ◌≤◌, ℕ, ◌+◌, Bool, true, false, Option, Some, None, length, slice_get, refl}
+use Rattle.std.specs.Prelude.{◌≡◌, ◌≤◌, ℕ, ◌+◌, Bool, true, false, length}
 use Rattle.std.proofs.Common.{sym, ap, ◌∙◌, subst, arith}
-use Rattle.race_core.specs.declared.seat.Seat.{Seat}
-use Rattle.race_core.specs.Turns.{Luck, turned}
-use Rattle.race_core.specs.Worlds.{WorldView, turn_of, turn}
+use Rattle.race_core.specs.Turns.{turned}
+use Rattle.race_core.specs.Worlds.{turn}
 use Rattle.explore.specs.Lists.{plus, is_cut, is_another}
 use Rattle.explore.specs.Points.{Point, IsTurn, AreWithin}
-use Rattle.explore.proofs.Lists.Told.{length_set}
-
-pub turn_stays : (luck : Luck) (w : WorldView) (i : ℕ) → length (turn luck w i).seats ≡ length w.seats
-turn_stays luck w i = by (slice_get w.seats i)
-  where
-    by : (seat : Option Seat) → length (turn_of luck w i seat).seats ≡ length w.seats
-    by None = refl
-    by (Some seat) = length_set w.seats i (turned luck w.book seat.ledger seat.doing).seat
+use Rattle.local_states.proofs.Lists.Runs.{turn_stays}
 
 pub turn_actors : (p q : Point) (i : ℕ) → IsTurn p i q → length q.world.seats ≡ length p.world.seats
 turn_actors p q i turned = ap (λ (x : Point). length x.world.seats) turned.1 ∙ turn_stays turned.0 p.world i

@@ -6,11 +6,11 @@ use Rattle.tree_model.specs.State.{State}
 use Rattle.handles.specs.Objects.{StandingObject}
 use Rattle.race_core.specs.declared.report.Outcome.{Outcome}
 use Rattle.race_core.specs.Worlds.{WorldView, RunsTo, numbers_below}
-use Rattle.explore.specs.OutOfMemory.{EndsWell, replies_out_of_memory}
+use Rattle.local_states.specs.OutOfMemory.{EndsWell, replies_out_of_memory}
 use Rattle.explore.specs.Lists.{cuts, changes}
 use Rattle.explore.specs.Explored.{IsWithin}
 use Rattle.explore.specs.Points.{start, along}
-use Rattle.explore.proofs.Lists.SearchLaws.{runs_append, ends_run}
+use Rattle.local_states.proofs.Lists.Runs.{runs_append, ends_run}
 use Rattle.explore.proofs.Lists.Along.{cuts_along, changes_along}
 
 -- ---- lists that are asked for

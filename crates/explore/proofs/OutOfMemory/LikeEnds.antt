@@ -5,14 +5,14 @@ use Rattle.race_core.specs.declared.report.Outcome.{Outcome}
 use Rattle.race_core.specs.declared.report.Outcome.TheVariants as outcomes
 use Rattle.race_core.specs.Turns.{Luck}
 use Rattle.race_core.specs.Worlds.{WorldView, turn, ledgers_in, replies_in, AllOver, Runs}
-use Rattle.explore.specs.Renamed.{outcome_by, outcomes_by, replies_by}
-use Rattle.explore.specs.Alike.{full}
-use Rattle.explore.specs.Local.{SameParts, TellAlike}
+use Rattle.race_core.specs.Renamed.{outcome_by, outcomes_by, replies_by}
+use Rattle.local_states.specs.Alike.{full}
+use Rattle.local_states.specs.Local.{SameParts, TellAlike}
 use Rattle.explore.specs.Search.{IsLike, same, onward}
-use Rattle.explore.specs.OutOfMemory.{EndsWell, outcome_out_of_memory, any_out_of_memory, replies_out_of_memory}
-use Rattle.explore.proofs.Lists.SearchLaws.{over_at, all_over}
-use Rattle.explore.proofs.Local.Wholes.{same_turns, busy_alike, tell_alike}
-use Rattle.explore.proofs.OutOfMemory.Lucky.{full_turn, well_turned}
+use Rattle.local_states.specs.OutOfMemory.{EndsWell, outcome_out_of_memory, any_out_of_memory, replies_out_of_memory}
+use Rattle.local_states.proofs.Lists.Runs.{over_at, all_over}
+use Rattle.local_states.proofs.Local.Wholes.{same_turns, busy_alike, tell_alike}
+use Rattle.local_states.proofs.OutOfMemory.Lucky.{full_turn, well_turned}
 
 -- ---- what is told of a want is no matter of handles' numbers
 

@@ -1,24 +1,14 @@
 -- A run to an end that tells of no want had memory for each turn: so did what was gone through on the way.
-use Rattle.std.specs.Prelude.{◌≡◌, ℕ, List, [], ◌∷◌, ◌++◌, true}
-use Rattle.std.proofs.Common.{sym, ap, ◌∙◌, ⊎_elim}
-use Rattle.std.proofs.lemmas.Bool.{true≢false}
+use Rattle.std.specs.Prelude.{◌≡◌, ℕ, List, [], ◌∷◌, ◌++◌}
+use Rattle.std.proofs.Common.{ap}
 use Rattle.race_core.specs.Turns.{Luck}
 use Rattle.race_core.specs.Worlds.{WorldView, turn, Runs}
-use Rattle.explore.specs.Alike.{full}
-use Rattle.explore.specs.OutOfMemory.{EndsWell, seats_out_of_memory}
+use Rattle.local_states.specs.Alike.{full}
+use Rattle.local_states.specs.OutOfMemory.{EndsWell}
 use Rattle.explore.specs.Points.{Point, onward, along, cost_after, Goes}
-use Rattle.explore.proofs.OutOfMemory.OutOfMemoryWorlds.{turn_tells, run_stays, told_at_end, ap_at, join}
-use Rattle.explore.proofs.Lists.SearchLaws.{runs_append}
-
-no_out_of_memory : (u : WorldView) → EndsWell u → seats_out_of_memory u.seats ≡ true → ⊥
-no_out_of_memory u well wants = true≢false (sym (told_at_end well.end.seats well.over (run_stays u well.end well.turns well.run wants)) ∙ well.none)
-
-pub full_turn : (luck : Luck) (w : WorldView) (i : ℕ) → EndsWell (turn luck w i) → turn luck w i ≡ turn full w i
-full_turn luck w i well = ⊎_elim (λ same. same) (λ wants. absurd (no_out_of_memory (turn luck w i) well wants)) (turn_tells luck w i)
-
--- what was before such a turn comes to the same end
-pub well_turned : (luck : Luck) (w : WorldView) (i : ℕ) → EndsWell (turn luck w i) → EndsWell w
-well_turned luck w i well = record { turns = i ∷ well.turns; end = well.end; run = (luck, well.run); over = well.over; none = well.none }
+use Rattle.local_states.proofs.OutOfMemory.OutOfMemoryWorlds.{ap_at, join}
+use Rattle.local_states.proofs.Lists.Runs.{runs_append}
+use Rattle.local_states.proofs.OutOfMemory.Lucky.{full_turn}
 
 full_onward : (luck : Luck) (p : Point) (i : ℕ) → EndsWell (onward luck p i).world → onward luck p i ≡ onward full p i
 full_onward luck p i well =

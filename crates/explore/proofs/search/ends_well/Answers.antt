@@ -2,11 +2,11 @@ use Rattle.std.proofs.Common.{◌≡◌, ◌<◌, List, length, ltb-true, ◌∙
 use Rattle.std.proofs.lemmas.Option.{slice_get_read}
 use Rattle.std.specs.Prelude.{slice_get}
 use Rattle.race_core.specs.Worlds.{WorldView}
-use Rattle.explore.specs.declared.layer.Visited.{Visited}
-use Rattle.explore.specs.Alike.{after_turns}
+use Rattle.explore.specs.declared.frontier.layer.Visited.{Visited}
+use Rattle.local_states.specs.Alike.{after_turns}
 use Rattle.explore.specs.Layers.{IsSure, point_of}
 use Rattle.explore.specs.Points.{Point, start}
-use Rattle.explore.specs.OutOfMemory.{EndsWell}
+use Rattle.local_states.specs.OutOfMemory.{EndsWell}
 use Rattle.explore.proofs.Layers.Grown.{where_ok}
 use Rattle.explore.proofs.Lists.Along.{along_world}
 use Rattle.explore.proofs.OutOfMemory.Lucky.{goes_full}

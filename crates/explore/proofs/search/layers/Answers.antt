@@ -3,7 +3,7 @@ use Rattle.std.proofs.lemmas.Bool.{true≢false, eqb-true}
 use Rattle.std.specs.Global.{Vec}
 use Rattle.race_core.specs.Worlds.{WorldView}
 use Rattle.schedule_graph.specs.declared.graph.Node.{Node}
-use Rattle.explore.specs.declared.layer.Layer.{Layer}
+use Rattle.explore.specs.declared.frontier.layer.Layer.{Layer}
 use Rattle.explore.specs.declared.limits.Bounds.{Bounds}
 use Rattle.explore.specs.declared.limits.Scope.{Scope}
 use Rattle.explore.specs.Explored.{ClassView, WhyNot, bounds_at}

@@ -1,9 +1,9 @@
 use Rattle.std.proofs.Common.{◌∙◌, ℕ, length, sym, ap, subst, rules, arith}
-use Rattle.explore.specs.declared.layer.Layer.{Layer}
+use Rattle.explore.specs.declared.frontier.layer.Layer.{Layer}
 use Rattle.explore.specs.Effects.{KnownView}
 use Rattle.explore.specs.Explored.{WhyNot}
 use Rattle.explore.specs.Kept.{AreKeys}
-use Rattle.explore.specs.Keys.{ComponentsView}
+use Rattle.local_states.specs.Keys.{ComponentsView}
 use Rattle.explore.proofs.Counts.PassedOn.{ToPass, are, expansion, is_expansion, are_fit, are_apart, end_classes_on, is_passed, next_kept, next_counted}
 use Rattle.explore.proofs.Layers.Kept.{keys_few, views_many}
 use Rattle.explore.proofs.search.pass.Given.{Over}

@@ -1,5 +1,0 @@
--- Components that were met: each once, and known by their places.
-pub mod Paired
-pub mod Parts
-pub mod Once
-pub mod Rows

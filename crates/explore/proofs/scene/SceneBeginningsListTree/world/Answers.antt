@@ -1,5 +1,0 @@
-use Rattle.explore.proofs.Local.Opened.{opened_numbered}
-use Rattle.explore.proofs.scene.SceneBeginningsListTree.world.Goals as goal
-
-pub returns-in-Ok-clause-numbered : goal.returns-in-Ok-clause-numbered
-returns-in-Ok-clause-numbered c = opened_numbered c.args.self.now.tree c.args.self.now.plans.items c.args.self.now.lines

@@ -1,0 +1,4 @@
+//! What worlds come to in the end, and which of them to the same.
+pub(crate) mod found;
+pub(crate) mod same;
+pub(crate) mod tally;

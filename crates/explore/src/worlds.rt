@@ -1,0 +1,5 @@
+//! Where each schedule begins, and worlds gone through from there by lists of turns.
+pub(crate) mod begin;
+pub(crate) mod beginnings;
+pub(crate) mod replayed;
+pub(crate) mod scene;

@@ -1,0 +1,6 @@
+pub mod Alike
+pub mod Local
+pub mod OutOfMemory
+pub mod Lists
+pub mod Counting
+pub mod Parted

@@ -1,0 +1,5 @@
+-- Whoever found no memory tells of it; a run in which nobody does had memory for all.
+pub mod OutOfMemoryCalls
+pub mod OutOfMemoryWorlds
+pub mod Lucky
+pub mod JustOne

@@ -1,0 +1,12 @@
+pub mod Alike
+pub mod Paired
+pub mod Outside
+pub mod Local
+pub mod Counting
+pub mod OutOfMemory
+pub mod JustOne
+pub mod Same
+pub mod Distinct
+pub mod HandleTables
+pub mod Fingerprint
+pub mod Keys
