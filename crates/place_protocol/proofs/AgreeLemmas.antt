@@ -10,15 +10,15 @@ use Rattle.kernel_text.specs.declared.place.Place.{Place}
 use Rattle.system_calls.specs.Objects.{is_same_object}
 use Rattle.place_protocol.specs.Conversation.{Conversation, Exchange, Goes, StandsAt, keep}
 use Rattle.place_protocol.specs.Texts.{Texts, Finds, path_of_root, place_of, texts_of}
-use Rattle.place_protocol.specs.Turns.{after_cwd, after_cwd_again, after_found, after_look_up, after_object, confirm_place, first_link, has_found, has_path, in_jail, is_root, link_error, look_up_error, without_second, ENAMETOOLONG}
-use Rattle.place_protocol.specs.Witness.{AgreeingWitnessesAreTold, FindsObject, Worked, is_top}
+use Rattle.place_protocol.specs.Turns.{after_cwd, after_cwd_again, after_found, after_is_root, after_look_up, after_object, after_root_again, confirm, confirm_alone, confirm_place, first_link, has_found, has_path, in_jail, is_root, link_error, look_up_error, without_second, EAGAIN, ENAMETOOLONG}
+use Rattle.place_protocol.specs.Witness.{AgreeingWitnessesAreTold, FindsObject, FindsRoot, Worked, is_top}
 use Rattle.place_protocol.specs.declared.questions.Answer.{Answer}
 use Rattle.place_protocol.specs.declared.questions.Facts.{Facts}
-use Rattle.place_protocol.specs.declared.questions.Question.TheVariants.{Enter, Cwd, CwdAgain, RootLink, ObjectLink, OwnRoot, LookUp, LinkAgain}
+use Rattle.place_protocol.specs.declared.questions.Question.TheVariants.{Enter, Cwd, CwdAgain, RootLink, ObjectLink, OwnRoot, RootAgain, LookUp, LinkAgain, IsRoot}
 use Rattle.place_protocol.specs.declared.turns.Turn.{Turn}
 use Rattle.place_protocol.specs.declared.turns.Turn.TheVariants.{Ask, Look, Stands, Unmade}
 use Rattle.place_protocol.proofs.GoesLemmas.{answered}
-use Rattle.place_protocol.proofs.TextLemmas.{or_second, part_size, place_with_second}
+use Rattle.place_protocol.proofs.TextLemmas.{or_none, or_second, part_size, place_alone, place_with_second}
 
 -- ---- which turn follows
 
@@ -52,7 +52,8 @@ object_turn : (facts : Facts) (error : ℕ) (at : Place) → error ≡ 0 → fac
 object_turn facts error at none second seen =
     cond-false (not (error == 0)) (Unmade error) _ (zero_error error none)
     ∙ (cond-true (facts.jailed || facts.second) (confirm_place facts at) (Ask OwnRoot) (or_second facts.jailed facts.second second)
-    ∙ (cond-true facts.second _ _ second ∙ cond-false facts.seen (Stands at false) (Look at) seen))
+    ∙ (cond-false (not facts.second) (confirm_alone facts at) _ (ap not second)
+    ∙ cond-false (facts.seen && not (is_root at)) (Stands at false) (Look at) (ap (λ s. s && not (is_root at)) seen)))
 
 found_turn : (facts : Facts) (a : Answer) (at : Place) → a.yes ≡ false → a.error ≡ 0
     → is_same_object a.held a.found (is_root at) ≡ true → facts.directory ≡ true → 0 < a.links
@@ -158,5 +159,80 @@ enter_tells facts kept place enter cwd again jailed directory seen worked cwd_wo
     let e : a.0 ≡ Ask Cwd = a.1 ∙ cond-true (enter.answer.error == 0) (Ask Cwd) _ (eq-eqb enter.answer.error 0 worked.1) in
     cwd_tells facts place t a.0 cwd again seen cwd_worked told q ne e a.2
 
+-- the root itself, without openat2(2)
+which_tells : (facts : Facts) (place : List ℕ) (t : Texts) (next : Turn) (which : Exchange) → place_of facts t ≡ Some place
+    → FindsRoot which → next ≡ Ask IsRoot → Goes facts t next (which ∷ []) (Else place) → ⊥
+which_tells facts place t next which told finds is h =
+    let g = subst (λ (n : Turn). Goes facts t n (which ∷ []) (Else place)) is h in
+    let a = answered IsRoot facts t which [] (Else place) finds.0.0 g.1 in
+    let f = found_there t.text (place_of facts t) a.1.0 place a.1.1 told in
+    let e : a.0 ≡ Stands f.0 (is_root f.0) =
+    a.1.2 ∙ (ap (after_is_root which.answer) f.1 ∙ cond-true _ (Stands f.0 (is_root f.0)) _ (both_true (eq-eqb which.answer.error 0 finds.0.1) finds.1)) in
+    ended place t a.0 f.0 e f.2 a.2
+
+-- a place without openat2(2)
+alone_turn : (facts : Facts) (at : Place) → facts.jailed ≡ false → facts.second ≡ false → is_root at ≡ true
+    → confirm_place facts at ≡ Ask IsRoot
+alone_turn facts at jailed second top =
+    cond-true (not facts.second) (confirm_alone facts at) _ (ap not second)
+    ∙ (cond-true (is_root at) _ _ top ∙ cond-false facts.jailed (Unmade EAGAIN) (Ask IsRoot) jailed)
+
+root_again_tells : (facts : Facts) (place : List ℕ) (t : Texts) (next : Turn) (again which : Exchange)
+    → facts.jailed ≡ false → facts.second ≡ false → is_top place ≡ true → Worked RootAgain again → length again.text ≤ TEXT_MAX
+    → place_between t.root t.text again.text ≡ Some place → FindsRoot which → next ≡ Ask RootAgain
+    → Goes facts t next (again ∷ which ∷ []) (Else place) → ⊥
+root_again_tells facts place t next again which jailed second top worked size told finds is h =
+    let g = subst (λ (n : Turn). Goes facts t n (again ∷ which ∷ []) (Else place)) is h in
+    let a = answered RootAgain facts t again (which ∷ []) (Else place) worked.0 g.1 in
+    let t' = keep RootAgain again.text t in
+    let here = place_alone facts t' place jailed second told in
+    let f = found_there t'.text (place_of facts t') a.1.0 place a.1.1 here in
+    let fine = link_fine again.answer.error again.text worked.1 size in
+    let own : is_root f.0 ≡ true = sym (ap (λ n. n == 1) (part_size t'.text place f.0.start f.0.length f.2)) ∙ top in
+    let e : a.0 ≡ Ask IsRoot =
+    a.1.2 ∙ (ap (after_root_again facts (link_error again.answer.error again.text)) f.1
+    ∙ (cond-true (link_error again.answer.error again.text == 0) (confirm_place facts f.0) _ (eq-eqb (link_error again.answer.error again.text) 0 fine)
+    ∙ alone_turn facts f.0 jailed second own)) in
+    which_tells facts place t' a.0 which here finds e a.2
+
+own_tells : (facts : Facts) (place : List ℕ) (t : Texts) (next : Turn) (own again which : Exchange)
+    → facts.jailed ≡ false → facts.second ≡ false → is_top place ≡ true → own.question ≡ OwnRoot → own.answer.yes ≡ true
+    → Worked RootAgain again → length again.text ≤ TEXT_MAX → place_between t.root t.text again.text ≡ Some place → FindsRoot which
+    → next ≡ Ask OwnRoot → Goes facts t next (own ∷ again ∷ which ∷ []) (Else place) → ⊥
+own_tells facts place t next own again which jailed second top q own_yes worked size told finds is h =
+    let g = subst (λ (n : Turn). Goes facts t n (own ∷ again ∷ which ∷ []) (Else place)) is h in
+    let a = answered OwnRoot facts t own (again ∷ which ∷ []) (Else place) q g.1 in
+    let e : a.0 ≡ Ask RootAgain = a.1 ∙ cond-true own.answer.yes (Ask RootAgain) _ own_yes in
+    root_again_tells facts place t a.0 again which jailed second top worked size told finds e a.2
+
+object_alone_tells : (facts : Facts) (place : List ℕ) (t : Texts) (next : Turn) (object own again which : Exchange)
+    → facts.jailed ≡ false → facts.second ≡ false → is_top place ≡ true → Worked ObjectLink object
+    → own.question ≡ OwnRoot → own.answer.yes ≡ true → Worked RootAgain again → length again.text ≤ TEXT_MAX
+    → place_between t.root object.text again.text ≡ Some place → FindsRoot which
+    → next ≡ Ask ObjectLink → Goes facts t next (object ∷ own ∷ again ∷ which ∷ []) (Else place) → ⊥
+object_alone_tells facts place t next object own again which jailed second top read q own_yes worked size told finds is h =
+    let g = subst (λ (n : Turn). Goes facts t n (object ∷ own ∷ again ∷ which ∷ []) (Else place)) is h in
+    let a = answered ObjectLink facts t object (own ∷ again ∷ which ∷ []) (Else place) read.0 g.1 in
+    let error = link_error object.answer.error object.text in
+    let fine = link_fine object.answer.error object.text read.1 (short t.root object.text again.text place told) in
+    let e : a.0 ≡ Ask OwnRoot =
+    a.1.2 ∙ (cond-false (not (error == 0)) (Unmade error) _ (zero_error error fine)
+    ∙ cond-false (facts.jailed || facts.second) (confirm facts a.1.0) (Ask OwnRoot) (or_none facts.jailed facts.second jailed second)) in
+    own_tells facts place (keep ObjectLink object.text t) a.0 own again which jailed second top q own_yes worked size told finds e a.2
+
+root_alone_tells : (facts : Facts) (kept place : List ℕ) (root object own again which : Exchange)
+    → facts.jailed ≡ false → facts.second ≡ false → is_top place ≡ true
+    → Worked RootLink root → length root.text ≤ TEXT_MAX → Worked ObjectLink object
+    → own.question ≡ OwnRoot → own.answer.yes ≡ true → Worked RootAgain again → length again.text ≤ TEXT_MAX
+    → place_between root.text object.text again.text ≡ Some place → FindsRoot which
+    → Conversation facts kept (root ∷ object ∷ own ∷ again ∷ which ∷ []) (Else place) → ⊥
+root_alone_tells facts kept place root object own again which jailed second top read size object_read q own_yes worked again_size told finds h =
+    let t = texts_of kept [] [] in
+    let a = answered RootLink facts t root (object ∷ own ∷ again ∷ which ∷ []) (Else place) read.0 h.1 in
+    let fine = link_fine root.answer.error root.text read.1 size in
+    let e : a.0 ≡ Ask ObjectLink =
+    a.1 ∙ cond-true (link_error root.answer.error root.text == 0) (Ask ObjectLink) _ (eq-eqb (link_error root.answer.error root.text) 0 fine) in
+    object_alone_tells facts place (keep RootLink root.text t) a.0 object own again which jailed second top object_read q own_yes worked again_size told finds e a.2
+
 pub agreeing-witnesses-are-told : AgreeingWitnessesAreTold
-agreeing-witnesses-are-told = (root_tells, enter_tells)
+agreeing-witnesses-are-told = (root_tells, enter_tells, root_alone_tells)

@@ -1,21 +1,21 @@
 -- Where the thread has openat2(2).
 use Rattle.std.proofs.Common.{◌≡◌, ◌==◌, ◌&&◌, ◌||◌, ℕ, Bool, true, false, not, cond, List, [], ◌∷◌, length, nat_lt, Option, Some, None, refl, sym, ap, subst, ◌∙◌, ◌⊎◌, inl, inr}
-use Rattle.std.proofs.lemmas.Bool.{cond-false, eqb-true, false≢true, not-false, ltb-true}
+use Rattle.std.proofs.lemmas.Bool.{cond-false, eqb-true, not-false, not-true, ltb-true}
 use Rattle.path_text.specs.declared.name.TheConstants.{SLASH}
 use Rattle.kernel_text.specs.Place.{is_named, place_between, IsPart}
 use Rattle.kernel_text.specs.declared.place.Place.{Place}
 use Rattle.system_calls.specs.Objects.{is_same_object}
 use Rattle.place_protocol.specs.Conversation.{Comes, Exchange, StandsAt, keep}
 use Rattle.place_protocol.specs.Texts.{Texts, Finds, bytes_of, path_of_root, place_of}
-use Rattle.place_protocol.specs.Turns.{after_found, after_link_again, after_look_up, after_object, confirm, confirm_place, facts_after, first_link, has_found, is_root, link_error, look_up_error, without_second, EAGAIN}
+use Rattle.place_protocol.specs.Turns.{after_found, after_link_again, after_look_up, after_object, confirm, confirm_alone, confirm_place, facts_after, first_link, has_found, is_root, link_error, look_up_error, without_second, EAGAIN}
 use Rattle.place_protocol.specs.Witness.{IsThere, RootStayed, SecondWitness, TextTells, WasThere, Worked, is_top}
 use Rattle.place_protocol.specs.declared.questions.Facts.{Facts}
 use Rattle.place_protocol.specs.declared.questions.Question.{Question}
 use Rattle.place_protocol.specs.declared.questions.Question.TheVariants.{RootLink, ObjectLink, OwnRoot, LookUp, LinkAgain}
 use Rattle.place_protocol.specs.declared.turns.Turn.{Turn}
 use Rattle.place_protocol.specs.declared.turns.Turn.TheVariants.{Ask, Look, Stands, Unmade}
-use Rattle.place_protocol.proofs.AloneLemmas.{jail_alone, root_stayed}
-use Rattle.place_protocol.proofs.GoesLemmas.{Ends, answered, asked, either, if_not, if_so, link_worked, no_error, so, stood, turned, unmade}
+use Rattle.place_protocol.proofs.AloneLemmas.{Confirmed, jail_alone, root_stayed, top_of}
+use Rattle.place_protocol.proofs.GoesLemmas.{Ends, answered, asked, both, either, if_not, if_so, link_worked, no_error, not_so, so, stood, turned, unmade}
 use Rattle.place_protocol.proofs.TextLemmas.{found_part, is_found, or_second, part_size, place_with_second, some_found, told_with_second}
 
 -- the text tells the place below the root's path that was read last
@@ -53,29 +53,25 @@ again place r facts t (e ∷ es) second h =
 -- it was lost at the look-up, and the text tells the place alone
 pub record Lost (facts : Facts) (place : List ℕ) (es : List Exchange) : Type 0 where
   pub refused : Comes (λ e _. (e.question ≡ LookUp) × (e.answer.yes ≡ true)) es
-  pub told : ((facts.jailed ≡ true) × TextTells ObjectLink (SLASH ∷ []) place (IsThere facts place) es)
-      ⊎ ((facts.jailed ≡ false) × RootStayed facts place es)
+  pub told : ((facts.jailed ≡ true) × (is_top place ≡ false) × TextTells ObjectLink (SLASH ∷ []) place (IsThere facts place) es)
+      ⊎ ((facts.jailed ≡ false) × RootStayed place (Confirmed (IsThere facts place) (is_top place)) es)
 
 pub lost_before : (facts : Facts) (place : List ℕ) (e : Exchange) (es : List Exchange) → Lost facts place es → Lost facts place (e ∷ es)
 lost_before facts place e es l =
     record {
       refused = inr l.refused;
-      told = elim l.told [ inl j ↦ inl (j.0, inr j.1) | inr s ↦ inr (s.0, inr s.1) ];
+      told = elim l.told [ inl j ↦ inl (j.0, j.1, inr j.2) | inr s ↦ inr (s.0, inr s.1) ];
     }
 
 -- what follows without it
 lost_of : (place : List ℕ) (r : Bool) (facts : Facts) (t : Texts) (es : List Exchange) (jailed : Bool) → facts.jailed ≡ jailed
     → Ends place r (without_second facts) t (Ask (cond jailed ObjectLink RootLink)) es
-    → ((facts.jailed ≡ true) × TextTells ObjectLink (SLASH ∷ []) place (IsThere facts place) es)
-    ⊎ ((facts.jailed ≡ false) × RootStayed facts place es)
-lost_of place r facts t es true is h = inl (is, jail_alone place r (without_second facts) t es refl is h)
+    → ((facts.jailed ≡ true) × (is_top place ≡ false) × TextTells ObjectLink (SLASH ∷ []) place (IsThere facts place) es)
+    ⊎ ((facts.jailed ≡ false) × RootStayed place (Confirmed (IsThere facts place) (is_top place)) es)
+lost_of place r facts t es true is h = let j = jail_alone place r (without_second facts) t es refl is h in inl (is, j.0, j.1)
 lost_of place r facts t es false is h = inr (is, root_stayed place r (without_second facts) t es refl is h)
 
 -- ---- what it found
-
-pub both : (x y : Bool) → (x && y) ≡ true → (x ≡ true) × (y ≡ true)
-both true y e = (refl, e)
-both false y e = absurd (false≢true e)
 
 record Seen (facts : Facts) (t : Texts) (place : List ℕ) (e : Exchange) (es : List Exchange) : Type 0 where
   worked : Worked LookUp e
@@ -123,7 +119,7 @@ found_of place r facts t e es found second q finds h =
 -- by both witnesses; by the text of what was seen before; or the second one was lost
 pub data Reached (facts : Facts) (place : List ℕ) (Tells : (List Exchange → Type 0) → List Exchange → Type 0) (es : List Exchange) : Type 0 where
   reached_both : Tells (SecondWitness facts place) es → Reached facts place Tells es
-  reached_seen : facts.seen ≡ true → Tells (λ later. Unit {0}) es → Reached facts place Tells es
+  reached_seen : facts.seen ≡ true → is_top place ≡ false → Tells (λ later. Unit {0}) es → Reached facts place Tells es
   reached_lost : Lost facts place es → Reached facts place Tells es
 
 abbrev pub TellsNow : Facts → Texts → List ℕ → (List Exchange → Type 0) → List Exchange → Type 0
@@ -135,7 +131,7 @@ look_yes : (place : List ℕ) (r : Bool) (facts : Facts) (t : Texts) (e : Exchan
     → Lost facts place (e ∷ es) ⊎ Ends place r facts t turn es
 look_yes place r facts t e es true turn q is h =
     let l = lost_of place r facts t es facts.jailed refl h in
-    inl (record { refused = inl (q, is); told = elim l [ inl j ↦ inl (j.0, inr j.1) | inr s ↦ inr (s.0, inr s.1) ] })
+    inl (record { refused = inl (q, is); told = elim l [ inl j ↦ inl (j.0, j.1, inr j.2) | inr s ↦ inr (s.0, inr s.1) ] })
 look_yes place r facts t e es false turn q is h = inr h
 
 look_of : (place : List ℕ) (r : Bool) (facts : Facts) (t : Texts) (e : Exchange) (es : List Exchange) (found : Option Place) (p : List ℕ)
@@ -168,10 +164,14 @@ pub by_place : (place : List ℕ) (r : Bool) (facts : Facts) (t : Texts) (es : L
     → facts.second ≡ true → Finds t.text (place_of facts t) (Some found) → Ends place r facts t (confirm_place facts found) es
     → Reached facts place (TellsNow facts t place) es
 by_place place r facts t es found second finds h =
-    elim (either place r facts t facts.seen (Stands found false) (Look found) es (so place r facts t facts.second _ _ es second h)) [
+    let n = not_so place r facts t (not facts.second) (confirm_alone facts found) _ es (ap not second) h in
+    elim (either place r facts t (facts.seen && not (is_root found)) (Stands found false) (Look found) es n) [
       | inl c ↦
-          let s = some_found t.text (place_of facts t) found place finds (stood place r facts t found false es c.1) in
-          reached_seen c.0 (told_with_second facts t place second s.0, tt)
+          let part = stood place r facts t found false es c.1 in
+          let s = some_found t.text (place_of facts t) found place finds part in
+          let b = both facts.seen (not (is_root found)) c.0 in
+          let top = top_of t.text place found part ∙ not-true (is_root found) b.1 in
+          reached_seen b.0 top (told_with_second facts t place second s.0, tt)
       | inr c ↦
           let p = is_found t.text (place_of facts t) found finds in
           look place r facts t es found p.0 second (told_with_second facts t p.0 second p.1) p.2 c.1
@@ -192,7 +192,7 @@ told_by link place facts t e es worked same h =
     let R = path_of_root facts t.root in
     elim h [
       | reached_both x ↦ reached_both (inl (worked, ap (λ text. place_between R text R) same ∙ x.0, x.1))
-      | reached_seen s x ↦ reached_seen s (inl (worked, ap (λ text. place_between R text R) same ∙ x.0, x.1))
+      | reached_seen s top x ↦ reached_seen s top (inl (worked, ap (λ text. place_between R text R) same ∙ x.0, x.1))
       | reached_lost l ↦ reached_lost (lost_before facts place e es l)
     ]
 
@@ -223,7 +223,7 @@ root_told : (place : List ℕ) (facts : Facts) (e : Exchange) (es : List Exchang
     → Reached facts place (TextTells ObjectLink e.text place) es → Reached facts place (RootTells place) (e ∷ es)
 root_told place facts e es worked h =
     elim h
-    [ reached_both x ↦ reached_both (inl (worked, x)) | reached_seen s x ↦ reached_seen s (inl (worked, x)) | reached_lost l ↦ reached_lost (lost_before facts place e es l) ]
+    [ reached_both x ↦ reached_both (inl (worked, x)) | reached_seen s top x ↦ reached_seen s top (inl (worked, x)) | reached_lost l ↦ reached_lost (lost_before facts place e es l) ]
 
 pub root : (place : List ℕ) (r : Bool) (facts : Facts) (t : Texts) (es : List Exchange) → facts.second ≡ true → facts.jailed ≡ false
     → Ends place r facts t (Ask RootLink) es → Reached facts place (RootTells place) es

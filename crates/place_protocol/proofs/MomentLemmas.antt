@@ -1,16 +1,20 @@
 -- What answers say of the file system.
-use Rattle.std.proofs.Common.{◌≡◌, ◌+◌, ◌<◌, ◌≤◌, ◌&&◌, ℕ, true, false, zero, suc, ◌-◌, List, [], ◌∷◌, length, sym, ap, subst, ◌∙◌, ◌⊎◌, inl, inr, arith}
-use Rattle.std.proofs.lemmas.Bool.{both_ways}
+use Rattle.std.proofs.Common.{◌≡◌, ◌+◌, ◌<◌, ◌≤◌, ◌==◌, ◌&&◌, ◌||◌, ℕ, Bool, true, false, not, zero, suc, ◌-◌, List, [], ◌∷◌, length, take, drop, nat_lt, Some, None, refl, sym, ap, subst, ◌∙◌, ◌⊎◌, inl, inr, arith}
+use Rattle.std.proofs.lemmas.Bool.{both_ways, cond_both, eqb-true, false≢true, not-false}
 use Rattle.std.specs.Cmp.Derive.{both_true}
 use Rattle.path_text.specs.declared.name.TheConstants.{SLASH}
-use Rattle.kernel_text.specs.Place.{ends_as_gone, place_between}
+use Rattle.path_text.specs.Name.{same_bytes}
+use Rattle.path_text.specs.Text.{begins_with_slash}
+use Rattle.path_text.specs.declared.path.TheConstants.{TEXT_MAX}
+use Rattle.kernel_text.specs.Place.{behind, ends_as_gone, place_below, place_between}
 use Rattle.place_protocol.specs.Conversation.{Comes, Exchange}
 use Rattle.place_protocol.specs.Moments.{AreAnswers, IsAnswer, PlacesStood, PlacesWerePassed, ReadsLink, StaysGone, TextsTell, World}
 use Rattle.place_protocol.specs.Turns.{has_path}
-use Rattle.place_protocol.specs.Witness.{DirectoryTells, FirstWitness, below_slash, below_kept, below_link, HasNoSecond, IsThere, IsWitnessed, by_directory, by_both, by_seen, in_old_jail, by_text, RootStayed, SecondWitness, TextTells, Worked}
+use Rattle.place_protocol.specs.Witness.{DirectoryTells, FindsObject, FindsRoot, FirstWitness, below_slash, below_kept, below_link, HasNoSecond, IsThere, IsWitnessed, by_directory, by_both, by_seen, in_old_jail, by_text, root_itself, RootStayed, SecondWitness, TextTells, Worked, is_top}
 use Rattle.place_protocol.specs.declared.questions.Facts.{Facts}
 use Rattle.place_protocol.specs.declared.questions.Question.{Question}
 use Rattle.place_protocol.specs.declared.questions.Question.TheVariants.{CwdAgain, KeptLink, RootLink, ObjectLink, LookUp}
+use Rattle.place_protocol.proofs.GoesLemmas.{both}
 use Rattle.place_protocol.proofs.WitnessLemmas.{places-are-witnessed}
 
 -- ---- the moment of an exchange
@@ -87,13 +91,13 @@ directory w facts place es stays answers c =
 -- a text of the object's link tells the place
 text_stood : (link : Question) (w : World) (facts : Facts) (kept place : List ℕ) (n : ℕ) (es : List Exchange)
     (After : List Exchange → Type 0) → ((k : ℕ) (e : Exchange) → IsAnswer w k e → Worked link e → e.text ≡ w.object k)
-    → (tell : TextsTell w facts kept) → ends_as_gone place ≡ false → AreAnswers w n es → TextTells link tell.path place After es
-    → Stood w facts place (n + length es)
-text_stood link w facts kept place n es After says tell named answers c =
+    → (tell : TextsTell w facts kept) → is_top place ≡ false → ends_as_gone place ≡ false → AreAnswers w n es
+    → TextTells link tell.path place After es → Stood w facts place (n + length es)
+text_stood link w facts kept place n es After says tell top named answers c =
     let r = at _ w n es c answers in
     let text = says r.k r.e r.answer r.is.0 in
     let told = sym (ap (λ x. place_between tell.path x tell.path) text) ∙ r.is.1 in
-    (r.k, omega (arith, r.size), inl (tell.below r.k place told named))
+    (r.k, omega (arith, r.size), inl (tell.below r.k place told top named))
 
 object_says : (w : World) (k : ℕ) (e : Exchange) → IsAnswer w k e → Worked ObjectLink e → e.text ≡ w.object k
 object_says w k e a = a.object_link
@@ -103,33 +107,34 @@ kept_says w k e a = a.kept_link
 
 -- where the root's link told its path
 link_stood : (w : World) (facts : Facts) (kept place : List ℕ) (es : List Exchange) (After : List Exchange → Type 0)
-    → (tell : TextsTell w facts kept) → ends_as_gone place ≡ false → AreAnswers w 0 es
+    → (tell : TextsTell w facts kept) → is_top place ≡ false → ends_as_gone place ≡ false → AreAnswers w 0 es
     → Comes (λ e later. Worked RootLink e × TextTells ObjectLink e.text place After later) es → Stood w facts place (length es)
-link_stood w facts kept place es After tell named answers c =
+link_stood w facts kept place es After tell top named answers c =
     let r = at _ w 0 es c answers in
     let path = r.answer.root_link r.is.0 ∙ tell.stays r.k in
     let told = subst (λ (p : List ℕ). TextTells ObjectLink p place After r.later) path r.is.1 in
-    let s = text_stood ObjectLink w facts kept place (r.k + 1) r.later After (object_says w) tell named r.rest told in
+    let s = text_stood ObjectLink w facts kept place (r.k + 1) r.later After (object_says w) tell top named r.rest told in
     (s.0, omega (arith, s.1, r.size), s.2)
 
 first_stood : (w : World) (facts : Facts) (kept place : List ℕ) (es : List Exchange) (After : List Exchange → Type 0)
-    → (tell : TextsTell w facts kept) → ends_as_gone place ≡ false → AreAnswers w 0 es → FirstWitness facts kept place After es
-    → Stood w facts place (length es)
-first_stood w facts kept place es After tell named answers (below_slash j c) =
-    let s = text_stood ObjectLink w facts kept place 0 es After (object_says w) tell named answers
+    → (tell : TextsTell w facts kept) → is_top place ≡ false → ends_as_gone place ≡ false → AreAnswers w 0 es
+    → FirstWitness facts kept place After es → Stood w facts place (length es)
+first_stood w facts kept place es After tell top named answers (below_slash j c) =
+    let s = text_stood ObjectLink w facts kept place 0 es After (object_says w) tell top named answers
     (subst (λ (p : List ℕ). TextTells ObjectLink p place After es) (sym (tell.jailed j)) c) in
     (s.0, omega (arith, s.1), s.2)
-first_stood w facts kept place es After tell named answers (below_kept j k c) =
-    let s = text_stood KeptLink w facts kept place 0 es After (kept_says w) tell named answers
+first_stood w facts kept place es After tell top named answers (below_kept j k c) =
+    let s = text_stood KeptLink w facts kept place 0 es After (kept_says w) tell top named answers
     (subst (λ (p : List ℕ). TextTells KeptLink p place After es) (sym (tell.kept_path k)) c) in
     (s.0, omega (arith, s.1), s.2)
-first_stood w facts kept place es After tell named answers (below_link j c) =
-    link_stood w facts kept place es After tell named answers c
+first_stood w facts kept place es After tell top named answers (below_link j c) =
+    link_stood w facts kept place es After tell top named answers c
 
 -- without openat2(2)
 alone_stood : (w : World) (facts : Facts) (kept place : List ℕ) (es : List Exchange) → (tell : TextsTell w facts kept)
-    → ends_as_gone place ≡ false → AreAnswers w 0 es → RootStayed facts place es → Stood w facts place (length es)
-alone_stood w facts kept place es tell named answers c =
+    → is_top place ≡ false → ends_as_gone place ≡ false → AreAnswers w 0 es → RootStayed place (IsThere facts place) es
+    → Stood w facts place (length es)
+alone_stood w facts kept place es tell top named answers c =
     let r = at _ w 0 es c answers in
     let o = at _ w (r.k + 1) r.later r.is.1 r.rest in
     let m = at _ w (o.k + 1) o.later o.is.1 o.rest in
@@ -138,7 +143,73 @@ alone_stood w facts kept place es tell named answers c =
     let after = a.answer.root_again a.is.0 ∙ tell.stays a.k in
     let text = o.answer.object_link o.is.0 in
     let told = sym (ap (λ x. place_between x o.e.text a.e.text) before ∙ (ap (λ x. place_between tell.path x a.e.text) text ∙ ap (λ x. place_between tell.path (w.object o.k) x) after)) ∙ a.is.1 in
-    (o.k, omega (arith, o.size, r.size), inl (tell.below o.k place told named))
+    (o.k, omega (arith, o.size, r.size), inl (tell.below o.k place told top named))
+
+-- ---- the root itself
+
+-- it stands at a slash alone
+alone_slash : (place : List ℕ) → begins_with_slash place ≡ true → is_top place ≡ true → place ≡ SLASH ∷ []
+alone_slash [] slash top = absurd (false≢true slash)
+alone_slash (b ∷ []) slash top = ap (λ x. x ∷ []) (eqb-true b SLASH slash)
+alone_slash (b ∷ c ∷ bs) slash top = absurd (omega (arith, eqb-true (length (b ∷ c ∷ bs)) 1 top))
+
+some_slash : (place text : List ℕ) → begins_with_slash text ≡ true → Some text ≡ Some place → is_top place ≡ true → place ≡ SLASH ∷ []
+some_slash place text slash e top =
+    let same : text ≡ place = cc in
+    alone_slash place (subst (λ (x : List ℕ). begins_with_slash x ≡ true) same slash) top
+
+behind_slash : (rest place : List ℕ) → behind rest ≡ Some place → is_top place ≡ true → place ≡ SLASH ∷ []
+behind_slash [] place e top = some_slash place (SLASH ∷ []) refl e top
+behind_slash (b ∷ bs) place e top =
+    cond_both (b == SLASH) (Some (b ∷ bs)) None (λ o. o ≡ Some place → place ≡ SLASH ∷ [])
+    (λ slash f. some_slash place (b ∷ bs) slash f top) (λ _ f. absurd cc) e
+
+below_slash_alone : (root path place : List ℕ) → place_below root path ≡ Some place → is_top place ≡ true → place ≡ SLASH ∷ []
+below_slash_alone root path place e top =
+    cond_both (not (begins_with_slash root && begins_with_slash path)) None _ (λ o. o ≡ Some place → place ≡ SLASH ∷ [])
+    (λ _ f. absurd cc)
+    (λ begin. cond_both (same_bytes root (SLASH ∷ [])) (Some path) _ (λ o. o ≡ Some place → place ≡ SLASH ∷ [])
+    (λ _ f. some_slash place path (both (begins_with_slash root) (begins_with_slash path) (not-false _ begin)).1 f top)
+    (λ _. cond_both (same_bytes (take (length root) path) root) (behind (drop (length root) path)) None
+    (λ o. o ≡ Some place → place ≡ SLASH ∷ []) (λ _ f. behind_slash (drop (length root) path) place f top) (λ _ f. absurd cc))) e
+
+slash : (before path after place : List ℕ) → place_between before path after ≡ Some place → is_top place ≡ true → place ≡ SLASH ∷ []
+slash before path after place e top =
+    cond_both (nat_lt TEXT_MAX (length path) || not (same_bytes before after)) None (place_below before path)
+    (λ o. o ≡ Some place → place ≡ SLASH ∷ []) (λ _ f. absurd cc) (λ _ f. below_slash_alone before path place f top) e
+
+text_slash : (link : Question) (root place : List ℕ) (After : List Exchange → Type 0) (es : List Exchange) → TextTells link root place After es
+    → is_top place ≡ true → place ≡ SLASH ∷ []
+text_slash link root place After [] c top = absurd c
+text_slash link root place After (e ∷ es) (inl p) top = slash root e.text root place p.1 top
+text_slash link root place After (e ∷ es) (inr c) top = text_slash link root place After es c top
+
+link_slash : (place : List ℕ) (After : List Exchange → Type 0) (es : List Exchange)
+    → Comes (λ e later. Worked RootLink e × TextTells ObjectLink e.text place After later) es → is_top place ≡ true → place ≡ SLASH ∷ []
+link_slash place After [] c top = absurd c
+link_slash place After (e ∷ es) (inl p) top = text_slash ObjectLink e.text place After es p.1 top
+link_slash place After (e ∷ es) (inr c) top = link_slash place After es c top
+
+first_slash : (facts : Facts) (kept place : List ℕ) (After : List Exchange → Type 0) (es : List Exchange)
+    → FirstWitness facts kept place After es → is_top place ≡ true → place ≡ SLASH ∷ []
+first_slash facts kept place After es (below_slash j c) top = text_slash ObjectLink (SLASH ∷ []) place After es c top
+first_slash facts kept place After es (below_kept j k c) top = text_slash KeptLink kept place After es c top
+first_slash facts kept place After es (below_link j c) top = link_slash place After es c top
+
+-- which objects both are was asked last
+root_stood : (w : World) (facts : Facts) (place : List ℕ) (es : List Exchange) → is_top place ≡ true → AreAnswers w 0 es
+    → RootStayed place (Comes (λ e _. FindsRoot e)) es → Stood w facts place (length es)
+root_stood w facts place es top answers c =
+    let r = at _ w 0 es c answers in
+    let o = at _ w (r.k + 1) r.later r.is.1 r.rest in
+    let m = at _ w (o.k + 1) o.later o.is.1 o.rest in
+    let a = at _ w (m.k + 1) m.later m.is.2 m.rest in
+    let f = at _ w (a.k + 1) a.later a.is.2 a.rest in
+    let is = slash r.e.text o.e.text a.e.text place a.is.1 top in (
+      f.k,
+      omega (arith, f.size, a.size, m.size, o.size, r.size),
+      inl (ap (w.stands f.k) is ∙ f.answer.is_root f.is),
+    )
 
 -- ---- a link was read
 
@@ -154,26 +225,79 @@ first_read facts kept place es After (below_slash j c) = weaker _ _ (λ e later 
 first_read facts kept place es After (below_kept j k c) = weaker _ _ (λ e later p. inr p.0) es c
 first_read facts kept place es After (below_link j c) = root_read place es After c
 
-alone_read : (facts : Facts) (place : List ℕ) (es : List Exchange) → RootStayed facts place es → ReadsLink es
-alone_read facts place [] c = c
-alone_read facts place (e ∷ es) (inl p) = inr (weaker _ _ (λ x later q. inl q.0) es p.1)
-alone_read facts place (e ∷ es) (inr c) = inr (alone_read facts place es c)
+alone_read : (place : List ℕ) (After : List Exchange → Type 0) (es : List Exchange) → RootStayed place After es → ReadsLink es
+alone_read place After [] c = c
+alone_read place After (e ∷ es) (inl p) = inr (weaker _ _ (λ x later q. inl q.0) es p.1)
+alone_read place After (e ∷ es) (inr c) = inr (alone_read place After es c)
+
+-- ---- what a look-up says
+
+-- this holds at the moment of an answer
+abbrev Once : (ℕ → Type 0) → ℕ → Type 0
+Once P end = (n : ℕ) × (n < end) × P n
+
+-- each look-up that finds the object says it
+abbrev Says : World → List ℕ → (ℕ → Type 0) → Type 0
+Says w place P = (k : ℕ) (e : Exchange) → IsAnswer w k e → FindsObject place e → P k
+
+second_says : (P : ℕ → Type 0) (w : World) (facts : Facts) (place : List ℕ) (n : ℕ) (es : List Exchange) → Says w place P
+    → AreAnswers w n es → SecondWitness facts place es → Once P (n + length es)
+second_says P w facts place n es says answers c =
+    let r = at _ w n es c answers in
+    (r.k, omega (arith, r.size), says r.k r.e r.answer r.is.0)
+
+text_says : (P : ℕ → Type 0) (link : Question) (w : World) (facts : Facts) (root place : List ℕ) (n : ℕ) (es : List Exchange)
+    → Says w place P → AreAnswers w n es → TextTells link root place (SecondWitness facts place) es → Once P (n + length es)
+text_says P link w facts root place n es says answers c =
+    let r = at _ w n es c answers in
+    let s = second_says P w facts place (r.k + 1) r.later says r.rest r.is.2 in
+    (s.0, omega (arith, s.1, r.size), s.2)
+
+link_says : (P : ℕ → Type 0) (w : World) (facts : Facts) (place : List ℕ) (n : ℕ) (es : List Exchange) → Says w place P
+    → AreAnswers w n es
+    → Comes (λ e later. Worked RootLink e × TextTells ObjectLink e.text place (SecondWitness facts place) later) es
+    → Once P (n + length es)
+link_says P w facts place n es says answers c =
+    let r = at _ w n es c answers in
+    let s = text_says P ObjectLink w facts r.e.text place (r.k + 1) r.later says r.rest r.is.1 in
+    (s.0, omega (arith, s.1, r.size), s.2)
+
+first_says : (P : ℕ → Type 0) (w : World) (facts : Facts) (kept place : List ℕ) (n : ℕ) (es : List Exchange) → Says w place P
+    → AreAnswers w n es → FirstWitness facts kept place (SecondWitness facts place) es → Once P (n + length es)
+first_says P w facts kept place n es says answers (below_slash j c) =
+    text_says P ObjectLink w facts (SLASH ∷ []) place n es says answers c
+first_says P w facts kept place n es says answers (below_kept j k c) = text_says P KeptLink w facts kept place n es says answers c
+first_says P w facts kept place n es says answers (below_link j c) = link_says P w facts place n es says answers c
 
 -- ---- where it stood
+
+-- the root itself was looked up by no names; any other object has its own text
+both_stood : (w : World) (facts : Facts) (kept place : List ℕ) (es : List Exchange) → (tell : TextsTell w facts kept)
+    → ends_as_gone place ≡ false → AreAnswers w 0 es → FirstWitness facts kept place (SecondWitness facts place) es
+    → (top : Bool) → is_top place ≡ top → Stood w facts place (length es)
+both_stood w facts kept place es tell named answers f true top =
+    let is = first_slash facts kept place (SecondWitness facts place) es f top in
+    let says : Says w place (λ n. w.stands n place ≡ true) =
+    λ k e a finds. ap (w.stands k) is ∙ a.looked_root (subst (λ (p : List ℕ). FindsObject p e) is finds) in
+    let s = first_says (λ n. w.stands n place ≡ true) w facts kept place 0 es says answers f in
+    (s.0, omega (arith, s.1), inl s.2)
+both_stood w facts kept place es tell named answers f false top =
+    first_stood w facts kept place es (SecondWitness facts place) tell top named answers f
 
 witnessed_stood : (w : World) (facts : Facts) (kept place : List ℕ) (es : List Exchange) → StaysGone w → AreAnswers w 0 es
     → (ReadsLink es → TextsTell w facts kept) → ends_as_gone place ≡ false → IsWitnessed facts kept es place
     → Stood w facts place (length es)
 witnessed_stood w facts kept place es stays answers tell named (by_directory j d c) = directory w facts place es stays answers c
 witnessed_stood w facts kept place es stays answers tell named (by_both s f) =
-    first_stood w facts kept place es (SecondWitness facts place) (tell (first_read facts kept place es (SecondWitness facts place) f)) named answers f
-witnessed_stood w facts kept place es stays answers tell named (by_seen s v f) =
-    first_stood w facts kept place es (λ later. Unit {0}) (tell (first_read facts kept place es (λ later. Unit {0}) f)) named answers f
-witnessed_stood w facts kept place es stays answers tell named (in_old_jail n j c) =
+    both_stood w facts kept place es (tell (first_read facts kept place es (SecondWitness facts place) f)) named answers f (is_top place) refl
+witnessed_stood w facts kept place es stays answers tell named (by_seen s v top f) =
+    first_stood w facts kept place es (λ later. Unit {0}) (tell (first_read facts kept place es (λ later. Unit {0}) f)) top named answers f
+witnessed_stood w facts kept place es stays answers tell named (in_old_jail n j top c) =
     let f = below_slash j c in
-    first_stood w facts kept place es (IsThere facts place) (tell (first_read facts kept place es (IsThere facts place) f)) named answers f
-witnessed_stood w facts kept place es stays answers tell named (by_text n j c) =
-    alone_stood w facts kept place es (tell (alone_read facts place es c)) named answers c
+    first_stood w facts kept place es (IsThere facts place) (tell (first_read facts kept place es (IsThere facts place) f)) top named answers f
+witnessed_stood w facts kept place es stays answers tell named (by_text n j top c) =
+    alone_stood w facts kept place es (tell (alone_read place (IsThere facts place) es c)) top named answers c
+witnessed_stood w facts kept place es stays answers tell named (root_itself n j top c) = root_stood w facts place es top answers c
 
 pub places-stood : PlacesStood
 places-stood w facts kept es place r stays answers tell goes named =
@@ -182,34 +306,7 @@ places-stood w facts kept es place r stays answers tell goes named =
 -- ---- what was passed
 
 abbrev Passed : World → List ℕ → ℕ → Type 0
-Passed w place end = (n : ℕ) × (n < end) × (w.passed n place ≡ true)
-
-second_passed : (w : World) (facts : Facts) (place : List ℕ) (n : ℕ) (es : List Exchange) → AreAnswers w n es
-    → SecondWitness facts place es → Passed w place (n + length es)
-second_passed w facts place n es answers c =
-    let r = at _ w n es c answers in
-    (r.k, omega (arith, r.size), r.answer.look_up place r.is.0)
-
-text_passed : (link : Question) (w : World) (facts : Facts) (root place : List ℕ) (n : ℕ) (es : List Exchange) → AreAnswers w n es
-    → TextTells link root place (SecondWitness facts place) es → Passed w place (n + length es)
-text_passed link w facts root place n es answers c =
-    let r = at _ w n es c answers in
-    let s = second_passed w facts place (r.k + 1) r.later r.rest r.is.2 in
-    (s.0, omega (arith, s.1, r.size), s.2)
-
-link_passed : (w : World) (facts : Facts) (place : List ℕ) (n : ℕ) (es : List Exchange) → AreAnswers w n es
-    → Comes (λ e later. Worked RootLink e × TextTells ObjectLink e.text place (SecondWitness facts place) later) es
-    → Passed w place (n + length es)
-link_passed w facts place n es answers c =
-    let r = at _ w n es c answers in
-    let s = text_passed ObjectLink w facts r.e.text place (r.k + 1) r.later r.rest r.is.1 in
-    (s.0, omega (arith, s.1, r.size), s.2)
-
-first_passed : (w : World) (facts : Facts) (kept place : List ℕ) (n : ℕ) (es : List Exchange) → AreAnswers w n es
-    → FirstWitness facts kept place (SecondWitness facts place) es → Passed w place (n + length es)
-first_passed w facts kept place n es answers (below_slash j c) = text_passed ObjectLink w facts (SLASH ∷ []) place n es answers c
-first_passed w facts kept place n es answers (below_kept j k c) = text_passed KeptLink w facts kept place n es answers c
-first_passed w facts kept place n es answers (below_link j c) = link_passed w facts place n es answers c
+Passed w place end = Once (λ n. w.passed n place ≡ true) end
 
 -- the thread has openat2(2), and keeps it
 has_second : (facts : Facts) (es : List Exchange) → facts.second ≡ true
@@ -224,10 +321,12 @@ witnessed_passed : (w : World) (facts : Facts) (kept place : List ℕ) (es : Lis
 witnessed_passed w facts kept place es answers plain second seen keeps (by_directory j d c) =
     absurd (both_ways (facts.jailed && facts.directory) plain (both_true j d))
 witnessed_passed w facts kept place es answers plain second seen keeps (by_both s f) =
-    let p = first_passed w facts kept place 0 es answers f in (p.0, omega (arith, p.1), p.2)
-witnessed_passed w facts kept place es answers plain second seen keeps (by_seen s v f) = absurd (both_ways facts.seen seen v)
-witnessed_passed w facts kept place es answers plain second seen keeps (in_old_jail n j c) = absurd (has_second facts es second keeps n)
-witnessed_passed w facts kept place es answers plain second seen keeps (by_text n j c) = absurd (has_second facts es second keeps n)
+    let p = first_says (λ n. w.passed n place ≡ true) w facts kept place 0 es (λ k e a finds. a.look_up place finds) answers f in
+    (p.0, omega (arith, p.1), p.2)
+witnessed_passed w facts kept place es answers plain second seen keeps (by_seen s v top f) = absurd (both_ways facts.seen seen v)
+witnessed_passed w facts kept place es answers plain second seen keeps (in_old_jail n j top c) = absurd (has_second facts es second keeps n)
+witnessed_passed w facts kept place es answers plain second seen keeps (by_text n j top c) = absurd (has_second facts es second keeps n)
+witnessed_passed w facts kept place es answers plain second seen keeps (root_itself n j top c) = absurd (has_second facts es second keeps n)
 
 pub places-were-passed : PlacesWerePassed
 places-were-passed w facts kept es place r answers goes plain second seen keeps =

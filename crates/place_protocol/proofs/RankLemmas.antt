@@ -1,16 +1,19 @@
 -- Each question leaves fewer that may follow.
 use Rattle.std.proofs.Common.{◌≡◌, ◌==◌, ◌&&◌, ◌||◌, ◌≤◌, ◌<◌, ℕ, Bool, true, false, not, cond, List, [], ◌∷◌, length, nat_lt, Option, Some, None, refl, sym, subst, arith, lit<, lit≤}
-use Rattle.std.proofs.lemmas.Bool.{cond_both, both_ways, true≢false}
-use Rattle.kernel_text.specs.Place.{is_named}
+use Rattle.std.proofs.lemmas.Bool.{cond_both, both_ways, not-false, not-true, true≢false}
+use Rattle.path_text.specs.declared.name.TheConstants.{SLASH}
+use Rattle.kernel_text.specs.Place.{is_named, IsPart}
 use Rattle.kernel_text.specs.declared.place.Place.{Place}
-use Rattle.place_protocol.specs.Conversation.{Exchange, Goes, keep}
+use Rattle.system_calls.specs.Objects.{is_same_object}
+use Rattle.system_calls.specs.declared.objects.Object.{Object}
+use Rattle.place_protocol.specs.Conversation.{Conversation, Exchange, Goes, keep}
 use Rattle.place_protocol.specs.Texts.{Texts, bytes_of, texts_of}
-use Rattle.place_protocol.specs.Turns.{after_dead, after_found, after_kept, after_link_again, after_look_up, after_object, confirm, confirm_place, facts_after, first, first_link, has_found, has_path, in_jail, is_root, link_error, look_up_error, without_second, Follows, ENOENT, EAGAIN, EACCES, EOPNOTSUPP}
+use Rattle.place_protocol.specs.Turns.{after_dead, after_found, after_is_root, after_kept, after_link_again, after_look_up, after_object, confirm, confirm_alone, confirm_place, facts_after, first, first_link, has_found, has_path, in_jail, is_root, link_error, look_up_error, without_second, Follows, ENOENT, ENOSYS, EAGAIN, EACCES, EOPNOTSUPP}
 use Rattle.place_protocol.specs.Witness.{QuestionsComeToAnEnd}
 use Rattle.place_protocol.specs.declared.questions.Answer.{Answer}
 use Rattle.place_protocol.specs.declared.questions.Facts.{Facts}
 use Rattle.place_protocol.specs.declared.questions.Question.{Question}
-use Rattle.place_protocol.specs.declared.questions.Question.TheVariants.{Enter, Cwd, CwdAgain, KeptLink, RootLink, ObjectLink, OwnRoot, RootAgain, LookUp, LinkAgain, Dead}
+use Rattle.place_protocol.specs.declared.questions.Question.TheVariants.{Enter, Cwd, CwdAgain, KeptLink, RootLink, ObjectLink, OwnRoot, RootAgain, LookUp, LinkAgain, Dead, IsRoot}
 use Rattle.place_protocol.specs.declared.turns.Turn.{Turn}
 use Rattle.place_protocol.specs.declared.turns.Turn.TheVariants.{Ask, Look, Stands, Nowhere, Unmade}
 use Rattle.place_protocol.proofs.GoesLemmas.{answered}
@@ -28,6 +31,7 @@ left second Cwd = 2
 left second CwdAgain = 1
 left second LinkAgain = 1
 left second Dead = 1
+left second IsRoot = 1
 
 abbrev rank : Bool → Turn → ℕ
 rank second (Ask question) = left second question
@@ -60,15 +64,21 @@ zero_below : (s : Bool) (a b : ℕ) → 0 < a → 0 < b → 0 < cond s a b
 zero_below true a b x y = x
 zero_below false a b x y = y
 
-place_below : (s : Bool) (facts : Facts) (found : Place) → facts.second ≡ s → Below s (cond s 7 2) (confirm_place facts found)
-place_below true facts found is =
-    cond_both facts.second _ _ (Below true 7)
-    (λ _. cond_both facts.seen (Stands found false) (Look found) (Below true 7) (λ _. lit< tt) (λ _. lit< tt))
-    (λ none. absurd (both_ways facts.second none is))
-place_below false facts found is =
-    cond_both facts.second _ _ (Below false 2) (λ had. absurd (both_ways facts.second is had))
+alone_below : (facts : Facts) (found : Place) → Below false 2 (confirm_alone facts found)
+alone_below facts found =
+    cond_both (is_root found) _ _ (Below false 2)
+    (λ _. cond_both facts.jailed (Unmade EAGAIN) (Ask IsRoot) (Below false 2) (λ _. lit< tt) (λ _. lit< tt))
     (λ _. cond_both (not found.gone) (Stands found false) _ (Below false 2) (λ _. lit< tt)
     (λ _. cond_both facts.directory (Ask Dead) (Unmade EAGAIN) (Below false 2) (λ _. lit< tt) (λ _. lit< tt)))
+
+place_below : (s : Bool) (facts : Facts) (found : Place) → facts.second ≡ s → Below s (cond s 7 2) (confirm_place facts found)
+place_below true facts found is =
+    cond_both (not facts.second) (confirm_alone facts found) _ (Below true 7)
+    (λ none. absurd (both_ways facts.second (not-true facts.second none) is))
+    (λ _. cond_both (facts.seen && not (is_root found)) (Stands found false) (Look found) (Below true 7) (λ _. lit< tt) (λ _. lit< tt))
+place_below false facts found is =
+    cond_both (not facts.second) (confirm_alone facts found) _ (Below false 2) (λ _. alone_below facts found)
+    (λ had. absurd (both_ways facts.second is (not-false facts.second had)))
 
 found_below : (s : Bool) (facts : Facts) (found : Option Place) → facts.second ≡ s → Below s (cond s 7 2) (confirm facts found)
 found_below s facts None is = zero_below s 7 2 (lit< tt) (lit< tt)
@@ -115,6 +125,12 @@ dead_below : (s : Bool) (dead : Bool) (found : Option Place) → Below s 1 (afte
 dead_below s dead None = lit< tt
 dead_below s true (Some found) = lit< tt
 dead_below s false (Some found) = lit< tt
+
+root_below : (s : Bool) (a : Answer) (found : Option Place) → Below s 1 (after_is_root a found)
+root_below s a None = lit< tt
+root_below s a (Some found) =
+    cond_both ((a.error == 0) && is_same_object a.held a.found true) (Stands found (is_root found)) (Unmade (look_up_error a.error))
+    (Below s 1) (λ _. lit< tt) (λ _. lit< tt)
 
 -- a look-up that is refused goes on without openat2(2)
 lost_below : (jailed : Bool) → left false (cond jailed ObjectLink RootLink) < 6
@@ -176,6 +192,7 @@ step LookUp facts a t next h =
 step LinkAgain facts a t next h =
     follows_below facts.second 1 next _ h.2 (link_again_below facts.second (link_error a.error t.again) t.again t.text h.0)
 step Dead facts a t next h = follows_below facts.second 1 next _ h.2 (dead_below facts.second a.yes h.0)
+step IsRoot facts a t next h = follows_below facts.second 1 next _ h.2 (root_below facts.second a h.0)
 
 abbrev Any : Texts → Turn → Type 0
 Any t turn = Unit {0}
@@ -207,8 +224,100 @@ first_at_most facts =
     (λ _. cond_both (facts.second && facts.kept) KeptLink RootLink (λ q. left facts.second q ≤ 9) (λ _. lit≤ tt)
     (λ _. at_most facts.second 8 5 (lit≤ tt) (lit≤ tt))))
 
-pub questions-come-to-an-end : QuestionsComeToAnEnd
-questions-come-to-an-end facts kept es h =
+at_most_nine : (facts : Facts) (kept : List ℕ) (es : List Exchange) → Conversation facts kept es Any → length es ≤ 9
+at_most_nine facts kept es h =
     let all = bounded es facts (texts_of kept [] []) (Ask (first facts)) h in
     let most = first_at_most facts in
     omega (arith, all, most)
+
+-- ---- nine of them
+
+-- What is kept of the root doesn't lead to the object; the look-up is refused; and without it the texts tell the root.
+abbrev kept_facts : Facts
+kept_facts = record { jailed = false; directory = true; seen = false; by_parent = false; second = true; kept = true }
+
+abbrev thing : Object
+thing = record { device = 0; inode = 1; mount = 0 }
+
+abbrev answer_of : ℕ → Bool → Answer
+answer_of error is = record { error = error; yes = is; held = thing; found = thing; links = 0 }
+
+abbrev slash : List ℕ
+slash = SLASH ∷ []
+
+abbrev said : Question → ℕ → Bool → List ℕ → Exchange
+said question error is text = record { question = question; names = slash; answer = answer_of error is; text = text }
+
+abbrev nine : List Exchange
+nine =
+    said KeptLink ENOENT false [] ∷ said RootLink 0 false slash ∷ said ObjectLink 0 false slash ∷ said LookUp ENOSYS true []
+    ∷ said RootLink 0 false slash ∷ said ObjectLink 0 false slash ∷ said OwnRoot 0 true [] ∷ said RootAgain 0 false slash
+    ∷ said IsRoot 0 false [] ∷ []
+
+abbrev at_slash : Place
+at_slash = record { start = 0; length = 1; gone = false }
+
+is_slash : IsPart slash slash 0 1
+is_slash = record { within = lit≤ tt; bytes = refl }
+
+nine_come : Conversation kept_facts slash nine Any
+nine_come = (
+  refl,
+  (
+    Ask RootLink,
+    (None, refl, refl),
+    (
+      refl,
+      (
+        Ask ObjectLink,
+        refl,
+        (
+          refl,
+          (
+            Look at_slash,
+            (Some at_slash, (is_slash, refl), refl),
+            (
+              (refl, is_slash),
+              (
+                Ask RootLink,
+                (Some at_slash, (is_slash, refl), refl),
+                (
+                  refl,
+                  (
+                    Ask ObjectLink,
+                    refl,
+                    (
+                      refl,
+                      (
+                        Ask OwnRoot,
+                        (None, refl, refl),
+                        (
+                          refl,
+                          (
+                            Ask RootAgain,
+                            refl,
+                            (
+                              refl,
+                              (
+                                Ask IsRoot,
+                                (Some at_slash, (is_slash, refl), refl),
+                                (refl, (Stands at_slash true, (Some at_slash, (is_slash, refl), refl), tt)),
+                              ),
+                            ),
+                          ),
+                        ),
+                      ),
+                    ),
+                  ),
+                ),
+              ),
+            ),
+          ),
+        ),
+      ),
+    ),
+  ),
+)
+
+pub questions-come-to-an-end : QuestionsComeToAnEnd
+questions-come-to-an-end = (at_most_nine, (kept_facts, slash, nine, nine_come, refl))

@@ -177,6 +177,14 @@ told_in_jail facts t place jailed told =
     cond-true (facts.jailed || facts.second) (path_of_root facts t.root) t.again (or_left facts.jailed facts.second jailed) ∙ root in
     sym (ap (λ p. place_between p t.text (path_after facts t.root t.again)) root ∙ ap (λ p. place_between (SLASH ∷ []) t.text p) after) ∙ told
 
+pub place_alone : (facts : Facts) (t : Texts) (place : List ℕ) → facts.jailed ≡ false → facts.second ≡ false
+    → place_between t.root t.text t.again ≡ Some place → place_of facts t ≡ Some place
+place_alone facts t place jailed second told =
+    let root : path_of_root facts t.root ≡ t.root = cond-false facts.jailed (SLASH ∷ []) t.root jailed in
+    let after : path_after facts t.root t.again ≡ t.again =
+    cond-false (facts.jailed || facts.second) (path_of_root facts t.root) t.again (or_none facts.jailed facts.second jailed second) in
+    ap (λ p. place_between p t.text (path_after facts t.root t.again)) root ∙ (ap (λ p. place_between t.root t.text p) after ∙ told)
+
 -- out of one, without the second witness, it is read twice
 pub told_alone : (facts : Facts) (t : Texts) (place : List ℕ) → facts.jailed ≡ false → facts.second ≡ false
     → place_of facts t ≡ Some place → place_between t.root t.text t.again ≡ Some place

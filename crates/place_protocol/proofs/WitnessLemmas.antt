@@ -7,13 +7,13 @@ use Rattle.kernel_text.specs.declared.place.Place.{Place}
 use Rattle.place_protocol.specs.Conversation.{Comes, Exchange, StandsAt, keep}
 use Rattle.place_protocol.specs.Texts.{Texts, Finds, place_of, texts_of}
 use Rattle.place_protocol.specs.Turns.{after_cwd, after_cwd_again, after_enter, after_kept, confirm_place, first_link, has_path, in_jail, is_root, ENOENT, EACCES}
-use Rattle.place_protocol.specs.Witness.{DirectoryTells, FirstWitness, below_slash, below_kept, below_link, IsWitnessed, by_directory, by_both, by_seen, in_old_jail, by_text, PlacesAreWitnessed, SecondWitness, TextTells}
+use Rattle.place_protocol.specs.Witness.{DirectoryTells, FirstWitness, below_slash, below_kept, below_link, IsWitnessed, by_directory, by_both, by_seen, in_old_jail, by_text, root_itself, HasNoSecond, IsThere, PlacesAreWitnessed, RootStayed, SecondWitness, TextTells, is_top}
 use Rattle.place_protocol.specs.declared.questions.Facts.{Facts}
 use Rattle.place_protocol.specs.declared.questions.Question.TheVariants.{Enter, Cwd, CwdAgain, KeptLink, RootLink, ObjectLink}
 use Rattle.place_protocol.specs.declared.turns.Turn.TheVariants.{Ask, Unmade}
-use Rattle.place_protocol.proofs.AloneLemmas.{jail_alone, root_stayed}
-use Rattle.place_protocol.proofs.BothLemmas.{Lost, Reached, reached_both, reached_seen, reached_lost, both, by_place, object, root, told_by}
-use Rattle.place_protocol.proofs.GoesLemmas.{Ends, asked, either, if_here, if_not, no_error, nowhere, stood, turned, unmade}
+use Rattle.place_protocol.proofs.AloneLemmas.{Confirmed, jail_alone, root_stayed}
+use Rattle.place_protocol.proofs.BothLemmas.{Lost, Reached, reached_both, reached_seen, reached_lost, by_place, object, root, told_by}
+use Rattle.place_protocol.proofs.GoesLemmas.{Ends, asked, both, either, if_here, if_not, no_error, nowhere, stood, turned, unmade}
 use Rattle.place_protocol.proofs.TextLemmas.{some_found}
 
 -- ---- getcwd(2)
@@ -73,40 +73,54 @@ first_before facts kept place Q e es (below_slash j x) = below_slash j (inr x)
 first_before facts kept place Q e es (below_kept j k x) = below_kept j k (inr x)
 first_before facts kept place Q e es (below_link j x) = below_link j (inr x)
 
+still_none : (facts : Facts) (e : Exchange) (es : List Exchange) → HasNoSecond facts es → HasNoSecond facts (e ∷ es)
+still_none facts e es none = elim none [ inl s ↦ inl s | inr c ↦ inr (inr c) ]
+
 -- one exchange more before these
 before : (facts : Facts) (kept : List ℕ) (e : Exchange) (es : List Exchange) (place : List ℕ) → IsWitnessed facts kept es place
     → IsWitnessed facts kept (e ∷ es) place
 before facts kept e es place (by_directory j d x) = by_directory j d (inr x)
 before facts kept e es place (by_both s x) = by_both s (first_before facts kept place (SecondWitness facts place) e es x)
-before facts kept e es place (by_seen s w x) = by_seen s w (first_before facts kept place (λ later. Unit {0}) e es x)
-before facts kept e es place (in_old_jail n j x) = in_old_jail (elim n [ inl s ↦ inl s | inr c ↦ inr (inr c) ]) j (inr x)
-before facts kept e es place (by_text n j x) = by_text (elim n [ inl s ↦ inl s | inr c ↦ inr (inr c) ]) j (inr x)
+before facts kept e es place (by_seen s w top x) = by_seen s w top (first_before facts kept place (λ later. Unit {0}) e es x)
+before facts kept e es place (in_old_jail n j top x) = in_old_jail (still_none facts e es n) j top (inr x)
+before facts kept e es place (by_text n j top x) = by_text (still_none facts e es n) j top (inr x)
+before facts kept e es place (root_itself n j top x) = root_itself (still_none facts e es n) j top (inr x)
+
+-- by the text alone: the root itself, or what isn't
+stayed : (facts : Facts) (kept place : List ℕ) (es : List Exchange) (top : Bool) → is_top place ≡ top → HasNoSecond facts es
+    → facts.jailed ≡ false → RootStayed place (Confirmed (IsThere facts place) top) es → IsWitnessed facts kept es place
+stayed facts kept place es true is none jailed x = root_itself none jailed is x
+stayed facts kept place es false is none jailed x = by_text none jailed is x
 
 lost : (facts : Facts) (kept place : List ℕ) (es : List Exchange) → Lost facts place es → IsWitnessed facts kept es place
 lost facts kept place es l =
-    elim l.told [ inl j ↦ in_old_jail (inr l.refused) j.0 j.1 | inr s ↦ by_text (inr l.refused) s.0 s.1 ]
+    elim l.told [
+      | inl j ↦ in_old_jail (inr l.refused) j.0 j.1 j.2
+      | inr s ↦ stayed facts kept place es (is_top place) refl (inr l.refused) s.0 s.1
+    ]
 
 -- in a jail, by the object's link
 object_in_jail : (place : List ℕ) (r : Bool) (facts : Facts) (kept : List ℕ) (t : Texts) (es : List Exchange) (second : Bool)
     → facts.jailed ≡ true → facts.second ≡ second → Ends place r facts t (Ask ObjectLink) es → IsWitnessed facts kept es place
 object_in_jail place r facts kept t es false jailed second h =
-    in_old_jail (inl second) jailed (jail_alone place r facts t es second jailed h)
+    let j = jail_alone place r facts t es second jailed h in in_old_jail (inl second) jailed j.0 j.1
 object_in_jail place r facts kept t es true jailed second h =
     let top = cond-true facts.jailed (SLASH ∷ []) t.root jailed in
     elim (subst (λ (path : List ℕ). Reached facts place (TextTells ObjectLink path place) es) top (object place r facts t es second h)) [
       | reached_both x ↦ by_both second (below_slash jailed x)
-      | reached_seen s x ↦ by_seen second s (below_slash jailed x)
+      | reached_seen s out x ↦ by_seen second s out (below_slash jailed x)
       | reached_lost l ↦ lost facts kept place es l
     ]
 
 -- below a root that is a descriptor, by its link
 by_root : (place : List ℕ) (r : Bool) (facts : Facts) (kept : List ℕ) (t : Texts) (es : List Exchange) (second : Bool)
     → facts.jailed ≡ false → facts.second ≡ second → Ends place r facts t (Ask RootLink) es → IsWitnessed facts kept es place
-by_root place r facts kept t es false jailed second h = by_text (inl second) jailed (root_stayed place r facts t es second jailed h)
+by_root place r facts kept t es false jailed second h =
+    stayed facts kept place es (is_top place) refl (inl second) jailed (root_stayed place r facts t es second jailed h)
 by_root place r facts kept t es true jailed second h =
     elim (root place r facts t es second jailed h) [
       | reached_both x ↦ by_both second (below_link jailed x)
-      | reached_seen s x ↦ by_seen second s (below_link jailed x)
+      | reached_seen s out x ↦ by_seen second s out (below_link jailed x)
       | reached_lost l ↦ lost facts kept place es l
     ]
 
@@ -116,7 +130,7 @@ kept_told : (place : List ℕ) (facts : Facts) (kept : List ℕ) (es : List Exch
 kept_told place facts kept es jailed second keeps h =
     elim h [
       | reached_both x ↦ by_both second (below_kept jailed keeps x)
-      | reached_seen s x ↦ by_seen second s (below_kept jailed keeps x)
+      | reached_seen s out x ↦ by_seen second s out (below_kept jailed keeps x)
       | reached_lost l ↦ lost facts kept place es l
     ]
 

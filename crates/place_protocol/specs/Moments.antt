@@ -5,7 +5,7 @@ use Rattle.path_text.specs.declared.name.TheConstants.{SLASH}
 use Rattle.kernel_text.specs.Place.{ends_as_gone, place_between, place_of_cwd}
 use Rattle.place_protocol.specs.Conversation.{Comes, Conversation, Exchange, StandsAt}
 use Rattle.place_protocol.specs.Turns.{has_path}
-use Rattle.place_protocol.specs.Witness.{FindsObject, Worked}
+use Rattle.place_protocol.specs.Witness.{FindsObject, FindsRoot, Worked, is_top}
 use Rattle.place_protocol.specs.declared.questions.Facts.{Facts}
 use Rattle.place_protocol.specs.declared.questions.Question.TheVariants.{Cwd, CwdAgain, KeptLink, RootLink, ObjectLink, RootAgain, LookUp}
 
@@ -39,21 +39,28 @@ pub record IsAnswer (w : World) (n : ℕ) (e : Exchange) : Type 0 where
   pub root_again : Worked RootAgain e → e.text ≡ w.root n
   -- openat2(2), RESOLVE_BENEATH; statx(2): the same device, inode and mount are the same object
   pub look_up : (place : List ℕ) → FindsObject place e → w.passed n place ≡ true
+  -- statx(2), fstat(2): the same device and inode are the same object, while both are open. So this is the root itself,
+  -- which a look-up of no names finds.
+  pub looked_root : FindsObject (SLASH ∷ []) e → w.stands n (SLASH ∷ []) ≡ true
+  pub is_root : FindsRoot e → w.stands n (SLASH ∷ []) ≡ true
 
 abbrev pub AreAnswers : World → ℕ → List Exchange → Type 0
 AreAnswers w n [] = Unit {0}
 AreAnswers w n (e ∷ es) = IsAnswer w n e × AreAnswers w (n + 1) es
 
--- The root stays at its path, which is a slash in a jail, or what is kept of it. And the thread's own root directory is
--- a mount's, so that texts tell inside from outside (proc(5), /proc/pid/fd): an object whose path lies below the
--- root's, and isn't called deleted, stands at the rest.
+-- The root stays at its path, which is a slash in a jail, or what is kept of it. And texts tell inside from outside
+-- (proc(5), /proc/pid/fd), since the thread's own root directory is a mount's, the root hasn't left its own mount, and
+-- no mount with the object is taken off (umount2(2), MNT_DETACH): an object whose path lies below the root's, and isn't
+-- called deleted, stands at the rest. Of a slash alone that isn't so: the kernel also writes it of an object that was
+-- moved out of the mount by which it was opened, and so has no path any more (getcwd(2) writes `(unreachable)` before
+-- it, a link in /proc doesn't: `prepend_path` in fs/d_path.c).
 pub record TextsTell (w : World) (facts : Facts) (kept : List ℕ) : Type 0 where
   pub path : List ℕ
   pub stays : (n : ℕ) → w.root n ≡ path
   pub jailed : facts.jailed ≡ true → path ≡ SLASH ∷ []
   pub kept_path : facts.kept ≡ true → path ≡ kept
-  pub below : (n : ℕ) (place : List ℕ) → place_between path (w.object n) path ≡ Some place → ends_as_gone place ≡ false
-      → w.stands n place ≡ true
+  pub below : (n : ℕ) (place : List ℕ) → place_between path (w.object n) path ≡ Some place → is_top place ≡ false
+      → ends_as_gone place ≡ false → w.stands n place ≡ true
 
 -- a link of the object was read
 abbrev pub ReadsLink : List Exchange → Type 0

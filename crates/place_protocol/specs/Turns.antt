@@ -1,6 +1,6 @@
 -- What follows from each answer, as the code decides it. Witness.antt says what that is worth. Errors are numbers of
 -- errno(3).
-use Rattle.std.specs.Prelude.{◌≡◌, ℕ, List, ◌==◌, Bool, false, not, ◌&&◌, ◌||◌, if◌then◌else◌, nat_lt, length, Option, Some, None}
+use Rattle.std.specs.Prelude.{◌≡◌, ℕ, List, ◌==◌, Bool, true, false, not, ◌&&◌, ◌||◌, if◌then◌else◌, nat_lt, length, Option, Some, None}
 use Rattle.path_text.specs.declared.path.TheConstants.{TEXT_MAX}
 use Rattle.kernel_text.specs.Place.{is_named, place_of_cwd}
 use Rattle.kernel_text.specs.declared.place.Place.{Place}
@@ -9,7 +9,7 @@ use Rattle.place_protocol.specs.Texts.{Texts, Finds, bytes_of, place_of}
 use Rattle.place_protocol.specs.declared.questions.Answer.{Answer}
 use Rattle.place_protocol.specs.declared.questions.Facts.{Facts}
 use Rattle.place_protocol.specs.declared.questions.Question.{Question}
-use Rattle.place_protocol.specs.declared.questions.Question.TheVariants.{Enter, Cwd, CwdAgain, KeptLink, RootLink, ObjectLink, OwnRoot, RootAgain, LookUp, LinkAgain, Dead}
+use Rattle.place_protocol.specs.declared.questions.Question.TheVariants.{Enter, Cwd, CwdAgain, KeptLink, RootLink, ObjectLink, OwnRoot, RootAgain, LookUp, LinkAgain, Dead, IsRoot}
 use Rattle.place_protocol.specs.declared.turns.Turn.{Turn}
 use Rattle.place_protocol.specs.declared.turns.Turn.TheVariants.{Ask, Look, Stands, Nowhere, Unmade}
 
@@ -73,10 +73,16 @@ abbrev pub after_cwd_again : ℕ → Option Place → Turn
 after_cwd_again error place =
     if has_path error then in_jail place else (if error == ENOENT then Nowhere else Unmade error)
 
+-- Without the second witness. A slash alone is the text of the root itself, and of what has left its mount.
+abbrev pub confirm_alone : Facts → Place → Turn
+confirm_alone facts place =
+    if is_root place then (if facts.jailed then Unmade EAGAIN else Ask IsRoot)
+    else (if not place.gone then Stands place false else (if facts.directory then Ask Dead else Unmade EAGAIN))
+
 abbrev pub confirm_place : Facts → Place → Turn
 confirm_place facts place =
-    if facts.second then (if facts.seen then Stands place false else Look place)
-    else (if not place.gone then Stands place false else (if facts.directory then Ask Dead else Unmade EAGAIN))
+    if not facts.second then confirm_alone facts place
+    else (if facts.seen && not (is_root place) then Stands place false else Look place)
 
 abbrev pub confirm : Facts → Option Place → Turn
 confirm facts None = Unmade EAGAIN
@@ -131,6 +137,13 @@ abbrev pub after_dead : Bool → Option Place → Turn
 after_dead dead None = Unmade EAGAIN
 after_dead dead (Some place) = if not dead then Stands place false else Unmade EAGAIN
 
+-- the object has the root's device and inode, whatever its mount is
+abbrev pub after_is_root : Answer → Option Place → Turn
+after_is_root answer None = Unmade (look_up_error answer.error)
+after_is_root answer (Some place) =
+    if (answer.error == 0) && is_same_object answer.held answer.found true then Stands place (is_root place)
+    else Unmade (look_up_error answer.error)
+
 -- a turn that depends on where a place lies in the text
 abbrev pub WithPlace : List ℕ → Option (List ℕ) → (Option Place → Turn) → Turn → Type 0
 WithPlace text told after turn = (found : Option Place) × Finds text told found × (turn ≡ after found)
@@ -151,6 +164,7 @@ Follows facts LookUp a t turn = WithPlace t.text (place_of facts t) (after_look_
 Follows facts LinkAgain a t turn =
     WithPlace t.text (place_of facts t) (after_link_again (link_error a.error t.again) t.again t.text) turn
 Follows facts Dead a t turn = WithPlace t.text (place_of facts t) (after_dead a.yes) turn
+Follows facts IsRoot a t turn = WithPlace t.text (place_of facts t) (after_is_root a) turn
 
 -- a thread that has lost openat2(2) doesn't get it back
 abbrev pub facts_after : Facts → Question → Answer → Facts
@@ -165,3 +179,4 @@ facts_after facts OwnRoot a = facts
 facts_after facts RootAgain a = facts
 facts_after facts LinkAgain a = facts
 facts_after facts Dead a = facts
+facts_after facts IsRoot a = facts

@@ -8,7 +8,7 @@ use Rattle.place_protocol.specs.Conversation.{Comes, Conversation, Exchange, Sta
 use Rattle.place_protocol.specs.Turns.{has_path}
 use Rattle.place_protocol.specs.declared.questions.Facts.{Facts}
 use Rattle.place_protocol.specs.declared.questions.Question.{Question}
-use Rattle.place_protocol.specs.declared.questions.Question.TheVariants.{Enter, Cwd, CwdAgain, KeptLink, RootLink, ObjectLink, OwnRoot, RootAgain, LookUp, LinkAgain, Dead}
+use Rattle.place_protocol.specs.declared.questions.Question.TheVariants.{Enter, Cwd, CwdAgain, KeptLink, RootLink, ObjectLink, OwnRoot, RootAgain, LookUp, LinkAgain, Dead, IsRoot}
 
 -- the question was asked, and the system call didn't fail
 abbrev pub Worked : Question → Exchange → Type 0
@@ -68,14 +68,19 @@ IsThere facts place later =
     (ends_as_gone place ≡ false)
     ⊎ ((facts.directory ≡ true) × Comes (λ e _. (e.question ≡ Dead) × (e.answer.yes ≡ false)) later)
 
--- The root's path was the same before the object's and after it, in a thread whose own root directory is a mount's.
-abbrev pub RootStayed : Facts → List ℕ → List Exchange → Type 0
-RootStayed facts place =
+-- The object is the root itself: statx(2) or fstat(2) gave the same device and inode of both.
+abbrev pub FindsRoot : Exchange → Type 0
+FindsRoot e = Worked IsRoot e × (is_same_object e.answer.held e.answer.found true ≡ true)
+
+-- The root's path was the same before the object's and after it, in a thread whose own root directory is a mount's; and
+-- what came behind that has After.
+abbrev pub RootStayed : List ℕ → (List Exchange → Type 0) → List Exchange → Type 0
+RootStayed place After =
     Comes (λ r behind. Worked RootLink r
     × Comes (λ o later. Worked ObjectLink o
     × Comes (λ m last. (m.question ≡ OwnRoot) × (m.answer.yes ≡ true)
     × Comes (λ a end. Worked RootAgain a × (place_between r.text o.text a.text ≡ Some place)
-    × IsThere facts place end) last)
+    × After end) last)
     later) behind)
 
 -- The thread had no openat2(2): from the beginning, or it lost it at a look-up.
@@ -92,13 +97,18 @@ pub data IsWitnessed (facts : Facts) (kept : List ℕ) (es : List Exchange) (pla
   -- by both witnesses: the text first, then the look-up
   by_both : facts.second ≡ true → FirstWitness facts kept place (SecondWitness facts place) es
       → IsWitnessed facts kept es place
-  -- the second witness spoke first, right before the first question
-  by_seen : facts.second ≡ true → facts.seen ≡ true → FirstWitness facts kept place (λ later. Unit {0}) es
-      → IsWitnessed facts kept es place
-  -- by the text alone
-  in_old_jail : HasNoSecond facts es → facts.jailed ≡ true
+  -- The second witness spoke first, right before the first question. Since then the object may have left its mount, and
+  -- its text is a slash alone: so that is none of the root's own place.
+  by_seen : facts.second ≡ true → facts.seen ≡ true → is_top place ≡ false
+      → FirstWitness facts kept place (λ later. Unit {0}) es → IsWitnessed facts kept es place
+  -- by the text alone, of any place but the root's own
+  in_old_jail : HasNoSecond facts es → facts.jailed ≡ true → is_top place ≡ false
       → TextTells ObjectLink (SLASH ∷ []) place (IsThere facts place) es → IsWitnessed facts kept es place
-  by_text : HasNoSecond facts es → facts.jailed ≡ false → RootStayed facts place es → IsWitnessed facts kept es place
+  by_text : HasNoSecond facts es → facts.jailed ≡ false → is_top place ≡ false
+      → RootStayed place (IsThere facts place) es → IsWitnessed facts kept es place
+  -- the root itself: the text first, then which objects both are
+  root_itself : HasNoSecond facts es → facts.jailed ≡ false → is_top place ≡ true
+      → RootStayed place (Comes (λ e _. FindsRoot e)) es → IsWitnessed facts kept es place
 
 -- ---- the laws
 
@@ -109,7 +119,8 @@ PlacesAreWitnessed =
     → Conversation facts kept es (StandsAt place is_root) → IsWitnessed facts kept es place
 
 -- Agreeing answers tell the place, of a directory. Below a root that isn't kept: the root's link, the object's, and a
--- look-up that finds the object, with links. In a jail: getcwd(2), and once more.
+-- look-up that finds the object, with links. In a jail: getcwd(2), and once more. And the root itself, without
+-- openat2(2): the root's link, the object's, the root's again, and the same device and inode.
 abbrev pub AgreeingWitnessesAreTold : Type 0
 AgreeingWitnessesAreTold =
     ((facts : Facts) (kept place : List ℕ) (root object look : Exchange)
@@ -123,9 +134,19 @@ AgreeingWitnessesAreTold =
     → Worked Enter enter → Worked Cwd cwd → place_of_cwd cwd.text ≡ Some place
     → again.question ≡ CwdAgain → has_path again.answer.error ≡ true
     → Conversation facts kept (enter ∷ cwd ∷ again ∷ []) (λ t turn. StandsAt place (is_top place) t turn → ⊥) → ⊥)
+    × ((facts : Facts) (kept place : List ℕ) (root object own again which : Exchange)
+    → facts.jailed ≡ false → facts.second ≡ false → is_top place ≡ true
+    → Worked RootLink root → length root.text ≤ TEXT_MAX → Worked ObjectLink object
+    → own.question ≡ OwnRoot → own.answer.yes ≡ true → Worked RootAgain again → length again.text ≤ TEXT_MAX
+    → place_between root.text object.text again.text ≡ Some place → FindsRoot which
+    → Conversation facts kept (root ∷ object ∷ own ∷ again ∷ which ∷ [])
+    (λ t turn. StandsAt place (is_top place) t turn → ⊥)
+    → ⊥)
 
--- No conversation has more than nine questions.
+-- No conversation has more than nine questions, and one has nine.
 abbrev pub QuestionsComeToAnEnd : Type 0
 QuestionsComeToAnEnd =
-    (facts : Facts) (kept : List ℕ) (es : List Exchange) → Conversation facts kept es (λ t turn. Unit {0})
-    → length es ≤ 9
+    ((facts : Facts) (kept : List ℕ) (es : List Exchange) → Conversation facts kept es (λ t turn. Unit {0})
+    → length es ≤ 9)
+    × ((facts : Facts) × (kept : List ℕ) × (es : List Exchange) × Conversation facts kept es (λ t turn. Unit {0})
+    × (length es ≡ 9))

@@ -34,7 +34,8 @@ pub enum Question {
     RootLink,
     /// The text of the object's link.
     ObjectLink,
-    /// Whether the thread's own root directory is that of a mount.
+    /// Whether texts tell inside from outside: the thread's own root directory is that of a mount, and a root whose
+    /// text is a slash alone is its own parent, so that it hasn't left its mount.
     OwnRoot,
     /// The text of the root's link, after the object's.
     RootAgain,
@@ -45,6 +46,8 @@ pub enum Question {
     LinkAgain,
     /// Whether the directory was removed.
     Dead,
+    /// Which objects the root and the object are: statx(2) or fstat(2) of both.
+    IsRoot,
 }
 
 /// What a question was answered.
@@ -55,9 +58,9 @@ pub struct Answer {
     pub error: u32,
     /// To OwnRoot and to Dead: yes. To LookUp: the thread has no openat2(2) any more.
     pub yes: bool,
-    /// To LookUp: the object that the question is about.
+    /// To LookUp and to IsRoot: the object that the question is about.
     pub held: Object,
-    /// To LookUp: what was found.
+    /// To LookUp: what was found. To IsRoot: the root.
     pub found: Object,
     /// To LookUp: how many links that has.
     pub links: u64,

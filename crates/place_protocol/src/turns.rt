@@ -1,7 +1,7 @@
 //! What follows from an answer.
 ghost use Rattle.std.specs.Prelude.{◌≡◌};
 ghost use Rattle.place_protocol.specs.Texts.{texts_of, IsWithin};
-ghost use Rattle.place_protocol.specs.Turns.{after_cwd, after_cwd_again, after_dead, after_enter, after_found, after_kept, after_link_again, after_look_up, after_object, after_own_root, after_root, after_root_again, confirm, confirm_place, facts_after, first, first_link, has_found, has_path, in_jail, is_root, link_error, look_up_error, without_second, Follows};
+ghost use Rattle.place_protocol.specs.Turns.{after_cwd, after_cwd_again, after_dead, after_enter, after_found, after_is_root, after_kept, after_link_again, after_look_up, after_object, after_own_root, after_root, after_root_again, confirm, confirm_alone, confirm_place, facts_after, first, first_link, has_found, has_path, in_jail, is_root, link_error, look_up_error, without_second, Follows};
 
 use crate::questions::{Answer, Facts, Question};
 use crate::texts::{found, found_in_jail};
@@ -141,15 +141,16 @@ fn after_cwd_again(error: u32, place: Option<Place>) -> Turn
 
 // ---- by links in /proc
 
-// Without the second witness: what is gone is called so. A directory that isn't dead has that name.
-fn confirm_place(facts: &Facts, place: Place) -> Turn
-    ensures { result ≡ confirm_place facts.now place }
+// Without the second witness. A slash alone is the text of the root, and of what has left its mount. In a jail no
+// object that goes by its link is the root. What is gone is called so; a directory that isn't dead has that name.
+fn confirm_alone(facts: &Facts, place: Place) -> Turn
+    ensures { result ≡ confirm_alone facts.now place }
 {
-    if facts.second {
-        if facts.seen {
-            Turn::Stands(place, false)
+    if is_root(&place) {
+        if facts.jailed {
+            Turn::Unmade(EAGAIN)
         } else {
-            Turn::Look(place)
+            Turn::Ask(Question::IsRoot)
         }
     } else if !place.gone {
         Turn::Stands(place, false)
@@ -157,6 +158,19 @@ fn confirm_place(facts: &Facts, place: Place) -> Turn
         Turn::Ask(Question::Dead)
     } else {
         Turn::Unmade(EAGAIN)
+    }
+}
+
+// What was seen below the root may have left its mount since.
+fn confirm_place(facts: &Facts, place: Place) -> Turn
+    ensures { result ≡ confirm_place facts.now place }
+{
+    if !facts.second {
+        confirm_alone(facts, place)
+    } else if facts.seen && !is_root(&place) {
+        Turn::Stands(place, false)
+    } else {
+        Turn::Look(place)
     }
 }
 
@@ -303,6 +317,18 @@ fn after_dead(dead: bool, place: Option<Place>) -> Turn
     }
 }
 
+// By any mount, as a look-up may find it.
+fn after_is_root(answer: &Answer, place: Option<Place>) -> Turn
+    ensures { result ≡ after_is_root answer.now place }
+{
+    match place {
+        Some(place) if answer.error == 0 && is_same_object(&answer.held, &answer.found, true) => {
+            Turn::Stands(place, is_root(&place))
+        }
+        _ => Turn::Unmade(look_up_error(answer.error)),
+    }
+}
+
 /// What follows from the answer to a question.
 pub(crate) fn follow(
     facts: &Facts,
@@ -344,6 +370,7 @@ pub(crate) fn follow(
             found(facts, root, text, again),
         ),
         Question::Dead => after_dead(answer.yes, found(facts, root, text, again)),
+        Question::IsRoot => after_is_root(answer, found(facts, root, text, again)),
     }
 }
 
