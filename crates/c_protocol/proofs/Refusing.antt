@@ -21,7 +21,8 @@ use Rattle.tree_model.specs.StepWith.{StepWith}
 use Rattle.tree_model.specs.Trees.{IsState}
 use Rattle.tree_model.proofs.PlaceLaws.{not_found_is_missing}
 use Rattle.c_protocol.specs.Numbers.{step_told}
-use Rattle.c_protocol.specs.Refusals.{is_refusal, IsLeftAside, not_open, no_room, no_directory, invalid, StepsAreRefusedSo}
+use Rattle.step_calls.specs.Refusals.{is_refusal}
+use Rattle.c_protocol.specs.Refusals.{IsLeftAside, not_open, no_room, no_directory, invalid, StepsAreRefusedSo}
 use Rattle.std.proofs.lemmas.Bool.{not-true}
 
 -- ---- one test after another

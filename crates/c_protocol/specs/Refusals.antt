@@ -1,7 +1,5 @@
--- Which errors of a system call are a step's own refusals, by the numbers of steps, modes and errors; and that the step
--- table refuses a step by no other error that a C program's call meets. openat(2), readlinkat(2), mkdirat(2),
--- mknodat(2), symlinkat(2), unlinkat(2), renameat2(2).
-use Rattle.std.specs.Prelude.{◌≡◌, ◌⊎◌, ℕ, ◌==◌, ◌&&◌, ◌||◌, nat_lt, Bool, true, false, if◌then◌else◌, Some}
+-- The step table refuses a step by no other error that a C program's call meets than those that `step_calls` passes on.
+use Rattle.std.specs.Prelude.{◌≡◌, ◌⊎◌, ℕ, true, false, Some}
 use Rattle.path_text.specs.declared.errno.Errno.{Errno}
 use Rattle.path_text.specs.declared.errno.Errno.TheVariants.{BadHandle, TooMany, NotDir, Invalid}
 use Rattle.path_text.specs.Errno.{number_of}
@@ -10,38 +8,8 @@ use Rattle.tree_model.specs.State.{State, is_dir}
 use Rattle.tree_model.specs.Steps.{held, outcome}
 use Rattle.tree_model.specs.StepWith.{StepWith}
 use Rattle.tree_model.specs.Trees.{IsState}
+use Rattle.step_calls.specs.Refusals.{is_refusal}
 use Rattle.c_protocol.specs.Numbers.{step_told}
-
--- a link's text that is longer than a path may be, by 4,095 bytes
-abbrev pub is_too_long : ℕ → Bool
-is_too_long text = nat_lt 4095 text
-
--- by ENOENT; or EEXIST; of a link's text by ENAMETOOLONG
-abbrev pub make_refused : ℕ → Bool
-make_refused error = (error == 2) || (error == 17)
-
--- plain by ENOENT, ENOTDIR, EISDIR, ENOTEMPTY; by NOREPLACE by ENOENT, EEXIST; by EXCHANGE by ENOENT
-abbrev pub rename_refused : ℕ → ℕ → Bool
-rename_refused mode error =
-    (error == 2)
-    || (((mode == 0) && ((error == 20) || ((error == 21) || (error == 39)))) || ((mode == 1) && (error == 17)))
-
--- A step of that number may be refused by the error: Open, Parent, ReadLink, MakeDir, MakeFile, MakeLink with a text
--- of so many bytes, RemoveFile, RemoveDir, Rename by that mode. The others are refused by none.
-abbrev pub is_refusal : ℕ → ℕ → ℕ → ℕ → Bool
-is_refusal what mode text error =
-    if what == 1 then error == 2
-    else if what == 3 then error == 2
-    else if what == 4 then error == 22
-    else if what == 8 then make_refused error
-    else if what == 9 then make_refused error
-    else if what == 10 then make_refused error || ((error == 36) && is_too_long text)
-    else if what == 11 then (error == 2) || (error == 21)
-    else if what == 12 then (error == 2) || ((error == 20) || (error == 39))
-    else if what == 13 then rename_refused mode error
-    else false
-
--- ---- the step table
 
 -- one of the step's handles is open on what is no directory
 pub record OnNoDirectory (s : State) (a : ℕ) (step : StepWith ℕ) : Type 0 where

@@ -12,7 +12,7 @@
 //! system call passed; by the law `conversations_with_runs_tell` that is as good as single turns. A path is taken apart
 //! into its directory's path and its last name by `split`, as the calls on one entry do it.
 //! Whatever the answers are, a call closes what it opened (`conversations_close`), and after a step that wasn't made it
-//! does nothing else (`unmade_steps_end_calls`). Which errors of a system call are a step's own says `is_refusal`, and
+//! does nothing else (`unmade_steps_end_calls`). Which errors of a system call are a step's own says `step_calls`, and
 //! `steps_are_refused_so` that the step table has no others.
 #![tactic(auto)]
 
@@ -25,7 +25,6 @@ mod last_name;
 mod laws;
 mod left;
 mod numbers;
-mod refusals;
 mod runs;
 mod told;
 mod turns;
@@ -41,6 +40,5 @@ pub use laws::{
 };
 pub use left::{Left, parts_ahead};
 pub use numbers::{Answered, Asked, Told};
-pub use refusals::is_refusal;
 pub use runs::{Ahead, Ran, names_ahead, pass_names};
 pub use turns::{begin, next};

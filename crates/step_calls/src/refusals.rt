@@ -1,6 +1,6 @@
 //! Which errors of a system call are a step's own refusals.
 ghost use Rattle.std.specs.Prelude.{◌≡◌};
-ghost use Rattle.c_protocol.specs.Refusals.{is_refusal, make_refused, rename_refused};
+ghost use Rattle.step_calls.specs.Refusals.{is_refusal, make_refused, rename_refused};
 
 fn make_refused(error: u32) -> bool
     ensures { result ≡ make_refused error }
@@ -17,10 +17,9 @@ fn rename_refused(mode: u8, error: u32) -> bool
 }
 
 /// Whether the step table may refuse a step of this number by this error (errno(3)). A link is made with a text of so
-/// many bytes, and a path has 4,095 at most; a rename is by this mode (renameat2(2)). By `steps_are_refused_so` the
-/// step table refuses a step by no other error, but for what a C program's call doesn't meet or can't know. Of any
-/// other error the program tells that the step wasn't made, by ENOMEM, and by `unmade_steps_end_calls` the call closes
-/// what it has and ends. Takes no memory.
+/// many bytes, and a path has 4,095 at most; a rename is by this mode (renameat2(2)). By `c_protocol`'s law
+/// `steps_are_refused_so` the step table refuses a step by no other error, but for what a C program's call doesn't meet
+/// or can't know. Takes no memory.
 ///
 /// `what` is 1 Open, 3 Parent, 4 ReadLink, 8 MakeDir, 9 MakeFile, 10 MakeLink, 11 RemoveFile, 12 RemoveDir, 13 Rename;
 /// of any other number no error is a refusal.

@@ -1,0 +1,54 @@
+-- What holds of each end of a turn holds of the turn.
+use Rattle.std.proofs.Common.{◌≡◌, ℕ, true, false, if◌then◌else◌, ◌&&◌, ◌||◌}
+use Rattle.std.specs.Prelude.{◌==◌}
+use Rattle.step_calls.specs.Refusals.{is_refusal}
+use Rattle.step_calls.specs.History.{asks, came_to, ends_by, fails, gone, knows, not_opened, opened, stayed, there, unasked, waits, EINTR, EMFILE, ENFILE, ENOENT, Next}
+use Rattle.step_calls.specs.declared.course.TheConstants.{SPARE, MOUNT, KIND, MAY_HOLD_MAGIC, LINKS, CLOSE, OPENED, DONE, REFUSED, UNMADE}
+use Rattle.step_calls.specs.declared.facts.Facts.{Facts}
+use Rattle.step_calls.specs.declared.facts.TheConstants.{PARENT, DIRECTORY, LINK}
+use Rattle.step_calls.proofs.MomentLemmas.{if_elim}
+
+pub ends_all : (P : Next → Type 0) (f : Facts) (error : ℕ)
+    → (is_refusal f.what f.mode f.text error ≡ true → P (fails REFUSED error)) → P (fails UNMADE error) → P (ends_by f error)
+ends_all P f error r u =
+    if_elim P (is_refusal f.what f.mode f.text error) (fails REFUSED error) (fails UNMADE error) r (λ b. u)
+
+pub came_all : (P : Next → Type 0) (f : Facts) (k : ℕ) → ((f.what == PARENT) ≡ true → P (asks LINKS))
+    → P (knows MAY_HOLD_MAGIC k) → P (knows OPENED k) → P (came_to f k)
+came_all P f k links magic opened =
+    if_elim P (f.what == PARENT) (if f.lived then knows OPENED k else asks LINKS)
+    (if f.no_magic && (k == LINK) then knows MAY_HOLD_MAGIC k else knows OPENED k)
+    (λ b. if_elim P f.lived (knows OPENED k) (asks LINKS) (λ c. opened) (λ c. links b))
+    (λ b. if_elim P (f.no_magic && (k == LINK)) (knows MAY_HOLD_MAGIC k) (knows OPENED k) (λ c. magic) (λ c. opened))
+
+pub stayed_all : (P : Next → Type 0) (f : Facts) (k : ℕ) → P (asks KIND) → ((f.what == PARENT) ≡ true → P (asks LINKS))
+    → P (knows MAY_HOLD_MAGIC k) → P (knows OPENED k) → P (stayed f k)
+stayed_all P f k kind links magic opened =
+    if_elim P (k == 0) (asks KIND) (came_to f k) (λ b. kind) (λ b. came_all P f k links magic opened)
+
+pub opened_all : (P : Next → Type 0) (f : Facts) (k : ℕ) → P (knows MOUNT k) → P (asks KIND)
+    → ((f.what == PARENT) ≡ true → P (asks LINKS)) → P (knows MAY_HOLD_MAGIC k) → P (knows OPENED k) → P (opened f k)
+opened_all P f k mount kind links magic is_open =
+    if_elim P f.mount (knows MOUNT k) (stayed f k) (λ b. mount) (λ b. stayed_all P f k kind links magic is_open)
+
+pub unopened_all : (P : Next → Type 0) (f : Facts) (how error : ℕ) → ((error == EINTR) ≡ true → P (asks how))
+    → ((error == EINTR) ≡ false → ((error == EMFILE) || (error == ENFILE)) ≡ true → P (waits SPARE how error))
+    → (is_refusal f.what f.mode f.text error ≡ true → P (fails REFUSED error)) → P (fails UNMADE error)
+    → P (not_opened f how error)
+unopened_all P f how error again spare r u =
+    if_elim P (error == EINTR) (asks how) _ again
+    (λ b. if_elim P ((error == EMFILE) || (error == ENFILE)) (waits SPARE how error) (ends_by f error) (spare b)
+    (λ c. ends_all P f error r u))
+
+pub gone_all : (P : Next → Type 0) (f : Facts) → ((f.what == PARENT) ≡ true → P (waits CLOSE REFUSED ENOENT))
+    → ((f.what == PARENT) ≡ false → P (fails REFUSED ENOENT)) → P (gone f)
+gone_all P f c r = if_elim P (f.what == PARENT) (waits CLOSE REFUSED ENOENT) (fails REFUSED ENOENT) c r
+
+pub there_all : (P : Next → Type 0) (f : Facts) → ((f.what == PARENT) ≡ true → P (knows OPENED DIRECTORY))
+    → ((f.what == PARENT) ≡ false → P (asks DONE)) → P (there f)
+there_all P f o d = if_elim P (f.what == PARENT) (knows OPENED DIRECTORY) (asks DONE) o d
+
+pub unasked_all : (P : Next → Type 0) (f : Facts) (error : ℕ)
+    → ((f.what == PARENT) ≡ true → P (waits CLOSE UNMADE error)) → ((f.what == PARENT) ≡ false → P (fails UNMADE error))
+    → P (unasked f error)
+unasked_all P f error c u = if_elim P (f.what == PARENT) (waits CLOSE UNMADE error) (fails UNMADE error) c u

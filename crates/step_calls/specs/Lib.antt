@@ -1,0 +1,5 @@
+pub mod Course
+pub mod History
+pub mod Moments
+pub mod Promises
+pub mod Refusals

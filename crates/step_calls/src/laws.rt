@@ -1,0 +1,60 @@
+//! What holds of each step, as laws over its exchanges: each function's contract is one, and its body is empty.
+ghost use Rattle.std.specs.Prelude.{◌≡◌, ◌≤◌, ◌+◌, ◌⊎◌, true, List, [], length};
+ghost use Rattle.std.specs.List.{AllByRecursion};
+ghost use Rattle.step_calls.specs.History.{next_after, Exchange, IsHistory};
+ghost use Rattle.step_calls.specs.Moments.{LinksWereRead, OpensStood, ParentsStood};
+ghost use Rattle.step_calls.specs.Promises.{costs, holds_after, needs_opened, needs_read, reads_after, NoError};
+ghost use Rattle.step_calls.specs.declared.course.TheConstants.{CHANGE, OPENED, TEXT, DONE};
+ghost use Rattle.step_calls.specs.declared.facts.Facts.{Facts};
+
+/// What answers of Linux say of the tree, each at its moment, is a premise (openat(2), fstat(2)). With it: what is
+/// opened, the step table opened at a moment of a call, and its kind is that object's. And where the step is refused,
+/// the step table refused it so at a moment of a call.
+pub fn opens_stood()
+    ensures { OpensStood }
+{}
+
+/// The same of the directory above (openat(2), stat(2), rmdir(2)). It may have been open already, since the names
+/// passed led to it: then it is of the moment before the first call. Removal is for good: so the child is asked
+/// afterwards whether it is there. That isn't asked of one that had an entry at the step before. And on overlayfs it
+/// can't be asked of a directory that may not be read.
+pub fn parents_stood()
+    ensures { ParentsStood }
+{}
+
+/// The same of a link's text (readlinkat(2)), which may have been read already.
+pub fn links_were_read()
+    ensures { LinksWereRead }
+{}
+
+/// The step's own descriptor is open where it is looked at or closed, and where the step ends with it; and a directory
+/// that is open to be read is read or closed. Nothing else is asked for then, and in the end nothing else is open: so
+/// each descriptor that isn't the answer is closed once.
+pub fn each_descriptor_is_closed_once()
+    ensures own { (f : Facts) (history : List Exchange) → IsHistory f history
+        → holds_after f history ≡ needs_opened f (next_after f history).next }
+    ensures read { (f : Facts) (history : List Exchange) → IsHistory f history
+        → reads_after history ≡ needs_read (next_after f history).next }
+{}
+
+/// Where a step is made, nothing met an error but: a signal; that no descriptor was left, after which one was let go;
+/// ENOTDIR of a name that was then opened as what it is; a file system, or a directory of overlayfs, that could not be
+/// asked; and what isn't refused as a magic link.
+pub fn no_error_is_passed_over()
+    ensures { (f : Facts) (history : List Exchange) → IsHistory f history
+        → ((next_after f history).next ≡ OPENED)
+        ⊎ (((next_after f history).next ≡ TEXT) ⊎ ((next_after f history).next ≡ DONE))
+        → AllByRecursion (NoError f) history }
+{}
+
+/// A change is one system call, whatever it gives: nothing was asked for before.
+pub fn a_change_is_made_once()
+    ensures { (f : Facts) (history : List Exchange) → IsHistory f history → (next_after f history).next ≡ CHANGE
+        → history ≡ [] }
+{}
+
+/// It comes to an end, unless descriptors are let go or signals come. There are three exchanges for each of the first,
+/// one for each of the others, and ten, at most.
+pub fn calls_are_few()
+    ensures { (f : Facts) (history : List Exchange) → IsHistory f history → length history ≤ costs history + 10 }
+{}

@@ -1,0 +1,164 @@
+//! What comes after the system calls that look at what is open: whether a directory is there still; a link's text.
+ghost use Rattle.std.specs.Prelude.{◌≡◌};
+ghost use Rattle.step_calls.specs.Course.{due_of};
+ghost use Rattle.step_calls.specs.History.{after_change, after_close, after_close_read, after_follow, after_layers, after_links, after_open_to_read, after_read, after_read_link, gone, not_read, there, unasked};
+
+use crate::course::{
+    CLOSE, CLOSE_READ, Course, DONE, LAYERS, OPEN_TO_READ, OPENED, READ, READ_LINK, REFUSED, TEXT,
+    UNMADE, asks, ends_by, fails, knows, waits,
+};
+use crate::facts::{DIRECTORY, Facts, PARENT};
+
+const ENOENT: u32 = 2;
+
+const EINTR: u32 = 4;
+
+const EEXIST: u32 = 17;
+
+const EINVAL: u32 = 22;
+
+const ELOOP: u32 = 40;
+
+const OVERLAYFS: u64 = 0x794c_7630;
+
+const NOSYMFOLLOW: u64 = 0x2000;
+
+fn gone(facts: &Facts) -> Course
+    ensures { due_of result ≡ gone facts.now }
+{
+    if facts.what == PARENT {
+        waits(CLOSE, REFUSED, ENOENT)
+    } else {
+        fails(REFUSED, ENOENT)
+    }
+}
+
+fn there(facts: &Facts) -> Course
+    ensures { due_of result ≡ there facts.now }
+{
+    if facts.what == PARENT {
+        knows(OPENED, DIRECTORY)
+    } else {
+        asks(DONE)
+    }
+}
+
+fn unasked(facts: &Facts, error: u32) -> Course
+    ensures { due_of result ≡ unasked facts.now error }
+{
+    if facts.what == PARENT {
+        waits(CLOSE, UNMADE, error)
+    } else {
+        fails(UNMADE, error)
+    }
+}
+
+pub(crate) fn after_links(facts: &Facts, error: u32, links: u64) -> Course
+    ensures { due_of result ≡ after_links facts.now error links }
+{
+    if error == 0 {
+        if links == 0 {
+            gone(facts)
+        } else {
+            asks(LAYERS)
+        }
+    } else {
+        unasked(facts, error)
+    }
+}
+
+pub(crate) fn after_layers(facts: &Facts, error: u32, file_system: u64) -> Course
+    ensures { due_of result ≡ after_layers facts.now error file_system }
+{
+    if error == 0 && file_system == OVERLAYFS {
+        asks(OPEN_TO_READ)
+    } else {
+        there(facts)
+    }
+}
+
+pub(crate) fn after_open_to_read(facts: &Facts, error: u32) -> Course
+    ensures { due_of result ≡ after_open_to_read facts.now error }
+{
+    if error == 0 {
+        asks(READ)
+    } else if error == EINTR {
+        asks(OPEN_TO_READ)
+    } else if error == ENOENT {
+        gone(facts)
+    } else {
+        there(facts)
+    }
+}
+
+pub(crate) fn after_read(error: u32) -> Course
+    ensures { due_of result ≡ after_read error }
+{
+    if error == EINTR {
+        asks(READ)
+    } else if error == ENOENT {
+        fails(CLOSE_READ, ENOENT)
+    } else {
+        asks(CLOSE_READ)
+    }
+}
+
+pub(crate) fn after_close_read(facts: &Facts, why: u32) -> Course
+    ensures { due_of result ≡ after_close_read facts.now why }
+{
+    if why == 0 { there(facts) } else { gone(facts) }
+}
+
+pub(crate) fn after_follow(facts: &Facts, error: u32, flags: u64) -> Course
+    ensures { due_of result ≡ after_follow facts.now error flags }
+{
+    if error == 0 && flags & NOSYMFOLLOW == NOSYMFOLLOW {
+        fails(UNMADE, ELOOP)
+    } else if facts.was_read {
+        asks(TEXT)
+    } else {
+        asks(READ_LINK)
+    }
+}
+
+fn not_read(error: u32) -> u32
+    ensures { result ≡ not_read error }
+{
+    if error == ENOENT { EINVAL } else { error }
+}
+
+pub(crate) fn after_read_link(facts: &Facts, error: u32) -> Course
+    ensures { due_of result ≡ after_read_link facts.now error }
+{
+    if error == 0 {
+        asks(TEXT)
+    } else if error == EINTR {
+        asks(READ_LINK)
+    } else if facts.link {
+        fails(UNMADE, not_read(error))
+    } else {
+        ends_by(facts, not_read(error))
+    }
+}
+
+pub(crate) fn after_change(facts: &Facts, error: u32) -> Course
+    ensures { due_of result ≡ after_change facts.now error }
+{
+    if error == 0 {
+        asks(DONE)
+    } else if facts.second_name && error != EEXIST {
+        fails(UNMADE, error)
+    } else {
+        ends_by(facts, error)
+    }
+}
+
+pub(crate) fn after_close(course: Course) -> Course
+    ensures { due_of result ≡ after_close (due_of course) }
+{
+    if course.behind == REFUSED {
+        fails(REFUSED, course.error)
+    } else {
+        fails(UNMADE, course.error)
+    }
+}
