@@ -1,0 +1,4 @@
+pub mod CaseLemmas
+pub mod FewLemmas
+pub mod FoundLemmas
+pub mod HistoryLemmas

@@ -1,0 +1,21 @@
+//! Which system call comes next as the names that come next on a path are passed, by what the calls before gave.
+//!
+//! A C driver makes the calls, one at a time, and hands over what a call gave. No function makes a system call or takes
+//! memory.
+#![tactic(auto)]
+
+mod coming;
+mod laws;
+mod look_up;
+
+pub use coming::Coming;
+pub use laws::{
+    a_link_that_is_meant_is_not_read, a_place_is_asked_by_the_look_up,
+    each_object_is_closed_or_reported, look_ups_are_few, names_are_opened_as_they_are_meant,
+    no_look_up_follows_a_link, other_errors_end_the_look_ups, what_is_reported_was_opened,
+    what_is_reported_was_passed_in_order,
+};
+pub use look_up::{
+    ALONE, CLOSE, COMPARE, ENDS, FROM_ROOT, KIND, LINK, LOOK_UP, LookUp, PASSED, READ_FIRST,
+    READ_LAST, begin, fresh, next,
+};
