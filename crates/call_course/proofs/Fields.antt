@@ -1,0 +1,388 @@
+-- What a history says of a try is what is kept of it.
+use Rattle.std.proofs.Common.{◌≡◌, ◌≢◌, ◌+◌, ◌-◌, ◌*◌, ◌≤◌, ◌<◌, ℕ, zero, suc, List, [], ◌∷◌, ◌++◌, length, Bool, true, false, not, ◌&&◌, ◌||◌, ◌⊎◌, inl, inr, refl, ap, sym, subst, ◌∙◌, arith}
+use Rattle.std.specs.Prelude.{◌==◌, nat_le, nat_lt, if◌then◌else◌}
+use Rattle.system_calls.specs.Tries.{pause_after, pauses_after, EAGAIN, TRIES}
+use Rattle.call_course.specs.Turns.{after_answer, asks, began, begun, gains, judged, lacks, noted, reply_error, root_error, start, COUNT, DONE, ENOMEM, OPENED, TEXT, is_again, is_unseen, may_go_by_another}
+use Rattle.call_course.specs.History.{exchange, is_question, next_after, Exchange, IsHistory}
+use Rattle.call_course.specs.Promises.{away_after, away_by, begun_after, changed_after, closed_by, error_of, is_walk, last_error, open_after, opened_by, others_after, others_by, owns_after, owns_by, pauses_of, reply_value, stepped_after, stepped_by, unopened_error, value_after, value_by, went_well, why_after, why_by, without, HomeFailed, RootHas}
+use Rattle.call_course.specs.declared.calling.Calling.{Calling}
+use Rattle.call_course.specs.declared.calling.Answer.{Answer}
+use Rattle.call_course.specs.declared.calling.Facts.{Facts}
+use Rattle.call_course.specs.declared.calling.TheConstants.{BEGIN, JOIN, AT_ONCE, OWN_ROOT, PLACE, CONVERSE, TAKE, LET_GO, CLOSE, LOOK_AT_PROC, ANOTHER_PROC, CLOSE_PROC, GO_HOME, LOOK_AT_ROOT, ENDS, FAILS}
+use Rattle.call_course.proofs.Asked.{asked_is}
+use Rattle.call_course.proofs.Leads.{judged_leads, made_of, away, pick, turn_at, Leads, Turn, to_proc, to_close, to_home, to_root, to_end, to_again, to_fail, t_begin, t_join, t_join_held, t_no_join, t_once, t_not_once, t_not_once_held, t_own_place, t_own_walk, t_own_given, t_no_own, t_place, t_no_place, t_opened, t_text, t_cut, t_done, t_made, t_lost, t_unopened, t_count, t_fault, t_took, t_not_took, t_let_go, t_close_made, t_closed, t_closed_stuck, t_same_proc, t_lost_proc, t_another, t_no_other, t_proc_closed, t_home, t_stuck_holds, t_stuck, t_root, t_bad_root}
+use Rattle.call_course.proofs.Sound.{another_ok, changed_ok, error_ok, holds_ok, made_ok, moved_ok, owns_ok, root_ok, sound, sound_start, sound_turn, stuck_ok, tries_ok, within}
+use Rattle.call_course.proofs.Rule.{always, is_sound, leads_same, sound_another, sound_changed, sound_error, sound_holds, sound_made, sound_moved, sound_owns, sound_root, sound_stuck, sound_tries}
+
+owns_turn : (c : Calling) (a : Answer) (n : Calling) (was : Bool) → owns_ok c ≡ true → another_ok c ≡ true → was ≡ c.owns_proc → Turn c a n
+    → owns_by (exchange c a) was ≡ n.owns_proc
+owns_turn c a n was h0 h1 w t =
+    elim t [
+      | t_begin p0 is ↦ grind (arith, p0, is)
+      | t_join p0 p1 p2 is ↦ grind (arith, p0, p1, p2, is)
+      | t_join_held p0 p1 p2 is ↦ grind (arith, p0, p1, p2, is)
+      | t_no_join p0 p1 is ↦ grind (arith, p0, p1, is)
+      | t_once p0 p1 l ↦ grind (arith, p0, p1, leads_same false true (gains a.value true (noted a c)) n l)
+      | t_not_once p0 p1 p2 is ↦ grind (arith, p0, p1, p2, is)
+      | t_not_once_held p0 p1 p2 is ↦ grind (arith, p0, p1, p2, is)
+      | t_own_place p0 p1 p2 p3 is ↦ grind (arith, p0, p1, p2, p3, is)
+      | t_own_walk p0 p1 p2 p3 is ↦ grind (arith, p0, p1, p2, p3, is)
+      | t_own_given p0 p1 p2 is ↦ grind (arith, p0, p1, p2, is)
+      | t_no_own p0 p1 is ↦ grind (arith, p0, p1, is)
+      | t_place p0 p1 l ↦ grind (arith, p0, p1, leads_same false true (gains a.length false (noted a c)) n l)
+      | t_no_place p0 p1 l ↦ grind (arith, p0, p1, leads_same false true (lacks a.error (noted a c)) n l)
+      | t_opened p0 p1 is ↦ grind (arith, p0, p1, is)
+      | t_text p0 p1 p2 p3 is ↦ grind (arith, p0, p1, p2, p3, is)
+      | t_cut p0 p1 p2 p3 is ↦ grind (arith, p0, p1, p2, p3, is)
+      | t_done p0 p1 p2 p3 p4 is ↦ grind (arith, p0, p1, p2, p3, p4, is)
+      | t_made p0 p1 p2 p3 p4 p5 is ↦ grind (arith, p0, p1, p2, p3, p4, p5, is)
+      | t_lost p0 p1 p2 p3 p4 p5 p6 is ↦ grind (arith, p0, p1, p2, p3, p4, p5, p6, is)
+      | t_unopened p0 p1 p2 p3 p4 p5 p6 is ↦ grind (arith, p0, p1, p2, p3, p4, p5, p6, is)
+      | t_count p0 p1 p2 p3 p4 is ↦ grind (arith, p0, p1, p2, p3, p4, is)
+      | t_fault p0 p1 p2 p3 p4 is ↦ grind (arith, p0, p1, p2, p3, p4, is)
+      | t_took p0 p1 is ↦ grind (arith, p0, p1, is)
+      | t_not_took p0 p1 is ↦ grind (arith, p0, p1, is)
+      | t_let_go p0 p1 l ↦ grind (arith, p0, p1, leads_same false true (c) n l)
+      | t_close_made p0 p1 is ↦ grind (arith, p0, p1, is)
+      | t_closed p0 p1 l ↦ grind (arith, p0, p1, leads_same false true (c) n l)
+      | t_closed_stuck p0 p1 is ↦ grind (arith, p0, p1, is)
+      | t_same_proc p0 p1 l ↦ grind (arith, p0, p1, leads_same false false (c) n l)
+      | t_lost_proc p0 p1 is ↦ grind (arith, p0, p1, is)
+      | t_another p0 p1 is ↦ grind (arith, p0, p1, is)
+      | t_no_other p0 p1 l ↦ grind (arith, p0, p1, leads_same false false (lacks a.error c) n l)
+      | t_proc_closed p0 l ↦ grind (arith, p0, leads_same false false (record c { owns_proc = false }) n l)
+      | t_home p0 p1 l ↦ grind (arith, p0, p1, leads_same false false (record c { moved = false }) n l)
+      | t_stuck_holds p0 p1 p2 is ↦ grind (arith, p0, p1, p2, is)
+      | t_stuck p0 p1 p2 is ↦ grind (arith, p0, p1, p2, is)
+      | t_root p0 p1 l ↦ grind (arith, p0, p1, leads_same true false (c) n l)
+      | t_bad_root p0 p1 is ↦ grind (arith, p0, p1, is)
+    ]
+
+away_turn : (c : Calling) (a : Answer) (n : Calling) (was : Bool) → moved_ok c ≡ true → was ≡ c.moved → Turn c a n
+    → away_by (exchange c a) was ≡ n.moved
+away_turn c a n was h0 w t =
+    elim t [
+      | t_begin p0 is ↦ grind (arith, p0, is)
+      | t_join p0 p1 p2 is ↦ grind (arith, p0, p1, p2, is)
+      | t_join_held p0 p1 p2 is ↦ grind (arith, p0, p1, p2, is)
+      | t_no_join p0 p1 is ↦ grind (arith, p0, p1, is)
+      | t_once p0 p1 l ↦ grind (arith, p0, p1, leads_same false true (gains a.value true (noted a c)) n l)
+      | t_not_once p0 p1 p2 is ↦ grind (arith, p0, p1, p2, is)
+      | t_not_once_held p0 p1 p2 is ↦ grind (arith, p0, p1, p2, is)
+      | t_own_place p0 p1 p2 p3 is ↦ grind (arith, p0, p1, p2, p3, is)
+      | t_own_walk p0 p1 p2 p3 is ↦ grind (arith, p0, p1, p2, p3, is)
+      | t_own_given p0 p1 p2 is ↦ grind (arith, p0, p1, p2, is)
+      | t_no_own p0 p1 is ↦ grind (arith, p0, p1, is)
+      | t_place p0 p1 l ↦ grind (arith, p0, p1, leads_same false true (gains a.length false (noted a c)) n l)
+      | t_no_place p0 p1 l ↦ grind (arith, p0, p1, leads_same false true (lacks a.error (noted a c)) n l)
+      | t_opened p0 p1 is ↦ grind (arith, p0, p1, is)
+      | t_text p0 p1 p2 p3 is ↦ grind (arith, p0, p1, p2, p3, is)
+      | t_cut p0 p1 p2 p3 is ↦ grind (arith, p0, p1, p2, p3, is)
+      | t_done p0 p1 p2 p3 p4 is ↦ grind (arith, p0, p1, p2, p3, p4, is)
+      | t_made p0 p1 p2 p3 p4 p5 is ↦ grind (arith, p0, p1, p2, p3, p4, p5, is)
+      | t_lost p0 p1 p2 p3 p4 p5 p6 is ↦ grind (arith, p0, p1, p2, p3, p4, p5, p6, is)
+      | t_unopened p0 p1 p2 p3 p4 p5 p6 is ↦ grind (arith, p0, p1, p2, p3, p4, p5, p6, is)
+      | t_count p0 p1 p2 p3 p4 is ↦ grind (arith, p0, p1, p2, p3, p4, is)
+      | t_fault p0 p1 p2 p3 p4 is ↦ grind (arith, p0, p1, p2, p3, p4, is)
+      | t_took p0 p1 is ↦ grind (arith, p0, p1, is)
+      | t_not_took p0 p1 is ↦ grind (arith, p0, p1, is)
+      | t_let_go p0 p1 l ↦ grind (arith, p0, p1, leads_same false true (c) n l)
+      | t_close_made p0 p1 is ↦ grind (arith, p0, p1, is)
+      | t_closed p0 p1 l ↦ grind (arith, p0, p1, leads_same false true (c) n l)
+      | t_closed_stuck p0 p1 is ↦ grind (arith, p0, p1, is)
+      | t_same_proc p0 p1 l ↦ grind (arith, p0, p1, leads_same false false (c) n l)
+      | t_lost_proc p0 p1 is ↦ grind (arith, p0, p1, is)
+      | t_another p0 p1 is ↦ grind (arith, p0, p1, is)
+      | t_no_other p0 p1 l ↦ grind (arith, p0, p1, leads_same false false (lacks a.error c) n l)
+      | t_proc_closed p0 l ↦ grind (arith, p0, leads_same false false (record c { owns_proc = false }) n l)
+      | t_home p0 p1 l ↦ grind (arith, p0, p1, leads_same false false (record c { moved = false }) n l)
+      | t_stuck_holds p0 p1 p2 is ↦ grind (arith, p0, p1, p2, is)
+      | t_stuck p0 p1 p2 is ↦ grind (arith, p0, p1, p2, is)
+      | t_root p0 p1 l ↦ grind (arith, p0, p1, leads_same true false (c) n l)
+      | t_bad_root p0 p1 is ↦ grind (arith, p0, p1, is)
+    ]
+
+changed_turn : (c : Calling) (a : Answer) (n : Calling) (was : Bool) → changed_ok c ≡ true → was ≡ c.changed → Turn c a n
+    → (was || (is_walk (exchange c a).asked && (exchange c a).gave.changed)) ≡ n.changed
+changed_turn c a n was h0 w t =
+    elim t [
+      | t_begin p0 is ↦ grind (arith, p0, is)
+      | t_join p0 p1 p2 is ↦ grind (arith, p0, p1, p2, is)
+      | t_join_held p0 p1 p2 is ↦ grind (arith, p0, p1, p2, is)
+      | t_no_join p0 p1 is ↦ grind (arith, p0, p1, is)
+      | t_once p0 p1 l ↦ grind (arith, p0, p1, leads_same false true (gains a.value true (noted a c)) n l)
+      | t_not_once p0 p1 p2 is ↦ grind (arith, p0, p1, p2, is)
+      | t_not_once_held p0 p1 p2 is ↦ grind (arith, p0, p1, p2, is)
+      | t_own_place p0 p1 p2 p3 is ↦ grind (arith, p0, p1, p2, p3, is)
+      | t_own_walk p0 p1 p2 p3 is ↦ grind (arith, p0, p1, p2, p3, is)
+      | t_own_given p0 p1 p2 is ↦ grind (arith, p0, p1, p2, is)
+      | t_no_own p0 p1 is ↦ grind (arith, p0, p1, is)
+      | t_place p0 p1 l ↦ grind (arith, p0, p1, leads_same false true (gains a.length false (noted a c)) n l)
+      | t_no_place p0 p1 l ↦ grind (arith, p0, p1, leads_same false true (lacks a.error (noted a c)) n l)
+      | t_opened p0 p1 is ↦ grind (arith, p0, p1, is)
+      | t_text p0 p1 p2 p3 is ↦ grind (arith, p0, p1, p2, p3, is)
+      | t_cut p0 p1 p2 p3 is ↦ grind (arith, p0, p1, p2, p3, is)
+      | t_done p0 p1 p2 p3 p4 is ↦ grind (arith, p0, p1, p2, p3, p4, is)
+      | t_made p0 p1 p2 p3 p4 p5 is ↦ grind (arith, p0, p1, p2, p3, p4, p5, is)
+      | t_lost p0 p1 p2 p3 p4 p5 p6 is ↦ grind (arith, p0, p1, p2, p3, p4, p5, p6, is)
+      | t_unopened p0 p1 p2 p3 p4 p5 p6 is ↦ grind (arith, p0, p1, p2, p3, p4, p5, p6, is)
+      | t_count p0 p1 p2 p3 p4 is ↦ grind (arith, p0, p1, p2, p3, p4, is)
+      | t_fault p0 p1 p2 p3 p4 is ↦ grind (arith, p0, p1, p2, p3, p4, is)
+      | t_took p0 p1 is ↦ grind (arith, p0, p1, is)
+      | t_not_took p0 p1 is ↦ grind (arith, p0, p1, is)
+      | t_let_go p0 p1 l ↦ grind (arith, p0, p1, leads_same false true (c) n l)
+      | t_close_made p0 p1 is ↦ grind (arith, p0, p1, is)
+      | t_closed p0 p1 l ↦ grind (arith, p0, p1, leads_same false true (c) n l)
+      | t_closed_stuck p0 p1 is ↦ grind (arith, p0, p1, is)
+      | t_same_proc p0 p1 l ↦ grind (arith, p0, p1, leads_same false false (c) n l)
+      | t_lost_proc p0 p1 is ↦ grind (arith, p0, p1, is)
+      | t_another p0 p1 is ↦ grind (arith, p0, p1, is)
+      | t_no_other p0 p1 l ↦ grind (arith, p0, p1, leads_same false false (lacks a.error c) n l)
+      | t_proc_closed p0 l ↦ grind (arith, p0, leads_same false false (record c { owns_proc = false }) n l)
+      | t_home p0 p1 l ↦ grind (arith, p0, p1, leads_same false false (record c { moved = false }) n l)
+      | t_stuck_holds p0 p1 p2 is ↦ grind (arith, p0, p1, p2, is)
+      | t_stuck p0 p1 p2 is ↦ grind (arith, p0, p1, p2, is)
+      | t_root p0 p1 l ↦ grind (arith, p0, p1, leads_same true false (c) n l)
+      | t_bad_root p0 p1 is ↦ grind (arith, p0, p1, is)
+    ]
+
+begun_turn : (c : Calling) (a : Answer) (n : Calling) (was : ℕ) → tries_ok c ≡ true → was ≡ c.tries → Turn c a n
+    → (if (exchange c a).asked == BEGIN then suc was else was) ≡ n.tries
+begun_turn c a n was h0 w t =
+    elim t [
+      | t_begin p0 is ↦ grind (arith, p0, is)
+      | t_join p0 p1 p2 is ↦ grind (arith, p0, p1, p2, is)
+      | t_join_held p0 p1 p2 is ↦ grind (arith, p0, p1, p2, is)
+      | t_no_join p0 p1 is ↦ grind (arith, p0, p1, is)
+      | t_once p0 p1 l ↦ grind (arith, p0, p1, leads_same false true (gains a.value true (noted a c)) n l)
+      | t_not_once p0 p1 p2 is ↦ grind (arith, p0, p1, p2, is)
+      | t_not_once_held p0 p1 p2 is ↦ grind (arith, p0, p1, p2, is)
+      | t_own_place p0 p1 p2 p3 is ↦ grind (arith, p0, p1, p2, p3, is)
+      | t_own_walk p0 p1 p2 p3 is ↦ grind (arith, p0, p1, p2, p3, is)
+      | t_own_given p0 p1 p2 is ↦ grind (arith, p0, p1, p2, is)
+      | t_no_own p0 p1 is ↦ grind (arith, p0, p1, is)
+      | t_place p0 p1 l ↦ grind (arith, p0, p1, leads_same false true (gains a.length false (noted a c)) n l)
+      | t_no_place p0 p1 l ↦ grind (arith, p0, p1, leads_same false true (lacks a.error (noted a c)) n l)
+      | t_opened p0 p1 is ↦ grind (arith, p0, p1, is)
+      | t_text p0 p1 p2 p3 is ↦ grind (arith, p0, p1, p2, p3, is)
+      | t_cut p0 p1 p2 p3 is ↦ grind (arith, p0, p1, p2, p3, is)
+      | t_done p0 p1 p2 p3 p4 is ↦ grind (arith, p0, p1, p2, p3, p4, is)
+      | t_made p0 p1 p2 p3 p4 p5 is ↦ grind (arith, p0, p1, p2, p3, p4, p5, is)
+      | t_lost p0 p1 p2 p3 p4 p5 p6 is ↦ grind (arith, p0, p1, p2, p3, p4, p5, p6, is)
+      | t_unopened p0 p1 p2 p3 p4 p5 p6 is ↦ grind (arith, p0, p1, p2, p3, p4, p5, p6, is)
+      | t_count p0 p1 p2 p3 p4 is ↦ grind (arith, p0, p1, p2, p3, p4, is)
+      | t_fault p0 p1 p2 p3 p4 is ↦ grind (arith, p0, p1, p2, p3, p4, is)
+      | t_took p0 p1 is ↦ grind (arith, p0, p1, is)
+      | t_not_took p0 p1 is ↦ grind (arith, p0, p1, is)
+      | t_let_go p0 p1 l ↦ grind (arith, p0, p1, leads_same false true (c) n l)
+      | t_close_made p0 p1 is ↦ grind (arith, p0, p1, is)
+      | t_closed p0 p1 l ↦ grind (arith, p0, p1, leads_same false true (c) n l)
+      | t_closed_stuck p0 p1 is ↦ grind (arith, p0, p1, is)
+      | t_same_proc p0 p1 l ↦ grind (arith, p0, p1, leads_same false false (c) n l)
+      | t_lost_proc p0 p1 is ↦ grind (arith, p0, p1, is)
+      | t_another p0 p1 is ↦ grind (arith, p0, p1, is)
+      | t_no_other p0 p1 l ↦ grind (arith, p0, p1, leads_same false false (lacks a.error c) n l)
+      | t_proc_closed p0 l ↦ grind (arith, p0, leads_same false false (record c { owns_proc = false }) n l)
+      | t_home p0 p1 l ↦ grind (arith, p0, p1, leads_same false false (record c { moved = false }) n l)
+      | t_stuck_holds p0 p1 p2 is ↦ grind (arith, p0, p1, p2, is)
+      | t_stuck p0 p1 p2 is ↦ grind (arith, p0, p1, p2, is)
+      | t_root p0 p1 l ↦ grind (arith, p0, p1, leads_same true false (c) n l)
+      | t_bad_root p0 p1 is ↦ grind (arith, p0, p1, is)
+    ]
+
+stepped_turn : (c : Calling) (a : Answer) (n : Calling) (was : Bool) → was ≡ c.stepped → Turn c a n
+    → stepped_by (exchange c a) was ≡ n.stepped
+stepped_turn c a n was w t =
+    elim t [
+      | t_begin p0 is ↦ grind (arith, p0, is)
+      | t_join p0 p1 p2 is ↦ grind (arith, p0, p1, p2, is)
+      | t_join_held p0 p1 p2 is ↦ grind (arith, p0, p1, p2, is)
+      | t_no_join p0 p1 is ↦ grind (arith, p0, p1, is)
+      | t_once p0 p1 l ↦ grind (arith, p0, p1, leads_same false true (gains a.value true (noted a c)) n l)
+      | t_not_once p0 p1 p2 is ↦ grind (arith, p0, p1, p2, is)
+      | t_not_once_held p0 p1 p2 is ↦ grind (arith, p0, p1, p2, is)
+      | t_own_place p0 p1 p2 p3 is ↦ grind (arith, p0, p1, p2, p3, is)
+      | t_own_walk p0 p1 p2 p3 is ↦ grind (arith, p0, p1, p2, p3, is)
+      | t_own_given p0 p1 p2 is ↦ grind (arith, p0, p1, p2, is)
+      | t_no_own p0 p1 is ↦ grind (arith, p0, p1, is)
+      | t_place p0 p1 l ↦ grind (arith, p0, p1, leads_same false true (gains a.length false (noted a c)) n l)
+      | t_no_place p0 p1 l ↦ grind (arith, p0, p1, leads_same false true (lacks a.error (noted a c)) n l)
+      | t_opened p0 p1 is ↦ grind (arith, p0, p1, is)
+      | t_text p0 p1 p2 p3 is ↦ grind (arith, p0, p1, p2, p3, is)
+      | t_cut p0 p1 p2 p3 is ↦ grind (arith, p0, p1, p2, p3, is)
+      | t_done p0 p1 p2 p3 p4 is ↦ grind (arith, p0, p1, p2, p3, p4, is)
+      | t_made p0 p1 p2 p3 p4 p5 is ↦ grind (arith, p0, p1, p2, p3, p4, p5, is)
+      | t_lost p0 p1 p2 p3 p4 p5 p6 is ↦ grind (arith, p0, p1, p2, p3, p4, p5, p6, is)
+      | t_unopened p0 p1 p2 p3 p4 p5 p6 is ↦ grind (arith, p0, p1, p2, p3, p4, p5, p6, is)
+      | t_count p0 p1 p2 p3 p4 is ↦ grind (arith, p0, p1, p2, p3, p4, is)
+      | t_fault p0 p1 p2 p3 p4 is ↦ grind (arith, p0, p1, p2, p3, p4, is)
+      | t_took p0 p1 is ↦ grind (arith, p0, p1, is)
+      | t_not_took p0 p1 is ↦ grind (arith, p0, p1, is)
+      | t_let_go p0 p1 l ↦ grind (arith, p0, p1, leads_same false true (c) n l)
+      | t_close_made p0 p1 is ↦ grind (arith, p0, p1, is)
+      | t_closed p0 p1 l ↦ grind (arith, p0, p1, leads_same false true (c) n l)
+      | t_closed_stuck p0 p1 is ↦ grind (arith, p0, p1, is)
+      | t_same_proc p0 p1 l ↦ grind (arith, p0, p1, leads_same false false (c) n l)
+      | t_lost_proc p0 p1 is ↦ grind (arith, p0, p1, is)
+      | t_another p0 p1 is ↦ grind (arith, p0, p1, is)
+      | t_no_other p0 p1 l ↦ grind (arith, p0, p1, leads_same false false (lacks a.error c) n l)
+      | t_proc_closed p0 l ↦ grind (arith, p0, leads_same false false (record c { owns_proc = false }) n l)
+      | t_home p0 p1 l ↦ grind (arith, p0, p1, leads_same false false (record c { moved = false }) n l)
+      | t_stuck_holds p0 p1 p2 is ↦ grind (arith, p0, p1, p2, is)
+      | t_stuck p0 p1 p2 is ↦ grind (arith, p0, p1, p2, is)
+      | t_root p0 p1 l ↦ grind (arith, p0, p1, leads_same true false (c) n l)
+      | t_bad_root p0 p1 is ↦ grind (arith, p0, p1, is)
+    ]
+
+why_turn : (c : Calling) (a : Answer) (n : Calling) (was : ℕ) → error_ok c ≡ true → was ≡ c.error → Turn c a n
+    → why_by c.facts (exchange c a) was ≡ n.error
+why_turn c a n was h0 w t =
+    elim t [
+      | t_begin p0 is ↦ grind (arith, p0, is)
+      | t_join p0 p1 p2 is ↦ grind (arith, p0, p1, p2, is)
+      | t_join_held p0 p1 p2 is ↦ grind (arith, p0, p1, p2, is)
+      | t_no_join p0 p1 is ↦ grind (arith, p0, p1, is)
+      | t_once p0 p1 l ↦ grind (arith, p0, p1, leads_same false true (gains a.value true (noted a c)) n l)
+      | t_not_once p0 p1 p2 is ↦ grind (arith, p0, p1, p2, is)
+      | t_not_once_held p0 p1 p2 is ↦ grind (arith, p0, p1, p2, is)
+      | t_own_place p0 p1 p2 p3 is ↦ grind (arith, p0, p1, p2, p3, is)
+      | t_own_walk p0 p1 p2 p3 is ↦ grind (arith, p0, p1, p2, p3, is)
+      | t_own_given p0 p1 p2 is ↦ grind (arith, p0, p1, p2, is)
+      | t_no_own p0 p1 is ↦ grind (arith, p0, p1, is)
+      | t_place p0 p1 l ↦ grind (arith, p0, p1, leads_same false true (gains a.length false (noted a c)) n l)
+      | t_no_place p0 p1 l ↦ grind (arith, p0, p1, leads_same false true (lacks a.error (noted a c)) n l)
+      | t_opened p0 p1 is ↦ grind (arith, p0, p1, is)
+      | t_text p0 p1 p2 p3 is ↦ grind (arith, p0, p1, p2, p3, is)
+      | t_cut p0 p1 p2 p3 is ↦ grind (arith, p0, p1, p2, p3, is)
+      | t_done p0 p1 p2 p3 p4 is ↦ grind (arith, p0, p1, p2, p3, p4, is)
+      | t_made p0 p1 p2 p3 p4 p5 is ↦ grind (arith, p0, p1, p2, p3, p4, p5, is)
+      | t_lost p0 p1 p2 p3 p4 p5 p6 is ↦ grind (arith, p0, p1, p2, p3, p4, p5, p6, is)
+      | t_unopened p0 p1 p2 p3 p4 p5 p6 is ↦ grind (arith, p0, p1, p2, p3, p4, p5, p6, is)
+      | t_count p0 p1 p2 p3 p4 is ↦ grind (arith, p0, p1, p2, p3, p4, is)
+      | t_fault p0 p1 p2 p3 p4 is ↦ grind (arith, p0, p1, p2, p3, p4, is)
+      | t_took p0 p1 is ↦ grind (arith, p0, p1, is)
+      | t_not_took p0 p1 is ↦ grind (arith, p0, p1, is)
+      | t_let_go p0 p1 l ↦ grind (arith, p0, p1, leads_same false true (c) n l)
+      | t_close_made p0 p1 is ↦ grind (arith, p0, p1, is)
+      | t_closed p0 p1 l ↦ grind (arith, p0, p1, leads_same false true (c) n l)
+      | t_closed_stuck p0 p1 is ↦ grind (arith, p0, p1, is)
+      | t_same_proc p0 p1 l ↦ grind (arith, p0, p1, leads_same false false (c) n l)
+      | t_lost_proc p0 p1 is ↦ grind (arith, p0, p1, is)
+      | t_another p0 p1 is ↦ grind (arith, p0, p1, is)
+      | t_no_other p0 p1 l ↦ grind (arith, p0, p1, leads_same false false (lacks a.error c) n l)
+      | t_proc_closed p0 l ↦ grind (arith, p0, leads_same false false (record c { owns_proc = false }) n l)
+      | t_home p0 p1 l ↦ grind (arith, p0, p1, leads_same false false (record c { moved = false }) n l)
+      | t_stuck_holds p0 p1 p2 is ↦ grind (arith, p0, p1, p2, is)
+      | t_stuck p0 p1 p2 is ↦ grind (arith, p0, p1, p2, is)
+      | t_root p0 p1 l ↦ grind (arith, p0, p1, leads_same true false (c) n l)
+      | t_bad_root p0 p1 is ↦ grind (arith, p0, p1, is)
+    ]
+
+value_turn : (c : Calling) (a : Answer) (n : Calling) (was : ℕ) → was ≡ c.value → Turn c a n
+    → value_by c.facts (exchange c a) was ≡ n.value
+value_turn c a n was w t =
+    elim t [
+      | t_begin p0 is ↦ grind (arith, p0, is)
+      | t_join p0 p1 p2 is ↦ grind (arith, p0, p1, p2, is)
+      | t_join_held p0 p1 p2 is ↦ grind (arith, p0, p1, p2, is)
+      | t_no_join p0 p1 is ↦ grind (arith, p0, p1, is)
+      | t_once p0 p1 l ↦ grind (arith, p0, p1, leads_same false true (gains a.value true (noted a c)) n l)
+      | t_not_once p0 p1 p2 is ↦ grind (arith, p0, p1, p2, is)
+      | t_not_once_held p0 p1 p2 is ↦ grind (arith, p0, p1, p2, is)
+      | t_own_place p0 p1 p2 p3 is ↦ grind (arith, p0, p1, p2, p3, is)
+      | t_own_walk p0 p1 p2 p3 is ↦ grind (arith, p0, p1, p2, p3, is)
+      | t_own_given p0 p1 p2 is ↦ grind (arith, p0, p1, p2, is)
+      | t_no_own p0 p1 is ↦ grind (arith, p0, p1, is)
+      | t_place p0 p1 l ↦ grind (arith, p0, p1, leads_same false true (gains a.length false (noted a c)) n l)
+      | t_no_place p0 p1 l ↦ grind (arith, p0, p1, leads_same false true (lacks a.error (noted a c)) n l)
+      | t_opened p0 p1 is ↦ grind (arith, p0, p1, is)
+      | t_text p0 p1 p2 p3 is ↦ grind (arith, p0, p1, p2, p3, is)
+      | t_cut p0 p1 p2 p3 is ↦ grind (arith, p0, p1, p2, p3, is)
+      | t_done p0 p1 p2 p3 p4 is ↦ grind (arith, p0, p1, p2, p3, p4, is)
+      | t_made p0 p1 p2 p3 p4 p5 is ↦ grind (arith, p0, p1, p2, p3, p4, p5, is)
+      | t_lost p0 p1 p2 p3 p4 p5 p6 is ↦ grind (arith, p0, p1, p2, p3, p4, p5, p6, is)
+      | t_unopened p0 p1 p2 p3 p4 p5 p6 is ↦ grind (arith, p0, p1, p2, p3, p4, p5, p6, is)
+      | t_count p0 p1 p2 p3 p4 is ↦ grind (arith, p0, p1, p2, p3, p4, is)
+      | t_fault p0 p1 p2 p3 p4 is ↦ grind (arith, p0, p1, p2, p3, p4, is)
+      | t_took p0 p1 is ↦ grind (arith, p0, p1, is)
+      | t_not_took p0 p1 is ↦ grind (arith, p0, p1, is)
+      | t_let_go p0 p1 l ↦ grind (arith, p0, p1, leads_same false true (c) n l)
+      | t_close_made p0 p1 is ↦ grind (arith, p0, p1, is)
+      | t_closed p0 p1 l ↦ grind (arith, p0, p1, leads_same false true (c) n l)
+      | t_closed_stuck p0 p1 is ↦ grind (arith, p0, p1, is)
+      | t_same_proc p0 p1 l ↦ grind (arith, p0, p1, leads_same false false (c) n l)
+      | t_lost_proc p0 p1 is ↦ grind (arith, p0, p1, is)
+      | t_another p0 p1 is ↦ grind (arith, p0, p1, is)
+      | t_no_other p0 p1 l ↦ grind (arith, p0, p1, leads_same false false (lacks a.error c) n l)
+      | t_proc_closed p0 l ↦ grind (arith, p0, leads_same false false (record c { owns_proc = false }) n l)
+      | t_home p0 p1 l ↦ grind (arith, p0, p1, leads_same false false (record c { moved = false }) n l)
+      | t_stuck_holds p0 p1 p2 is ↦ grind (arith, p0, p1, p2, is)
+      | t_stuck p0 p1 p2 is ↦ grind (arith, p0, p1, p2, is)
+      | t_root p0 p1 l ↦ grind (arith, p0, p1, leads_same true false (c) n l)
+      | t_bad_root p0 p1 is ↦ grind (arith, p0, p1, is)
+    ]
+
+-- ---- all of a history
+
+owns_start : (facts : Facts) → false ≡ (start facts).owns_proc
+owns_start facts = refl
+
+pub owns_is : (facts : Facts) (history : List Exchange) → IsHistory facts history
+    → owns_after history ≡ (next_after facts history).owns_proc
+owns_is facts =
+    always facts (λ h c. owns_after h ≡ c.owns_proc) (owns_start facts)
+    (λ older c a n s same t w. owns_turn c a n (owns_after older) (sound_owns c s) (sound_another c s) w t)
+
+away_start : (facts : Facts) → false ≡ (start facts).moved
+away_start facts = refl
+
+pub away_is : (facts : Facts) (history : List Exchange) → IsHistory facts history
+    → away_after history ≡ (next_after facts history).moved
+away_is facts =
+    always facts (λ h c. away_after h ≡ c.moved) (away_start facts)
+    (λ older c a n s same t w. away_turn c a n (away_after older) (sound_moved c s) w t)
+
+changed_start : (facts : Facts) → false ≡ (start facts).changed
+changed_start facts = refl
+
+pub changed_is : (facts : Facts) (history : List Exchange) → IsHistory facts history
+    → changed_after history ≡ (next_after facts history).changed
+changed_is facts =
+    always facts (λ h c. changed_after h ≡ c.changed) (changed_start facts)
+    (λ older c a n s same t w. changed_turn c a n (changed_after older) (sound_changed c s) w t)
+
+begun_start : (facts : Facts) → 0 ≡ (start facts).tries
+begun_start facts = refl
+
+pub begun_is : (facts : Facts) (history : List Exchange) → IsHistory facts history
+    → begun_after history ≡ (next_after facts history).tries
+begun_is facts =
+    always facts (λ h c. begun_after h ≡ c.tries) (begun_start facts)
+    (λ older c a n s same t w. begun_turn c a n (begun_after older) (sound_tries c s) w t)
+
+stepped_start : (facts : Facts) → false ≡ (start facts).stepped
+stepped_start facts = refl
+
+pub stepped_is : (facts : Facts) (history : List Exchange) → IsHistory facts history
+    → stepped_after history ≡ (next_after facts history).stepped
+stepped_is facts =
+    always facts (λ h c. stepped_after h ≡ c.stepped) (stepped_start facts)
+    (λ older c a n s same t w. stepped_turn c a n (stepped_after older) w t)
+
+why_start : (facts : Facts) → facts.error ≡ (start facts).error
+why_start facts = refl
+
+pub why_is : (facts : Facts) (history : List Exchange) → IsHistory facts history
+    → why_after facts history ≡ (next_after facts history).error
+why_is facts =
+    always facts (λ h c. why_after facts h ≡ c.error) (why_start facts)
+    (λ older c a n s same t w. subst (λ f. why_by f (exchange c a) (why_after facts older) ≡ n.error) same (why_turn c a n (why_after facts older) (sound_error c s) w t))
+
+value_start : (facts : Facts) → 0 ≡ (start facts).value
+value_start facts = refl
+
+pub value_is : (facts : Facts) (history : List Exchange) → IsHistory facts history
+    → value_after facts history ≡ (next_after facts history).value
+value_is facts =
+    always facts (λ h c. value_after facts h ≡ c.value) (value_start facts)
+    (λ older c a n s same t w. subst (λ f. value_by f (exchange c a) (value_after facts older) ≡ n.value) same (value_turn c a n (value_after facts older) w t))

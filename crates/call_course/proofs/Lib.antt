@@ -1,0 +1,11 @@
+pub mod Asked
+pub mod Ends
+pub mod Fields
+pub mod LawLemmas
+pub mod Leads
+pub mod Open
+pub mod Others
+pub mod Own
+pub mod Pauses
+pub mod Rule
+pub mod Sound

@@ -1,0 +1,20 @@
+use Rattle.call_course.proofs.Own.{own_alone, own_asked, own_held, own_no_end, own_order, own_walks}
+use Rattle.call_course.proofs.laws.the_own_root_is_checked_first.Goals as goal
+
+pub returns-clause-walks : goal.returns-clause-walks
+returns-clause-walks c = own_walks
+
+pub returns-clause-held : goal.returns-clause-held
+returns-clause-held c = own_held
+
+pub returns-clause-alone : goal.returns-clause-alone
+returns-clause-alone c = own_alone
+
+pub returns-clause-before : goal.returns-clause-before
+returns-clause-before c = own_asked
+
+pub returns-clause-never_ends : goal.returns-clause-never_ends
+returns-clause-never_ends c = own_no_end
+
+pub returns-clause-order : goal.returns-clause-order
+returns-clause-order c = own_order

@@ -1,0 +1,114 @@
+//! What holds of every call, as laws over its exchanges: each function's contract is one, and its body is empty.
+ghost use Rattle.std.specs.Prelude.{◌≡◌, ◌≢◌, ◌≤◌, ◌⊎◌, ◌++◌, ◌+◌, ◌*◌, ℕ, true, false, List, [], ◌∷◌, length};
+ghost use Rattle.system_calls.specs.Tries.{EAGAIN, TRIES};
+ghost use Rattle.call_course.specs.History.{next_after, Exchange, IsHistory};
+ghost use Rattle.call_course.specs.Promises.{away_after, begun_after, changed_after, check_error_after, checked_after, given, is_own_error, is_walk, last_error, open_after, others_after, owns_after, pauses_of, stepped_after, value_after, why_after, HomeFailed, IsChecked, LastWas, RootHas};
+ghost use Rattle.call_course.specs.declared.calling.Facts.{Facts};
+ghost use Rattle.call_course.specs.declared.calling.TheConstants.{BEGIN, OWN_ROOT, PLACE, CONVERSE, CLOSE, ANOTHER_PROC, CLOSE_PROC, LOOK_AT_ROOT, ENDS, FAILS};
+
+/// What a call gives is what it gained last. If that is a descriptor, it is open, and nothing else is that the call
+/// opened. A call that fails has closed all of it. It closes what is open.
+pub fn what_is_given_is_all_that_stays_open()
+    ensures value { (facts : Facts) (history : List Exchange) → IsHistory facts history
+        → (next_after facts history).next ≡ ENDS → (next_after facts history).value ≡ value_after facts history }
+    ensures ends { (facts : Facts) (history : List Exchange) → IsHistory facts history
+        → (next_after facts history).next ≡ ENDS → open_after history ≡ given (next_after facts history) }
+    ensures fails { (facts : Facts) (history : List Exchange) → IsHistory facts history
+        → (next_after facts history).next ≡ FAILS → open_after history ≡ [] }
+    ensures closes { (facts : Facts) (history : List Exchange) → IsHistory facts history
+        → (next_after facts history).next ≡ CLOSE
+        → (rest : List ℕ) × (open_after history ≡ rest ++ ((next_after facts history).about ∷ [])) }
+    ensures again { (facts : Facts) (history : List Exchange) → IsHistory facts history
+        → (next_after facts history).next ≡ BEGIN → open_after history ≡ [] }
+{}
+
+/// A /proc of the call's own is closed while it is open, and is closed in the end, and before another try.
+pub fn its_own_proc_is_closed()
+    ensures open { (facts : Facts) (history : List Exchange) → IsHistory facts history
+        → (next_after facts history).next ≡ CLOSE_PROC → owns_after history ≡ true }
+    ensures ends { (facts : Facts) (history : List Exchange) → IsHistory facts history
+        → ((next_after facts history).next ≡ ENDS) ⊎ (((next_after facts history).next ≡ FAILS)
+        ⊎ ((next_after facts history).next ≡ BEGIN)) → owns_after history ≡ false }
+{}
+
+/// A call that has changed an entry is never begun again: neither by another /proc, nor by another try.
+pub fn what_was_changed_is_not_begun_again()
+    ensures { (facts : Facts) (history : List Exchange) → IsHistory facts history
+        → ((next_after facts history).next ≡ BEGIN) ⊎ ((next_after facts history).next ≡ ANOTHER_PROC)
+        → changed_after history ≡ false }
+{}
+
+/// Each try asks for another /proc once at most.
+pub fn another_proc_is_tried_once()
+    ensures { (facts : Facts) (history : List Exchange) → IsHistory facts history → others_after history ≤ 1 }
+{}
+
+/// A call makes 32 tries at most, with pauses of less than 19 milliseconds in all. Another try follows only one that
+/// failed by EAGAIN, and only where the caller lets it.
+pub fn tries_are_few()
+    ensures few { (facts : Facts) (history : List Exchange) → IsHistory facts history → begun_after history ≤ TRIES }
+    ensures pauses { (facts : Facts) (history : List Exchange) → IsHistory facts history
+        → pauses_of history ≤ 18270000 }
+    ensures why { (facts : Facts) (history : List Exchange) → IsHistory facts history
+        → (next_after facts history).next ≡ BEGIN
+        → (history ≡ []) ⊎ ((facts.may_retry ≡ true) × (why_after facts history ≡ EAGAIN)) }
+{}
+
+/// In the end, and before another try, the thread is at its root directory. Or it could not go there: then the call
+/// fails by that.
+pub fn the_thread_goes_home()
+    ensures ends { (facts : Facts) (history : List Exchange) → IsHistory facts history
+        → ((next_after facts history).next ≡ ENDS) ⊎ ((next_after facts history).next ≡ BEGIN)
+        → away_after history ≡ false }
+    ensures fails { (facts : Facts) (history : List Exchange) → IsHistory facts history
+        → (next_after facts history).next ≡ FAILS
+        → (away_after history ≡ false) ⊎ HomeFailed (next_after facts history).error history }
+{}
+
+/// The root is looked at where a try failed, made no step, and the root isn't the thread's own. Such a call fails right
+/// after that look, unless the thread could not go home. An error is the root's own only by that look.
+pub fn the_roots_errors_come_first()
+    ensures only_then { (facts : Facts) (history : List Exchange) → IsHistory facts history
+        → (next_after facts history).next ≡ LOOK_AT_ROOT
+        → (stepped_after history ≡ false) × ((facts.jailed ≡ false) × (why_after facts history ≢ 0)) }
+    ensures always { (facts : Facts) (history : List Exchange) → IsHistory facts history
+        → (next_after facts history).next ≡ FAILS → stepped_after history ≡ false → facts.jailed ≡ false
+        → LastWas LOOK_AT_ROOT history ⊎ HomeFailed (next_after facts history).error history }
+    ensures own { (facts : Facts) (history : List Exchange) → IsHistory facts history
+        → is_own_error (next_after facts history) ≡ true → RootHas (next_after facts history).error history }
+{}
+
+/// Right before a path is walked by steps, and before a place is asked for, the thread's own root is checked without an
+/// error, unless the root is held: then it is not checked. A call that has failed before makes that check, and nothing
+/// else of a try, and fails. The root's own error comes first, then that of the check, then the one by which it has
+/// failed before; but an error of the way home hides all of them.
+pub fn the_own_root_is_checked_first()
+    ensures walks { (facts : Facts) (history : List Exchange) → IsHistory facts history → facts.held ≡ false
+        → ((next_after facts history).next ≡ PLACE) ⊎ ((next_after facts history).next ≡ CONVERSE) → IsChecked history }
+    ensures held { (facts : Facts) (history : List Exchange) → IsHistory facts history → facts.held ≡ true
+        → (next_after facts history).next ≢ OWN_ROOT }
+    ensures alone { (facts : Facts) (history : List Exchange) → IsHistory facts history → facts.error ≢ 0
+        → is_walk (next_after facts history).next ≡ true → (next_after facts history).next ≡ OWN_ROOT }
+    ensures before { (facts : Facts) (history : List Exchange) → IsHistory facts history → facts.error ≢ 0
+        → facts.held ≡ false → (next_after facts history).next ≡ FAILS → checked_after history ≡ true }
+    ensures never_ends { (facts : Facts) (history : List Exchange) → IsHistory facts history → facts.error ≢ 0
+        → (next_after facts history).next ≢ ENDS }
+    ensures order { (facts : Facts) (history : List Exchange) → IsHistory facts history → facts.error ≢ 0
+        → (next_after facts history).next ≡ FAILS
+        → (is_own_error (next_after facts history) ≡ true) ⊎ (HomeFailed (next_after facts history).error history
+        ⊎ ((next_after facts history).error ≡ last_error (check_error_after history) facts.error)) }
+{}
+
+/// A call fails by the last error that it met. Where it ends, none is left.
+pub fn why_it_fails()
+    ensures fails { (facts : Facts) (history : List Exchange) → IsHistory facts history
+        → (next_after facts history).next ≡ FAILS
+        → ((next_after facts history).error ≡ why_after facts history) × (why_after facts history ≢ 0) }
+    ensures ends { (facts : Facts) (history : List Exchange) → IsHistory facts history
+        → (next_after facts history).next ≡ ENDS → why_after facts history ≡ 0 }
+{}
+
+/// It comes to an end: there are 18 exchanges for each try at most, and one.
+pub fn exchanges_are_few()
+    ensures { (facts : Facts) (history : List Exchange) → IsHistory facts history → length history ≤ 18 * TRIES + 1 }
+{}
