@@ -4,7 +4,9 @@
  *
  *     paths ROOT MODE ROUNDS
  *
- * MODE: openat2 (RESOLVE_IN_ROOT); naive (single openat(2) calls, no check); text (lstat(2) and texts, as SecureJoin); or libinroot:
+ * MODE: openat2 (RESOLVE_IN_ROOT); naive (single openat(2) calls, no check); text (lstat(2) and texts, as SecureJoin); least and
+ * least-same (which links a path has is known, and no library decides: each link's text is read in its directory, what they lead to is
+ * looked up from the root, and its link in /proc is read; and the same with the object compared by statx(2)); or libinroot:
  * proc, proc-one (INROOT_ONE_BY_ONE), stays (INROOT_ROOT_STAYS and INROOT_TRUST_PROC), below (INROOT_BELOW), jail, trust
  * (INROOT_TRUST_PROC). Of each path the least of ROUNDS counts, and what it takes to read the clock is taken off. Three lines: the
  * kind of path, how many there are and failed, the mean in microseconds, system calls of one path.
@@ -33,10 +35,18 @@ enum { MOST = 200000, KINDS = 3, LINKS = 40 };
 static const char *const kinds[KINDS] = {"plain", "links", "by a link"};
 static const char *const linked[] = {"bin", "lib", "lib64", "sbin"};
 
+/* A link that is met on a path: its name, and its directory from the root. */
+struct met {
+    char *dir, *name;
+};
+
 static struct {
     char *path;
     int kind;
     long best;
+    struct met *links;
+    int met;
+    char *end;
 } paths[MOST];
 static size_t count, above;
 static int top, use, flags;
@@ -192,6 +202,75 @@ static int by_text(const char *path)
     return fd < 0 ? -errno : fd;
 }
 
+/* ---- the least that reads each link's text and looks up what it leads to. Which names are links is found beforehand */
+
+static size_t at_hand;
+static int table;
+static bool compares;
+
+/* The same walk as by_text(). Keeps the links, and where the path leads to. */
+static void prepare(size_t at)
+{
+    char part[NAME_MAX + 1], text[PATH_MAX], whole[4 * PATH_MAX] = "", *left = rest;
+    struct met met[LINKS];
+    int links = 0;
+    snprintf(rest, sizeof rest, "%s", paths[at].path);
+    while (next(&left, part) != NULL) {
+        char *end = whole + strlen(whole);
+        if (strcmp(part, "..") == 0 && end > whole)
+            *strrchr(whole, '/') = 0;
+        if (strcmp(part, ".") == 0 || strcmp(part, "..") == 0)
+            continue;
+        sprintf(end, "/%s", part);
+        ssize_t length = readlinkat(top, whole + 1, text, sizeof text - 1);
+        if (length < 0 || links == LINKS)
+            continue;
+        text[length] = 0;
+        *end = 0;
+        met[links++] = (struct met){strdup(whole[0] == 0 ? "" : whole + 1), strdup(part)};
+        *(text[0] == '/' ? whole : end) = 0;
+        left = put(text, left);
+    }
+    paths[at].links = memcpy(malloc(sizeof met), met, sizeof met);
+    paths[at].met = links;
+    paths[at].end = strdup(whole + 1);
+}
+
+static int look(const char *names, uint64_t flags, uint64_t resolve)
+{
+    const struct open_how how = {
+        .flags = flags | O_PATH | O_CLOEXEC, .resolve = resolve | RESOLVE_NO_SYMLINKS | RESOLVE_NO_MAGICLINKS,
+    };
+    return (int)syscall(SYS_openat2, top, names, &how, sizeof how);
+}
+
+static int by_least(const char *path)
+{
+    char text[PATH_MAX], name[16];
+    struct statx one, other;
+    const struct met *links = paths[at_hand].links;
+    int dir = top, met = paths[at_hand].met;
+    (void)path;
+    for (int at = 0; at < met; at++) {
+        if (at == 0 || strcmp(links[at].dir, links[at - 1].dir) != 0) {
+            if (dir != top)
+                close(dir);
+            dir = links[at].dir[0] == 0 ? top : look(links[at].dir, O_DIRECTORY, 0);
+        }
+        if (readlinkat(dir, links[at].name, text, sizeof text) < 0)
+            return -errno;
+    }
+    int fd = look(paths[at_hand].end, 0, RESOLVE_BENEATH);
+    if (met > 0 && compares) {
+        statx(fd, "", AT_EMPTY_PATH | AT_STATX_DONT_SYNC, STATX_TYPE | STATX_INO, &one);
+        statx(dir, links[met - 1].name, AT_SYMLINK_NOFOLLOW | AT_STATX_DONT_SYNC, STATX_TYPE | STATX_INO, &other);
+    }
+    if (dir != top)
+        close(dir);
+    snprintf(name, sizeof name, "%d", fd);
+    return fd < 0 || readlinkat(table, name, text, sizeof text) < 0 ? -errno : fd;
+}
+
 static int by_openat2(const char *path)
 {
     const struct open_how how = {.flags = O_PATH | O_CLOEXEC, .resolve = RESOLVE_IN_ROOT};
@@ -217,8 +296,14 @@ static int choose(const char *root, const char *mode)
 {
     struct inroot_root *kept;
     bool stays = is_mode(mode, "stays");
+    bool is_least = strncmp(mode, "least", 5) == 0;
     use = top;
-    open_by = is_mode(mode, "openat2") ? by_openat2 : is_mode(mode, "naive") ? naive : is_mode(mode, "text") ? by_text : by_inroot;
+    open_by = is_mode(mode, "openat2") ? by_openat2 : is_mode(mode, "naive") ? naive : is_mode(mode, "text") ? by_text
+              : is_least ? by_least : by_inroot;
+    compares = is_mode(mode, "least-same");
+    table = open("/proc/thread-self/fd", O_PATH | O_DIRECTORY | O_CLOEXEC);
+    for (size_t at = 0; is_least && at < count; at++)
+        prepare(at);
     flags = is_mode(mode, "proc-one") ? INROOT_ONE_BY_ONE : is_mode(mode, "below") ? INROOT_BELOW : 0;
     int failed = inroot_root_open(root, stays ? INROOT_ROOT_STAYS | INROOT_TRUST_PROC : 0, &kept);
     if (failed == 0)
@@ -252,6 +337,7 @@ static size_t round_of(void)
 {
     size_t failed = 0;
     for (size_t at = 0; at < count; at++) {
+        at_hand = at;
         long from = now();
         int fd = open_by(paths[at].path);
         if (fd >= 0)
@@ -272,6 +358,7 @@ static void make_each(void)
     for (int kind = 0; kind < KINDS; kind++) {
         syscall(SYS_getppid);
         for (size_t at = 0; at < count; at++) {
+            at_hand = at;
             int fd = paths[at].kind == kind ? open_by(paths[at].path) : -1;
             if (fd >= 0)
                 close(fd);

@@ -45,6 +45,9 @@ bool inroot_above_open(struct inroot_driver *d, uint64_t handle, int child, bool
     size_t length = inroot_passed_above(d, (size_t)base);
     if (length == 0)
         return goes_on && is_root(d, child, result);
+    /* There getcwd(2) alone tells a directory's place: no look-up takes the place of a part of that. */
+    if (d->slots[0].fd == INROOT_JAILED)
+        return false;
     int fd = look_up(d, length);
     if (fd < 0)
         return false;

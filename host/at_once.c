@@ -37,7 +37,7 @@ static bool are_names(struct inroot_driver *d, const struct inroot_asked *number
     for (const char *at = path->text; at != NULL; at = strchr(at + 1, '/'))
         names++;
     path->ahead = (struct inroot_ahead_names){.names = names, .used = used, .ends = true};
-    if (inroot_run_meets_link(d, path))
+    if (!inroot_run_is_whole(d, path))
         return false;
     return inroot_opens_at_once(numbers, (const unsigned char *)d->asked->first, d->first_length, INROOT_KIND_DIR,
                                 (const unsigned char *)path->text, used);

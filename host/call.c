@@ -1,42 +1,34 @@
-/* call.c: a proved call driven to its reply, and begun again where others were in its way. */
+/* call.c: a call from its beginning to its result. The proved library says which one thing comes next. */
 #define _GNU_SOURCE
 #include "driver.h"
 
 #include <errno.h>
+#include <pthread.h>
 #include <stdlib.h>
 #include <string.h>
 #include <sys/stat.h>
 #include <time.h>
 #include <unistd.h>
 
-/* What a call gives that changed an entry: what it made, where that is asked for. Nothing is made once more. */
-static int done(struct inroot_driver *d)
-{
-    if (d->asked->makes != INROOT_MAKES_OPEN && !d->asked->gives)
-        return 0;
-    if (d->made < 0)
-        return d->lost ? -EAGAIN : -d->unopened;
-    int made = d->made;
-    d->made = INROOT_NONE;
-    return made;
-}
+/* A call under way. */
+struct work {
+    struct inroot_driver *d;
+    const struct inroot_request *asked;
+    char *room;
+    int root, dir;                 /* the root, or INROOT_JAILED; a directory below it at which the paths begin, or INROOT_NONE */
+    struct inroot_asked numbers;
+    struct inroot_joined *joined;
+    struct inroot_told told;       /* the proved call's reply */
+    struct inroot_calling course;
+    struct inroot_calling_answer answer;
+};
 
-/* Turns the reply into what the caller gets. */
-static ssize_t reply_of(struct inroot_driver *d, const struct inroot_told *told)
+/* ---- the proved call */
+
+/* A directory that a call on all parts of a path has made, another try finds. */
+static bool is_found_again(const struct inroot_driver *d, const struct inroot_told *step)
 {
-    switch (told->what) {
-    case INROOT_REPLY_OPENED:
-        return inroot_handles_take(d, told->handle);
-    case INROOT_REPLY_TEXT:
-        return told->whole ? (ssize_t)told->first : -ENOMEM;
-    case INROOT_REPLY_DONE:
-        return done(d);
-    case INROOT_REPLY_COUNT:
-        return (ssize_t)told->handle;
-    default:
-        /* After a step that wasn't made the call fails for want of memory, and for no other reason. */
-        return told->detail == ENOMEM && d->unmade ? -d->unmade : -told->detail;
-    }
+    return step->what == INROOT_STEP_MAKE_DIR && d->asked->op == INROOT_ASK_MKDIR_ALL;
 }
 
 /* Makes the step, or gives no answer where another one is due. */
@@ -49,7 +41,9 @@ static struct inroot_result make(struct inroot_driver *d, struct inroot_told *st
         return inroot_handles_close(d, step->handle);
     if (d->from.dir >= 0 && inroot_from_begins(d, step, room, text, &result))
         return result;
-    return inroot_make(d, step, room, text, length);
+    result = inroot_make(d, step, room, text, length);
+    d->changed |= result.what == INROOT_ANSWER_DONE && !is_found_again(d, step);
+    return result;
 }
 
 void inroot_answer(struct inroot_driver *d, struct inroot_result result, const char *bytes, size_t length,
@@ -66,165 +60,98 @@ void inroot_answer(struct inroot_driver *d, struct inroot_result result, const c
 }
 
 /* Takes turns with the proved call. */
-static ssize_t converse(struct inroot_driver *d, const struct inroot_asked *numbers, char *room)
+static void converse(struct work *w)
 {
+    struct inroot_driver *d = w->d;
     const struct inroot_request *asked = d->asked;
-    struct inroot_told told;
+    struct inroot_told *told = &w->told;
     struct inroot_kept kept = {0};
     /* Not in the room: the library writes there while it reads this. */
     char text[INROOT_TEXT_MAX + 1];
     d->kept = &kept;
-    inroot_begin(numbers, (const unsigned char *)asked->first, d->first_length, (const unsigned char *)asked->second,
-                 d->second_length, &kept, &told, (unsigned char *)room, INROOT_ROOM);
-    while (told.what < INROOT_REPLY_OPENED) {
+    w->numbers.root = inroot_handles_begin(d, w->root);
+    inroot_begin(&w->numbers, (const unsigned char *)asked->first, d->first_length, (const unsigned char *)asked->second,
+                 d->second_length, &kept, told, (unsigned char *)w->room, INROOT_ROOM);
+    while (told->what < INROOT_REPLY_OPENED) {
         size_t length;
-        struct inroot_result result = make(d, &told, room, text, &length);
+        struct inroot_result result = make(d, told, w->room, text, &length);
         if (result.what == INROOT_ANSWER_LISTED)
-            inroot_answer(d, result, d->names, d->names_length, &told, room);
+            inroot_answer(d, result, d->names, d->names_length, told, w->room);
         else if (result.what != 0)
-            inroot_answer(d, result, text, length, &told, room);
+            inroot_answer(d, result, text, length, told, w->room);
     }
-    return reply_of(d, &told);
 }
 
-/* Whether the root is a directory: 0 or -errno. */
-static int check_root(int root)
+static void tell_reply(struct work *w)
 {
-    struct stat about;
-    if (fstat(root, &about) != 0)
-        return -errno;
-    return S_ISDIR(about.st_mode) ? 0 : -ENOTDIR;
+    w->answer.value = w->told.handle;
+    w->answer.length = w->told.first;
+    w->answer.error = w->told.detail;
+    w->answer.unmade = (uint32_t)w->d->unmade;
+    w->answer.unopened = (uint32_t)w->d->unopened;
+    w->answer.made = (uint32_t)(w->d->made + 1);
+    w->answer.reply = w->told.what;
+    w->answer.whole = w->told.whole;
 }
 
-int inroot_error_behind(int root, int error, const char *path)
-{
-    int dir, failed = 0;
-    inroot_at_find(root, &root, &dir);
-    if (root != INROOT_JAIL)
-        failed = check_root(root);
-    return inroot_error_alone(failed ? -failed : error, "", path);
-}
+/* ---- what a try does */
 
-/* Puts the current directory back to the root, as promised. If the thread may no longer search its root, the call fails. */
-static ssize_t come_home(ssize_t result, bool opens)
+/* Nothing is known of it, and nothing is open. */
+static void begin(struct work *w)
 {
-    if (chdir("/") == 0)
-        return result;
-    int error = errno;
-    if (result >= 0 && opens)
-        close((int)result);
-    return -error;
-}
-
-static bool opens(const struct inroot_request *asked)
-{
-    if (asked->places)
-        return false;
-    return asked->op == INROOT_ASK_RESOLVE || asked->op == INROOT_ASK_RESOLVE_NOFOLLOW || asked->op == INROOT_ASK_MKDIR_ALL ||
-           asked->makes == INROOT_MAKES_OPEN || asked->gives;
-}
-
-static void begin(struct inroot_driver *d, const struct inroot_request *asked)
-{
+    struct inroot_driver *d = w->d;
+    const struct inroot_request *asked = w->asked;
     memset(d, 0, offsetof(struct inroot_driver, asked));
     d->asked = asked;
+    d->root = w->root;
+    inroot_looks_fresh(&d->looks);
     d->first_length = strlen(asked->first);
     d->second_length = strlen(asked->second);
     d->counts = asked->op == INROOT_ASK_REMOVE_ALL;
     d->below = asked->flags & INROOT_BELOW;
-    d->proc = d->deepest = d->made = d->run.fd = INROOT_NONE;
+    d->proc = d->deepest = d->made = d->run.fd = d->inner = INROOT_NONE;
+    d->slots = d->few;
     d->from = (struct inroot_from){.dir = INROOT_NONE, .fd = INROOT_NONE};
 }
 
-/* Gets the reply, at once or by a conversation. Nothing stays open but what the caller gets. */
-static ssize_t reply_to(struct inroot_driver *d, int root, const struct inroot_request *asked, char *room)
+/* The names of the directory come before the call's own paths. */
+static int join(struct work *w)
 {
-    struct inroot_asked numbers = {
-        .op = (uint8_t)asked->op,
-        .mode = (uint8_t)asked->mode,
-        .beneath = asked->flags & INROOT_BENEATH,
-        .no_links = asked->flags & INROOT_NO_LINKS,
-    };
-    d->root = root;
-    int fd = d->from.dir < 0 ? inroot_at_once(d, root, &numbers, room) : INROOT_NONE;
-    if (fd >= 0)
-        return fd;
-    int failed = inroot_own_root_check(d, root);
+    struct inroot_driver *d = w->d;
+    w->joined = malloc(sizeof *w->joined);
+    int failed = w->joined == NULL ? -ENOMEM : inroot_from_join(d, w->root, w->dir, w->asked, w->joined);
     if (failed)
         return failed;
-    numbers.root = inroot_handles_begin(d, root);
-    ssize_t result = converse(d, &numbers, room);
+    d->asked = &w->joined->request;
+    d->first_length = strlen(w->joined->first);
+    d->second_length = strlen(w->joined->second);
+    return 0;
+}
+
+static void let_go(struct work *w)
+{
+    struct inroot_driver *d = w->d;
     inroot_handles_end(d);
-    if (d->made >= 0)
-        close(d->made);
-    d->made = INROOT_NONE;
     free(d->names);
-    return result;
-}
-
-/* The same of a call that begins at a directory below the root, whose names come before its own paths. */
-static ssize_t reply_from(struct inroot_driver *d, int root, int dir, const struct inroot_request *asked, char *room)
-{
-    struct inroot_joined *joined = malloc(sizeof *joined);
-    ssize_t result = joined == NULL ? -ENOMEM : inroot_from_join(d, root, dir, asked, joined);
-    if (result == 0) {
-        d->asked = &joined->request;
-        d->first_length = strlen(joined->first);
-        d->second_length = strlen(joined->second);
-        result = reply_to(d, root, &joined->request, room);
-    }
+    d->names = NULL;
     inroot_from_end(d);
-    d->asked = asked;
-    free(joined);
-    return result;
+    d->asked = w->asked;
+    free(w->joined);
+    w->joined = NULL;
 }
 
-/* Gets what the request asks for. */
-static ssize_t get(struct inroot_driver *d, int root, int dir, const struct inroot_request *asked, char *room)
+/* The thread stays where it is. */
+static int open_another_proc(struct work *w)
 {
-    if (asked->places)
-        return inroot_stands(d, root, room);
-    return dir < 0 ? reply_to(d, root, asked, room) : reply_from(d, root, dir, asked, room);
-}
-
-/* Whether the call failed because the number of /proc is another file's by now, and has changed nothing yet. */
-static bool lost_proc(const struct inroot_driver *d, ssize_t result)
-{
-    return (result == -ENOSYS || result == -ENOTDIR) && d->removed == 0 && d->proc >= 0 && inroot_proc_is_lost(d->proc);
-}
-
-/* Gets the reply once more by another /proc, if there is one. */
-static ssize_t get_by_another(struct inroot_driver *d, int root, int dir, const struct inroot_request *asked, char *room)
-{
-    bool is_own, moved = d->moved;
+    bool is_own, moved = w->d->moved;
     int proc = inroot_proc_open(true, &is_own);
     if (proc < 0)
         return proc;
-    begin(d, asked);
-    d->moved = moved;
-    d->proc = proc;
-    d->proc_is_own = is_own;
-    return get(d, root, dir, asked, room);
-}
-
-ssize_t inroot_once(struct inroot_driver *d, int root, const struct inroot_request *asked, char *room)
-{
-    int dir = INROOT_NONE;
-    inroot_at_find(root, &root, &dir);
-    if (asked->from > 0)
-        dir = asked->from - 1;
-    bool jailed = root == INROOT_JAIL;
-    int below = jailed ? INROOT_JAILED : root;
-    begin(d, asked);
-    ssize_t result = get(d, below, dir, asked, room);
-    if (lost_proc(d, result))
-        result = get_by_another(d, below, dir, asked, room);
-    inroot_proc_end(d);
-    if (d->moved)
-        result = come_home(result, opens(asked));
-    /* If no step was made, nobody has looked at ROOT yet: EBADF and ENOTDIR come before the path's own errors. */
-    int bad_root = result < 0 && d->steps == 0 && !jailed ? check_root(root) : 0;
-    return bad_root ? bad_root : result;
+    begin(w);
+    w->d->moved = moved;
+    w->d->proc = proc;
+    w->d->proc_is_own = is_own;
+    return 0;
 }
 
 void inroot_wait(uint32_t nanoseconds)
@@ -234,23 +161,129 @@ void inroot_wait(uint32_t nanoseconds)
         nanosleep(&time, NULL);
 }
 
-bool inroot_again(int tries, int flags, ssize_t result, bool lost)
+/* ---- turns */
+
+/* Of what opens something: its descriptor or -errno. */
+static void tell(struct work *w, ssize_t result)
 {
-    struct inroot_next_try next;
-    inroot_next_try((uint32_t)tries, !(flags & INROOT_NO_RETRY), result < 0 ? (uint32_t)-result : 0, lost, &next);
-    inroot_wait(next.pause);
-    return next.due;
+    w->answer.error = result < 0 ? (uint32_t)-result : 0;
+    w->answer.value = w->answer.length = result < 0 ? 0 : (uint64_t)result;
+}
+
+/* What is known of the try by now. */
+static void note(struct work *w)
+{
+    const struct inroot_driver *d = w->d;
+    w->answer.stepped = d->steps > 0;
+    w->answer.changed = d->changed;
+    w->answer.moved = d->moved;
+    w->answer.has_proc = d->proc >= 0;
+    w->answer.owns_proc = d->proc_is_own;
+}
+
+/* A thing of the try itself. */
+static void walk(struct work *w)
+{
+    switch (w->course.next) {
+    case INROOT_CALLING_JOIN: tell(w, join(w)); break;
+    case INROOT_CALLING_AT_ONCE: tell(w, inroot_at_once(w->d, w->root, &w->numbers, w->room)); break;
+    case INROOT_CALLING_OWN_ROOT: tell(w, inroot_own_root_check(w->d, w->root)); break;
+    case INROOT_CALLING_PLACE: tell(w, inroot_stands(w->d, w->root, w->room)); break;
+    case INROOT_CALLING_TAKE: tell(w, inroot_handles_take(w->d, w->told.handle)); break;
+    default:
+        converse(w);
+        tell_reply(w);
+    }
+    note(w);
+}
+
+static void look_at_root(struct work *w)
+{
+    struct stat about = {0};
+    tell(w, fstat(w->root, &about) != 0 ? -errno : 0);
+    w->answer.value = inroot_kind_of(about.st_mode);
+}
+
+/* Does what comes next. */
+static void turn(struct work *w)
+{
+    switch (w->course.next) {
+    case INROOT_CALLING_BEGIN:
+        inroot_wait((uint32_t)w->course.about);
+        begin(w);
+        break;
+    case INROOT_CALLING_LET_GO: let_go(w); break;
+    case INROOT_CALLING_CLOSE: close((int)w->course.about); break;
+    case INROOT_CALLING_LOOK_AT_PROC: w->answer.error = inroot_proc_is_lost(w->d->proc); break;
+    case INROOT_CALLING_ANOTHER_PROC:
+        tell(w, open_another_proc(w));
+        note(w);
+        break;
+    case INROOT_CALLING_CLOSE_PROC: inroot_proc_end(w->d); break;
+    case INROOT_CALLING_GO_HOME: tell(w, chdir("/") != 0 ? -errno : 0); break;
+    case INROOT_CALLING_LOOK_AT_ROOT: look_at_root(w); break;
+    default: walk(w);
+    }
+    inroot_calling_next(&w->course, &w->answer);
+}
+
+/* Takes turns with the library. What it gives, or -errno. */
+static ssize_t run(struct inroot_driver *d, int root, const struct inroot_request *asked, char *room, uint32_t error, bool may_retry)
+{
+    struct work w = {
+        .d = d, .asked = asked, .room = room, .dir = INROOT_NONE,
+        .numbers = {
+            .op = (uint8_t)asked->op, .mode = (uint8_t)asked->mode, .beneath = asked->flags & INROOT_BENEATH,
+            .no_links = asked->flags & INROOT_NO_LINKS,
+        },
+    };
+    inroot_at_find(root, &root, &w.dir);
+    if (asked->from > 0)
+        w.dir = asked->from - 1;
+    const bool jailed = root == INROOT_JAIL;
+    w.root = jailed ? INROOT_JAILED : root;
+    const struct inroot_calling_facts facts = {
+        .error = error, .jailed = jailed, .from = w.dir >= 0, .places = asked->places, .held = asked->is_held,
+        .may_retry = may_retry, .gives = asked->makes == INROOT_MAKES_OPEN || asked->gives,
+    };
+    inroot_calling_begin(&facts, &w.course);
+    while (w.course.next < INROOT_CALLING_ENDS)
+        turn(&w);
+    /* No step of the call is to blame for the root's own error. */
+    if (w.course.is_root)
+        d->step = 0;
+    return w.course.next == INROOT_CALLING_ENDS ? (ssize_t)w.course.value : -(ssize_t)w.course.error;
+}
+
+ssize_t inroot_once(struct inroot_driver *d, int root, const struct inroot_request *asked, char *room)
+{
+    return run(d, root, asked, room, 0, false);
 }
 
 ssize_t inroot_call(int root, const struct inroot_request *asked, char *room)
 {
     struct inroot_driver d;
-    for (int tries = 1;; tries++) {
-        ssize_t result = inroot_once(&d, root, asked, room);
-        if (inroot_again(tries, asked->flags, result, d.lost))
-            continue;
-        if (result < 0)
-            inroot_error_of(&d, (int)-result);
-        return result;
-    }
+    ssize_t result = run(&d, root, asked, room, 0, !(asked->flags & INROOT_NO_RETRY));
+    if (result < 0)
+        inroot_error_of(&d, (int)-result);
+    return result;
+}
+
+int inroot_error_behind(int root, int error, const char *path)
+{
+    struct inroot_driver d;
+    int state;
+    const struct inroot_request asked = {.first = path, .second = ""};
+    pthread_setcancelstate(PTHREAD_CANCEL_DISABLE, &state);
+    ssize_t failed = run(&d, root, &asked, NULL, (uint32_t)error, false);
+    pthread_setcancelstate(state, NULL);
+    return inroot_error_alone((int)-failed, inroot_step_name(d.step), path);
+}
+
+bool inroot_again(int tries, int flags, ssize_t result)
+{
+    struct inroot_next_try next;
+    inroot_next_try((uint32_t)tries, !(flags & INROOT_NO_RETRY), result < 0 ? (uint32_t)-result : 0, false, &next);
+    inroot_wait(next.pause);
+    return next.due;
 }

@@ -1,7 +1,7 @@
 /*
- * calls.h: the proved library's twenty-nine functions, and what passes between it and a driver. The numbers and bytes
- * are those of crates/c_protocol, place_protocol, open_or_make, make_through_links, remove_by_calls, list_directory,
- * kernel_text and system_calls, whose contracts say what they stand for. A program that makes calls includes inroot.h,
+ * calls.h: the proved library's functions, and what passes between it and a driver. The numbers and bytes are those of
+ * crates/c_protocol, step_calls, place_protocol, open_or_make, make_through_links, remove_by_calls, look_ups, list_directory,
+ * call_course, kernel_text and system_calls, whose contracts say what they stand for. A program that makes calls includes inroot.h,
  * and not this.
  */
 #ifndef INROOT_CALLS_H
@@ -156,6 +156,60 @@ void inroot_split(const unsigned char *path, size_t path_length, bool takes_slas
  */
 bool inroot_is_refusal(uint8_t what, uint8_t mode, size_t text, uint32_t error);
 
+/* ---- which system call comes next, as one step is made. These take no memory. */
+
+/* Whether a directory is there still: a question in the place of a step. */
+enum { INROOT_IS_THERE = 0 };
+
+/*
+ * What is known of a step before its first system call. WHAT it is (`enum inroot_what`), the MODE of a rename, the bytes of the TEXT
+ * of a link that is made. An Open: a DIRECTORY is expected; NO_MAGIC link is opened. An Open, a Dup, a Parent: what is opened must be
+ * on the root's MOUNT. A Parent: the directory above is OPENED already, and the child's `..` has just led to it; the child LIVED at
+ * the step before, since it had an entry. A ReadLink: the call wants the link's OWN_TEXT, on each mount; the text WAS_READ by the
+ * link's name; the object was opened as a LINK. A change: an object that is there gets a SECOND_NAME.
+ */
+struct inroot_step_facts {
+    size_t text;
+    uint8_t what, mode;
+    bool directory, mount, no_magic, opened, lived, own_text, was_read, link, second_name;
+};
+
+/*
+ * By O_PATH, O_NOFOLLOW and O_CLOEXEC the name is opened, or `.` of a Dup, or `..` of a Parent: with O_DIRECTORY, or without. A
+ * descriptor of a directory above is let go. Of what was opened: whether it is on the root's mount; its kind; its file system; openat2(2)
+ * of its name with RESOLVE_NO_MAGICLINKS. Of the directory that must be there still: its links; its file system; it is opened to be
+ * read, read by getdents64(2), and closed. Of a link: the flags of its mount; its text. The one system call of a change. What was
+ * opened is closed. Or the step ENDS: with what was opened; with a text; done; refused by an error of the step table; or not made.
+ */
+enum inroot_step_next {
+    INROOT_CALL_OPEN_DIRECTORY = 1, INROOT_CALL_OPEN_ANY, INROOT_CALL_SPARE, INROOT_CALL_MOUNT, INROOT_CALL_KIND,
+    INROOT_CALL_MAY_HOLD_MAGIC, INROOT_CALL_MAGIC, INROOT_CALL_LINKS, INROOT_CALL_LAYERS, INROOT_CALL_OPEN_TO_READ,
+    INROOT_CALL_READ, INROOT_CALL_CLOSE_READ, INROOT_CALL_NO_FOLLOW, INROOT_CALL_READ_LINK, INROOT_CALL_CHANGE,
+    INROOT_CALL_CLOSE,
+    INROOT_ENDS_OPENED, INROOT_ENDS_TEXT, INROOT_ENDS_DONE, INROOT_ENDS_REFUSED, INROOT_ENDS_UNMADE,
+};
+
+/* What a system call gave: an error, or 0; a kind; how many links, which type of a file system (statfs(2)), which flags of a mount. */
+struct inroot_step_answer {
+    uint64_t number;
+    uint32_t error;
+    uint8_t kind;
+};
+
+/*
+ * How far a step has come. A driver reads what comes NEXT; if it ends, the KIND of what was opened, or the ERROR. It leaves all of it
+ * alone between two turns.
+ */
+struct inroot_step {
+    uint32_t error;
+    uint8_t next, behind, kind;
+};
+
+void inroot_step_begin(const struct inroot_step_facts *facts, struct inroot_step *step);
+
+/* Takes what the system call gave. FACTS are those of the beginning. */
+void inroot_step_next(const struct inroot_step_facts *facts, const struct inroot_step_answer *answer, struct inroot_step *step);
+
 /* ---- what the kernel's texts say. None of these needs a call under way. */
 
 /* So many bytes of names lie in the room; or an error's number, or 0. */
@@ -244,13 +298,14 @@ struct inroot_place_facts {
 /*
  * A question: fchdir(2) to the object; getcwd(2), and once more with a room of one byte; the text of the object's link in /proc, by
  * what is kept of the root; that of the root's link; that of the object's; whether the thread's own root directory is a mount's;
- * the root's link once more; what the names lead to from the root; the object's link once more; whether the directory was removed.
- * Or there is none: the object stands at the names; it isn't below the root; or that could not be found out.
+ * the root's link once more; what the names lead to from the root; the object's link once more; whether the directory was removed;
+ * which objects the object and the root are. Or there is none: the object stands at the names; it isn't below the root; or that
+ * could not be found out.
  */
 enum inroot_place_what {
     INROOT_PLACE_ENTER = 1, INROOT_PLACE_CWD, INROOT_PLACE_CWD_AGAIN, INROOT_PLACE_KEPT_LINK, INROOT_PLACE_ROOT_LINK,
     INROOT_PLACE_OBJECT_LINK, INROOT_PLACE_OWN_ROOT, INROOT_PLACE_ROOT_AGAIN, INROOT_PLACE_LOOK_UP, INROOT_PLACE_LINK_AGAIN,
-    INROOT_PLACE_DEAD,
+    INROOT_PLACE_DEAD, INROOT_PLACE_IS_ROOT,
     INROOT_PLACE_STANDS = 16, INROOT_PLACE_NOWHERE, INROOT_PLACE_UNMADE,
 };
 
@@ -267,7 +322,8 @@ struct inroot_place_told {
 
 /*
  * What a question was answered: 0 or an error's number. `yes`: the root directory is a mount's; the directory was removed; or the
- * thread has no openat2(2) any more. Of a look-up: the object, what was found, and how many links that has.
+ * thread has no openat2(2) any more. Of a look-up: the object, what was found, and how many links that has. Of which objects they
+ * are: the object, and the root in the place of what was found.
  */
 struct inroot_place_answer {
     uint32_t error;
@@ -287,6 +343,64 @@ void inroot_place_begin(const struct inroot_place_facts *facts, struct inroot_pl
 void inroot_place_next(struct inroot_place_facts *facts, const struct inroot_place_answer *answer, const unsigned char *root,
                        size_t root_length, const unsigned char *text, size_t text_length, const unsigned char *again,
                        size_t again_length, struct inroot_place_told *told);
+
+/* ---- which thing comes next in a call, from its beginning to its result. These take no memory. */
+
+/*
+ * What is known of a call before its first try: 0, or the error by which it has failed, which comes behind those of its root, and of
+ * OWN_ROOT; its root is the thread's own root directory; its paths begin at a directory below the root; it asks for the place of an
+ * object, and walks nothing; its root is a directory that another call has come to, so that no place is asked for by a text; it gives
+ * a descriptor of the entry that it makes; another try may be made.
+ */
+struct inroot_calling_facts {
+    uint32_t error;
+    bool jailed, from, places, held, gives, may_retry;
+};
+
+/*
+ * A try begins, after a pause of ABOUT nanoseconds: nothing is known of it. The place of the directory at which the paths begin is
+ * asked for, and its names are put before them. One system call opens the whole path. It is checked that /proc can distinguish the
+ * thread's own root directory from outside. The object's place is asked for. The proved call is driven to its reply. What it opened
+ * is taken out of its handle. All that a try holds beside is closed. The descriptor ABOUT is closed. It is looked at whether the
+ * number of /proc is another file's by now. Another /proc is opened, and the try begins anew by it: nothing is known but where the
+ * thread is. The call's own /proc is closed. The thread goes to its root directory: chdir(2). The root is looked at: fstat(2). If it
+ * ENDS, VALUE is what the call gives. If it FAILS, there is an error.
+ */
+enum inroot_calling_next {
+    INROOT_CALLING_BEGIN = 1, INROOT_CALLING_JOIN, INROOT_CALLING_AT_ONCE, INROOT_CALLING_OWN_ROOT, INROOT_CALLING_PLACE,
+    INROOT_CALLING_CONVERSE, INROOT_CALLING_TAKE, INROOT_CALLING_LET_GO, INROOT_CALLING_CLOSE, INROOT_CALLING_LOOK_AT_PROC,
+    INROOT_CALLING_ANOTHER_PROC, INROOT_CALLING_CLOSE_PROC, INROOT_CALLING_GO_HOME, INROOT_CALLING_LOOK_AT_ROOT,
+    INROOT_CALLING_ENDS, INROOT_CALLING_FAILS,
+};
+
+/*
+ * What a thing gave: 0, or an error. AT_ONCE may give any number if it opened nothing, and LOOK_AT_PROC if it is another file. The
+ * VALUE is the descriptor that was opened or taken, a reply's count, or the root's kind. LENGTH is a text's. Of the proved call: its
+ * reply, and whether the text is WHOLE; 0, or why a step wasn't made; 0, or why what it made could not be opened; and the
+ * descriptor of that, its number and one, or 0. Of all things up to TAKE: a step was made; an entry was changed, so that another try
+ * would not find it as this one did; the thread isn't at its root directory; a /proc is in use; it is the call's own.
+ */
+struct inroot_calling_answer {
+    uint64_t value, length;
+    uint32_t error, unmade, unopened, made;
+    uint8_t reply;
+    bool whole, stepped, changed, moved, has_proc, owns_proc;
+};
+
+/*
+ * How far a call has come. A driver reads what comes NEXT, what that is ABOUT, and the VALUE or the ERROR in the end, which may be the
+ * root's own (IS_ROOT). It leaves all of it alone between two turns.
+ */
+struct inroot_calling {
+    struct inroot_calling_facts facts;
+    uint64_t value, about;
+    uint32_t tries, error, made;
+    uint8_t next;
+    bool holds, is_root, stepped, changed, moved, has_proc, owns_proc, by_another, stuck;
+};
+
+void inroot_calling_begin(const struct inroot_calling_facts *facts, struct inroot_calling *calling);
+void inroot_calling_next(struct inroot_calling *calling, const struct inroot_calling_answer *answer);
 
 /* ---- which call comes next, as a file is opened, or made where it is missing. These take no memory. */
 
@@ -362,6 +476,56 @@ void inroot_making_begin(size_t path_length, bool file, bool follows, bool may_r
  */
 void inroot_making_next(struct inroot_making *making, const struct inroot_outcome *outcome, const unsigned char *text,
                         size_t text_length, unsigned char *room, size_t size);
+
+/* ---- which system call comes next, as the names that come next on a path are passed. These take no memory. */
+
+/*
+ * The first name is read as a link: readlinkat(2), before others or after a look-up has met one; names are looked up from the
+ * directory that is held, or the first one from the root, behind the names passed: openat2(2); it is asked of which kind the object
+ * is, or whether the first name leads to it; it is closed; the first name is opened alone. Then nothing comes: the names were
+ * PASSED, and what was opened answers the step that is due behind them; or the first one is a LINK; or it was opened alone.
+ */
+enum inroot_look {
+    INROOT_LOOK_READ_FIRST = 1, INROOT_LOOK_NAMES, INROOT_LOOK_FROM_ROOT, INROOT_LOOK_KIND, INROOT_LOOK_COMPARE,
+    INROOT_LOOK_CLOSE, INROOT_LOOK_READ_LAST, INROOT_LOOK_ALONE, INROOT_LOOK_PASSED, INROOT_LOOK_LINK, INROOT_LOOK_ENDS,
+};
+
+/*
+ * So many names, and the number of the first of them that was a LINKED one last, from 0 on, or any higher one. What is behind them:
+ * `..`; or the walk ENDS there, and if so behind a slash or `.`. They begin at the root; a link was followed before. What the call
+ * asks for: it walks the whole path; only a directory is of use; a link at the end is meant itself; it stays on the root's mount;
+ * each name is opened alone, since it asks for that or no look-up can be made; it reads links by their names; nobody asks of which
+ * kind the object is.
+ */
+struct inroot_coming_names {
+    size_t names, linked;
+    bool up, ends, dot, at_root, behind_link, walks_whole, directory, itself, stays, one_by_one, reads, any_kind;
+};
+
+/*
+ * How far a call has come with them, and what failed before. A driver reads what comes NEXT, on how many NAMES and whether UP behind
+ * them: openat2(2) with these RESOLVE bits, with O_DIRECTORY, or for the link ITSELF with O_NOFOLLOW, whose object the kernel sees
+ * BELOW the root; openat(2) of one alone, as a DIRECTORY at first. So many names were PASSED as directories. So many at MOST are
+ * tried at once where others come next. It leaves all of it alone between two turns.
+ */
+struct inroot_looks {
+    size_t most, bad, linked, names, passed;
+    uint64_t resolve;
+    uint8_t next;
+    bool up, directory, itself, below, met_link, was_read;
+};
+
+/* Nothing has failed, or what failed is no longer ahead. */
+void inroot_looks_fresh(struct inroot_looks *looks);
+
+/* Begins on the names that come next. A driver may leave at any time, and begin on others, or on these again. */
+void inroot_looks_begin(struct inroot_looks *looks, const struct inroot_coming_names *coming);
+
+/*
+ * Takes what the last demand gave: 0, or an error; any number but 0 says that it is another object. After a link was read in vain,
+ * LINKED is as above; else it isn't looked at.
+ */
+void inroot_looks_next(struct inroot_looks *looks, const struct inroot_coming_names *coming, uint32_t error, size_t linked);
 
 /* ---- which system call comes next, as the names of a directory are read. These take no memory. */
 

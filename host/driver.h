@@ -64,6 +64,8 @@ struct inroot_request {
     bool places;                   /* the call walks nothing: it asks for the place of `object` */
     int from;                      /* a directory below the root at which paths begin, plus one; or zero */
     bool whiteout;                 /* a rename leaves one behind */
+    bool is_held;                  /* the root is a directory that a call has come to, and the path is a name in it */
+    bool takes_below;              /* the call takes INROOT_BELOW, of itself and of a root that has it */
     enum inroot_kind *opened;      /* receives the kind of the opened object, or is NULL */
 };
 
@@ -76,7 +78,7 @@ enum inroot_behind { INROOT_BEHIND_NAME, INROOT_BEHIND_END, INROOT_BEHIND_OTHER 
  */
 struct inroot_coming {
     struct inroot_ahead_names ahead;
-    size_t tries;                  /* so many at most are tried by one system call, where it isn't zero */
+    struct inroot_coming_names facts;
     enum inroot_behind behind;     /* the first of them */
     bool is_last;                  /* the first of them is the last part of the path */
     char text[INROOT_TEXT_MAX + 1];
@@ -84,14 +86,6 @@ struct inroot_coming {
 
 /* What is known of the rest of a path: it is all of it; it is kept, or so much of it as fits; or the proved call wasn't asked. */
 enum inroot_rest { INROOT_REST_WHOLE, INROOT_REST_KEPT, INROOT_REST_CUT, INROOT_REST_UNKNOWN };
-
-/* What failed before, so that names are tried in fewer runs. */
-struct inroot_tries {
-    size_t bad;                    /* so many names were not passed by one system call, where it isn't zero */
-    bool met_link;                 /* since one of them is a link */
-    size_t whole;                  /* the whole path, of so many names, was tried at once and failed so; or zero */
-    int whole_error;
-};
 
 /* What one system call opened behind names. The proved call doesn't know of it yet. */
 struct inroot_run {
@@ -130,8 +124,8 @@ struct inroot_driver {
     bool too_deep;                 /* a directory was not entered for its depth */
     bool proc_is_own;              /* `proc` is closed at the call's end */
     bool told_apart;               /* the driver saw that the thread's own root directory is a mount's */
-    bool lost;                     /* the call made an entry, and its name has another or none by now */
-    int unopened;                  /* why the driver could not open the new entry, or zero */
+    bool changed;                  /* an entry was changed, so that another try would not find it as this one did */
+    int unopened;                  /* why the driver could not open the new entry, or zero; EAGAIN where its name has another or none */
     uint8_t step;                  /* the last one that the proved call asked for, but for Close, or none */
     int unmade;                    /* why a step wasn't made, where one wasn't: the call ends by this */
     uint32_t used, serial;         /* of the slots, so many were taken so far; and the last handle's number above its slot */
@@ -139,7 +133,6 @@ struct inroot_driver {
     size_t listed;                 /* bytes of names that the call holds */
     uint64_t placed;               /* the handle of the question right before, or zero */
     uint64_t came_to;              /* what that was before this step */
-    struct inroot_tries tries;
     size_t name_length;            /* of the name that `step` was about */
     ssize_t stands;                /* how long the names in `passed` are where the walk stands, or -1 where they aren't known */
     uint8_t rest_is;               /* what is known of the rest of the path */
@@ -148,12 +141,14 @@ struct inroot_driver {
     bool below;                    /* the last check is the kernel's alone (INROOT_BELOW) */
     uint64_t passed_handle;        /* the handle at the names in `passed`, or zero, and how long they are */
     size_t passed_length;
+    uint64_t keyed, key;           /* the handle whose names have this key (hints.c), or zero */
     uint64_t lived;                /* the directory that had the entry which the last step but Close was about, or zero */
     uint64_t link, link_dir;       /* a link that was read by its name in that directory, or zero, and how long its text is */
     size_t link_length;
     /* What follows isn't cleared as a call begins: it is set then, or where what it belongs to is. */
     const struct inroot_request *asked;
     struct inroot_kept *kept;      /* the proved call, while it goes on */
+    struct inroot_looks looks;     /* how far it has come with the names that come next */
     size_t first_length, second_length;
     int proc;                      /* the /proc that was found to be one, or none yet */
     int made;                      /* what was made and opened, or none */
@@ -229,11 +224,9 @@ bool inroot_above_open(struct inroot_driver *d, uint64_t handle, int child, bool
 
 /* followed.c */
 /*
- * If the next name, which can't be passed with others, is likely to be a link that is followed: reads it as one. Returns whether it
- * could.
+ * Reads the first of these names as a link in a handle's directory. Gives 0 or an error's number: then it is no link, or is gone.
  */
-bool inroot_followed_open(struct inroot_driver *d, const struct inroot_told *step, const char *name,
-                          const struct inroot_coming *coming, char *text, bool is_alone, struct inroot_result *result);
+uint32_t inroot_followed_read(struct inroot_driver *d, uint64_t handle, int dir, const char *names, char *text);
 /* Whether that link is on a mount that follows no link. */
 bool inroot_followed_is_kept(struct inroot_driver *d);
 
@@ -249,21 +242,22 @@ int inroot_look_up(struct inroot_driver *d, int dir, const char *names, uint64_t
 int inroot_look_through(struct inroot_driver *d, int dir, const char *path, uint64_t flags, uint64_t resolve);
 
 /* runs.c */
-/* Whether one of the names of a whole path, which the walk would follow, was a link last. */
-bool inroot_run_meets_link(struct inroot_driver *d, const struct inroot_coming *path);
+/* Begins on a whole path from the root, before any step is made. Returns whether all of its names are to be looked up at once. */
+bool inroot_run_is_whole(struct inroot_driver *d, struct inroot_coming *path);
 /*
- * Passes the whole path from the root, which is so many names behind slashes, before any step is made. Returns whether it could,
- * and the kernel saw its object below the root. FAILED is the error of a look-up that this one would fail by, too, or zero.
+ * Passes them then. Returns whether it could, and the kernel saw the object below the root. FAILED is the error of a look-up that
+ * this one would fail by, too, or zero.
  */
 bool inroot_run_whole(struct inroot_driver *d, int root, struct inroot_coming *path, int failed);
 /* Asks the proved call which names come next. There are none if the Open that is due is no walk's. */
 void inroot_run_ask(struct inroot_driver *d, struct inroot_coming *coming);
 /*
- * Passes the name that is due to be opened, and names behind it. Returns whether it could. It has then reported all but the last
- * part to the proved call, and RESULT is the answer to the step that is due behind them.
+ * Passes the name that is due to be opened, and names behind it. If they are INROOT_LOOK_PASSED, it has reported all but the last
+ * part to the proved call, and RESULT is the answer to the step that is due behind them. If the name is a INROOT_LOOK_LINK, RESULT
+ * is that it was opened. Else it is to be opened INROOT_LOOK_ALONE, and what that gave is reported by inroot_looks_next().
  */
-bool inroot_run_begin(struct inroot_driver *d, struct inroot_told *told, char *room, struct inroot_coming *coming,
-                      struct inroot_result *result);
+enum inroot_look inroot_run_begin(struct inroot_driver *d, struct inroot_told *told, char *room, struct inroot_coming *coming,
+                                  char *text, struct inroot_result *result);
 /*
  * The same for the object that is open behind these parts, a slash between each two: so many names, and one more or `..`. There
  * is no answer if another step is due behind the names: then it closes that object.
@@ -361,18 +355,18 @@ void inroot_answer(struct inroot_driver *d, struct inroot_result result, const c
 /* A try: one proved call from its beginning to its reply, whose text then lies in the room. */
 ssize_t inroot_once(struct inroot_driver *d, int root, const struct inroot_request *asked, char *room);
 void inroot_wait(uint32_t nanoseconds);
-/*
- * Whether another try is due after this many, the last of which gave this: -EAGAIN where others were in the way. LOST: what it made
- * isn't where it made it any more. It has waited then.
- */
-bool inroot_again(int tries, int flags, ssize_t result, bool lost);
+/* Whether another try is due after this many, the last of which gave this: -EAGAIN where others were in the way. It has waited then. */
+bool inroot_again(int tries, int flags, ssize_t result);
 /* A call by as many tries as are due. Gives 0, a descriptor, a text's length, or -errno. */
 ssize_t inroot_call(int root, const struct inroot_request *asked, char *room);
 
 /* inroot.c */
 /* Whether the root is one to be asked with these flags: 0 or -errno. */
 int inroot_check(int root, int flags);
-/* An error that comes behind those of ROOT. If ROOT is a directory, keeps this error for the caller. Gives -errno. */
+/*
+ * An error that comes behind those of ROOT, and behind EOPNOTSUPP where the thread's own root can't be distinguished. Keeps for the
+ * caller the first of them, with its step. Gives -errno.
+ */
 int inroot_error_behind(int root, int error, const char *path);
 /* Reads the text once, since a program may change it meanwhile. A text that is too long stays too long. */
 void inroot_copy(char text[INROOT_TEXT_MAX + 1], const char *from);
@@ -451,16 +445,20 @@ int inroot_give_file(struct inroot_driver *d, int dir, const char *name);
 
 /* magic.c */
 /*
- * Whether the call refuses the link that was opened by this name in a directory, or INROOT_JAILED, as a magic one. A call
- * doesn't follow a link that it wants itself: IS_LAST says that this one is the last part of the path.
+ * Whether the call refuses a magic link at this name. It doesn't follow a link that it wants itself: IS_LAST says that the name is
+ * the last part of the path.
  */
-bool inroot_magic_refused(struct inroot_driver *d, int dir, const char *name, int fd, bool is_last);
+bool inroot_magic_matters(const struct inroot_driver *d, bool is_last);
+/* Follows the link of this name in a directory, or INROOT_JAILED, if it is no magic one: 0 or an error's number. */
+int inroot_magic_follow(struct inroot_driver *d, int dir, const char *name);
 
 /* partial.c */
 /* Opens as much of a text as is there, and gives where the rest begins: a descriptor or -errno. */
 int inroot_partial(int root, int from, char *text, int flags, bool follows, size_t *rest);
 
 /* mount.c */
+/* Whether an object is on the mount of the root, as far as the kernel shows it. */
+bool inroot_mount_has(struct inroot_driver *d, int fd);
 /* Returns the descriptor if it is on the mount of the root. Else closes it, and returns -1 with EXDEV. */
 int inroot_mount_stay(struct inroot_driver *d, int fd);
 
@@ -480,11 +478,27 @@ struct inroot_result inroot_list(struct inroot_driver *d, uint64_t handle);
 struct inroot_result inroot_refused(struct inroot_driver *d, int error);
 struct inroot_result inroot_unmade(struct inroot_driver *d, int error);
 
+/* by_calls.c */
+/* A step, and by what its system calls are made. A driver sets what they need; what was opened is FD, or HANDLE if it has one. */
+struct inroot_work {
+    struct inroot_step_facts facts;
+    struct inroot_step course;
+    uint64_t dir, handle;          /* whose descriptor isn't let go; and one on what is open already, or zero */
+    int at, held;                  /* the directory as a system call takes it, and as it is kept */
+    const char *name, *plain;      /* the name as a system call takes it, and as it is */
+    int looks;                     /* what is looked at: the child, the link */
+    int fd, reads;
+    char *text;                    /* that of a link is read to here, and so long it is */
+    size_t length;
+};
+/* Makes the step, as the library says: FACTS, and how it ENDS in the course. */
+void inroot_by_calls(struct inroot_driver *d, struct inroot_work *work);
+/* Whether somebody removed the directory, as far as the kernel shows it. */
+bool inroot_is_dead(int fd);
+
 /* steps.c */
 /* Another descriptor of the directory that a handle is on: it shares nothing else with that one. Or -errno. */
 int inroot_open_anew(struct inroot_driver *d, uint64_t handle);
-/* Whether somebody removed the directory, as far as the kernel shows it. */
-bool inroot_is_dead(int fd);
 /*
  * Makes a step other than Close. Its names lie in the room. It writes what it reads to `text`. If it passes several names, it
  * reports them to the proved call, and STEP and the answer are those of the step that is due then. There is no answer if that step

@@ -67,10 +67,9 @@ void inroot_give(struct inroot_driver *d, int dir, const char *name, const char 
     struct stat about;
     int fd = open_entry(dir, name);
     if (fd < 0) {
-        d->unopened = errno;
-        d->lost = errno == ENOENT || errno == EAGAIN;
+        d->unopened = errno == ENOENT ? EAGAIN : errno;
     } else if (fstat(fd, &about) != 0 || !fits(d, fd, &about, text)) {
-        d->lost = true;
+        d->unopened = EAGAIN;
         close(fd);
         fd = INROOT_NONE;
     }

@@ -27,14 +27,16 @@ void inroot_copy(char text[INROOT_TEXT_MAX + 1], const char *from)
         text[INROOT_TEXT_MAX] = 0;
 }
 
-/* Only a resolve may leave its last check to the kernel (INROOT_BELOW). Adds the root's flag. Gives 0 or -EINVAL. */
+/*
+ * Some calls that resolve may leave their last check to the kernel (INROOT_BELOW), and no step of another call. Adds the root's
+ * flag. Gives 0 or -EINVAL.
+ */
 static int settle_below(int root, struct inroot_request *asked)
 {
-    const struct inroot_kept_root *kept = inroot_root_kept(root);
-    bool resolves = asked->op == INROOT_ASK_RESOLVE || asked->op == INROOT_ASK_RESOLVE_NOFOLLOW;
-    if (resolves && kept != NULL)
+    const struct inroot_kept_root *kept = asked->takes_below ? inroot_root_kept(root) : NULL;
+    if (kept != NULL)
         asked->flags |= kept->flags & INROOT_BELOW;
-    return !resolves && asked->flags & INROOT_BELOW ? -EINVAL : 0;
+    return !asked->takes_below && asked->flags & INROOT_BELOW ? -EINVAL : 0;
 }
 
 ssize_t inroot_carry_out(int root, const struct inroot_request *asked, char *room)
@@ -66,7 +68,8 @@ int inroot_carry_out_alone(int root, const struct inroot_request *asked)
 
 static int on_path(int root, enum inroot_op op, const char *path, const char *text, int flags)
 {
-    const struct inroot_request asked = {.op = op, .flags = flags, .first = path, .second = text};
+    const bool resolves = op == INROOT_ASK_RESOLVE || op == INROOT_ASK_RESOLVE_NOFOLLOW;
+    const struct inroot_request asked = {.op = op, .flags = flags, .first = path, .second = text, .takes_below = resolves};
     return inroot_carry_out_alone(root, &asked);
 }
 

@@ -77,7 +77,8 @@
  *   EINVAL        a flag that is unknown, or that the call doesn't take; a MODE with bits that it doesn't take
  *   EBADF         ROOT isn't a descriptor; INROOT_JAIL in a thread that wasn't moved; a number that was ended
  *   ENOTDIR       ROOT isn't a directory
- *   EOPNOTSUPP    there is no openat2(2), ROOT is a descriptor, and the thread's root directory isn't that of a mount
+ *   EOPNOTSUPP    there is no openat2(2), ROOT is a descriptor, and the thread's root directory isn't that of a mount; or ROOT was
+ *                 moved out of its own mount
  *   ENOMEM        no memory for the call, here or at any step
  *   ENOENT        PATH is empty
  *   ENAMETOOLONG  PATH is longer than 4,095 bytes
@@ -96,7 +97,8 @@
  *
  * and then those of the one step on the last name, which each call lists. EINTR comes from two kinds of steps only. One
  * changes an entry, on a file system that lets signals interrupt it: then nobody knows whether the entry was changed.
- * The other opens for use, as a FIFO.
+ * The other opens for use, as a FIFO. A file system that lets signals interrupt fstat(2), as one of FUSE may, has a call
+ * end by EINTR there as well: it has changed nothing then, but that inroot_mkdir_all() and its kin leave what they made.
  *
  * Without openat2(2) a non-directory whose name ends in ` (deleted)` also gives EAGAIN, at every try: the kernel writes
  * just this behind the path of a removed object.
@@ -245,7 +247,8 @@ void inroot_jail_done(void);
  * call opens. But the path's names may never have led there all at one moment; and a call may begin again for nothing,
  * and give EAGAIN. A child of fork(2) needs no promise: its calls go on as without the first two flags. They also go on
  * so if the kernel has no MADV_WIPEONFORK (madvise(2)) or no openat2(2), and on roots beyond some 256 such roots at a
- * time.
+ * time. What is kept of a root goes by its descriptor's number. So a thread with a table of descriptors of its own gives
+ * no call another directory by that number while the root is open.
  *
  * inroot_root_open() walks DIRECTORY as open(2) does, links and all, so it is to be a path that nobody else can
  * change. It gives 0 and the root; -EINVAL of another flag, or of INROOT_TRUST_PROC without
@@ -414,7 +417,7 @@ ssize_t inroot_readlink(int root, const char *path, int flags, char *text, size_
  *
  * The walk promises, whoever renames meanwhile: it follows no link below PATH. It opens each directory that it enters
  * by its name in the directory that has it; and that directory was below the root then, at that PATH, since a call of
- * its own led to the same one. If that call led elsewhere, by as many tries as any call makes, ERROR is EAGAIN, and the
+ * its own led to the same one, and the walk reads what that call opened. If that call led elsewhere, by as many tries as any call makes, ERROR is EAGAIN, and the
  * walk doesn't enter the directory. It doesn't promise that an entry is still there, that it gives each entry that was
  * made, removed or moved meanwhile, or that none comes twice; nor that nobody moves a directory out of the root while
  * the walk reads its entries. Whoever makes entries without end can keep a walk from ending.

@@ -59,6 +59,7 @@ int inroot_link(int root, const char *existing, const char *path, int flags)
         .flags = flags & ~(INROOT_FOLLOW | INROOT_GIVE),
         .first = existing,
         .second = "",
+        .takes_below = true,
     };
     /* Of both paths the text as the call began counts. */
     inroot_copy(text, path);

@@ -47,13 +47,16 @@ static void ask_root(struct inroot_driver *d)
         d->mount = root == INROOT_JAILED ? ask(AT_FDCWD, "/") : ask(root, "");
 }
 
-int inroot_mount_stay(struct inroot_driver *d, int fd)
+bool inroot_mount_has(struct inroot_driver *d, int fd)
 {
-    if (fd < 0 || !(d->asked->flags & INROOT_NO_XDEV))
-        return fd;
     ask_root(d);
     const struct inroot_mount root = d->mount, mount = ask(fd, "");
-    if (root.is_known && mount.is_known && mount.by_number == root.by_number && mount.number == root.number)
+    return root.is_known && mount.is_known && mount.by_number == root.by_number && mount.number == root.number;
+}
+
+int inroot_mount_stay(struct inroot_driver *d, int fd)
+{
+    if (fd < 0 || !(d->asked->flags & INROOT_NO_XDEV) || inroot_mount_has(d, fd))
         return fd;
     close(fd);
     errno = EXDEV;

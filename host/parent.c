@@ -12,7 +12,7 @@ static int open_before(int root, char *text, const struct inroot_parted *parted,
     const char *path = parted->name > 0 ? text : ".";
     text[parted->name] = 0;
     const struct inroot_request asked = {
-        .op = INROOT_ASK_RESOLVE, .flags = flags, .first = path, .second = "", .directory = true,
+        .op = INROOT_ASK_RESOLVE, .flags = flags, .first = path, .second = "", .directory = true, .takes_below = true,
     };
     return inroot_carry_out_alone(root, &asked);
 }

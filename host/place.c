@@ -83,7 +83,7 @@ bool inroot_look_first(struct inroot_driver *d, int root, struct inroot_slot *sl
 /* What is asked about one object. The texts stay where they are until the place is told. */
 struct search {
     struct inroot_driver *d;
-    int root, found;                         /* what the last look-up opened, or none */
+    int root, found;                         /* what the last look-up opened, or the root anew; or none */
     struct inroot_slot *slot;
     const struct inroot_kept_root *kept;
     struct inroot_place_facts facts;
@@ -152,10 +152,18 @@ static void read_root(struct search *s)
     s->path = s->above;
 }
 
+/* A slash alone is the text of a top, which is its own parent, and of a root that was moved out of its mount: that has none. */
+static bool is_top(int root)
+{
+    struct which itself, above;
+    return find_which(root, "", &itself) && find_which(root, "..", &above) &&
+           inroot_is_same_object(&itself.object, &above.object, true);
+}
+
 static bool tells_own_root(const struct search *s)
 {
     int proc = inroot_proc_for(s->d);
-    return proc >= 0 && inroot_own_root_tells(s->d, proc);
+    return proc >= 0 && inroot_own_root_tells(s->d, proc) && (s->path_length > 1 || is_top(s->root));
 }
 
 /* ---- getcwd(2) */
@@ -203,7 +211,16 @@ static void look_up(struct search *s)
         s->answer.yes = !inroot_has_openat2();
 }
 
-/* The call goes on with what the look-up found, if it is the object, so that no step rests on the numbers that were compared. */
+/* The root is opened anew, so that the call goes on with it if the object is the root. */
+static void find_root(struct search *s)
+{
+    s->found = openat(s->root, ".", O_PATH | O_DIRECTORY | O_CLOEXEC);
+    note(s, s->found);
+    if (s->found >= 0)
+        compare(s);
+}
+
+/* The call goes on with what was found, if it is the object, so that no step rests on the numbers that were compared. */
 static void take_found(struct search *s)
 {
     bool is_object = s->told.what != INROOT_PLACE_UNMADE;
@@ -231,6 +248,7 @@ static void ask(struct search *s)
     case INROOT_PLACE_LOOK_UP: look_up(s); break;
     case INROOT_PLACE_LINK_AGAIN: s->again_length = note(s, object_link(s, s->again)); break;
     case INROOT_PLACE_DEAD: s->answer.yes = inroot_is_dead(s->slot->fd); break;
+    case INROOT_PLACE_IS_ROOT: find_root(s); break;
     }
 }
 

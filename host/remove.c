@@ -37,7 +37,9 @@ static void call(struct removing *r, int root, const struct inroot_request *aske
 /* With the place's directory as the root. */
 static void call_in(struct removing *r, const struct place *at, int flags, char *room)
 {
-    const struct inroot_request asked = {.op = INROOT_ASK_REMOVE_ALL, .flags = flags, .first = at->name, .second = ""};
+    const struct inroot_request asked = {
+        .op = INROOT_ASK_REMOVE_ALL, .flags = flags, .first = at->name, .second = "", .is_held = true,
+    };
     call(r, at->dir, &asked, room);
 }
 

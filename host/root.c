@@ -9,6 +9,7 @@
 #include <stdlib.h>
 #include <string.h>
 #include <sys/mman.h>
+#include <sys/stat.h>
 #include <unistd.h>
 
 /* Of Linux 4.14; the headers may be older. */
@@ -21,6 +22,8 @@ struct inroot_root {
     struct inroot_own table;
     /* A page that begins with 1, and with 0 in a child of fork(2): what is kept isn't the child's. */
     unsigned char *mark;
+    /* Which directory it is. */
+    uint64_t device, inode;
     struct inroot_kept_root kept;
 };
 
@@ -77,13 +80,20 @@ static bool is_of_parent(const struct inroot_root *root)
     return root->mark != NULL && *(const volatile unsigned char *)root->mark != 1;
 }
 
+/* A child may have closed the root and opened another directory by its number. */
+static bool is_there(const struct inroot_root *root)
+{
+    struct stat about;
+    return fstat(root->fd, &about) == 0 && about.st_dev == root->device && about.st_ino == root->inode;
+}
+
 const struct inroot_kept_root *inroot_root_kept(int fd)
 {
     static const struct inroot_kept_root flag_alone = {.flags = INROOT_BELOW, .table = INROOT_NONE};
     const struct inroot_root *root = find(fd);
     if (root == NULL || !is_of_parent(root))
         return root == NULL ? NULL : &root->kept;
-    return root->kept.flags & INROOT_BELOW ? &flag_alone : NULL;
+    return root->kept.flags & INROOT_BELOW && is_there(root) ? &flag_alone : NULL;
 }
 
 /* ---- what is kept */
@@ -140,6 +150,11 @@ static int keep_table(struct inroot_root *root, int proc)
 static int keep(struct inroot_root *root, int flags, int proc)
 {
     char written[INROOT_PROC_NAME];
+    struct stat about;
+    if (fstat(root->fd, &about) != 0)
+        return -errno;
+    root->device = about.st_dev;
+    root->inode = about.st_ino;
     root->kept.flags = flags;
     int failed = make_mark(root);
     if (failed || root->mark == NULL)

@@ -2,12 +2,11 @@
  * runs.c: names of a path that follow one another are passed by one openat2(2), which follows no link. Where it
  * succeeds, each of them stood in the one before it, at moments in their order. So the driver reports all but the
  * last part to the proved call, as directories that it passed, and answers the step that is due behind them by the
- * descriptor that it opened. The call counts the names that it was due to open, and no others. docs/HOST-WHY.md has the
- * argument.
+ * descriptor that it opened. The call counts the names that it was due to open, and no others. The proved library says
+ * which system call comes next, on how many names and how, and how many are reported. docs/HOST-WHY.md has the argument.
  */
 #define _GNU_SOURCE
 #include "driver.h"
-#include "openat2.h"
 
 #include <errno.h>
 #include <fcntl.h>
@@ -29,214 +28,189 @@ static void cut(struct inroot_coming *run, size_t names)
     run->text[end] = 0;
 }
 
-/* Whether these are all that is left of the path, and no slash or `.` is behind them. */
-static bool is_end(const struct inroot_driver *d, const struct inroot_coming *run)
+static bool is_one_by_one(const struct inroot_driver *d)
 {
-    return run->ahead.ends && !run->ahead.dot && inroot_walks_whole(d->asked);
-}
-
-/*
- * What openat2(2) is to open at the end: a directory where the path goes on; what it is where the path ends, a link
- * as well only where it isn't followed.
- */
-static uint64_t flags_of(const struct inroot_driver *d, const struct inroot_coming *run)
-{
-    if (run->ahead.up)
-        return 0;
-    if (!is_end(d, run) || inroot_wants_directory(d->asked))
-        return O_DIRECTORY;
-    return inroot_takes_link(d->asked) ? O_NOFOLLOW : 0;
-}
-
-/*
- * How what these names lead to from a handle is come to. Where they are the rest of the walk, from the root, its place is asked
- * for next, so that the kernel is to see it below the root.
- */
-static enum inroot_way way_of(struct inroot_driver *d, uint64_t handle, const struct inroot_coming *run)
-{
-    bool is_rest = run->ahead.ends && inroot_handles_slot(d, handle)->way == INROOT_BY_ROOT;
-    return is_rest ? INROOT_SEEN_BELOW : INROOT_BY_NAME;
-}
-
-/* ---- names that are passed */
-
-/* What kind of object was opened, where the kernel was not asked for a directory. */
-static bool find_kind(struct inroot_run *run, uint64_t flags, bool up)
-{
-    struct stat about;
-    run->kind = INROOT_KIND_DIR;
-    if (up || flags & O_DIRECTORY)
-        return true;
-    if (fstat(run->fd, &about) != 0)
-        return false;
-    if (!S_ISDIR(about.st_mode))
-        run->kind = S_ISLNK(about.st_mode) ? INROOT_KIND_LINK : INROOT_KIND_FILE;
-    return true;
-}
-
-/*
- * Whether nobody asks what kind of object a whole path led to. It is no link that is followed, which the kernel would
- * have refused, so that the proved function says the same of each kind that it may be. In a jail the question for its
- * place asks, where there is one.
- */
-static bool is_kind_left_out(const struct inroot_driver *d, uint64_t handle, int dir)
-{
-    return handle == 0 && (dir != INROOT_JAILED || d->below) && d->asked->opened == NULL;
-}
-
-/* How long the names are that the walk stands at behind these: without the last of them where `..` follows. */
-static size_t stands_at(struct inroot_driver *d, uint64_t handle, const struct inroot_coming *run)
-{
-    size_t length = handle == 0 ? 0 : inroot_passed_put(d, handle, run->text + 1, run->ahead.used - 1);
-    for (int left = run->ahead.up ? 2 : 0; left > 0; left--)
-        length = inroot_passed_above(d, length);
-    return length;
-}
-
-/* Whether these names were passed. */
-static bool pass(struct inroot_driver *d, uint64_t handle, int dir, const struct inroot_coming *names, enum inroot_way way)
-{
-    uint64_t flags = flags_of(d, names);
-    const bool stays = d->asked->flags & INROOT_NO_XDEV;
-    const uint64_t resolve = (way == INROOT_SEEN_BELOW ? RESOLVE_BENEATH : 0) | (stays ? RESOLVE_NO_XDEV : 0);
-    d->run.fd = inroot_look_up(d, dir, names->text + 1, flags, resolve);
-    if (d->run.fd < 0)
-        return false;
-    d->run.way = names->ahead.up ? INROOT_BY_PARENT : way;
-    d->run.passed = stands_at(d, handle, names);
-    d->run.kind = flags & O_DIRECTORY ? INROOT_KIND_DIR : INROOT_KIND_FILE;
-    if (is_kind_left_out(d, handle, dir) || find_kind(&d->run, flags, names->ahead.up))
-        return true;
-    inroot_run_drop(d);
-    errno = EIO;
-    return false;
-}
-
-/*
- * How many names to try after so many were not passed: all but the last, then half of them. None where it isn't for
- * a name.
- */
-static size_t fewer(struct inroot_tries *tries, size_t count, int error)
-{
-    bool first = tries->bad == 0;
-    if (error != ENOENT && error != ENOTDIR && error != ELOOP && error != EACCES && error != ENAMETOOLONG)
-        return 0;
-    tries->bad = count;
-    tries->met_link = error == ELOOP;
-    return first ? count - 1 : count / 2;
-}
-
-/* How many names to try at first. The whole path isn't tried a second time. */
-static size_t most_of(struct inroot_driver *d)
-{
-    size_t whole = d->tries.whole;
-    if (d->asked->flags & INROOT_ONE_BY_ONE || !inroot_has_openat2())
-        return 0;
-    d->tries.whole = 0;
-    if (whole > 0)
-        return fewer(&d->tries, whole, d->tries.whole_error);
-    return d->tries.bad > 0 ? d->tries.bad / 2 : INROOT_TEXT_MAX;
+    return d->asked->flags & INROOT_ONE_BY_ONE || !inroot_has_openat2();
 }
 
 void inroot_run_ask(struct inroot_driver *d, struct inroot_coming *coming)
 {
     struct inroot_ahead_names *ahead = &coming->ahead;
     const uint64_t number = (uint64_t)d->serial << 32 | INROOT_PASSED;
-    coming->tries = most_of(d);
     /* What comes behind the next name matters even if that is tried alone. */
-    size_t most = coming->tries > 2 ? coming->tries : 2;
+    const size_t most = is_one_by_one(d) || d->looks.most < 2 ? 2 : d->looks.most;
     inroot_names_ahead(d->kept, most, number, (unsigned char *)coming->text, INROOT_TEXT_MAX, ahead);
     coming->text[ahead->used] = 0;
     coming->behind = ahead->names > 1 ? INROOT_BEHIND_NAME : ahead->ends ? INROOT_BEHIND_END : INROOT_BEHIND_OTHER;
-    coming->is_last = ahead->names == 1 && is_end(d, coming);
+    coming->is_last = ahead->names == 1 && ahead->ends && !ahead->dot && inroot_walks_whole(d->asked);
 }
 
-/* Which of the names was a link last, and would be followed; or -1. */
-static int first_link(struct inroot_driver *d, uint64_t handle, const struct inroot_coming *run)
+/* The number of the first of the names that was a link last. That of none is higher than that of any. */
+static size_t first_link(struct inroot_driver *d, uint64_t handle, const struct inroot_coming *coming)
 {
-    int first = inroot_hints_first(d, handle, run->text + 1, run->ahead.used - (run->ahead.up ? 4 : 1));
-    bool is_meant_itself = (size_t)first + 1 == run->ahead.names && inroot_takes_link(d->asked) && is_end(d, run);
-    return is_meant_itself ? -1 : first;
+    return (size_t)inroot_hints_first(d, handle, coming->text + 1, coming->ahead.used - (coming->ahead.up ? 4 : 1));
 }
 
-/* At most so many names, and only those before one that was a link last. */
-static void cut_to_link(struct inroot_driver *d, uint64_t handle, size_t most, struct inroot_coming *run)
+/* What the library is to know of the names. Before any step the handle is 0. */
+static void find_facts(struct inroot_driver *d, uint64_t handle, struct inroot_coming *coming)
 {
-    cut(run, most);
-    int before = run->ahead.names > 1 ? first_link(d, handle, run) : -1;
-    if (before > 0)
-        cut(run, (size_t)before);
+    const struct inroot_request *asked = d->asked;
+    const int kept_from_reading = INROOT_ONE_BY_ONE | INROOT_NO_XDEV | INROOT_NO_MAGICLINKS;
+    coming->facts = (struct inroot_coming_names){
+        .names = coming->ahead.names,
+        .linked = first_link(d, handle, coming),
+        .up = coming->ahead.up,
+        .ends = coming->ahead.ends,
+        .dot = coming->ahead.dot,
+        .at_root = handle == 0 || inroot_handles_slot(d, handle)->way == INROOT_BY_ROOT,
+        .behind_link = d->link != 0,
+        .walks_whole = inroot_walks_whole(asked),
+        .directory = inroot_wants_directory(asked),
+        .itself = inroot_takes_link(asked),
+        .stays = asked->flags & INROOT_NO_XDEV,
+        .reads = !(asked->flags & kept_from_reading),
+    };
 }
 
-/*
- * Passes the last name behind a link by a look-up from the root, at the names where the walk stands, so that the kernel sees it
- * below the root. The directory that is held must have that same object by that name: then it was opened there.
- */
-static bool pass_from_root(struct inroot_driver *d, uint64_t handle, int dir, const struct inroot_coming *name)
+/* ---- what comes next */
+
+/* Names that are passed, from a directory on. */
+struct passing {
+    struct inroot_driver *d;
+    uint64_t handle;               /* zero before any step */
+    int dir;
+    struct inroot_coming *coming;
+    char *text;                    /* receives that of a link */
+    size_t linked;                 /* after a link was read in vain: which name was a link last */
+};
+
+/* How long the names are that the walk stands at behind these: without the last of them where `..` follows. */
+static size_t stands_at(const struct passing *p)
 {
-    struct inroot_run *run = &d->run;
-    bool stays = d->asked->flags & INROOT_NO_XDEV;
-    if (d->link == 0 || stays || !name->ahead.ends || inroot_handles_slot(d, handle)->way == INROOT_BY_ROOT)
-        return false;
-    run->passed = inroot_passed_put(d, handle, name->text + 1, name->ahead.used - 1);
-    if (run->passed == 0)
-        return false;
-    run->fd = inroot_look_up(d, d->slots[0].fd, d->passed + 1, flags_of(d, name), RESOLVE_BENEATH);
-    if (run->fd < 0) {
-        fewer(&d->tries, 1, errno);
-        return false;
-    }
+    const struct inroot_coming *run = p->coming;
+    size_t length = p->handle == 0 ? 0 : inroot_passed_put(p->d, p->handle, run->text + 1, run->ahead.used - 1);
+    for (int left = run->ahead.up ? 2 : 0; left > 0; left--)
+        length = inroot_passed_above(p->d, length);
+    return length;
+}
+
+static uint32_t look_up(struct inroot_driver *d, int dir, const char *names)
+{
+    const struct inroot_looks *now = &d->looks;
+    const uint64_t flags = (now->directory ? O_DIRECTORY : 0) | (now->itself ? O_NOFOLLOW : 0);
+    d->run.fd = inroot_look_through(d, dir, names, flags, now->resolve);
+    return d->run.fd < 0 ? (uint32_t)errno : 0;
+}
+
+static uint32_t look_up_names(const struct passing *p)
+{
+    struct inroot_run *run = &p->d->run;
+    const struct inroot_looks *now = &p->d->looks;
+    cut(p->coming, now->names);
+    uint32_t error = look_up(p->d, p->dir, p->coming->text + 1);
+    if (error)
+        return error;
+    run->way = now->up ? INROOT_BY_PARENT : now->below ? INROOT_SEEN_BELOW : INROOT_BY_NAME;
+    run->passed = stands_at(p);
+    run->kind = now->up || now->directory ? INROOT_KIND_DIR : INROOT_KIND_FILE;
+    return 0;
+}
+
+/* By the names where the walk stands, if they are known. */
+static uint32_t look_up_from_root(const struct passing *p)
+{
+    struct inroot_run *run = &p->d->run;
+    run->passed = inroot_passed_put(p->d, p->handle, p->coming->text + 1, p->coming->ahead.used - 1);
     run->way = INROOT_SEEN_BELOW;
-    if (inroot_is_entry(dir, name->text + 1, run->fd, &run->kind))
-        return true;
-    inroot_run_drop(d);
-    return false;
+    return run->passed == 0 ? EIO : look_up(p->d, p->d->slots[0].fd, p->d->passed + 1);
 }
 
-/* Passes as many names as it can, and whether there were any: one alone where the kernel is to see it below the root. */
-static bool begin(struct inroot_driver *d, uint64_t handle, int dir, struct inroot_coming *coming)
+static uint32_t find_kind(struct inroot_run *run)
 {
-    size_t most = coming->tries;
-    while (most > 0) {
-        cut_to_link(d, handle, most, coming);
-        enum inroot_way way = way_of(d, handle, coming);
-        bool is_alone = coming->ahead.names == 1 && !coming->ahead.up;
-        if (is_alone && way != INROOT_SEEN_BELOW)
-            return pass_from_root(d, handle, dir, coming);
-        if (pass(d, handle, dir, coming, way))
-            return true;
-        most = fewer(&d->tries, coming->ahead.names, errno);
+    struct stat about;
+    if (fstat(run->fd, &about) != 0)
+        return (uint32_t)errno;
+    run->kind = inroot_kind_of(about.st_mode);
+    return 0;
+}
+
+static uint32_t read_link(struct passing *p)
+{
+    uint32_t error = inroot_followed_read(p->d, p->handle, p->dir, p->coming->text + 1, p->text);
+    p->linked = error ? first_link(p->d, p->handle, p->coming) : 0;
+    return error;
+}
+
+/* Does what comes next. Gives 0 or an error's number. */
+static uint32_t turn(struct passing *p)
+{
+    struct inroot_run *run = &p->d->run;
+    switch (p->d->looks.next) {
+    case INROOT_LOOK_READ_FIRST: case INROOT_LOOK_READ_LAST:
+        return read_link(p);
+    case INROOT_LOOK_NAMES:
+        return look_up_names(p);
+    case INROOT_LOOK_FROM_ROOT:
+        return look_up_from_root(p);
+    case INROOT_LOOK_KIND:
+        return find_kind(run);
+    case INROOT_LOOK_COMPARE:
+        return inroot_is_entry(p->dir, p->coming->text + 1, run->fd, &run->kind) ? 0 : ESTALE;
+    default:
+        inroot_run_drop(p->d);
+        return 0;
     }
-    return false;
 }
 
-bool inroot_run_meets_link(struct inroot_driver *d, const struct inroot_coming *path)
+/* Takes turns with the library. */
+static void pass(struct passing *p)
 {
-    return first_link(d, 0, path) >= 0;
+    struct inroot_looks *now = &p->d->looks;
+    while (now->next < INROOT_LOOK_ALONE) {
+        uint32_t error = turn(p);
+        inroot_looks_next(now, &p->coming->facts, error, p->linked);
+    }
+}
+
+/* ---- the whole path, and the next names of one */
+
+bool inroot_run_is_whole(struct inroot_driver *d, struct inroot_coming *path)
+{
+    find_facts(d, 0, path);
+    path->facts.any_kind = (d->root != INROOT_JAILED || d->below) && d->asked->opened == NULL;
+    inroot_looks_begin(&d->looks, &path->facts);
+    return d->looks.next == INROOT_LOOK_NAMES && d->looks.names == path->ahead.names;
 }
 
 bool inroot_run_whole(struct inroot_driver *d, int root, struct inroot_coming *path, int failed)
 {
-    if (failed == 0 && pass(d, 0, root, path, INROOT_SEEN_BELOW))
-        return true;
-    d->tries.whole_error = failed ? failed : errno;
-    d->tries.whole = path->ahead.names;
-    return false;
+    struct passing p = {.d = d, .dir = root, .coming = path};
+    uint32_t error = failed ? (uint32_t)failed : turn(&p);
+    inroot_looks_next(&d->looks, &path->facts, error, 0);
+    /* The steps go on with fewer names. */
+    if (error == 0)
+        pass(&p);
+    return d->looks.next == INROOT_LOOK_PASSED;
 }
 
-bool inroot_run_begin(struct inroot_driver *d, struct inroot_told *told, char *room, struct inroot_coming *coming,
-                      struct inroot_result *result)
+enum inroot_look inroot_run_begin(struct inroot_driver *d, struct inroot_told *told, char *room, struct inroot_coming *coming,
+                                  char *text, struct inroot_result *result)
 {
-    int dir;
-    if (coming->tries == 0 || !inroot_handles_reserve(d) || inroot_handles_fd(d, told->handle, &dir) != 0)
-        return false;
-    if (!begin(d, told->handle, dir, coming))
-        return false;
-    size_t names = coming->ahead.names, bad = d->tries.bad;
-    d->tries.bad -= bad < names ? bad : names;
-    d->run.ends = coming->ahead.ends;
-    *result = inroot_run_tell(d, told, room, coming->text + 1, coming->ahead.up ? names : names - 1);
-    return true;
+    struct passing p = {.d = d, .handle = told->handle, .coming = coming, .text = text};
+    find_facts(d, told->handle, coming);
+    if (inroot_handles_fd(d, told->handle, &p.dir) != 0)
+        coming->facts.reads = false, coming->facts.one_by_one = true;
+    if (is_one_by_one(d) || !inroot_handles_reserve(d))
+        coming->facts.one_by_one = true;
+    inroot_looks_begin(&d->looks, &coming->facts);
+    pass(&p);
+    if (d->looks.next == INROOT_LOOK_PASSED) {
+        d->run.ends = coming->ahead.ends;
+        *result = inroot_run_tell(d, told, room, coming->text + 1, d->looks.passed);
+    } else if (d->looks.next == INROOT_LOOK_LINK) {
+        *result = inroot_opened(d->link, INROOT_KIND_LINK);
+    }
+    return (enum inroot_look)d->looks.next;
 }
 
 /* ---- what is reported of them */

@@ -48,9 +48,6 @@ static ssize_t ask(struct inroot_driver *d, int root, const struct stat *about, 
 ssize_t inroot_stands(struct inroot_driver *d, int root, char *room)
 {
     struct stat about;
-    int failed = inroot_own_root_check(d, root);
-    if (failed)
-        return failed;
     d->step = INROOT_STEP_NAME_BELOW;
     if (fstat(d->asked->object, &about) != 0)
         return -errno;

@@ -40,6 +40,7 @@ static int find(int root, const struct use *use, enum inroot_kind *kind)
         .second = "",
         .directory = use->how.directory,
         .opened = use->how.asks_kind ? kind : NULL,
+        .takes_below = true,
     };
     return inroot_carry_out_alone(root, &asked);
 }

@@ -1,7 +1,8 @@
 /*
  * walk.c: the entries below a directory, one after another, with one descriptor for each level. The walk opens a directory by
  * its name in the one that has it, through no link. Then a call of its own must find the same directory by its path below the
- * root. So whoever moves directories meanwhile, the walk lists no directory that wasn't below the root after it was opened.
+ * root, and the walk goes on with what that call found. So whoever moves directories meanwhile, the walk lists no directory that
+ * wasn't below the root.
  */
 #define _GNU_SOURCE
 #include "driver.h"
@@ -46,32 +47,38 @@ struct inroot_walk {
     char text[PATH_MAX + NAME_ROOM + 2];
 };
 
-static int open_to_read(int dir, const char *name)
+static int open_by(int dir, const char *name, int how)
 {
     int fd;
     do
-        fd = openat(dir, name, O_RDONLY | O_DIRECTORY | O_NOFOLLOW | O_CLOEXEC);
+        fd = openat(dir, name, how | O_DIRECTORY | O_NOFOLLOW | O_CLOEXEC);
     while (fd < 0 && errno == EINTR);
     return fd < 0 ? -errno : fd;
 }
 
 /* ---- whether a directory is where it was found */
 
-static bool is_same(int one, int other)
+/* Opens what the text means, which then was below the root: its descriptor or -errno. */
+static int open_text(const struct inroot_walk *walk, int more)
 {
-    struct stat a, b;
-    return fstat(one, &a) == 0 && fstat(other, &b) == 0 && a.st_dev == b.st_dev && a.st_ino == b.st_ino;
+    const struct inroot_request asked = {
+        .op = more & INROOT_NOFOLLOW ? INROOT_ASK_RESOLVE_NOFOLLOW : INROOT_ASK_RESOLVE, .flags = walk->flags,
+        .first = walk->text, .second = "",
+    };
+    return inroot_carry_out_alone(walk->root, &asked);
 }
 
-/* Whether the text means this directory, which then was below the root: 0; -ESTALE where it means something else; -errno. */
-static int stands(const struct inroot_walk *walk, int fd, int more)
+/* The same of this directory: -ESTALE where the text means something else. */
+static int open_same(const struct inroot_walk *walk, int fd, int more)
 {
-    int now = inroot_open(walk->root, walk->text, walk->flags | more);
+    enum inroot_kind kind;
+    int now = open_text(walk, more);
     if (now < 0)
         return now == -ENOENT || now == -ENOTDIR || now == -ELOOP ? -ESTALE : now;
-    bool same = is_same(now, fd);
+    if (inroot_is_entry(now, "", fd, &kind))
+        return now;
     close(now);
-    return same ? 0 : -ESTALE;
+    return -ESTALE;
 }
 
 /* The text is cut off for the question, and then whole again. */
@@ -79,25 +86,37 @@ static bool is_lost(struct inroot_walk *walk, const struct level *level)
 {
     char next = walk->text[level->length];
     walk->text[level->length] = 0;
-    bool lost = stands(walk, level->fd, level->above == NULL ? walk->first : INROOT_NOFOLLOW) != 0;
+    int now = open_same(walk, level->fd, level->above == NULL ? walk->first : INROOT_NOFOLLOW);
     walk->text[level->length] = next;
-    return lost;
+    if (now >= 0)
+        close(now);
+    return now < 0;
+}
+
+/* Opens it for reading, by the descriptor that was found below the root: so no listing rests on the numbers that were compared. */
+static int open_found(const struct inroot_walk *walk, int fd)
+{
+    int now = open_same(walk, fd, INROOT_NOFOLLOW);
+    int found = now < 0 ? now : open_by(now, ".", O_RDONLY);
+    if (now >= 0)
+        close(now);
+    return found;
 }
 
 /* Opens the directory that the text names: its descriptor or -errno. */
 static int open_next(struct inroot_walk *walk, const char *name)
 {
     for (int tries = 1;; tries++) {
-        int fd = open_to_read(walk->top->fd, name);
-        int failed = fd < 0 ? fd : stands(walk, fd, INROOT_NOFOLLOW);
-        if (failed == 0)
-            return fd;
+        int fd = open_by(walk->top->fd, name, O_PATH);
+        int found = fd < 0 ? fd : open_found(walk, fd);
         if (fd >= 0)
             close(fd);
-        if (failed == -ESTALE && inroot_again(tries, walk->flags, -EAGAIN, false))
+        if (found >= 0)
+            return found;
+        if (found == -ESTALE && inroot_again(tries, walk->flags, -EAGAIN))
             continue;
-        if (failed != -ESTALE && failed != -EAGAIN)
-            return failed;
+        if (found != -ESTALE && found != -EAGAIN)
+            return found;
         /* If it is the directory above that was moved, nothing more is gone into there. */
         walk->top->is_lost = is_lost(walk, walk->top);
         return -EAGAIN;
@@ -252,10 +271,10 @@ static int next(struct inroot_walk *walk, struct inroot_walk_entry *entry)
 /* The directory with which it begins, by a descriptor to read it: 0 or -errno. */
 static int begin(struct inroot_walk *walk)
 {
-    int found = inroot_open(walk->root, walk->text, walk->flags | walk->first);
+    int found = open_text(walk, walk->first);
     if (found < 0)
         return found;
-    int fd = open_to_read(found, ".");
+    int fd = open_by(found, ".", O_RDONLY);
     close(found);
     if (fd < 0)
         return inroot_error_alone(-fd, "List", walk->text);

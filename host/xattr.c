@@ -81,12 +81,20 @@ static ssize_t from_top(int proc, const char *name, const struct attribute *one)
     return by_path(path, one);
 }
 
-/* A filter may refuse a system call that it doesn't know by EPERM. If EPERM is the object's answer, a path gives it too. */
+/* A filter may refuse a system call that it doesn't know by EPERM. It does so then for what is no directory, too. */
+static bool is_missing(const struct attribute *one)
+{
+    int error = errno;
+    bool missing = error == ENOSYS || (error == EPERM && by_name(-1, ".", one) < 0 && errno == EPERM);
+    errno = error;
+    return missing;
+}
+
 static ssize_t act_on(int proc, const char *name, void *what)
 {
     const struct attribute *one = what;
     ssize_t done = by_name(proc, name, one);
-    if (done >= 0 || (errno != ENOSYS && errno != EPERM))
+    if (done >= 0 || !is_missing(one))
         return done;
     return inroot_is_jailed() ? from_jail(proc, name, one) : from_top(proc, name, one);
 }

@@ -1,7 +1,8 @@
 /*
  * above: a link's text that begins with `..`, while somebody acts right before the driver asks where that leads: the
  * directory that has the link is moved, removed, or moved out of the root; or the one above it, before it is looked up or its
- * place is asked for. To be linked with --wrap=statx, --wrap=readlinkat and --wrap=syscall.
+ * place is asked for. In a jail the driver opens `..` itself, and asks for its place by getcwd(2). To be linked with --wrap of
+ * statx, openat, readlinkat and syscall.
  *
  * usage: above DIR. Exits 0 where each call opens what the walk leads to. 77: no openat2(2) here. 78: no right to change a
  * root, so that a part is left out.
@@ -20,7 +21,7 @@
 static int base, root, at;
 static int texts;
 
-/* What others do once: before the directory above is looked up, what stands at `..` is asked, or a text of /proc is read. */
+/* What others do once: before the directory above is looked up, what stands at `..` is asked, or a text says its place. */
 enum moment { AT_LOOK, AT_PARENT, AT_TEXT };
 static void (*act)(void);
 static enum moment moment;
@@ -43,6 +44,15 @@ int __wrap_statx(int dir, const char *name, int flags, unsigned what, struct sta
     return __real_statx(dir, name, flags, what, about);
 }
 
+static int my_openat(int dir, const char *name, int flags, mode_t mode)
+{
+    if (moment == AT_PARENT && strcmp(name, "..") == 0)
+        act_now();
+    return __real_openat(dir, name, flags, mode);
+}
+
+INSTEAD_OF_OPENAT(my_openat)
+
 /* A text of /proc has a name that ends in a number. */
 ssize_t __wrap_readlinkat(int dir, const char *name, char *text, size_t size)
 {
@@ -63,6 +73,9 @@ static long my_syscall(long number, const long *with)
         return -1;
     }
     if (moment == AT_LOOK && how != NULL && how->resolve & RESOLVE_BENEATH && how->flags & O_DIRECTORY)
+        act_now();
+    /* With less room it is no question for a place. */
+    if (moment == AT_TEXT && number == SYS_getcwd && with[1] > 2)
         act_now();
     return REAL_SYSCALL(number, with);
 }
@@ -152,12 +165,10 @@ static const struct {
     {"p/s/up", parent_out, parent_in, AT_LOOK, NULL, EAGAIN},
 };
 
-/* In a jail no text is read of a directory, and nothing is compared with a root of which no descriptor is kept. */
-static bool is_asked(size_t row, bool trusts)
+/* In a jail the driver looks no directory above up. */
+static bool is_asked(size_t row)
 {
-    if (at != INROOT_JAIL)
-        return true;
-    return rows[row].moment != AT_TEXT && (strchr(rows[row].path, '/') != strrchr(rows[row].path, '/') || trusts);
+    return at != INROOT_JAIL || rows[row].moment != AT_LOOK;
 }
 
 static void one(size_t row, int flags)
@@ -184,27 +195,27 @@ static void one(size_t row, int flags)
 }
 
 /* A second time what was a link is known. */
-static void each(bool trusts)
+static void each(void)
 {
     static const int flags[] = {0, INROOT_BELOW};
     for (int turn = 0; turn < 2; turn++)
         for (size_t row = 0; row < sizeof rows / sizeof *rows; row++)
             for (size_t flag = 0; flag < sizeof flags / sizeof *flags; flag++)
-                if (is_asked(row, trusts))
+                if (is_asked(row))
                     one(row, flags[flag]);
 }
 
 static void by_proc(void)
 {
     at = root;
-    each(false);
+    each();
 }
 
 static void jail_by(int flags)
 {
     jail_or_end(root, flags);
     at = INROOT_JAIL;
-    each(flags != 0);
+    each();
 }
 
 static void in_jail(void)

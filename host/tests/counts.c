@@ -221,7 +221,7 @@ static const struct {
     {"open 32 directories", deep, open_it, {7, 69, 4, 71, 6, 69}},
     {"open 32, O_PATH | O_DIRECTORY", deep, open_directory, {6, 68, 4, 70, 5, 68}},
     {"open d/l/f, l a link to ../a/b", "d/l/f", open_it, {15, 29, 11, 31, 12, 28}},
-    {"open a/b/u, a link to ../g", "a/b/u", open_it, {18, 26, 17, 28, 17, 25}},
+    {"open a/b/u, a link to ../g", "a/b/u", open_it, {17, 26, 17, 28, 16, 25}},
     {"open a/b/none", "a/b/none", open_it, {6, 5, 4, 5, 4, 5}},
     {"open /a/b/none", "/a/b/none", open_it, {6, 5, 4, 5, 4, 5}},
     {"open /a/none beneath", "/a/none", open_beneath, {0, 0, 1, 1, 0, 0}},
@@ -404,6 +404,34 @@ static void refused_openat2(void)
     refusal = 0;
 }
 
+/*
+ * The second time a link's name is read as one at once, and openat2(2) looks up only what it leads to: so it is of as many links as
+ * the root of a system has, but for a few whose hints others took the place of.
+ */
+static void many_links(void)
+{
+    enum { LINKS = 700, TOO_MANY = 6000 };
+    char path[16];
+    sure(mkdirat(root, "m", 0755), "m");
+    sure(mknodat(root, "m/f", S_IFREG | 0600, 0), "m/f");
+    for (int turn = 0; turn < 3; turn++) {
+        runs = 0;
+        for (int one = 0; one < LINKS; one++) {
+            snprintf(path, sizeof path, "m/l%d", one);
+            if (turn == 0)
+                sure(symlinkat("f", root, path), path);
+            close(sure(inroot_open(at, path, 0), path));
+        }
+        expect(turn == 0 || runs <= LINKS + LINKS / 50, "turn %d: %u times openat2(2) for %d links", turn, runs, LINKS);
+    }
+    /* More of them than there are places. */
+    for (int one = LINKS; one < TOO_MANY; one++) {
+        snprintf(path, sizeof path, "m/l%d", one);
+        sure(symlinkat("f", root, path), path);
+        close(sure(inroot_open(at, path, 0), path));
+    }
+}
+
 static void make_tree(void)
 {
     static const char *const dirs[] = {"a", "a/b", "d"};
@@ -432,6 +460,7 @@ int main(int count, char **words)
     tries();
     refused_openat2();
     count_all(BY_PROC);
+    many_links();
     if (!may_jail(root))
         return NO_RIGHT;
     pthread_t thread;

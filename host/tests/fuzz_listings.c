@@ -9,31 +9,14 @@
  */
 #define _GNU_SOURCE
 #include "../calls.h"
+#include "fuzz_input.h"
 
 #include <errno.h>
 #include <limits.h>
-#include <stdio.h>
 #include <stdlib.h>
 #include <string.h>
 
-int LLVMFuzzerTestOneInput(const uint8_t *data, size_t size);
-
-#define MUST(holds) ((holds) ? (void)0 : (fprintf(stderr, "not so: %s\n", #holds), abort()))
-
 enum { ALL_NAMES = 4 << 20, LEAST_PART = 512, MOST_PART = 1 << 20, RECORDS = 32768, HEAD = 19 };
-
-struct input {
-    const uint8_t *at;
-    size_t left;
-};
-
-static unsigned byte(struct input *in)
-{
-    if (in->left == 0)
-        return 0;
-    in->left--;
-    return *in->at++;
-}
 
 /* What was seen of a listing. */
 struct seen {

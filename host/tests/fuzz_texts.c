@@ -114,7 +114,8 @@ static struct inroot_place_told after(enum inroot_place_what asked, bool jailed,
     const struct inroot_place_answer answer = {.error = 0};
     struct inroot_place_told told = {.what = (uint8_t)asked};
     inroot_place_next(&facts, &answer, root, root_length, text, length, text, length, &told);
-    MUST(told.start + told.length <= length && (told.what == INROOT_PLACE_STANDS) == (told.length > 0));
+    MUST(told.start + told.length <= length);
+    MUST((told.what == INROOT_PLACE_STANDS || told.what == INROOT_PLACE_LOOK_UP) == (told.length > 0));
     return told;
 }
 
@@ -128,6 +129,8 @@ static void places(size_t size, const uint8_t *bytes, size_t length)
     if (path_length > 4095)
         MUST(told.what == INROOT_PLACE_UNMADE && told.error == ENAMETOOLONG);
     MUST((wanted < 0) == (told.what == INROOT_PLACE_UNMADE));
+    /* A link with the root's own place is never enough. */
+    MUST((told.what == INROOT_PLACE_LOOK_UP) == (told.length == 1));
     if (wanted >= 0 && (size_t)wanted == path_length)
         MUST(told.start == 0 && told.length == 1);
     else if (wanted >= 0)

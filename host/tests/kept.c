@@ -20,11 +20,14 @@ static char where[4096];
 
 /* Whether a link was read by its number alone, in the table that is kept; and what is done once a link was read by its name. */
 static bool has_read_table;
+/* How many texts of descriptors were read. */
+static int texts;
 static void (*act)(void);
 
 ssize_t __wrap_readlinkat(int dir, const char *name, char *text, size_t size)
 {
     ssize_t got = __real_readlinkat(dir, name, text, size);
+    texts += strncmp(name, "thread-self/", 12) == 0;
     if (name[0] >= '0' && name[0] <= '9')
         has_read_table = true;
     else if (act != NULL && strncmp(name, "thread-self/", 12) != 0) {
@@ -267,6 +270,43 @@ static void flags_of_roots(void)
 
 /* ---- INROOT_BELOW */
 
+static void asks_for_names(const char *what, int result, bool asks)
+{
+    gives_fd(result, "%s", what);
+    expect((texts > 0) == asks, "%s: it has read %d texts", what, texts);
+    if (result > 0)
+        close(result);
+    texts = 0;
+}
+
+/* A number of the parent's may be any directory in a child. */
+static void in_child_by_another(void)
+{
+    sure(dup2(box, forked), "dup2");
+    texts = 0;
+    asks_for_names("the same directory in a child", inroot_open(forked, "a/b", 0), false);
+    sure(dup2(base, forked), "dup2");
+    asks_for_names("another directory by the root's number in a child", inroot_open(forked, "box/a/b", 0), true);
+}
+
+static void on_root_below(struct inroot_root *kept)
+{
+    char rest[64];
+    struct inroot_walk *walk;
+    int root = inroot_root_fd(kept);
+    texts = 0;
+    asks_for_names("inroot_open", inroot_open(root, "a/b", 0), false);
+    asks_for_names("inroot_stat", inroot_stat(root, "a/b", &(struct stat){0}, 0), false);
+    asks_for_names("inroot_open_partial", inroot_open_partial(root, "a/b/none", 0, rest, sizeof rest), true);
+    asks_for_names("inroot_mkdir_all", inroot_mkdir_all(root, "a/b", 0755, 0), true);
+    asks_for_names("inroot_mkfile_all", inroot_mkfile_all(root, "a/other", 0600, 0755, 0), true);
+    int failed = inroot_walk_open(root, "a", 0, 0, &walk);
+    inroot_walk_close(walk);
+    asks_for_names("inroot_walk_open", failed, true);
+    forked = root;
+    apart(in_child_by_another);
+}
+
 /* Which calls have it. The others refuse it, and a root that has it leaves them as they are. */
 static void calls_below(void)
 {
@@ -290,7 +330,9 @@ static void calls_below(void)
     gives(inroot_rename(box, "a/new", "a/n", INROOT_PLAIN, INROOT_BELOW), -EINVAL, "inroot_rename");
     gives(inroot_remove_all(box, "a/new", INROOT_BELOW), -EINVAL, "inroot_remove_all");
     gives(inroot_mkdir_all(box, "a/n", 0755, INROOT_BELOW), -EINVAL, "inroot_mkdir_all");
+    gives(inroot_walk_open(box, "a", 0, INROOT_BELOW, &(struct inroot_walk *){NULL}), -EINVAL, "inroot_walk_open");
     struct inroot_root *kept = opened(INROOT_BELOW);
+    on_root_below(kept);
     int root = inroot_root_fd(kept);
     gives(inroot_mkdir(root, "a/n", 0755, 0), 0, "inroot_mkdir by the root");
     gives(inroot_rename(root, "a/n", "a/m", INROOT_PLAIN, 0), 0, "inroot_rename by the root");

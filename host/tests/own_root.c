@@ -1,7 +1,9 @@
 /*
  * own_root: without openat2(2), as a filter has it, a root that is given by its descriptor is refused before any step in a thread
  * whose own root directory is no mount's: there /proc doesn't tell what is below it from what isn't. Elsewhere the calls go on,
- * and in a jail. Where the kernel doesn't tell whether a directory is a mount's, the mounts of the thread do.
+ * and in a jail. Where the kernel doesn't tell whether a directory is a mount's, the mounts of the thread do. What was moved out of
+ * the mount on which the root is isn't taken for the root, with openat2(2) or without; and a root that was moved out itself has no
+ * places.
  *
  * usage: own_root DIR. Exits 0 where that holds. 77: no openat2(2) here, so that a part is left out. 78: no right to do what it
  * takes.
@@ -60,11 +62,38 @@ static void told(const char *who, int result)
     gives_text(why.step, "OwnRoot", "%s: the step of it", who);
 }
 
+/* Deeper than one proved call goes, so that another one begins at a directory that is held. */
+static void removes_deep(const char *who, int at)
+{
+    enum { LEVELS = 1100 };
+    int dir = sure(openat(root, "e", O_PATH | O_DIRECTORY | O_CLOEXEC), "e");
+    for (int level = 0; level < LEVELS; level++) {
+        sure(mkdirat(dir, "d", 0755), "d");
+        int inner = sure(openat(dir, "d", O_PATH | O_DIRECTORY | O_CLOEXEC), "d");
+        close(dir);
+        dir = inner;
+    }
+    close(dir);
+    gives((long)inroot_remove_all(at, "e/d", 0), LEVELS, "%s: a deep tree is removed", who);
+}
+
+/* The root's own errors come before that of its place, and no step is to blame for them. */
+static void is_no_root(const char *who, int result, int error)
+{
+    struct inroot_error why;
+    gives(result, -error, "%s: no root", who);
+    gives(inroot_last_error(&why), 0, "%s: its last error", who);
+    gives(why.error, error, "%s: the error of no root", who);
+    gives_text(why.step, "", "%s: the step of no root", who);
+}
+
 /* Nothing is found, made or removed. */
 static void is_refused(const char *who, int at)
 {
     struct stat about;
-    char text[8];
+    char text[8], last[256];
+    told(who, inroot_open_parent(at, "a/..", 0, last));
+    told(who, inroot_open_parent(at, "", 0, last));
     told(who, inroot_open(at, "a/b/f", 0));
     told(who, inroot_open(at, "a/b/f", INROOT_ONE_BY_ONE));
     told(who, inroot_open(at, "a/b/..", INROOT_NO_RETRY));
@@ -82,9 +111,11 @@ static void is_refused(const char *who, int at)
     gives(fstatat(root, "a/b/new", &about, 0), -1, "%s: a/b/new, asked for", who);
     gives(fstatat(root, "a/b/f", &about, 0), 0, "%s: a/b/f, asked for", who);
     gives(fstatat(root, "e", &about, 0), 0, "%s: e, asked for", who);
-    gives(inroot_open(1000, "a", 0), -EBADF, "%s: no descriptor", who);
+    is_no_root(who, inroot_open(1000, "a", 0), EBADF);
+    is_no_root(who, inroot_open_parent(1000, "a/..", 0, last), EBADF);
     int file = sure(openat(root, "a/b/f", O_PATH | O_CLOEXEC), "f");
-    gives(inroot_open(file, "a", 0), -ENOTDIR, "%s: no directory", who);
+    is_no_root(who, inroot_open(file, "a", 0), ENOTDIR);
+    is_no_root(who, inroot_open_parent(file, "a/..", 0, last), ENOTDIR);
     close(file);
 }
 
@@ -122,6 +153,7 @@ static void in_jail(void)
         _exit(NO_RIGHT);
     filter();
     goes_on("in a jail", INROOT_JAIL);
+    removes_deep("in a jail", INROOT_JAIL);
     (no_openat2 ? is_refused : goes_on)("by a descriptor in a jail", root);
     errno = pthread_create(&made, NULL, as_made, NULL);
     sure(-errno, "pthread_create");
@@ -131,18 +163,100 @@ static void in_jail(void)
     (no_openat2 ? is_refused : goes_on)("after a jail", root);
 }
 
+/* Moves it out by the mount that is below this one. It has no path then, and the kernel writes a slash, as for the root itself. */
+static void moves_out(int from, const char *inside, const char *outside)
+{
+    char place[PATH_MAX];
+    int at, object = sure(openat(root, inside + 4, O_PATH | O_CLOEXEC), inside);
+    sure(renameat(base, inside, base, outside), inside);
+    gives(inroot_place(from, object, place, sizeof place), -EXDEV, "the place of %s, which was moved out of the mount", inside);
+    if (inroot_at_begin(from, object, &at) == 0) {
+        gives(inroot_open(at, "l", INROOT_NO_RETRY), -EAGAIN, "a link of the root, from %s outside", inside);
+        gives(inroot_mkdir(at, "made", 0755, 0), -EAGAIN, "a directory is made from %s outside", inside);
+        gives(faccessat(root, "made", F_OK, 0), -1, "it is made in the root");
+        inroot_at_end(at);
+    }
+    sure(renameat(base, outside, base, inside), inside);
+    gives_least(inroot_place(from, object, place, sizeof place), 1, "the place of %s, which is back", inside);
+    gives_text(place, inside + 3, "the same");
+    close(object);
+}
+
+static void move_out_from(const char *who, int from)
+{
+    goes_on(who, from);
+    moves_out(from, "box/e", "e");
+    moves_out(from, "box/a/b/f", "f");
+    if (from != INROOT_JAIL)
+        gives(inroot_place(from, root, (char[]){0, 0}, 2), 1, "%s: the place of the root itself", who);
+}
+
+/* The root was moved out of its mount, and has the text of a top: so what it lost to the mount has a text as if it were below. */
+static void loses_root(void)
+{
+    char place[PATH_MAX];
+    int lost = sure(openat(root, "a", O_PATH | O_DIRECTORY | O_CLOEXEC), "a");
+    int file = sure(openat(root, "a/b/f", O_PATH | O_CLOEXEC), "f");
+    sure(renameat(base, "box/a", base, "a"), "a");
+    sure(renameat(base, "a/b/f", base, "box/e/f"), "f");
+    const int wanted = no_openat2 ? -EOPNOTSUPP : -EXDEV;
+    gives(inroot_place(lost, file, place, sizeof place), wanted, "the place of what a root outside of its mount has lost");
+    sure(renameat(base, "box/e/f", base, "a/b/f"), "f");
+    sure(renameat(base, "a", base, "box/a"), "a");
+    gives(inroot_place(lost, file, place, sizeof place), 4, "its place below the root that is back");
+    close(lost);
+    close(file);
+}
+
+/* A directory may not be searched, so that a jail asks for its link. */
+static void not_searched(void)
+{
+    char place[PATH_MAX];
+    int object = sure(openat(root, "e", O_PATH | O_DIRECTORY | O_CLOEXEC), "e");
+    if (!may_be_nobody())
+        return;
+    sure(fchmodat(root, "e", 0700, 0), "e");
+    sure(renameat(base, "box/e", base, "e"), "e");
+    sure(seteuid(65534), "nobody");
+    gives(inroot_place(INROOT_JAIL, object, place, sizeof place), -EXDEV, "the place of what was moved out and may not be searched");
+    sure(seteuid(0), "root");
+    sure(renameat(base, "e", base, "box/e"), "e");
+    sure(fchmodat(root, "e", 0755, 0), "e");
+    close(object);
+}
+
 /* Where the root is a mount's, what is outside has no path at all. */
-static void on_mount(void)
+static void begin_on_mount(void)
 {
     if (unshare(CLONE_NEWNS) != 0 || mount(NULL, "/", NULL, MS_REC | MS_PRIVATE, NULL) != 0 ||
         mount(where, where, NULL, MS_BIND, NULL) != 0)
         _exit(NO_RIGHT);
     close(root);
     root = sure(open(where, O_PATH | O_DIRECTORY | O_CLOEXEC), where);
+}
+
+static void on_mount(void)
+{
+    struct inroot_root *kept;
+    begin_on_mount();
     if (fchdir(root) != 0 || chroot(".") != 0)
         _exit(NO_RIGHT);
     filter();
-    goes_on("in a chroot to a mount", root);
+    move_out_from("in a chroot to a mount", root);
+    gives(inroot_root_open("/", INROOT_ROOT_STAYS, &kept), 0, "a root that stays");
+    move_out_from("in a chroot to a mount, by a root that stays", inroot_root_fd(kept));
+    inroot_root_close(kept);
+    loses_root();
+}
+
+static void in_jail_on_mount(void)
+{
+    begin_on_mount();
+    if (inroot_jail(root) != 0)
+        _exit(NO_RIGHT);
+    filter();
+    move_out_from("in a jail on a mount", INROOT_JAIL);
+    not_searched();
 }
 
 static int each(void)
@@ -150,7 +264,8 @@ static int each(void)
     int skipped = apart(in_no_jail);
     skipped |= apart(in_chroot);
     skipped |= apart(in_jail);
-    return skipped | apart(on_mount);
+    skipped |= apart(on_mount);
+    return skipped | apart(in_jail_on_mount);
 }
 
 int main(int count, char **words)

@@ -91,6 +91,17 @@ static void control(void)
     expect(got == 6 && strcmp(text, "secret") == 0, "the control: %d, %zd", fd, got);
 }
 
+/* The answer about the object counts, and not that no path leads to it. Before Linux 6.13 there is a path alone. */
+static void refuses_attribute(void)
+{
+    enum { SET_AT = 463 };
+    const long value[2] = {0};
+    int link = inroot_open(box, "l", INROOT_NOFOLLOW);
+    bool by_name = syscall(SET_AT, -1, ".", 0, "user.x", value, sizeof value) < 0 && errno != ENOSYS;
+    gives(inroot_fsetxattr(link, "user.x", "", 0, 0), by_name ? -EPERM : -ENOSYS, "an attribute of a link by a private one");
+    close(link);
+}
+
 static void ordinary(void)
 {
     int failed = inroot_use_private_proc();
@@ -98,6 +109,7 @@ static void ordinary(void)
         _exit(NO_RIGHT);
     gives(failed, 0, "inroot_use_private_proc");
     reads("a private one", 0);
+    refuses_attribute();
 }
 
 /* Nothing is kept of a call that failed. */
@@ -126,6 +138,7 @@ int main(int count, char **words)
     box = sure(openat(base, "box", O_PATH | O_DIRECTORY | O_CLOEXEC), "box");
     sure(mkdirat(box, "a", 0755), "a");
     chmod(where, 0755);
+    sure(symlinkat("none", box, "l"), "l");
     put_text(box, "a/f", "inside");
     put_text(base, "secret", "secret");
     int skipped = apart(ordinary);

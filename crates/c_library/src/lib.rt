@@ -1,6 +1,6 @@
-//! The functions by which a C program makes calls: a static library of twenty-nine exports, over `c_protocol`,
-//! `place_protocol`, `open_or_make`, `make_through_links`, `remove_by_calls`, `list_directory`, `kernel_text` and
-//! `system_calls`.
+//! The functions by which a C program makes calls: a static library of the exports of `c_protocol`, `step_calls`,
+//! `place_protocol`, `open_or_make`, `make_through_links`, `remove_by_calls`, `look_ups`, `list_directory`,
+//! `call_course`, `kernel_text` and `system_calls`.
 //!
 //! Each export is the function of that name of one of these, with its clauses. What a C program owes is said in
 //! `host/calls.h`: what is kept is empty (zero) before the first call, and is left alone between two turns.
@@ -12,7 +12,6 @@ ghost use Rattle.root_ops.specs.declared.call.CallTurn.{CallTurn};
 ghost use Rattle.c_protocol.specs.AtOnce.{opens_at_once};
 ghost use Rattle.c_protocol.specs.FollowedAtOnce.{follows_at_once};
 ghost use Rattle.c_protocol.specs.Left.{IsLeft};
-ghost use Rattle.c_protocol.specs.Refusals.{is_refusal};
 ghost use Rattle.c_protocol.specs.Runs.{ComeNext, IsRun};
 ghost use Rattle.c_protocol.specs.Split.{IsParted};
 ghost use Rattle.c_protocol.specs.Turns.{call_of, IsBegun, IsNext, IsTold};
@@ -27,8 +26,11 @@ ghost use Rattle.system_calls.specs.Objects.{is_node, is_same_object, kind_of};
 ghost use Rattle.system_calls.specs.Opening.{opening_of, reopen_flags};
 ghost use Rattle.system_calls.specs.Tries.{next_try};
 
+mod calls;
 mod listings;
+mod looks;
 mod removals;
+mod steps;
 
 use c_protocol::{Ahead, Answered, Asked, Kept, Left, Parted, Ran, Told};
 use make_through_links::{Making, Outcome};
@@ -147,14 +149,6 @@ pub extern "C" fn inroot_split(path: &[u8], takes_slash: bool, parted: &mut Part
     ensures { IsParted path.now takes_slash parted.new }
 {
     *parted = c_protocol::split(path, takes_slash);
-}
-
-/// Whether the step table may refuse a step by an error: `c_protocol::is_refusal`.
-#[unsafe(no_mangle)]
-pub extern "C" fn inroot_is_refusal(what: u8, mode: u8, text: usize, error: u32) -> bool
-    ensures { result ≡ is_refusal what mode text error }
-{
-    c_protocol::is_refusal(what, mode, text, error)
 }
 
 /// What a call on a path does by flags of open(2): `system_calls::opening_of`.

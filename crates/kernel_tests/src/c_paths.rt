@@ -2,8 +2,9 @@
 //! name stands, and which errors refuse a step.
 ghost use Rattle.std.specs.Prelude.{◌<◌, ◌≤◌};
 
-use c_protocol::{Asked, Parted, follows_at_once, is_refusal, opens_at_once, split};
+use c_protocol::{Asked, Parted, follows_at_once, opens_at_once, split};
 use std::test::Fail;
+use step_calls::is_refusal;
 
 // An operation below the root with handle 3.
 fn asked(op: u8, beneath: bool, no_links: bool) -> Asked {

@@ -7,9 +7,13 @@ mod c_paths;
 #[cfg(test)]
 mod c_turns;
 #[cfg(test)]
+mod callings;
+#[cfg(test)]
 mod courses;
 #[cfg(test)]
 mod listings;
+#[cfg(test)]
+mod looks;
 #[cfg(test)]
 mod makings;
 #[cfg(test)]
@@ -24,5 +28,7 @@ mod protocol;
 mod records;
 #[cfg(test)]
 mod removals;
+#[cfg(test)]
+mod steps;
 #[cfg(test)]
 mod tries;

@@ -261,6 +261,112 @@ fn a_refused_look_up_is_done_without(rt: HostRuntime) -> Result<(), Fail> {
     Ok(())
 }
 
+// Of the root itself, or of what has left its mount: a text alone, and which objects both are.
+fn alone_at_root<'a>(path: &'a str, answer: Answer) -> [Exchange<'a>; 5] {
+    [
+        (5, FINE, path),
+        (6, FINE, path),
+        (7, YES, ""),
+        (8, FINE, path),
+        (12, answer, ""),
+    ]
+}
+
+#[test]
+fn what_left_its_mount_is_not_the_root(rt: HostRuntime) -> Result<(), Fail> {
+    let alone = Facts {
+        second: false,
+        ..FACTS
+    };
+    let other = Answer {
+        found: Object {
+            inode: 12,
+            ..OBJECT
+        },
+        ..FINE
+    };
+    let by_mount = Answer {
+        found: Object { mount: 4, ..OBJECT },
+        ..FINE
+    };
+    for path in &["/", "/srv/root"] {
+        assert!(rt; stands(end_of(alone, "", &alone_at_root(*path, FINE)), 0, 1, true));
+        assert!(rt;
+            stands(
+                end_of(alone, "", &alone_at_root(*path, by_mount)),
+                0,
+                1,
+                true
+            )
+        );
+        assert!(rt; is_unmade(end_of(alone, "", &alone_at_root(*path, other)), 11));
+        assert!(rt; is_unmade(end_of(alone, "", &alone_at_root(*path, fails(11))), 11));
+        assert!(rt; is_unmade(end_of(alone, "", &alone_at_root(*path, fails(24))), 24));
+    }
+    // It was seen below the root before it left.
+    let seen = Facts {
+        seen: true,
+        ..FACTS
+    };
+    let begun = [(5, FINE, "/"), (6, FINE, "/"), (9, other, "")];
+    assert!(rt; is_unmade(end_of(seen, "", &begun), 11));
+    assert!(rt; end_of(FACTS, "", &begun[..2]).what == 9);
+    Ok(())
+}
+
+#[test]
+fn in_a_jail_no_link_leads_to_the_root(rt: HostRuntime) -> Result<(), Fail> {
+    let alone = Facts {
+        second: false,
+        ..JAIL
+    };
+    let file = Facts {
+        directory: false,
+        ..alone
+    };
+    let text = (6, FINE, "/");
+    assert!(rt; is_unmade(end_of(file, "", &[text]), 11));
+    assert!(rt; is_unmade(end_of(alone, "", &[(1, fails(13), ""), text]), 11));
+    assert!(rt;
+        stands(
+            end_of(
+                alone,
+                "",
+                &[(1, FINE, ""), (2, FINE, "/\0"), (3, fails(34), "")]
+            ),
+            0,
+            1,
+            true
+        )
+    );
+    Ok(())
+}
+
+#[test]
+fn nine_questions_may_come(rt: HostRuntime) -> Result<(), Fail> {
+    let kept = Facts {
+        kept: true,
+        ..FACTS
+    };
+    let refused = Answer {
+        yes: true,
+        ..fails(38)
+    };
+    let begun = [
+        (4, fails(2), ""),
+        ROOT,
+        TEXT,
+        (9, refused, ""),
+        ROOT,
+        (6, FINE, "/srv/root"),
+        (7, YES, ""),
+        (8, FINE, "/srv/root"),
+        (12, FINE, ""),
+    ];
+    assert!(rt; stands(end_of(kept, "/srv/root", &begun), 0, 1, true));
+    Ok(())
+}
+
 #[test]
 fn getcwd_is_asked_twice(rt: HostRuntime) -> Result<(), Fail> {
     let cwd = (2, FINE, "/a/b\0");
@@ -338,7 +444,7 @@ fn links_fail_by_names_of_their_own(rt: HostRuntime) -> Result<(), Fail> {
     let long = [b'/'; 4096];
     let mut facts = FACTS;
     assert!(rt; is_unmade(next(&mut facts, 6, &FINE, b"/", &long, b""), 36));
-    assert!(rt; is_unmade(next(&mut facts, 12, &FINE, b"/", b"/a", b""), 22));
+    assert!(rt; is_unmade(next(&mut facts, 13, &FINE, b"/", b"/a", b""), 22));
     Ok(())
 }
 

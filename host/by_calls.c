@@ -1,0 +1,124 @@
+/*
+ * by_calls.c: the system calls of one step, each a short function. Which one comes next, and how the step ends by what they gave, the
+ * proved library says (crates/step_calls).
+ */
+#define _GNU_SOURCE
+#include "driver.h"
+
+#include <errno.h>
+#include <fcntl.h>
+#include <sys/stat.h>
+#include <sys/syscall.h>
+#include <sys/vfs.h>
+#include <unistd.h>
+
+static uint32_t error_of(long failed)
+{
+    return failed < 0 ? (uint32_t)errno : 0;
+}
+
+static uint32_t open_entry(struct inroot_work *w, int flags)
+{
+    w->fd = openat(w->at, w->name, O_PATH | O_NOFOLLOW | O_CLOEXEC | flags);
+    return error_of(w->fd);
+}
+
+static uint32_t ask_object(int fd, struct inroot_step_answer *answer)
+{
+    struct stat about;
+    if (fstat(fd, &about) != 0)
+        return (uint32_t)errno;
+    answer->kind = inroot_kind_of(about.st_mode);
+    answer->number = about.st_nlink;
+    return 0;
+}
+
+static uint32_t ask_file_system(int fd, struct inroot_step_answer *answer)
+{
+    struct statfs about;
+    if (fstatfs(fd, &about) != 0)
+        return (uint32_t)errno;
+    answer->number = (uint64_t)about.f_type;
+    return 0;
+}
+
+/* Of a link that was read by its name, its directory says it. */
+static uint32_t ask_mount_flags(struct inroot_driver *d, const struct inroot_work *w, struct inroot_step_answer *answer)
+{
+    struct statfs about;
+    if (w->facts.was_read) {
+        answer->number = inroot_followed_is_kept(d) ? INROOT_NOSYMFOLLOW : 0;
+        return 0;
+    }
+    if (fstatfs(w->looks, &about) != 0)
+        return (uint32_t)errno;
+    answer->number = (uint64_t)about.f_flags;
+    return 0;
+}
+
+static uint32_t open_to_read(struct inroot_work *w)
+{
+    w->reads = openat(w->looks, ".", O_RDONLY | O_DIRECTORY | O_CLOEXEC);
+    return error_of(w->reads);
+}
+
+static uint32_t read_some(const struct inroot_work *w)
+{
+    char records[512];
+    return error_of(syscall(SYS_getdents64, w->reads, records, sizeof records));
+}
+
+static uint32_t read_link(struct inroot_work *w)
+{
+    ssize_t got = readlinkat(w->looks, "", w->text, INROOT_TEXT_MAX + 1);
+    w->length = got < 0 ? 0 : (size_t)got;
+    return error_of(got);
+}
+
+static uint32_t close_opened(struct inroot_driver *d, const struct inroot_work *w)
+{
+    if (w->handle != 0)
+        inroot_handles_close(d, w->handle);
+    else
+        close(w->fd);
+    return 0;
+}
+
+/* Makes the system call that comes next. Gives 0 or an error's number. */
+static uint32_t turn(struct inroot_driver *d, struct inroot_work *w, struct inroot_step_answer *answer)
+{
+    switch (w->course.next) {
+    case INROOT_CALL_OPEN_DIRECTORY: return open_entry(w, O_DIRECTORY);
+    case INROOT_CALL_OPEN_ANY: return open_entry(w, 0);
+    case INROOT_CALL_SPARE: return inroot_handles_spare(d, w->dir) ? 0 : EMFILE;
+    case INROOT_CALL_MOUNT: return inroot_mount_has(d, w->fd) ? 0 : EXDEV;
+    case INROOT_CALL_KIND: return ask_object(w->fd, answer);
+    case INROOT_CALL_MAY_HOLD_MAGIC: return ask_file_system(w->fd, answer);
+    case INROOT_CALL_MAGIC: return (uint32_t)inroot_magic_follow(d, w->held, w->plain);
+    case INROOT_CALL_LINKS: return ask_object(w->looks, answer);
+    case INROOT_CALL_LAYERS: return ask_file_system(w->looks, answer);
+    case INROOT_CALL_OPEN_TO_READ: return open_to_read(w);
+    case INROOT_CALL_READ: return read_some(w);
+    case INROOT_CALL_CLOSE_READ: return error_of(close(w->reads));
+    case INROOT_CALL_NO_FOLLOW: return ask_mount_flags(d, w, answer);
+    case INROOT_CALL_READ_LINK: return read_link(w);
+    default: return close_opened(d, w);
+    }
+}
+
+void inroot_by_calls(struct inroot_driver *d, struct inroot_work *w)
+{
+    inroot_step_begin(&w->facts, &w->course);
+    while (w->course.next < INROOT_ENDS_OPENED) {
+        struct inroot_step_answer answer = {0};
+        answer.error = turn(d, w, &answer);
+        inroot_step_next(&w->facts, &answer, &w->course);
+    }
+}
+
+bool inroot_is_dead(int fd)
+{
+    struct inroot_work work = {.facts = {.what = INROOT_IS_THERE}, .looks = fd};
+    inroot_by_calls(NULL, &work);
+    return work.course.next != INROOT_ENDS_DONE;
+}

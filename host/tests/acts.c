@@ -1,0 +1,404 @@
+/*
+ * acts: each call of inroot.h, and somebody acts between two system calls of it: before the first, before the second, and so on.
+ * They move a directory out, or to another place, and back one system call later or some later; put a link that leads outside in
+ * its place; exchange the root's own directory; remove, replace and exchange entries; put something else where the call has made
+ * an entry; mount over a directory of a call that stays on its mount; and put another directory in the place of the root's
+ * descriptor, which the program promised not to do. Nothing outside may be opened, listed, made, changed or removed, and no
+ * place told where the object never was. A call that fails has changed nothing, or says that it has; none changes an entry
+ * twice; none closes a descriptor twice or leaves one open. What is outside is told by inodes, and what it was by all that
+ * fstat(2) tells of it. To be linked with --wrap of each function that is wrapped here.
+ *
+ * usage: acts DIR [STRIDE]. Of all tries it makes each STRIDE-th, of each call, act and round other ones. Exits 0 where that
+ * holds, and a walk without checks is led out. 77: no openat2(2) here. 78: no right to change a root or to mount.
+ */
+#define _GNU_SOURCE
+#include "acts.h"
+
+#include <sched.h>
+#include <sys/mount.h>
+
+/* ---- the calls: what they give is a descriptor, a number or -errno */
+
+/* The flags that each call gets in this round; and what it takes in place of the root. */
+static int flags, at;
+
+static int open_file(void) { return inroot_open(at, "a/b/f", flags); }
+static int open_directory(void) { return inroot_open(at, "a/b/d", flags); }
+static int open_up(void) { return inroot_open(at, "a/b/d/../f", flags); }
+static int open_far_up(void) { return inroot_open(at, "a/b/d/../../../t/f", flags); }
+static int open_link(void) { return inroot_open(at, "a/b/l", flags); }
+static int open_absolute(void) { return inroot_open(at, "t/u/f", flags); }
+static int open_reading(void) { return inroot_openat(at, "a/b/f", O_RDONLY, 0, flags); }
+static int open_truncated(void) { return inroot_openat(at, "a/b/f", O_WRONLY | O_TRUNC, 0, flags); }
+static int open_nameless(void) { return inroot_openat(at, "a/b", O_RDWR | O_TMPFILE, 0600, flags); }
+static int open_or_make(void) { return inroot_openat(at, "a/b/new", O_RDWR | O_CREAT, 0600, flags); }
+static int open_there(void) { return inroot_openat(at, "a/b/f", O_RDWR | O_CREAT, 0600, flags); }
+static int open_dangling(void) { return inroot_openat(at, "a/b/n", O_RDWR | O_CREAT, 0600, flags); }
+static int make_and_open(void) { return inroot_openat(at, "a/b/new", O_RDWR | O_CREAT | O_EXCL, 0600, flags); }
+static int make_by_path(void) { return inroot_openat(at, "a/b/new", O_PATH | O_CREAT | O_EXCL, 0600, flags); }
+static int make_file(void) { return inroot_mkfile(at, "a/b/new", 0600, flags); }
+static int give_file(void) { return inroot_mkfile(at, "a/b/new", 0600, flags | INROOT_GIVE); }
+static int make_pipe(void) { return inroot_mknod(at, "a/b/new", S_IFIFO | 0600, 0, flags); }
+static int give_pipe(void) { return inroot_mknod(at, "a/b/new", S_IFIFO | 0600, 0, flags | INROOT_GIVE); }
+static int make_directory(void) { return inroot_mkdir(at, "a/b/new", 0700, flags); }
+static int give_directory(void) { return inroot_mkdir(at, "a/b/d/../new", 0700, flags | INROOT_GIVE); }
+static int make_link(void) { return inroot_symlink(at, "text", "a/b/new", flags); }
+static int give_link(void) { return inroot_symlink(at, "text", "a/b/new", flags | INROOT_GIVE); }
+static int make_name(void) { return inroot_link(at, "a/b/f", "t/new", flags); }
+static int give_name(void) { return inroot_link(at, "t/f", "a/b/new", flags | INROOT_GIVE); }
+static int remove_file(void) { return inroot_unlink(at, "a/b/f", flags); }
+static int remove_directory(void) { return inroot_rmdir(at, "a/b/d/e", flags); }
+static int rename_away(void) { return inroot_rename(at, "a/b/f", "t/new", INROOT_PLAIN, flags); }
+static int rename_over(void) { return inroot_rename(at, "t/f", "a/b/f", INROOT_PLAIN, flags); }
+static int rename_both(void) { return inroot_rename(at, "a/b/f", "t/f", INROOT_EXCHANGE, flags); }
+static int make_all(void) { return inroot_mkdir_all(at, "a/b/v/w", 0700, flags); }
+static int make_all_up(void) { return inroot_mkdir_all(at, "a/b/d/../v/w", 0700, flags); }
+static int make_through(void) { return inroot_mkdir_all(at, "a/b/n/w", 0700, flags | INROOT_FOLLOW); }
+static int make_file_all(void) { return inroot_mkfile_all(at, "a/b/v/new", 0600, 0700, flags); }
+static int make_file_through(void) { return inroot_mkfile_all(at, "a/b/n", 0600, 0700, flags | INROOT_FOLLOW); }
+static int remove_all(void) { return (int)inroot_remove_all(at, "a/b", flags); }
+
+static int status(void)
+{
+    struct stat about;
+    int failed = inroot_stat(at, "a/b/f", &about, flags);
+    if (failed == 0)
+        is_inside(&about, "what a status is of");
+    return failed;
+}
+
+static int read_link(void)
+{
+    char text[64];
+    ssize_t length = inroot_readlink(at, "a/b/l", flags, text, sizeof text);
+    if (length >= 0)
+        expect(memcmp(text, "../", 3) == 0, "%s: the link's text is '%.*s'", what_is_done, (int)length, text);
+    return (int)length;
+}
+
+static int open_parent(void)
+{
+    char last[256];
+    return inroot_open_parent(at, "a/b/new", flags, last);
+}
+
+static int open_partial(void)
+{
+    char rest[256];
+    return inroot_open_partial(at, "a/b/none/more", flags, rest, sizeof rest);
+}
+
+/* Where these objects stand, at one time or another. */
+static bool is_place(const char *place)
+{
+    static const char *const places[] = {"/a/b/f", "/a/c/f", "/a/b/d", "/a/c/d", "/d"};
+    for (size_t one = 0; one < sizeof places / sizeof *places; one++)
+        if (strcmp(place, places[one]) == 0)
+            return true;
+    return false;
+}
+
+static int place_of(int dir, const char *path, int how)
+{
+    char place[256];
+    int fd = sure(__real_openat(dir, path, O_PATH | how | O_CLOEXEC), path);
+    begin_counting();
+    int length = (int)inroot_place(at, fd, place, sizeof place);
+    end_counting();
+    __real_close(fd);
+    if (length >= 0)
+        expect(is_place(place), "%s: the place is '%s'", what_is_done, place);
+    return length;
+}
+
+static int place_of_file(void) { return place_of(root, "a/b/f", 0); }
+static int place_of_directory(void) { return place_of(root, "a/b/d", O_DIRECTORY); }
+
+/* Each directory that the walk holds is one of inside. */
+static int walk(void)
+{
+    struct inroot_walk *walk;
+    struct inroot_walk_entry entry;
+    int entries = inroot_walk_open(at, "a", 0, flags, &walk);
+    if (entries != 0)
+        return entries;
+    for (int got; (got = inroot_walk_next(walk, &entry)) != 0; entries += got > 0) {
+        is_inside_fd(entry.directory, "a directory that a walk lists");
+        is_inside_fd(entry.opened, "a directory that a walk goes into");
+    }
+    inroot_walk_close(walk);
+    return entries;
+}
+
+/* Calls that begin at a directory below the root. */
+static int from_directory(int (*what)(void))
+{
+    int below = at, dir = sure(__real_openat(root, "a/b", O_PATH | O_DIRECTORY | O_CLOEXEC), "a/b");
+    int result = inroot_at_begin(below, dir, &at);
+    if (result == 0) {
+        begin_counting();
+        result = what();
+        end_counting();
+        inroot_at_end(at);
+    }
+    at = below;
+    __real_close(dir);
+    return result;
+}
+
+static int open_here(void) { return inroot_open(at, "f", flags); }
+static int open_there_up(void) { return inroot_open(at, "d/../../../t/f", flags); }
+static int make_here(void) { return inroot_mkdir(at, "new", 0700, flags | INROOT_GIVE); }
+static int rename_here(void) { return inroot_rename(at, "f", "d/new", INROOT_PLAIN, flags); }
+static int make_all_here(void) { return inroot_mkdir_all(at, "d/../v/w", 0700, flags); }
+static int make_file_here(void) { return inroot_mkfile_all(at, "n", 0600, 0700, flags | INROOT_FOLLOW); }
+static int open_from(void) { return from_directory(open_here); }
+static int open_up_from(void) { return from_directory(open_there_up); }
+static int make_from(void) { return from_directory(make_here); }
+static int rename_from(void) { return from_directory(rename_here); }
+static int make_all_from(void) { return from_directory(make_all_here); }
+static int make_file_from(void) { return from_directory(make_file_here); }
+
+/* What was found is changed, whatever has its name by then. */
+static int change_found(void)
+{
+    const struct timespec times[2] = {{.tv_sec = 1}, {.tv_sec = 2}};
+    int fd = inroot_open(at, "a/b/f", flags);
+    int failed = fd < 0 ? fd : inroot_fchmod(fd, 0640);
+    if (failed == 0)
+        failed = inroot_futimens(fd, times);
+    if (failed == 0)
+        failed = inroot_fchown(fd, 0, 0);
+    if (fd >= 0)
+        close(fd);
+    return failed;
+}
+
+static const struct row rows[] = {
+    {"open a file", open_file, OPENS, 0},
+    {"open a directory", open_directory, OPENS, 0},
+    {"open behind ..", open_up, OPENS, 0},
+    {"open behind three ..", open_far_up, OPENS, 0},
+    {"open a link's target", open_link, OPENS, 0},
+    {"open behind an absolute link", open_absolute, OPENS, 0},
+    {"open for reading", open_reading, OPENS, 0},
+    {"open and truncate", open_truncated, OPENS, 0},
+    {"open a file without a name", open_nameless, OPENS_NEW, 0},
+    {"open or make, missing", open_or_make, OPENS, ANY},
+    {"open or make, there", open_there, OPENS, ANY},
+    {"open or make through a link", open_dangling, OPENS, ANY},
+    {"make and open", make_and_open, OPENS, 1},
+    {"make and give by O_PATH", make_by_path, GIVES, 1},
+    {"make a file", make_file, 0, 1},
+    {"make and give a file", give_file, GIVES, 1},
+    {"make a FIFO", make_pipe, 0, 1},
+    {"make and give a FIFO", give_pipe, GIVES, 1},
+    {"make a directory", make_directory, 0, 1},
+    {"make and give a directory", give_directory, GIVES, 1},
+    {"make a link", make_link, 0, 1},
+    {"make and give a link", give_link, GIVES, 1},
+    {"make a name", make_name, 0, 1},
+    {"make and give a name", give_name, GIVES, 1},
+    {"remove a file", remove_file, 0, 1},
+    {"remove a directory", remove_directory, 0, 1},
+    {"rename", rename_away, 0, 1},
+    {"rename over", rename_over, 0, 1},
+    {"exchange", rename_both, 0, 1},
+    {"make all", make_all, OPENS, ANY},
+    {"make all behind ..", make_all_up, OPENS, ANY},
+    {"make all through a link", make_through, OPENS, ANY},
+    {"make a file and all above", make_file_all, OPENS, ANY},
+    {"make a file through a link", make_file_through, OPENS, ANY},
+    {"remove all", remove_all, 0, ANY},
+    {"status", status, 0, 0},
+    {"read a link", read_link, 0, 0},
+    {"open a parent", open_parent, OPENS, 0},
+    {"open a part", open_partial, OPENS, 0},
+    {"the place of a file", place_of_file, COUNTS_ITSELF, 0},
+    {"the place of a directory", place_of_directory, COUNTS_ITSELF, 0},
+    {"walk", walk, 0, 0},
+    {"open from a directory", open_from, OPENS | COUNTS_ITSELF, 0},
+    {"open behind .. from a directory", open_up_from, OPENS | COUNTS_ITSELF, 0},
+    {"make and give from a directory", make_from, GIVES | COUNTS_ITSELF, 1},
+    {"rename from a directory", rename_from, COUNTS_ITSELF, 1},
+    {"make all from a directory", make_all_from, OPENS | COUNTS_ITSELF, ANY},
+    {"make a file from a directory", make_file_from, OPENS | COUNTS_ITSELF, ANY},
+    {"change what was found", change_found, 0, ANY},
+};
+enum { ROWS = sizeof rows / sizeof *rows };
+
+/* ---- the rounds */
+
+static void each(const char *who, int by, const struct act *acts, int count)
+{
+    flags = by;
+    tries = 0;
+    look_outside(outside);
+    for (int one = 0; one < ROWS; one++) {
+        int length = count_moments(who, &rows[one]);
+        for (int act = 0; act < count; act++)
+            try_each(who, &rows[one], &acts[act], length);
+    }
+    printf("acts: %s: %ld tries\n", who, tries);
+}
+
+static void by_descriptor(void)
+{
+    at = root;
+    each("by a descriptor", 0, all_acts, ALL_ACTS);
+    each("by a descriptor, one by one", INROOT_ONE_BY_ONE, all_acts, ALL_ACTS);
+}
+
+static void in_chroot(void)
+{
+    if (fchdir(root) != 0 || chroot(".") != 0)
+        _exit(NO_RIGHT);
+    at = root;
+    each("by a descriptor in a chroot", 0, all_acts, ALL_ACTS);
+}
+
+static void where_openat2_is_missing(void)
+{
+    at = root;
+    no_openat2 = true;
+    /* Nothing is promised then where the root is renamed. */
+    each("without openat2(2)", 0, all_acts + ROOT_ACTS, ALL_ACTS - ROOT_ACTS);
+}
+
+static void by_kept_root(int how, const char *who)
+{
+    struct inroot_root *kept;
+    gives(inroot_root_open(where_root, how, &kept), 0, "%s", who);
+    at = inroot_root_fd(kept);
+    each(who, 0, all_acts, ALL_ACTS);
+    inroot_root_close(kept);
+}
+
+static void by_root_that_stays(void)
+{
+    by_kept_root(INROOT_ROOT_STAYS | INROOT_TRUST_PROC, "by a root that stays");
+}
+
+static void by_root_below(void)
+{
+    by_kept_root(INROOT_BELOW, "by a root with INROOT_BELOW");
+}
+
+static void in_jail(void)
+{
+    jail_or_end(root, 0);
+    at = INROOT_JAIL;
+    each("in a jail", 0, all_acts, ALL_ACTS);
+    no_openat2 = true;
+    each("in a jail, without openat2(2)", 0, all_acts, ALL_ACTS);
+}
+
+static void in_trusting_jail(void)
+{
+    jail_or_end(root, INROOT_TRUST_PROC);
+    at = INROOT_JAIL;
+    each("in a jail that trusts", 0, all_acts, ALL_ACTS);
+}
+
+static void beside_mounts(void)
+{
+    if (unshare(CLONE_NEWNS) != 0 || mount(NULL, "/", NULL, MS_REC | MS_PRIVATE, NULL) != 0)
+        _exit(NO_RIGHT);
+    may_mount = true;
+    at = root;
+    each("on one mount", INROOT_NO_XDEV, mount_acts, MOUNT_ACTS);
+    each("on one mount, one by one", INROOT_NO_XDEV | INROOT_ONE_BY_ONE, mount_acts, MOUNT_ACTS);
+}
+
+/* What a call has made is known by its number alone. */
+static void where_numbers_lie(void)
+{
+    static const struct row found[] = {
+        {"open a file", open_file, OPENS, 0},
+        {"open behind ..", open_up, OPENS, 0},
+        {"open a link's target", open_link, OPENS, 0},
+        {"open from a directory", open_from, OPENS | COUNTS_ITSELF, 0},
+        {"make from a directory", make_all_from, OPENS | COUNTS_ITSELF, ANY},
+        {"walk", walk, 0, 0},
+    };
+    at = root;
+    lies = true;
+    stride = 1;
+    for (size_t one = 0; one < sizeof found / sizeof *found; one++)
+        try_each("where numbers lie", &found[one], &brought, 1);
+}
+
+static void where_calls_fail(void)
+{
+    static const int faults[] = {
+        EINTR, EPERM, EACCES, EIO, EMFILE, ENFILE, ENOMEM, ENOSYS, ESTALE, EAGAIN, EINVAL, ENOENT, ENOTDIR, ELOOP, EXDEV, EBADF,
+        EOVERFLOW, ENAMETOOLONG, EROFS, EBUSY, EEXIST, EISDIR, ENOTEMPTY, EOPNOTSUPP, 524,
+    };
+    at = root;
+    for (size_t one = 0; one < sizeof faults / sizeof *faults; one++) {
+        char name[64];
+        snprintf(name, sizeof name, "a system call fails by %d", faults[one]);
+        const struct act fault = {name, do_nothing, NULL, 0, faults[one]};
+        each("by a descriptor", 0, &fault, 1);
+        each("by a descriptor, one by one", INROOT_ONE_BY_ONE, &fault, 1);
+    }
+}
+
+static void by_another_descriptor(void)
+{
+    at = root;
+    breaks_promise = true;
+    each("by a number that another file gets", 0, &lost_root, 1);
+}
+
+/* ---- the control */
+
+static int unchecked(void)
+{
+    int fd = __real_openat(root, ".", O_PATH | O_DIRECTORY | O_CLOEXEC);
+    static const char *const parts[] = {"a", "b", "d", "..", "..", "..", "secret"};
+    for (size_t part = 0; fd >= 0 && part < sizeof parts / sizeof *parts; part++) {
+        int next = openat(fd, parts[part], O_PATH | O_NOFOLLOW | O_CLOEXEC);
+        __real_close(fd);
+        fd = next;
+    }
+    return fd < 0 ? -errno : fd;
+}
+
+static void be_led_out(void)
+{
+    static const struct row control = {"a walk without checks", unchecked, OPENS | MAY_MISS, 0};
+    const int before = wrong;
+    quiet = true;
+    stride = 1;
+    for (int act = 0; act < ALL_ACTS; act++)
+        try_each("the control", &control, &all_acts[act], 1);
+    quiet = false;
+    printf("acts: a walk without checks: led out %d times\n", led_out);
+    wrong = before;
+    gives_least(led_out, 1, "how often a walk without checks is led out");
+}
+
+int main(int count, char **words)
+{
+    static void (*const rounds[])(void) = {
+        be_led_out, by_descriptor, in_chroot, where_openat2_is_missing, by_root_that_stays, by_root_below, in_jail,
+        in_trusting_jail, beside_mounts, where_numbers_lie, where_calls_fail, by_another_descriptor,
+    };
+    int skipped = 0;
+    if (count < 2 || count > 3)
+        return 2;
+    stride = count == 3 ? atoi(words[2]) : 1;
+    if (stride < 1)
+        return 2;
+    if (!has_openat2())
+        return NO_OPENAT2;
+    begin_acts(words[1]);
+    open_proc();
+    for (size_t one = 0; one < sizeof rounds / sizeof *rounds; one++) {
+        int status = apart(rounds[one]);
+        skipped = status != 0 ? status : skipped;
+    }
+    printf("acts: %d not as they are to be\n", wrong);
+    return wrong != 0 ? 1 : skipped;
+}

@@ -1,0 +1,175 @@
+/*
+ * asked.h: the system calls of a call are counted, and somebody acts before one of them, or it fails. To be linked with --wrap of
+ * each function that is wrapped here.
+ */
+#ifndef ASKED_H
+#define ASKED_H
+
+#include "../openat2.h"
+#include "support.h"
+#include "wraps.h"
+
+#include <errno.h>
+#include <string.h>
+#include <sys/stat.h>
+#include <sys/syscall.h>
+#include <sys/vfs.h>
+#include <time.h>
+
+/* The second act, where there is one, comes so many system calls behind the first. */
+struct act {
+    const char *name;
+    void (*first)(void), (*second)(void);
+    int later;
+    int fault;             /* that system call fails by this */
+};
+
+/* openat2(2) is missing; and the numbers of inodes and devices tell nothing. */
+static bool no_openat2, lies;
+
+static bool counting;
+/* Which function failed, and whether a call makes it once more after a signal. */
+static const char *failed_call = "";
+static bool repeats;
+static int moment, moment_of_first, moment_of_second, changes, twice_closed;
+static const struct act *acting;
+
+static void begin_counting(void) { counting = true; }
+static void end_counting(void) { counting = false; }
+
+/* Whether this system call is the one that fails. */
+#define ask() ask_of(__func__)
+static bool ask_of(const char *function)
+{
+    if (!counting)
+        return false;
+    counting = false;
+    int error = errno;
+    moment++;
+    if (moment == moment_of_first)
+        acting->first();
+    if (moment == moment_of_second && acting->second != NULL)
+        acting->second();
+    bool fails = acting->fault != 0 && moment == moment_of_first;
+    if (fails)
+        failed_call = function;
+    errno = fails ? acting->fault : error;
+    counting = true;
+    return fails;
+}
+
+#define BESIDE(type, name, parameters, arguments)                \
+    type __real_##name parameters;                               \
+    type __wrap_##name parameters;                               \
+    type __wrap_##name parameters                                \
+    {                                                            \
+        return ask() ? -1 : __real_##name arguments;             \
+    }
+
+#define CHANGING(name, parameters, arguments)                    \
+    int __real_##name parameters;                                \
+    int __wrap_##name parameters;                                \
+    int __wrap_##name parameters                                 \
+    {                                                            \
+        int failed = ask() ? -1 : __real_##name arguments;       \
+        changes += counting && failed == 0;                      \
+        return failed;                                           \
+    }
+
+int __real_fstat(int fd, struct stat *about);
+int __wrap_fstat(int fd, struct stat *about);
+int __wrap_fstat(int fd, struct stat *about)
+{
+    int failed = ask() ? -1 : __real_fstat(fd, about);
+    if (lies && counting)
+        about->st_ino = about->st_dev = 1;
+    return failed;
+}
+
+BESIDE(int, fstatat, (int dir, const char *name, struct stat *about, int how), (dir, name, about, how))
+BESIDE(int, fstatfs, (int fd, struct statfs *about), (fd, about))
+BESIDE(int, statfs, (const char *path, struct statfs *about), (path, about))
+#ifdef STATX_INO
+int __real_statx(int dir, const char *name, int flags, unsigned what, struct statx *about);
+int __wrap_statx(int dir, const char *name, int flags, unsigned what, struct statx *about);
+int __wrap_statx(int dir, const char *name, int flags, unsigned what, struct statx *about)
+{
+    int failed = ask() ? -1 : __real_statx(dir, name, flags, what, about);
+    if (lies && counting)
+        about->stx_ino = about->stx_dev_major = about->stx_dev_minor = 1;
+    return failed;
+}
+#endif
+BESIDE(int, fchdir, (int fd), (fd))
+BESIDE(int, chdir, (const char *path), (path))
+BESIDE(ssize_t, readlinkat, (int dir, const char *name, char *text, size_t size), (dir, name, text, size))
+BESIDE(int, fchmodat, (int dir, const char *name, mode_t mode, int how), (dir, name, mode, how))
+BESIDE(int, fchownat, (int dir, const char *name, uid_t user, gid_t group, int how), (dir, name, user, group, how))
+BESIDE(int, utimensat, (int dir, const char *name, const struct timespec *times, int how), (dir, name, times, how))
+CHANGING(mkdirat, (int dir, const char *name, mode_t mode), (dir, name, mode))
+CHANGING(mknodat, (int dir, const char *name, mode_t mode, dev_t dev), (dir, name, mode, dev))
+CHANGING(symlinkat, (const char *text, int dir, const char *name), (text, dir, name))
+CHANGING(linkat, (int dir, const char *name, int to, const char *new, int how), (dir, name, to, new, how))
+CHANGING(unlinkat, (int dir, const char *name, int how), (dir, name, how))
+
+int __real_fcntl(int fd, int what, ...);
+int __wrap_fcntl(int fd, int what, ...);
+int __wrap_fcntl(int fd, int what, ...)
+{
+    va_list more;
+    va_start(more, what);
+    int with = va_arg(more, int);
+    va_end(more);
+    return ask() ? -1 : __real_fcntl(fd, what, with);
+}
+
+int __real_close(int fd);
+int __wrap_close(int fd);
+int __wrap_close(int fd)
+{
+    bool fails = ask();
+    int fault = errno, failed = __real_close(fd);
+    twice_closed += counting && failed != 0 && errno == EBADF;
+    if (fails)
+        errno = fault;
+    return fails ? -1 : failed;
+}
+
+/* Nobody waits here. */
+int __wrap_nanosleep(const struct timespec *time, struct timespec *rest);
+int __wrap_nanosleep(const struct timespec *time, struct timespec *rest)
+{
+    (void)time;
+    (void)rest;
+    return 0;
+}
+
+static int my_openat(int dir, const char *name, int how, mode_t mode)
+{
+    bool fails = ask();
+    repeats = fails && how & O_PATH;
+    int fd = fails ? -1 : __real_openat(dir, name, how, mode);
+    changes += counting && fd >= 0 && (how & (O_CREAT | O_EXCL)) == (O_CREAT | O_EXCL);
+    return fd;
+}
+
+INSTEAD_OF_OPENAT(my_openat)
+
+static long my_syscall(long number, const long *with)
+{
+    if (ask()) {
+        repeats = number == SYS_openat2 || number == SYS_getdents64;
+        return -1;
+    }
+    if (number == SYS_openat2 && no_openat2) {
+        errno = ENOSYS;
+        return -1;
+    }
+    long result = REAL_SYSCALL(number, with);
+    changes += counting && result == 0 && number == SYS_renameat2;
+    return result;
+}
+
+INSTEAD_OF_SYSCALL(my_syscall)
+
+#endif
