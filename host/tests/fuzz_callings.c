@@ -10,29 +10,12 @@
  */
 #define _GNU_SOURCE
 #include "../calls.h"
+#include "fuzz_input.h"
 
 #include <errno.h>
-#include <stdio.h>
 #include <stdlib.h>
 
-int LLVMFuzzerTestOneInput(const uint8_t *data, size_t size);
-
-#define MUST(holds) ((holds) ? (void)0 : (fprintf(stderr, "not so: %s\n", #holds), abort()))
-
 enum { TRIES = 32, PAUSES = 18270000, EXCHANGES = 18 * TRIES + 1 };
-
-struct input {
-    const uint8_t *at;
-    size_t left;
-};
-
-static unsigned byte(struct input *in)
-{
-    if (in->left == 0)
-        return 0;
-    in->left--;
-    return *in->at++;
-}
 
 /* What was seen of a call. Each thing is at most once open: what was found, what was made, and a /proc. */
 struct seen {
