@@ -1,0 +1,5 @@
+pub mod Plain
+pub mod Rows
+pub mod Counter
+pub mod Lock
+pub mod Philosophers

@@ -1,0 +1,20 @@
+-- Layers of states, and the graph of a search.
+pub mod Reached
+pub mod EdgesGrown
+pub mod Choosing
+pub mod Endings
+pub mod Markings
+pub mod Passing
+pub mod Kept
+pub mod SoFar
+pub mod OnWay
+pub mod States
+pub mod Spread
+pub mod Expanded
+pub mod PassedOn
+pub mod Fitting
+pub mod Among
+pub mod EdgesFound
+pub mod Going
+pub mod Beginning
+pub mod TooMany
