@@ -4,3 +4,4 @@ pub mod OutOfMemory
 pub mod Lists
 pub mod Counting
 pub mod Parted
+pub mod Worlds

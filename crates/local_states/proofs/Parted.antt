@@ -4,3 +4,4 @@ pub mod Parts
 pub mod Once
 pub mod Rows
 pub mod SameKeys
+pub mod Growing

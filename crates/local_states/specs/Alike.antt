@@ -1,11 +1,12 @@
 -- What is the same but for the numbers of handles: steps, answers and seats by pairs of handles. And the world after
 -- some turns.
-use Rattle.std.specs.Prelude.{◌≡◌, ℕ, List, [], ◌∷◌, Bool, true}
+use Rattle.std.specs.Prelude.{◌≡◌, ℕ, List, Bool, true}
 use Rattle.tree_model.specs.declared.answer.Answer.{Answer}
 use Rattle.tree_model.specs.StepWith.{StepWith}
 pub use Rattle.race_core.specs.OneReport.{full}
 use Rattle.race_core.specs.declared.seat.Seat.{Seat}
-use Rattle.race_core.specs.Worlds.{WorldView, turn}
+use Rattle.layered_search.specs.Moves.{Moves, after}
+use Rattle.race_core.specs.Worlds.{WorldView, turn, is_busy_at, is_within_at}
 use Rattle.race_core.specs.Renamed.{step_by, answer_by, seat_by}
 
 -- ---- handles that configuration for one another
@@ -31,7 +32,14 @@ SameSeats pairs s t = (f g : ℕ → ℕ) → Agree pairs f g → seat_by f s �
 
 -- ---- runs
 
--- the world after these actors' turns, with memory for all
+-- a world's actors take turns, with memory for all
+abbrev pub world_moves : Moves WorldView
+world_moves = record {
+  turn = turn full;
+  is_busy = λ w i. is_busy_at w.seats i;
+  is_within = λ w i. is_within_at w.seats i;
+}
+
+-- the world after these actors' turns
 abbrev pub after_turns : WorldView → List ℕ → WorldView
-after_turns w [] = w
-after_turns w (i ∷ is) = after_turns (turn full w i) is
+after_turns w is = after world_moves w is

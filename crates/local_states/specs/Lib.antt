@@ -10,3 +10,4 @@ pub mod Distinct
 pub mod HandleTables
 pub mod Fingerprint
 pub mod Keys
+pub mod Worlds

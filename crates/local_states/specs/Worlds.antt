@@ -1,0 +1,70 @@
+-- A world as a system of actors who take turns: which worlds are alike, what they come to, and which of these are the
+-- same.
+use Rattle.std.specs.Prelude.{◌≡◌, ◌<◌, ℕ, List, Bool, length}
+use Rattle.tree_model.specs.declared.answer.Event.{Event}
+use Rattle.tree_model.specs.State.{State}
+use Rattle.tree_model.specs.Steps.{held_count}
+use Rattle.handles.specs.Objects.{StandingObject}
+use Rattle.layered_search.specs.System.{System, Outcomes}
+use Rattle.race_core.specs.declared.report.Outcome.{Outcome}
+use Rattle.race_core.specs.Book.{tree_now}
+use Rattle.race_core.specs.Renamed.{replies_by}
+use Rattle.race_core.specs.Worlds.{WorldView, turn, is_busy_at, is_within_at, ledgers_in, replies_in, Reports}
+use Rattle.local_states.specs.Alike.{full}
+use Rattle.local_states.specs.Local.{SameParts}
+use Rattle.local_states.specs.Outside.{outside_of}
+use Rattle.local_states.specs.Same.{IsSame}
+
+-- ---- worlds
+
+-- from one world to another by worlds that are the same, one after another
+pub data IsLike (told : Bool) : WorldView → WorldView → Type 0 where
+  same : (w : WorldView) → IsLike told w w
+  onward : (w u v : WorldView) → IsSame told w u → IsLike told u v → IsLike told w v
+
+-- The same outcome: the replies but for the numbers of handles, the nodes of the tree, how many handles each actor
+-- has open, and, where that is told, how many changes it has made outside of its root.
+pub record TellAlike (told : Bool) (w v : WorldView) : Type 0 where
+  pub replies : replies_by (λ h. 0) (replies_in (ledgers_in w.seats))
+      ≡ replies_by (λ h. 0) (replies_in (ledgers_in v.seats))
+  pub nodes : (tree_now w.book).nodes ≡ (tree_now v.book).nodes
+  pub held : (a : ℕ) → a < length w.seats → held_count (tree_now w.book) a ≡ held_count (tree_now v.book) a
+  pub outside : outside_of told w ≡ outside_of told v
+
+-- Of a world that begins so, the actors are its seats. Worlds in which each has the same part count as one state.
+abbrev pub worlds : Bool → WorldView → System WorldView
+worlds told w = record {
+  begin = w;
+  actors = length w.seats;
+  turn = turn full;
+  is_busy = λ v i. is_busy_at v.seats i;
+  is_within = λ v i. is_within_at v.seats i;
+  Alike = IsLike told;
+  Agree = TellAlike told;
+  CountAsOne = SameParts;
+}
+
+-- ---- what they come to
+
+-- the report on a world, and, where that is told, how many changes each actor made outside of its root
+pub record EndView : Type 0 where
+  pub tree : State
+  pub events : List Event
+  pub replies : List (List Outcome)
+  pub kept : List StandingObject
+  pub outside : List ℕ
+
+-- it is that of this world
+pub record IsEndOf (told : Bool) (v : WorldView) (end : EndView) : Type 0 where
+  pub report : Reports v.book (ledgers_in v.seats) end.tree end.events end.replies end.kept
+  pub outside : end.outside ≡ outside_of told v
+
+-- they tell the same outcome
+pub record SameOutcome (e d : EndView) : Type 0 where
+  pub replies : replies_by (λ h. 0) e.replies ≡ replies_by (λ h. 0) d.replies
+  pub held : (a : ℕ) → a < length d.replies → held_count e.tree a ≡ held_count d.tree a
+  pub nodes : e.tree.nodes ≡ d.tree.nodes
+  pub outside : e.outside ≡ d.outside
+
+abbrev pub world_outcomes : Bool → Outcomes WorldView EndView
+world_outcomes told = record { Tells = IsEndOf told; AreSame = SameOutcome }
