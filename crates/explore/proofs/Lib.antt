@@ -1,6 +1,5 @@
 pub mod OutOfMemory
 pub mod Lists
 pub mod Keyed
-pub mod Layers
-pub mod Counts
+pub mod Told
 pub mod Opened

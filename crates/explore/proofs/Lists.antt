@@ -1,8 +1,4 @@
--- Lists of turns: their cost, and what stands where in them.
+-- Lists of turns, and reports on them.
 pub mod SearchLaws
-pub mod Along
+pub mod Replayed
 pub mod Told
-pub mod Mapped
-pub mod Turning
-pub mod Indices
-pub mod Chains

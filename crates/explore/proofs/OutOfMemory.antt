@@ -1,4 +1,3 @@
 -- Whoever found no memory tells of it; a run in which nobody does had memory for all.
 pub mod Lucky
-pub mod LikeEnds
 pub mod Followed

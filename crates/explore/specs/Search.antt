@@ -1,36 +1,30 @@
 -- All schedules of a world: which lists of turns are whole, and which of them stand for all.
-use Rattle.std.specs.Prelude.{◌≡◌, ℕ, List, [], ◌∷◌, ◌++◌, Bool, true, false}
+use Rattle.std.specs.Prelude.{◌≡◌, ℕ, List, Bool, true, false}
 use Rattle.tree_model.specs.declared.answer.Event.{Event}
 use Rattle.tree_model.specs.State.{State}
 use Rattle.handles.specs.Objects.{StandingObject}
 use Rattle.race_core.specs.declared.report.Outcome.{Outcome}
 use Rattle.race_core.specs.Book.{tree_now}
-use Rattle.race_core.specs.Worlds.{WorldView, turn, is_busy_at, ledgers_in, replies_in, RunsTo}
-use Rattle.local_states.specs.Alike.{full, after_turns}
+use Rattle.race_core.specs.Worlds.{WorldView, ledgers_in, replies_in, RunsTo}
+use Rattle.layered_search.specs.Moves as moves
+use Rattle.layered_search.specs.Search as search
+use Rattle.local_states.specs.Alike.{after_turns, world_moves}
+use Rattle.local_states.specs.Worlds.{worlds}
 use Rattle.local_states.specs.Local.{TellAlike}
-use Rattle.local_states.specs.Same.{IsSame}
 use Rattle.local_states.specs.OutOfMemory.{replies_out_of_memory}
 
 -- nobody has anything left to do
 abbrev pub IsOver : WorldView → Type 0
-IsOver w = (i : ℕ) → is_busy_at w.seats i ≡ false
+IsOver w = moves.IsOver world_moves w
 
 -- A full list of turns: each is of an actor who has something left to do then, and after it nobody has.
 abbrev pub IsFull : WorldView → List ℕ → Type 0
-IsFull w [] = IsOver w
-IsFull w (i ∷ is) = (is_busy_at w.seats i ≡ true) × IsFull (turn full w i) is
-
--- from one world to another by worlds that are the same, one after another
-pub data IsLike (told : Bool) : WorldView → WorldView → Type 0 where
-  same : (w : WorldView) → IsLike told w w
-  onward : (w u v : WorldView) → IsSame told w u → IsLike told u v → IsLike told w v
+IsFull w is = moves.IsFull world_moves w is
 
 -- Some lists are chosen: the empty one, and of each chosen list and each actor who has something left to do after
 -- it, one that leads to a world like that after the actor's turn.
-pub record IsClosed (told : Bool) (w : WorldView) (chosen : List ℕ → Bool) : Type 0 where
-  pub begins : chosen [] ≡ true
-  pub goes_on : (is : List ℕ) (i : ℕ) → chosen is ≡ true → is_busy_at (after_turns w is).seats i ≡ true
-      → (js : List ℕ) × ((chosen js ≡ true) × IsLike told (after_turns w (is ++ i ∷ [])) (after_turns w js))
+abbrev pub IsClosed : Bool → WorldView → (List ℕ → Bool) → Type 0
+IsClosed told w = search.IsClosed (worlds told w)
 
 -- ---- the laws
 

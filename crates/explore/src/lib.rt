@@ -24,19 +24,18 @@
 //! then only where each actor has made as many such changes.
 #![tactic(auto)]
 
-mod frontier;
 mod laws;
 mod limits;
 mod outcomes;
-mod progress;
 mod search;
+mod system;
 mod turns;
 mod worlds;
 
-pub use laws::{chosen_lists_stand_for_all, counts_conclude, words_are_lists};
+pub use laws::chosen_lists_stand_for_all;
+pub use layered_search::{Progress, Silent};
 pub use limits::{Limits, Scope, SearchFault};
 pub use outcomes::found::{Class, Ending, Findings};
-pub use progress::{Progress, Silent};
 pub use search::explore;
 pub use worlds::beginnings::Beginnings;
 pub use worlds::scene::Scene;

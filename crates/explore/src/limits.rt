@@ -1,8 +1,12 @@
 //! What a search is bounded by.
-ghost use Rattle.std.specs.Prelude.{◌≡◌};
-ghost use Rattle.explore.specs.Explored.{bounds_at};
+ghost use Rattle.std.specs.Prelude.{◌≡◌, IfOk};
+ghost use Rattle.layered_search.specs.Limits.{limits_of};
+ghost use Rattle.explore.specs.Explored.{limits_in};
 
+use crate::worlds::replayed::copy_turns;
+use path_text::NoMemory;
 pub use schedule_graph::SearchFault;
+use std::alloc::Global;
 
 /// Which lists are gone through, and what tells their outcomes apart.
 #[derive(Debug, Drop)]
@@ -15,27 +19,6 @@ pub struct Scope {
     pub begin: Vec<u32>,
 }
 
-/// What a turn is bound by.
-#[derive(Clone, Copy, Debug, PartialEq, Eq)]
-pub(crate) struct Bounds {
-    /// The list has at most so many cuts then, or any number.
-    pub(crate) cuts: Option<u64>,
-    /// Whose alone the turn may be, or anybody's.
-    pub(crate) only: Option<u32>,
-}
-
-impl Scope {
-    /// What the turn after so many is bound by.
-    pub(crate) fn bounds(&self, turns: usize) -> Bounds
-        ensures { result ≡ bounds_at self.now turns }
-    {
-        Bounds {
-            cuts: self.cuts,
-            only: self.begin.get(turns).copied(),
-        }
-    }
-}
-
 /// What is gone through at most.
 #[derive(Debug, Drop)]
 pub struct Limits {
@@ -45,4 +28,21 @@ pub struct Limits {
     pub turns: u32,
     /// Which lists.
     pub scope: Scope,
+}
+
+impl Limits {
+    /// The same limits of a search of any system. NoMemory where room was refused.
+    pub(crate) fn of_system(&self, alloc: Global) -> Result<layered_search::Limits, NoMemory>
+        ensures { IfOk result (λ limits. limits_of limits ≡ limits_in self.now) }
+    {
+        let begin = copy_turns(alloc, self.scope.begin.as_slice())?;
+        Ok(layered_search::Limits {
+            states: self.states,
+            turns: self.turns,
+            scope: layered_search::Scope {
+                cuts: self.scope.cuts,
+                begin,
+            },
+        })
+    }
 }

@@ -1,4 +1,5 @@
 //! What worlds come to in the end, and which of them to the same.
+pub(crate) mod end;
 pub(crate) mod found;
 pub(crate) mod same;
 pub(crate) mod tally;

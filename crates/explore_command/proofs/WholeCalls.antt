@@ -26,7 +26,7 @@ abbrev OnlyLast : Option ℕ → WorldView → Type 0
 OnlyLast last w = (j : ℕ) → last ≢ Some j → is_within_at w.seats j ≡ false
 
 -- where the next turn cuts no call, the last turn's actor has none under way either, unless the turn is its own
-no_cut : (w : WorldView) (last : Option ℕ) (i j : ℕ) → OnlyLast last w → is_cut w.seats last i ≡ false → j ≢ i
+no_cut : (w : WorldView) (last : Option ℕ) (i j : ℕ) → OnlyLast last w → is_cut w last i ≡ false → j ≢ i
     → is_within_at w.seats j ≡ false
 no_cut w None i j only e apart = only j (λ q. cc (q))
 no_cut w (Some k) i j only e apart = by (k == j) refl
@@ -57,7 +57,7 @@ no_cut w (Some k) i j only e apart = by (k == j) refl
 whole_after : (w : WorldView) (last : Option ℕ) (is : List ℕ) → OnlyLast last w → cuts_after w last is ≡ 0 → AreWholeCalls w is
 whole_after w last [] only none = tt
 whole_after w last (i ∷ is) only none =
-    let parts = none_of (is_cut w.seats last i) (cuts_after (turn full w i) (Some i) is) none in
+    let parts = none_of (is_cut w last i) (cuts_after (turn full w i) (Some i) is) none in
     let idle : (j : ℕ) → j ≢ i → is_within_at w.seats j ≡ false = λ j apart. no_cut w last i j only parts.0 apart in (
       idle,
       whole_after (turn full w i) (Some i) is

@@ -18,7 +18,7 @@ use Rattle.explore_command.specs.Surveyed.{IsOfThese}
 -- The turn at that place can't be taken: its actor has nothing left to do then, or it is a cut too many.
 abbrev pub IsBarredAt : WorldView → Limits → List ℕ → ℕ → Type 0
 IsBarredAt w limits begin at =
-    IsIdle w begin at ⊎ (IsWithin limits.scope.cuts (cuts w (take (suc at) begin)) → ⊥)
+    IsIdle w limits.scope begin at ⊎ (IsWithin limits.scope.cuts (cuts w (take (suc at) begin)) → ⊥)
 
 -- A list can't begin so: one of the turns can't be taken.
 abbrev pub IsBarred : WorldView → Limits → List ℕ → Type 0

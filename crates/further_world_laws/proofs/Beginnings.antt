@@ -26,7 +26,7 @@ cuts_first : (w : WorldView) (last : Option ℕ) (is : List ℕ) (n : ℕ) → c
 cuts_first w last is zero = none_fewer (cuts_after w last is)
 cuts_first w last [] (suc n) = none_fewer 0
 cuts_first w last (i ∷ is) (suc n) =
-    plus_more (is_cut w.seats last i) (cuts_after (turn full w i) (Some i) (take n is)) (cuts_after (turn full w i) (Some i) is) (cuts_first (turn full w i) (Some i) is n)
+    plus_more (is_cut w last i) (cuts_after (turn full w i) (Some i) (take n is)) (cuts_after (turn full w i) (Some i) is) (cuts_first (turn full w i) (Some i) is n)
 
 pub within_fewer : (most : Option ℕ) (m n : ℕ) → m ≤ n → IsWithin most n → IsWithin most m
 within_fewer None m n le few = tt

@@ -28,7 +28,7 @@ cuts_more : (w : WorldView) (last : Option ℕ) (begin rest : List ℕ) (n : ℕ
 cuts_more w last begin rest zero = none_fewer (cuts_after w last (begin ++ rest))
 cuts_more w last [] rest (suc n) = none_fewer (cuts_after w last rest)
 cuts_more w last (i ∷ is) rest (suc n) =
-    plus_more (is_cut w.seats last i) (cuts_after (turn full w i) (Some i) (take n is)) (cuts_after (turn full w i) (Some i) (is ++ rest))
+    plus_more (is_cut w last i) (cuts_after (turn full w i) (Some i) (take n is)) (cuts_after (turn full w i) (Some i) (is ++ rest))
     (cuts_more (turn full w i) (Some i) is rest n)
 
 module _ (w : WorldView) (scope : Scope) (limits : Limits) (begin : List ℕ) (bound : scope.cuts ≡ limits.scope.cuts) (barred : IsBarred w limits begin) where

@@ -1,11 +1,16 @@
-//! Graphs of turns, limits of searches, what they find beside each list gone through by itself, what parts of them make
-//! together, limits of memory, and options read, by tables. What searches tell are outputs of the program.
+//! Graphs of turns, systems whose schedules are counted by hand, keys of worlds and what is kept of them, limits of
+//! searches, what they find beside each list gone through by itself, what parts of them make together, limits of
+//! memory, and options read, by tables. What searches find is shown by outputs of the program.
 #![tactic(auto)]
 
+#[cfg(test)]
+mod components;
 #[cfg(test)]
 mod gauges;
 #[cfg(test)]
 mod graphs;
+#[cfg(test)]
+mod keys;
 #[cfg(test)]
 mod lists;
 #[cfg(test)]
@@ -20,3 +25,5 @@ mod scenes;
 mod searches;
 #[cfg(test)]
 mod surveys;
+#[cfg(test)]
+mod systems;

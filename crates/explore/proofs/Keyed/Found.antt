@@ -15,7 +15,7 @@ use Rattle.tree_model.specs.Steps.{held}
 use Rattle.race_core.specs.declared.seat.Seat.{Seat}
 use Rattle.race_core.specs.Book.{BookedHistory, tree_now}
 use Rattle.race_core.specs.Turns.{Luck}
-use Rattle.race_core.specs.Worlds.{WorldView, turn}
+use Rattle.race_core.specs.Worlds.{WorldView, turn, Runs}
 use Rattle.local_states.specs.declared.keys.Effect.{Effect}
 use Rattle.local_states.specs.declared.keys.Key.{Key}
 use Rattle.local_states.specs.declared.keys.Own.{Own}
@@ -23,22 +23,19 @@ use Rattle.explore.specs.declared.turns.memo.MemoKey.{MemoKey}
 use Rattle.explore.specs.declared.turns.memo.Entry.{Entry}
 use Rattle.explore.specs.declared.turns.world_counts.Counts.{Counts}
 use Rattle.local_states.specs.Alike.{full, after_turns}
+use Rattle.explore.specs.Replayed.{ReplayedView}
 use Rattle.explore.specs.Effects.{AreCountsIn, AreCompared, IsEffectFrom, IsMemoKeyOf, IsRemembered, KnownView, IsSound}
-use Rattle.local_states.specs.Keys.{ComponentsView, Grows, IsPartAt, IsKey, IsKeyAfter, AreSameKeys, AreSameKeysButParts, AreFew, outside_in, own_after}
-use Rattle.explore.specs.Layers.{VisitedView, IsReplayed, point_of}
+use Rattle.local_states.specs.Keys.{ComponentsView, Grows, IsPartAt, IsKey, IsKeyAfter, AreSameKeysButParts, AreFew, outside_in, own_after}
 use Rattle.local_states.specs.Local.{AreNumbered}
 use Rattle.local_states.specs.Outside.{outside_after, outside_from, outside_of, roots_from}
-use Rattle.explore.specs.Points.{Point, start, onward, AreWithin, Goes}
 use Rattle.local_states.specs.OutOfMemory.{EndsWell}
 use Rattle.local_states.proofs.Alike.PairedLists.{there_is, there_was}
 use Rattle.local_states.proofs.Alike.Steps.{set_at, set_other}
 use Rattle.explore.proofs.Keyed.Growing.{part_grows, effect_grows, sound_grows, grows_on}
 use Rattle.explore.proofs.Keyed.KnownTurn.{same_outside, found_turn, found_whole}
 use Rattle.explore.proofs.Keyed.OneTurn.{grown_by, numbered_stays}
-use Rattle.explore.proofs.Lists.Along.{along_world}
-use Rattle.explore.proofs.Lists.Turning.{turn_within}
 use Rattle.local_states.proofs.OutOfMemory.Lucky.{full_turn, well_turned}
-use Rattle.explore.proofs.OutOfMemory.Lucky.{goes_full}
+use Rattle.explore.proofs.OutOfMemory.Lucky.{runs_full}
 
 -- ---- the opening world
 
@@ -134,14 +131,6 @@ pub length_after : (key next : Key) (i : ℕ) (effect : Effect) → IsKeyAfter k
     → length next.own.items ≡ length key.own.items
 length_after key next i effect after = ap length after.own ∙ length-set key.own.items i _
 
-pub few_copied : (n : ℕ) (key copy : Key) → AreSameKeys copy key → AreFew n key → AreFew n copy
-few_copied n key copy same few = record {
-  events = subst (λ k. k ≤ n) (sym same.events) few.events;
-  opened = subst (λ k. k ≤ n) (sym same.opened) few.opened;
-  closed = subst (λ k. k ≤ n) (sym same.closed) few.closed;
-  outside = λ j own there. few.outside j own (subst (λ (os : List Own). slice_get os j ≡ Some own) same.own there);
-}
-
 pub few_again : (n : ℕ) (mid next : Key) → AreSameKeysButParts mid next → AreFew n mid → AreFew n next
 few_again n mid next same few = record {
   events = subst (λ k. k ≤ n) same.events few.events;
@@ -204,30 +193,20 @@ remembered_more c w v memo_key effect old new put asked found was at entry there
 
 -- ---- a world gone through by turns, as luck has it
 
-pub goes_numbered : (p q : Point) (is : List ℕ) → Goes p is q → AreNumbered p.world.seats → AreNumbered q.world.seats
-goes_numbered p q [] goes numbered = subst (λ (x : Point). AreNumbered x.world.seats) (sym goes) numbered
-goes_numbered p q (i ∷ is) goes numbered = goes_numbered (onward goes.0 p i) q is goes.1 (numbered_stays goes.0 p.world i numbered)
+pub runs_numbered : (w v : WorldView) (is : List ℕ) → Runs w is v → AreNumbered w.seats → AreNumbered v.seats
+runs_numbered w v [] run numbered = subst (λ (u : WorldView). AreNumbered u.seats) (sym run) numbered
+runs_numbered w v (i ∷ is) run numbered = runs_numbered (turn run.0 w i) v is run.1 (numbered_stays run.0 w i numbered)
 
-pub goes_within : (p q : Point) (is : List ℕ) (n : ℕ) → Goes p is q → AreWithin p.cost n → AreWithin q.cost (n + length is)
-goes_within p q [] n goes within = record {
-  cuts = let few = within.cuts in let same = ap (λ (x : Point). x.cost.cuts) goes in omega arith;
-  changes = let few = within.changes in let same = ap (λ (x : Point). x.cost.changes) goes in omega arith;
-}
-goes_within p q (i ∷ is) n goes within =
-    let rest = goes_within (onward goes.0 p i) q is (n + 1) goes.1 (turn_within p (onward goes.0 p i) i n (goes.0, refl) within) in
-    record {
-      cuts = let few = rest.cuts in omega arith;
-      changes = let few = rest.changes in omega arith;
-    }
+-- what is said of a run is said of what it is seen as
+pub ran_to : (w : WorldView) (is : List ℕ) {inside replayed : ReplayedView} → inside ≡ replayed → Runs w is replayed.world → Runs w is inside.world
+ran_to w is same run = subst (λ (r : ReplayedView). Runs w is r.world) (sym same) run
 
 -- Where a turn is taken after these, and all comes to an end that tells of no want, the world before that turn is the one
 -- after them.
-pub before_there : (w : WorldView) (inside visited : VisitedView) (turns : List ℕ) → inside ≡ visited → IsReplayed w visited → visited.turns ≡ turns → (i : ℕ) (after : WorldView)
-    → (luck : Luck) × (after ≡ turn luck inside.world i) → EndsWell after → inside.world ≡ after_turns w turns
-before_there w inside visited turns is replayed same i after turned well =
-    let goes : IsReplayed w inside = subst (λ (l : VisitedView). IsReplayed w l) (sym is) replayed in
-    ap (λ (x : Point). x.world) (goes_full (start w) (point_of inside) inside.turns goes (well_turned turned.0 inside.world i (subst (λ u. EndsWell u) turned.1 well)))
-    ∙ (along_world (start w) inside.turns ∙ ap (after_turns w) (ap (λ (l : VisitedView). l.turns) is ∙ same))
+pub before_there : (w v : WorldView) (is : List ℕ) → Runs w is v → (i : ℕ) (after : WorldView) → (luck : Luck) × (after ≡ turn luck v i)
+    → EndsWell after → v ≡ after_turns w is
+before_there w v is run i after turned well =
+    runs_full w v is run (well_turned turned.0 v i (subst (λ u. EndsWell u) turned.1 well))
 
 -- what is said of a success, given what is known where there was one
 pub ok_with : {T E P : Type 0} {Q R : T → Type 0} (r : Result T E) → (P → (x : T) → Q x → R x) → OnOk r P → IfOk r Q → IfOk r R

@@ -1,5 +1,5 @@
 -- Turns of those who have nothing left to do change nothing; and closed sets of lists stand for all.
-use Rattle.std.specs.Prelude.{◌≡◌, ◌<◌, ℕ, List, [], ◌∷◌, ◌++◌, Bool, true, false, length, refl}
+use Rattle.std.specs.Prelude.{◌≡◌, ℕ, List, [], ◌∷◌, ◌++◌, Bool, true, false, length, refl}
 use Rattle.std.proofs.Common.{sym, ap, ◌∙◌, subst}
 use Rattle.tree_model.specs.declared.answer.Event.{Event}
 use Rattle.tree_model.specs.State.{State}
@@ -9,65 +9,21 @@ use Rattle.race_core.specs.Book.{tree_now}
 use Rattle.race_core.specs.Worlds.{WorldView, turn, is_busy_at, ledgers_in, replies_in, RunsTo, numbers_below}
 use Rattle.race_core.proofs.OneEnd.{idle_turn_by}
 use Rattle.local_states.specs.Alike.{full, after_turns}
-use Rattle.local_states.specs.Local.{TellAlike}
 use Rattle.local_states.specs.OutOfMemory.{replies_out_of_memory}
-use Rattle.explore.specs.Search.{IsOver, IsFull, IsLike, same, onward, IsClosed, ChosenListsStandForAll, ReportsAreOfFullLists, FullListsAreReported}
-use Rattle.local_states.specs.Outside.{outside_of}
-use Rattle.local_states.proofs.Local.OutsideSame.{same_worlds_act}
-use Rattle.local_states.proofs.Local.Wholes.{busy_alike, tell_alike}
+use Rattle.layered_search.proofs.Lists.SearchLaws as search
+use Rattle.local_states.specs.Worlds.{worlds, TellAlike}
+use Rattle.local_states.proofs.Worlds.System.{worlds_are_system}
+use Rattle.explore.specs.Search.{IsOver, IsFull, ChosenListsStandForAll, ReportsAreOfFullLists, FullListsAreReported}
 use Rattle.local_states.proofs.OutOfMemory.OutOfMemoryWorlds.{runs_are_full, ap_at, join}
-use Rattle.local_states.proofs.Lists.Runs.{after_append, runs_append, ends_run, over_at}
+use Rattle.local_states.proofs.Lists.Runs.{runs_append, ends_run, over_at}
 
--- ---- worlds like one another
-
-pub like_turns : {told : Bool} {w v : WorldView} (i : ℕ) → IsLike told w v → IsLike told (turn full w i) (turn full v i)
-like_turns i (same u) = same (turn full u i)
-like_turns {told} i (onward w u v is like) =
-    onward (turn full w i) (turn full u i) (turn full v i) (same_worlds_act told w u full i is) (like_turns {w = u} {v = v} i like)
-
-pub like_trans : {told : Bool} {w u v : WorldView} → IsLike told w u → IsLike told u v → IsLike told w v
-like_trans (same x) more = more
-like_trans {told} {w} {u} {v} (onward a b c is like) more = onward a b v is (like_trans {w = b} {u = c} {v = v} like more)
-
-pub like_busy : {told : Bool} {w v : WorldView} (i : ℕ) → IsLike told w v → is_busy_at w.seats i ≡ is_busy_at v.seats i
-like_busy i (same u) = refl
-like_busy i (onward w u v is like) =
-    join (is_busy_at w.seats i) (is_busy_at u.seats i) (is_busy_at v.seats i) (busy_alike w u i is.parts).0 (like_busy {w = u} {v = v} i like)
-
-pub like_actors : {told : Bool} {w v : WorldView} → IsLike told w v → length w.seats ≡ length v.seats
-like_actors (same u) = refl
-like_actors (onward w u v is like) = is.parts.seats ∙ like_actors {w = u} {v = v} like
-
-pub like_tells : {told : Bool} {w v : WorldView} → IsLike told w v → TellAlike w v
-like_tells (same u) = record { replies = refl; nodes = refl; held = λ a lt. refl }
-like_tells (onward w u v is like) =
-    let first : TellAlike w u = tell_alike w u is.parts in
-    let rest : TellAlike u v = like_tells {w = u} {v = v} like in record {
-      replies = first.replies ∙ rest.replies;
-      nodes = first.nodes ∙ rest.nodes;
-      held = λ a lt. first.held a lt ∙ rest.held a (subst (λ n. a < n) is.parts.seats lt);
-    }
-
-pub like_outside : {told : Bool} {w v : WorldView} → IsLike told w v → outside_of told w ≡ outside_of told v
-like_outside (same u) = refl
-like_outside {told} (onward w u v is like) = join (outside_of told w) (outside_of told u) (outside_of told v) is.outside (like_outside {w = u} {v = v} like)
-
-module _ (told : Bool) (w : WorldView) (chosen : List ℕ → Bool) (closed : IsClosed told w chosen) where
-  configurations : (u : WorldView) (is js : List ℕ) → chosen js ≡ true → IsLike told u (after_turns w js) → IsFull u is
-      → (ks : List ℕ) × ((chosen ks ≡ true) × (IsOver (after_turns w ks) × TellAlike (after_turns u is) (after_turns w ks)))
-  configurations u [] js e like over =
-      (js, (e, ((λ i. sym (like_busy {w = u} {v = after_turns w js} i like) ∙ over i), like_tells {w = u} {v = after_turns w js} like)))
-  configurations u (i ∷ is) js e like rest =
-      let next = closed.goes_on js i e (sym (like_busy {w = u} {v = after_turns w js} i like) ∙ rest.0) in
-      let moved : IsLike told (turn full u i) (turn full (after_turns w js) i) = like_turns {w = u} {v = after_turns w js} i like in
-      let here : IsLike told (turn full u i) (after_turns w (js ++ i ∷ [])) =
-      subst (λ x. IsLike told (turn full u i) x) (sym (after_append w js (i ∷ []))) moved in
-      let there : IsLike told (turn full u i) (after_turns w next.0) =
-      like_trans {w = turn full u i} {u = after_turns w (js ++ i ∷ [])} {v = after_turns w next.0} here next.1.1 in
-      configurations (turn full u i) is next.0 next.1.0 there rest.1
+-- ---- lists that are chosen
 
 pub chosen_lists_stand : ChosenListsStandForAll
-chosen_lists_stand told w chosen closed is whole = configurations told w chosen closed w is [] closed.begins (same w) whole
+chosen_lists_stand told w chosen closed is whole =
+    let stands = search.chosen_lists_stand (worlds told w) (worlds_are_system told w) chosen closed is whole in
+    let agree : TellAlike told (after_turns w is) (after_turns w stands.0) = stands.1.1.1 in
+    (stands.0, (stands.1.0, (stands.1.1.0, record { replies = agree.replies; nodes = agree.nodes; held = agree.held })))
 
 -- ---- idle turns
 

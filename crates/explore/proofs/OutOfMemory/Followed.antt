@@ -1,31 +1,13 @@
--- A report that tells of no want, and the cost at the end of a list.
-use Rattle.std.specs.Prelude.{◌≡◌, ℕ, List, [], ◌++◌, false, Option, Some, None, length}
-use Rattle.std.proofs.Common.{sym, ap, ◌∙◌, arith}
+-- A report that tells of no want.
+use Rattle.std.specs.Prelude.{◌≡◌, List, [], ◌++◌, false, length}
+use Rattle.std.proofs.Common.{sym, ap, ◌∙◌}
 use Rattle.tree_model.specs.declared.answer.Event.{Event}
 use Rattle.tree_model.specs.State.{State}
 use Rattle.handles.specs.Objects.{StandingObject}
 use Rattle.race_core.specs.declared.report.Outcome.{Outcome}
 use Rattle.race_core.specs.Worlds.{WorldView, RunsTo, numbers_below}
 use Rattle.local_states.specs.OutOfMemory.{EndsWell, replies_out_of_memory}
-use Rattle.explore.specs.Lists.{cuts, changes}
-use Rattle.explore.specs.Explored.{IsWithin}
-use Rattle.explore.specs.Points.{start, along}
 use Rattle.local_states.proofs.Lists.Runs.{runs_append, ends_run}
-use Rattle.explore.proofs.Lists.Along.{cuts_along, changes_along}
-
--- ---- lists that are asked for
-
-pub cuts_there : (w : WorldView) (is : List ℕ) → (along (start w) is).cost.cuts ≡ cuts w is
-cuts_there w is = let e = cuts_along (start w) is in omega arith
-
-pub changes_there : (w : WorldView) (is : List ℕ) → (along (start w) is).cost.changes ≡ changes is
-changes_there w is = let e = changes_along (start w) is in omega arith
-
-pub within_none : (most : Option ℕ) → IsWithin most 0
-within_none None = tt
-within_none (Some k) = omega arith
-
--- ---- a report that tells of no want
 
 pub ends_well : (u : WorldView) (tree : State) (events : List Event) (replies : List (List Outcome)) (kept : List StandingObject)
     → RunsTo u [] tree events replies kept → replies_out_of_memory replies ≡ false → EndsWell u

@@ -1,7 +1,7 @@
 //! What a search finds.
 use race_core::Report;
 use std::marker::Model;
-use tree_model::{Snapshot, Tree};
+use tree_model::Tree;
 
 /// What a full list of turns comes to. Contracts see it as an `EndingView`.
 #[derive(Drop)]
@@ -43,19 +43,14 @@ pub struct Class<T: Tree> {
     pub least: Ending<T>,
     /// How many full lists lead to the outcome, exactly below `schedule_graph::COUNT_CAP`.
     pub lists: u64,
-    // The nodes of that report's tree.
-    pub(crate) nodes: Snapshot,
 }
 
 impl<T: Tree> Model for Class<T> {
-    ghost use Rattle.std.specs.Prelude.{◌≡◌};
     ghost use Rattle.explore.specs.Explored.{ClassView};
 
     ghost Value = { ClassView };
 
     ghost view = { λ c. record { least = c.least; lists = c.lists } };
-
-    ghost invariant = { λ c. c.nodes.nodes ≡ c.least.tree.nodes };
 }
 
 /// All that was found.

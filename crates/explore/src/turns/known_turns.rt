@@ -11,11 +11,8 @@ ghost use Rattle.local_states.specs.Counting.{IsTally};
 ghost use Rattle.explore.specs.Effects.{AreCompared, IsEffectFrom, IsStart, IsMemoKeyOf, IsRemembered, IsSound};
 ghost use Rattle.local_states.specs.Keys.{AreFew, AreInterned, AreRows, Grows, IsKey, IsPartAt};
 ghost use Rattle.local_states.specs.Local.{AreNumbered};
-ghost use Rattle.explore.specs.Points.{AreWithin};
 ghost use Rattle.local_states.specs.OutOfMemory.{EndsWell};
 
-use crate::frontier::layer::Visited;
-use crate::turns::cost::{Cost, no_cost};
 use crate::turns::memo::{Memo, MemoKey};
 use crate::turns::world_counts::{Counts, Start, are_given, open_count, wide};
 use crate::worlds::beginnings::Beginnings;
@@ -245,7 +242,6 @@ impl<T: CopyTree + Drop> KnownTurns<T> {
         alloc: Global,
         key: &Key,
         world: &mut World<T>,
-        cost: &mut Cost,
         tally: &mut Tally,
         actor: u32,
     ) -> Result<Key, NoMemory>
@@ -254,7 +250,6 @@ impl<T: CopyTree + Drop> KnownTurns<T> {
         requires there { actor < length world.old.seats }
         requires many { length key.now.own.items ≡ length world.old.seats }
         requires few { (n : ℕ) × ((n < 2 ^ 41) × AreFew n key.now) }
-        requires within { AreWithin cost.old (2 ^ 40) }
         requires tally { IsTally world.old tally.old }
         requires told { tally.old.told ≡ self.old.components.told }
         ensures turned { OnOk result ((luck : Luck) × (world.new ≡ turn luck world.old actor)) }
@@ -272,7 +267,7 @@ impl<T: CopyTree + Drop> KnownTurns<T> {
         let number = actor as usize;
         let tree = world.book().tree().snapshot(alloc)?;
         let before = Counts::of(world, &tree, tally, number);
-        take_turn(alloc, world, cost, tally, actor)?;
+        take_turn(alloc, world, tally, actor)?;
         let tree = world.book().tree().snapshot(alloc)?;
         let after = Counts::of(world, &tree, tally, number);
         let effect = self.effect_to(alloc, key.nodes, before, after, world, &tree, number)?;
@@ -336,12 +331,11 @@ impl<T: CopyTree + Drop> KnownTurns<T> {
         ensures few { IfOk result (λ next. (n : ℕ) → AreFew n key.now → AreFew (n + 1) next) }
         ensures many { IfOk result (λ next. length next.own.items ≡ length key.now.own.items) }
     {
-        let mut cost = no_cost();
         if let Some(effect) = self.known_effect(key, actor as usize) {
-            take_turn(alloc, world, &mut cost, tally, actor)?;
+            take_turn(alloc, world, tally, actor)?;
             return key.after(alloc, actor as usize, &effect);
         }
-        self.key_by(alloc, key, world, &mut cost, tally, actor)
+        self.key_by(alloc, key, world, tally, actor)
     }
 
     // Has the world of that key go on by at most so many turns, and remembers those that weren't known; by none where a
@@ -375,45 +369,38 @@ impl<T: CopyTree + Drop> KnownTurns<T> {
         Ok(())
     }
 
-    // The key after the actor's turn, found by a run of the world's list and on to the end. NoMemory where memory ran
-    // short.
+    // The key after the actor's turn from the world of that key, found by a run of its list and on to the end. NoMemory
+    // where memory ran short.
     fn find<B: Beginnings<T>>(
         &mut self,
         alloc: Global,
         beginnings: &B,
-        visited: &Visited,
+        from: &Key,
+        turns: &[u8],
         actor: u32,
     ) -> Result<Key, NoMemory>
         requires sound { IsSound (B.opening beginnings.now) self.old }
         requires here { IsKey self.old.components (B.opening beginnings.now)
-            (after_turns (B.opening beginnings.now) visited.now.turns.items) visited.now.key }
+            (after_turns (B.opening beginnings.now) turns.now) from.now }
         requires there { actor < length (B.opening beginnings.now).seats }
-        requires few { (n : ℕ) × ((n < 2 ^ 40) × AreFew n visited.now.key) }
-        requires short { length visited.now.turns.items < 2 ^ 40 }
+        requires few { (n : ℕ) × ((n < 2 ^ 40) × AreFew n from.now) }
+        requires short { length turns.now < 2 ^ 40 }
         ensures grows { OnOk result (Grows self.old.components self.new.components) }
         ensures sound { OnOk result (IsSound (B.opening beginnings.now) self.new) }
-        ensures key { IfOk result (λ key. IsKey self.new.components (B.opening beginnings.now)
-            (turn full (after_turns (B.opening beginnings.now) visited.now.turns.items) actor) key) }
-        ensures few { IfOk result (λ key. (n : ℕ) → AreFew n visited.now.key → AreFew (n + 1) key) }
+        ensures key { IfOk result (λ next. IsKey self.new.components (B.opening beginnings.now)
+            (turn full (after_turns (B.opening beginnings.now) turns.now) actor) next) }
+        ensures few { IfOk result (λ next. (n : ℕ) → AreFew n from.now → AreFew (n + 1) next) }
     {
-        let turns = turns_of(alloc, visited.turns.as_slice())?;
-        let Ok(replayed) = replay(alloc, beginnings, self.components.told(), turns) else {
+        let turns = turns_of(alloc, turns)?;
+        let Ok(replayed) = replay(alloc, beginnings, self.components.told(), turns.as_slice())
+        else {
             return Err(NoMemory);
         };
         let Replayed {
             mut world,
-            turns: _,
-            mut cost,
             mut tally,
         } = replayed;
-        let key = self.key_by(
-            alloc,
-            &visited.key,
-            &mut world,
-            &mut cost,
-            &mut tally,
-            actor,
-        );
+        let key = self.key_by(alloc, from, &mut world, &mut tally, actor);
         let Ok(key) = key else {
             world.give_up(alloc);
             return Err(NoMemory);
@@ -427,31 +414,33 @@ impl<T: CopyTree + Drop> KnownTurns<T> {
         Ok(key)
     }
 
-    /// The key after the actor's turn from that world. NoMemory where memory ran short, in a run too.
+    /// The key after the actor's turn from the world of that key, to which these turns lead. NoMemory where memory ran
+    /// short, in a run too.
     pub(crate) fn key_after<B: Beginnings<T>>(
         &mut self,
         alloc: Global,
         beginnings: &B,
-        visited: &Visited,
+        key: &Key,
+        turns: &[u8],
         actor: u32,
     ) -> Result<Key, NoMemory>
         requires sound { IsSound (B.opening beginnings.now) self.old }
         requires here { IsKey self.old.components (B.opening beginnings.now)
-            (after_turns (B.opening beginnings.now) visited.now.turns.items) visited.now.key }
+            (after_turns (B.opening beginnings.now) turns.now) key.now }
         requires there { actor < length (B.opening beginnings.now).seats }
-        requires few { (n : ℕ) × ((n < 2 ^ 40) × AreFew n visited.now.key) }
-        requires short { length visited.now.turns.items < 2 ^ 40 }
+        requires few { (n : ℕ) × ((n < 2 ^ 40) × AreFew n key.now) }
+        requires short { length turns.now < 2 ^ 40 }
         ensures grows { OnOk result (Grows self.old.components self.new.components) }
         ensures sound { OnOk result (IsSound (B.opening beginnings.now) self.new) }
-        ensures key { IfOk result (λ key. (v : WorldView)
-            → IsKey self.old.components (B.opening beginnings.now) v visited.now.key
-            → IsKey self.new.components (B.opening beginnings.now) (turn full v actor) key) }
-        ensures few { IfOk result (λ key. (n : ℕ) → AreFew n visited.now.key → AreFew (n + 1) key) }
+        ensures key { IfOk result (λ next. (v : WorldView)
+            → IsKey self.old.components (B.opening beginnings.now) v key.now
+            → IsKey self.new.components (B.opening beginnings.now) (turn full v actor) next) }
+        ensures few { IfOk result (λ next. (n : ℕ) → AreFew n key.now → AreFew (n + 1) next) }
     {
-        if let Some(effect) = self.known_effect(&visited.key, actor as usize) {
-            return visited.key.after(alloc, actor as usize, &effect);
+        if let Some(effect) = self.known_effect(key, actor as usize) {
+            return key.after(alloc, actor as usize, &effect);
         }
-        self.find(alloc, beginnings, visited, actor)
+        self.find(alloc, beginnings, key, turns, actor)
     }
 
     /// The key of the opening world. NoMemory where room was refused.

@@ -1,79 +1,62 @@
 //! A world gone through from the beginning by a list of turns, and what it comes to.
 ghost use Rattle.std.specs.Prelude.{◌≡◌, ◌<◌, ◌≤◌, ◌^◌, ◌++◌, ◌∷◌, [], false, length, IfOk, IfErr, OnOk};
-ghost use Rattle.race_core.specs.Worlds.{RunsTo};
+ghost use Rattle.race_core.specs.Turns.{Luck};
+ghost use Rattle.race_core.specs.Worlds.{Runs, RunsTo, turn};
 ghost use Rattle.race_core.specs.declared.opening.TheConstants.{ACTORS_MAX};
 ghost use Rattle.local_states.specs.Counting.{IsTally};
 ghost use Rattle.explore.specs.Explored.{WhyNot};
-ghost use Rattle.explore.specs.Points.{start, no_cost, Goes, IsTurn, AreWithin};
 ghost use Rattle.explore.specs.Search.{IsOver};
 ghost use Rattle.local_states.specs.OutOfMemory.{EndsWell, replies_out_of_memory};
-ghost use Rattle.explore.specs.Layers.{VisitedView, IsReplayed, IsReportOf};
+ghost use Rattle.explore.specs.Replayed.{ReplayedView};
+ghost use Rattle.local_states.specs.Worlds.{IsEndOf};
 
-use crate::frontier::layer::Turns;
 use crate::limits::{Limits, SearchFault};
-use crate::outcomes::found::Ending;
-use crate::turns::cost::{Cost, cost_after, no_cost};
+use crate::outcomes::end::End;
 use crate::worlds::beginnings::Beginnings;
 use local_states::{Tally, tells_out_of_memory};
 use path_text::NoMemory;
 use race_core::{ACTORS_MAX, Report, World};
-use smallvec::SmallVec;
 use std::alloc::Global;
 use std::marker::Model;
 use tree_model::Tree;
 
-/// A run from the beginning: a world, and the list of turns that led to it. The search keeps keys and lists. It makes a
-/// run where it needs the world itself: to find a turn that it doesn't know, or the report at the end of a list.
-/// Contracts see it as a `VisitedView`.
+/// A world after a run from the beginning. The search keeps keys and lists of turns. It makes a run where it needs the
+/// world itself: to find a turn that it doesn't know, or the report at the end of a list. Contracts see it as a
+/// `ReplayedView`.
 pub(crate) struct Replayed<T: Tree> {
     pub(crate) world: World<T>,
-    pub(crate) turns: Vec<u32>,
-    /// What counted in the turns.
-    pub(crate) cost: Cost,
     /// The changes outside of roots.
     pub(crate) tally: Tally,
 }
 
 impl<T: Tree> Model for Replayed<T> {
-    ghost use Rattle.std.specs.Prelude.{true};
     ghost use Rattle.local_states.specs.Counting.{IsTally};
-    ghost use Rattle.explore.specs.Layers.{VisitedView};
+    ghost use Rattle.explore.specs.Replayed.{ReplayedView};
 
-    ghost Value = { VisitedView };
+    ghost Value = { ReplayedView };
 
-    ghost view = { λ l. record {
-      told = l.tally.told;
-      world = l.world;
-      cost = l.cost;
-      turns = l.turns.items;
-      is_state = true;
-    } };
+    ghost view = { λ r. record { told = r.tally.told; world = r.world } };
 
-    ghost invariant = { λ l. IsTally l.world l.tally };
+    ghost invariant = { λ r. IsTally r.world r.tally };
 }
 
-/// One turn of that actor, and the cost after it and what was changed outside.
+/// One turn of that actor, and what was changed outside.
 pub(crate) fn take_turn<T: Tree>(
     alloc: Global,
     world: &mut World<T>,
-    cost: &mut Cost,
     tally: &mut Tally,
     actor: u32,
 ) -> Result<(), NoMemory>
-    requires few { AreWithin cost.old (2 ^ 40) }
     requires tally { IsTally world.old tally.old }
-    ensures turned { OnOk result (IsTurn (record { world = world.old; cost = cost.old }) actor
-        (record { world = world.new; cost = cost.new })) }
+    ensures turned { OnOk result ((luck : Luck) × (world.new ≡ turn luck world.old actor)) }
     ensures tally { OnOk result (IsTally world.new tally.new) }
     ensures told { tally.new.told ≡ tally.old.told }
 {
-    let after = cost_after(world, *cost, actor);
     let events = world.book().events().len();
     if world.turn(alloc, actor).is_err() {
         return Err(NoMemory);
     }
     tally.follow(alloc, world, events)?;
-    *cost = after;
     Ok(())
 }
 
@@ -81,48 +64,37 @@ pub(crate) fn take_turn<T: Tree>(
 pub(crate) fn take_turns<T: Tree>(
     alloc: Global,
     world: &mut World<T>,
-    cost: &mut Cost,
     tally: &mut Tally,
     turns: &[u32],
 ) -> Result<(), NoMemory>
-    requires none { cost.old ≡ no_cost }
-    requires few { length turns.now < 2 ^ 40 }
     requires tally { IsTally world.old tally.old }
-    ensures expanded { OnOk result (Goes (start world.old) turns.now (record { world = world.new; cost = cost.new })) }
+    ensures ran { OnOk result (Runs world.old turns.now world.new) }
     ensures tally { OnOk result (IsTally world.new tally.new) }
     ensures told { OnOk result (tally.new.told ≡ tally.old.told) }
     ensures actors { OnOk result (length world.new.seats ≡ length world.old.seats) }
 {
     for actor in turns {
-        take_turn(alloc, world, cost, tally, *actor)?;
+        take_turn(alloc, world, tally, *actor)?;
     }
     Ok(())
 }
 
-// The world after these turns, and what counts in them. It comes back where memory for its report ran short.
+// The world after these turns. It comes back where memory for its report ran short.
 fn gone<T: Tree + Drop>(
     alloc: Global,
     mut world: World<T>,
     mut tally: Tally,
-    turns: Vec<u32>,
+    turns: &[u32],
 ) -> Result<Replayed<T>, World<T>>
-    requires few { length turns.items < 2 ^ 40 }
     requires tally { IsTally world tally }
-    ensures replayed { IfOk result (λ visited. IsReplayed world visited) }
-    ensures turns { IfOk result (λ visited. visited.turns ≡ turns.items) }
-    ensures told { IfOk result (λ visited. visited.told ≡ tally.told) }
-    ensures actors { IfOk result (λ visited. length visited.world.seats ≡ length world.seats) }
+    ensures ran { IfOk result (λ replayed. Runs world turns.now replayed.world) }
+    ensures told { IfOk result (λ replayed. replayed.told ≡ tally.told) }
+    ensures actors { IfOk result (λ replayed. length replayed.world.seats ≡ length world.seats) }
 {
-    let mut cost = no_cost();
-    if take_turns(alloc, &mut world, &mut cost, &mut tally, turns.as_slice()).is_err() {
-        return Err(world);
+    match take_turns(alloc, &mut world, &mut tally, turns) {
+        Ok(()) => Ok(Replayed { world, tally }),
+        Err(_) => Err(world),
     }
-    Ok(Replayed {
-        world,
-        turns,
-        cost,
-        tally,
-    })
 }
 
 /// A new world after these turns, in which changes outside of roots are told or not.
@@ -132,13 +104,12 @@ pub(crate) fn replay<T: Tree + Drop, B: Beginnings<T>>(
     alloc: Global,
     beginnings: &B,
     told: bool,
-    turns: Vec<u32>,
+    turns: &[u32],
 ) -> Result<Replayed<T>, SearchFault>
-    requires few { length turns.items < 2 ^ 40 }
-    ensures replayed { IfOk result (λ visited. IsReplayed (B.opening beginnings.now) visited) }
-    ensures turns { IfOk result (λ visited. visited.turns ≡ turns.items) }
-    ensures told { IfOk result (λ visited. visited.told ≡ told) }
-    ensures actors { IfOk result (λ visited. length visited.world.seats ≡ length (B.opening beginnings.now).seats) }
+    ensures ran { IfOk result (λ replayed. Runs (B.opening beginnings.now) turns.now replayed.world) }
+    ensures told { IfOk result (λ replayed. replayed.told ≡ told) }
+    ensures actors { IfOk result (λ replayed.
+        length replayed.world.seats ≡ length (B.opening beginnings.now).seats) }
     ensures few { OnOk result (length (B.opening beginnings.now).seats ≤ ACTORS_MAX) }
     ensures err { (limits : Limits) → IfErr result (WhyNot (B.opening beginnings.now) limits) }
 {
@@ -152,7 +123,7 @@ pub(crate) fn replay<T: Tree + Drop, B: Beginnings<T>>(
         return Err(SearchFault::NoMemory);
     };
     match gone(alloc, world, tally, turns) {
-        Ok(visited) => Ok(visited),
+        Ok(replayed) => Ok(replayed),
         Err(world) => {
             world.give_up(alloc);
             Err(SearchFault::NoMemory)
@@ -178,36 +149,20 @@ pub(crate) fn told<T: Tree + Drop>(alloc: Global, world: World<T>) -> Result<Rep
 /// What the world comes to, once it has gone to its end. NoMemory where memory ran short, on the way to it too.
 pub(crate) fn ended<T: Tree + Drop>(
     alloc: Global,
-    visited: Replayed<T>,
-) -> Result<Ending<T>, NoMemory>
-    ensures well { IfOk result (λ ending. EndsWell visited.world) }
-    ensures report { IfOk result (λ ending. IsOver visited.world → IsReportOf visited ending) }
-    ensures actors { IfOk result (λ ending. length ending.replies ≡ length visited.world.seats) }
+    replayed: Replayed<T>,
+) -> Result<End<T>, NoMemory>
+    requires { length replayed.world.seats ≤ ACTORS_MAX }
+    ensures well { IfOk result (λ end. EndsWell replayed.world) }
+    ensures report { IfOk result (λ end. IsOver replayed.world → IsEndOf replayed.told replayed.world end) }
 {
-    let Replayed {
-        world,
-        turns,
-        cost,
-        tally,
-    } = visited;
+    let Replayed { world, tally } = replayed;
     let report = told(alloc, world)?;
-    Ok(Ending {
-        turns,
-        cuts: cost.cuts,
-        changes: cost.changes,
+    let nodes = report.tree.snapshot(alloc)?;
+    Ok(End {
         report,
         outside: tally.into_counts(),
+        nodes,
     })
-}
-
-/// These turns and one of that actor. NoMemory where their room was refused.
-pub(crate) fn turns_and(alloc: Global, before: &[u8], actor: u8) -> Result<Turns, NoMemory>
-    ensures { IfOk result (λ turns. turns.items ≡ before.now ++ actor ∷ []) }
-{
-    let mut turns = SmallVec::with_capacity(alloc, before.len() + 1)?;
-    turns.extend_from_slice(before)?;
-    turns.push(actor)?;
-    Ok(turns)
 }
 
 /// The turns of a list that has a byte for each. NoMemory where their room was refused.
@@ -219,4 +174,13 @@ pub(crate) fn turns_of(alloc: Global, list: &[u8]) -> Result<Vec<u32>, NoMemory>
         turns.push(u32::from(*actor))?;
     }
     Ok(turns)
+}
+
+/// An equal list of turns. NoMemory where its room was refused.
+pub(crate) fn copy_turns(alloc: Global, turns: &[u32]) -> Result<Vec<u32>, NoMemory>
+    ensures { IfOk result (λ copy. copy.items ≡ turns.now) }
+{
+    let mut copy = Vec::with_capacity(alloc, turns.len())?;
+    copy.extend_from_slice(turns)?;
+    Ok(copy)
 }

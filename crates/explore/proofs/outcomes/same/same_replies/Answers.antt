@@ -1,7 +1,7 @@
 use Rattle.std.proofs.Common.{◌≡◌, ◌∙◌, ap, sym}
 use Rattle.std.proofs.lemmas.Bool.{true≢false, false≢true}
 use Rattle.race_core.specs.Renamed.{outcomes_by}
-use Rattle.explore.proofs.Lists.Mapped.{other_reply_lengths, other_reply_at}
+use Rattle.local_states.proofs.Worlds.Ends.{other_reply_lengths, other_reply_at}
 use Rattle.explore.proofs.outcomes.same.same_replies.Goals as goal
 
 pub returns-then-replies-others : goal.returns-then-replies-others

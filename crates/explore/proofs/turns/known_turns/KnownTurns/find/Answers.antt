@@ -1,16 +1,15 @@
 use Rattle.std.proofs.Common.{◌≡◌, ◌∙◌, ◌+◌, ap, sym, subst, length, arith}
-use Rattle.race_core.specs.Worlds.{WorldView, turn}
+use Rattle.race_core.specs.Worlds.{WorldView, turn, Runs}
 use Rattle.local_states.specs.Alike.{full, after_turns}
 use Rattle.explore.specs.Effects.{KnownView}
 use Rattle.local_states.specs.Keys.{AreRows, IsKey}
 use Rattle.local_states.specs.Local.{AreNumbered}
-use Rattle.explore.specs.Layers.{VisitedView, IsReplayed}
-use Rattle.explore.specs.Points.{Point, start, Goes, AreWithin}
+use Rattle.explore.specs.Replayed.{ReplayedView}
 use Rattle.local_states.specs.OutOfMemory.{EndsWell}
-use Rattle.explore.proofs.Keyed.Found.{goes_numbered, goes_within, before_there}
+use Rattle.explore.proofs.Keyed.Found.{runs_numbered, before_there, ran_to}
 use Rattle.explore.proofs.Keyed.Growing.{grows_on, rows_grow, key_grows}
 use Rattle.explore.proofs.Keyed.OneTurn.{numbered_stays}
-use Rattle.explore.proofs.Layers.Grown.{at_ok}
+use Rattle.explore.proofs.Lists.Replayed.{at_ok}
 use Rattle.local_states.proofs.Lists.Runs.{turn_stays}
 use Rattle.explore.proofs.OutOfMemory.Followed.{ends_well}
 use Rattle.local_states.proofs.OutOfMemory.Lucky.{full_turn}
@@ -19,47 +18,28 @@ use Rattle.explore.proofs.turns.known_turns.KnownTurns.find.Goals as goal
 pub key_by-key-requires-clause-numbered : goal.key_by-key-requires-clause-numbered
 key_by-key-requires-clause-numbered g c =
     let w : WorldView = g.B.Beginnings.opening c.args.beginnings.now in
-    let q : Point = record { world = c.replayed.inside.world; cost = c.replayed.inside.cost } in
-    let goes : Goes (start w) c.replayed.inside.turns.items q = subst (λ (l : VisitedView). IsReplayed w l) (sym c.replayed.view_is) c.in-Ok.ensures.replayed in
-    goes_numbered (start w) q c.replayed.inside.turns.items goes c.requires.sound.numbered
-
-pub key_by-key-requires-clause-within : goal.key_by-key-requires-clause-within
-key_by-key-requires-clause-within g c =
-    let w : WorldView = g.B.Beginnings.opening c.args.beginnings.now in
-    let q : Point = record { world = c.replayed.inside.world; cost = c.replayed.inside.cost } in
-    let goes : Goes (start w) c.replayed.inside.turns.items q = subst (λ (l : VisitedView). IsReplayed w l) (sym c.replayed.view_is) c.in-Ok.ensures.replayed in
-    let turns : c.replayed.inside.turns.items ≡ c.args.visited.now.turns.items =
-    ap (λ (l : VisitedView). l.turns) c.replayed.view_is ∙ (c.in-Ok.ensures.turns ∙ (c.in_ok-turns.ensures ∙ c.as_slice.ensures)) in
-    let long : length c.replayed.inside.turns.items ≡ length c.args.visited.now.turns.items = ap length turns in
-    let within : AreWithin q.cost (0 + length c.replayed.inside.turns.items) =
-    goes_within (start w) q c.replayed.inside.turns.items 0 goes (record { cuts = omega arith; changes = omega arith }) in
-    let short = c.requires.short in
-    record {
-      cuts = let few = within.cuts in omega arith;
-      changes = let few = within.changes in omega arith;
-    }
+    runs_numbered w c.replayed.inside.world _ (ran_to w _ c.replayed.view_is c.in-Ok.ensures.ran) c.requires.sound.numbered
 
 pub learn-requires-clause-rows : goal.learn-requires-clause-rows
 learn-requires-clause-rows g c =
     let turned = c.in-Ok-key.ensures.turned in
     let seats = ap (λ (u : WorldView). length u.seats) turned.1 ∙ turn_stays turned.0 c.replayed.inside.world c.args.actor in
-    let actors = ap (λ (l : VisitedView). length l.world.seats) c.replayed.view_is ∙ c.in-Ok.ensures.actors in
+    let actors = ap (λ (l : ReplayedView). length l.world.seats) c.replayed.view_is ∙ c.in-Ok.ensures.actors in
     subst (λ n. AreRows c.key_by-key.new.self.components.parts n) (sym (seats ∙ actors)) (rows_grow c.in-Ok-key.ensures.grows c.requires.sound.rows)
 
 pub learn-requires-clause-numbered : goal.learn-requires-clause-numbered
 learn-requires-clause-numbered g c =
     let w : WorldView = g.B.Beginnings.opening c.args.beginnings.now in
-    let q : Point = record { world = c.replayed.inside.world; cost = c.replayed.inside.cost } in
-    let goes : Goes (start w) c.replayed.inside.turns.items q = subst (λ (l : VisitedView). IsReplayed w l) (sym c.replayed.view_is) c.in-Ok.ensures.replayed in
     let turned = c.in-Ok-key.ensures.turned in
     subst (λ (u : WorldView). AreNumbered u.seats) (sym turned.1)
-    (numbered_stays turned.0 q.world c.args.actor (goes_numbered (start w) q c.replayed.inside.turns.items goes c.requires.sound.numbered))
+    (numbered_stays turned.0 c.replayed.inside.world c.args.actor
+    (runs_numbered w c.replayed.inside.world _ (ran_to w _ c.replayed.view_is c.in-Ok.ensures.ran) c.requires.sound.numbered))
 
 pub learn-requires-clause-many : goal.learn-requires-clause-many
 learn-requires-clause-many g c =
     let turned = c.in-Ok-key.ensures.turned in
     let seats = ap (λ (u : WorldView). length u.seats) turned.1 ∙ turn_stays turned.0 c.replayed.inside.world c.args.actor in
-    let actors = ap (λ (l : VisitedView). length l.world.seats) c.replayed.view_is ∙ c.in-Ok.ensures.actors in
+    let actors = ap (λ (l : ReplayedView). length l.world.seats) c.replayed.view_is ∙ c.in-Ok.ensures.actors in
     let here = c.requires.here in
     let key = c.in-Ok-key.ensures.many in
     omega (arith, key, seats, actors, here.many, here.seats)
@@ -74,7 +54,7 @@ learn-requires-clause-tally g c = c.in-Ok-key.ensures.tally
 
 pub learn-requires-clause-told : goal.learn-requires-clause-told
 learn-requires-clause-told g c =
-    c.in-Ok-key.ensures.same_told ∙ (ap (λ (l : VisitedView). l.told) c.replayed.view_is
+    c.in-Ok-key.ensures.same_told ∙ (ap (λ (l : ReplayedView). l.told) c.replayed.view_is
     ∙ (c.in-Ok.ensures.told ∙ (c.told.ensures ∙ (ap (λ (k : KnownView). k.components.told) c.self.view_is ∙ sym c.in-Ok-key.ensures.grows.told))))
 
 pub returns-clause-grows : goal.returns-clause-grows
@@ -88,10 +68,11 @@ returns-clause-sound g c =
     ends_well c.learn.new.world _ _ _ _ c.in_ok-_report.ensures.ran c.in_ok-_report.ensures.none in
     let well : EndsWell c.key_by-key.new.world =
     at_ok c.learn.result (sym c.is_err.ensures.value ∙ c.if-is_err.false) c.learn.ensures.well last in
-    let there : c.replayed.inside.world ≡ after_turns w c.args.visited.now.turns.items =
-    before_there w _ c.in-Ok.replayed c.args.visited.now.turns.items c.replayed.view_is c.in-Ok.ensures.replayed
-    (c.in-Ok.ensures.turns ∙ (c.in_ok-turns.ensures ∙ c.as_slice.ensures)) c.args.actor c.key_by-key.new.world c.in-Ok-key.ensures.turned well in
-    let here = subst (λ (u : WorldView). IsKey c.args.self.now.components w u c.args.visited.now.key) (sym there) c.requires.here in
+    let there : c.replayed.inside.world ≡ after_turns w c.args.turns.now =
+    before_there w c.replayed.inside.world c.args.turns.now
+    (subst (λ is. Runs w is c.replayed.inside.world) (c.as_slice.ensures.value ∙ c.in_ok-turns.ensures) (ran_to w _ c.replayed.view_is c.in-Ok.ensures.ran))
+    c.args.actor c.key_by-key.new.world c.in-Ok-key.ensures.turned well in
+    let here = subst (λ (u : WorldView). IsKey c.args.self.now.components w u c.args.from.now) (sym there) c.requires.here in
     let mid = c.in-Ok-key.ensures.sound w c.requires.sound here well in
     let turned : c.key_by-key.new.world ≡ turn full c.replayed.inside.world c.args.actor =
     c.in-Ok-key.ensures.turned.1 ∙ full_turn c.in-Ok-key.ensures.turned.0 c.replayed.inside.world c.args.actor
@@ -107,10 +88,11 @@ returns-clause-key g c =
     ends_well c.learn.new.world _ _ _ _ c.in_ok-_report.ensures.ran c.in_ok-_report.ensures.none in
     let well : EndsWell c.key_by-key.new.world =
     at_ok c.learn.result (sym c.is_err.ensures.value ∙ c.if-is_err.false) c.learn.ensures.well last in
-    let there : c.replayed.inside.world ≡ after_turns w c.args.visited.now.turns.items =
-    before_there w _ c.in-Ok.replayed c.args.visited.now.turns.items c.replayed.view_is c.in-Ok.ensures.replayed
-    (c.in-Ok.ensures.turns ∙ (c.in_ok-turns.ensures ∙ c.as_slice.ensures)) c.args.actor c.key_by-key.new.world c.in-Ok-key.ensures.turned well in
-    let here = subst (λ (u : WorldView). IsKey c.args.self.now.components w u c.args.visited.now.key) (sym there) c.requires.here in
+    let there : c.replayed.inside.world ≡ after_turns w c.args.turns.now =
+    before_there w c.replayed.inside.world c.args.turns.now
+    (subst (λ is. Runs w is c.replayed.inside.world) (c.as_slice.ensures.value ∙ c.in_ok-turns.ensures) (ran_to w _ c.replayed.view_is c.in-Ok.ensures.ran))
+    c.args.actor c.key_by-key.new.world c.in-Ok-key.ensures.turned well in
+    let here = subst (λ (u : WorldView). IsKey c.args.self.now.components w u c.args.from.now) (sym there) c.requires.here in
     key_grows (at_ok c.learn.result (sym c.is_err.ensures.value ∙ c.if-is_err.false) c.learn.ensures.grows)
     (subst (λ (u : WorldView). IsKey c.key_by-key.new.self.components w (turn full u c.args.actor) c.in-Ok-key.key) there
     (c.in-Ok-key.ensures.key w c.requires.sound here well))

@@ -1,19 +1,18 @@
 use Rattle.std.proofs.Common.{◌≡◌, ◌∙◌, ◌<◌, ◌+◌, List, Bool, true, length, map, sym, ap, subst, arith}
 use Rattle.std.specs.Prelude.{slice_get}
 use Rattle.smallvec.proofs.SmallVecLemmas.{items-with_items}
-use Rattle.race_core.specs.Worlds.{turn}
+use Rattle.race_core.specs.Worlds.{WorldView, turn}
 use Rattle.local_states.specs.declared.keys.Key.{Key}
 use Rattle.local_states.specs.declared.keys.Own.{Own}
 use Rattle.local_states.specs.Alike.{full}
 use Rattle.explore.specs.Effects.{KnownView, IsSound, IsEffectFrom, AreCountsIn}
 use Rattle.local_states.specs.Keys.{AreRows, AreFew, Grows, IsKey, IsPartAt}
 use Rattle.local_states.specs.Local.{AreNumbered}
-use Rattle.explore.specs.Points.{Point}
 use Rattle.local_states.specs.OutOfMemory.{EndsWell}
 use Rattle.explore.proofs.Keyed.Found.{effect_found, few_after, few_again, length_after, sound_mid, sound_whole, key_known, key_whole}
 use Rattle.explore.proofs.Keyed.Growing.{grows_on, key_grows, rows_grow}
 use Rattle.explore.proofs.Keyed.OneTurn.{numbered_stays}
-use Rattle.explore.proofs.Lists.Turning.{turn_actors}
+use Rattle.explore.proofs.Lists.Replayed.{turn_actors}
 use Rattle.local_states.proofs.OutOfMemory.Lucky.{full_turn}
 use Rattle.explore.proofs.turns.known_turns.KnownTurns.key_by.Goals as goal
 use Rattle.explore.proofs.turns.known_turns.KnownTurns.key_by.Goals.{then-self+in_ok-remember, else-self+in_ok-put_parts}
@@ -21,18 +20,17 @@ use Rattle.explore.proofs.turns.known_turns.KnownTurns.key_by.Goals.{then-self+i
 pub effect_to-requires-clause-numbered : goal.effect_to-requires-clause-numbered
 effect_to-requires-clause-numbered g c =
     let turned = c.in_ok-take_turn.ensures.turned in
-    subst (λ (x : Point). AreNumbered x.world.seats) (sym turned.1) (numbered_stays turned.0 c.args.world.now c.args.actor c.requires.numbered)
+    subst (λ (u : WorldView). AreNumbered u.seats) (sym turned.1) (numbered_stays turned.0 c.args.world.now c.args.actor c.requires.numbered)
 
 pub put_parts-requires-clause-numbered : goal.put_parts-requires-clause-numbered
 put_parts-requires-clause-numbered g c =
     let turned = c.in_ok-take_turn.ensures.turned in
-    subst (λ (x : Point). AreNumbered x.world.seats) (sym turned.1) (numbered_stays turned.0 c.args.world.now c.args.actor c.requires.numbered)
+    subst (λ (u : WorldView). AreNumbered u.seats) (sym turned.1) (numbered_stays turned.0 c.args.world.now c.args.actor c.requires.numbered)
 
 pub put_parts-requires-clause-rows : goal.put_parts-requires-clause-rows
 put_parts-requires-clause-rows g c =
-    let p : Point = record { world = c.args.world.now; cost = c.args.cost.now } in
-    let q : Point = record { world = c.take_turn.new.world; cost = c.take_turn.new.cost } in
-    let many : length q.world.seats ≡ length p.world.seats = turn_actors p q c.args.actor c.in_ok-take_turn.ensures.turned in
+    let many : length c.take_turn.new.world.seats ≡ length c.args.world.now.seats =
+    turn_actors c.args.world.now c.take_turn.new.world c.args.actor c.in_ok-take_turn.ensures.turned in
     subst (λ n. AreRows c.effect_to.new.self.components.parts n) (sym many) (rows_grow c.in_ok-effect.ensures.grows c.requires.rows)
 
 pub returns-clause-grows : goal.returns-clause-grows
@@ -77,7 +75,7 @@ returns-clause-many g c =
 pub returns-clause-sound : goal.returns-clause-sound
 returns-clause-sound g c = λ w sound is well.
     let turned = c.in_ok-take_turn.ensures.turned in
-    let expanded : c.take_turn.new.world ≡ turn turned.0 c.args.world.now c.args.actor = ap (λ (x : Point). x.world) turned.1 in
+    let expanded : c.take_turn.new.world ≡ turn turned.0 c.args.world.now c.args.actor = turned.1 in
     let effect : IsEffectFrom c.effect_to.new.self.components c.args.world.now c.args.actor c.in_ok-effect.effect =
     effect_found c.effect_to.new.self.components c.args.tally.now.told turned.0 c.args.actor c.args.world.now c.take_turn.new.world c.in_ok-effect.effect c.of-before.result c.of-after.result
     (c.in_ok-effect.ensures.grows.told ∙ sym c.requires.told) c.requires.numbered c.requires.there expanded well c.of-before.ensures
@@ -100,7 +98,7 @@ returns-clause-sound g c = λ w sound is well.
 pub returns-clause-key : goal.returns-clause-key
 returns-clause-key g c = λ w sound is well.
     let turned = c.in_ok-take_turn.ensures.turned in
-    let expanded : c.take_turn.new.world ≡ turn turned.0 c.args.world.now c.args.actor = ap (λ (x : Point). x.world) turned.1 in
+    let expanded : c.take_turn.new.world ≡ turn turned.0 c.args.world.now c.args.actor = turned.1 in
     let effect : IsEffectFrom c.effect_to.new.self.components c.args.world.now c.args.actor c.in_ok-effect.effect =
     effect_found c.effect_to.new.self.components c.args.tally.now.told turned.0 c.args.actor c.args.world.now c.take_turn.new.world c.in_ok-effect.effect c.of-before.result c.of-after.result
     (c.in_ok-effect.ensures.grows.told ∙ sym c.requires.told) c.requires.numbered c.requires.there expanded well c.of-before.ensures

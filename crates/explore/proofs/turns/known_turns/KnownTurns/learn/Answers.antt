@@ -5,7 +5,7 @@ use Rattle.local_states.specs.Alike.{full}
 use Rattle.local_states.specs.Keys.{AreRows, AreSameKeys, IsKey}
 use Rattle.local_states.specs.Local.{AreNumbered}
 use Rattle.local_states.specs.OutOfMemory.{EndsWell}
-use Rattle.explore.proofs.Keyed.Found.{few_copied}
+use Rattle.local_states.proofs.Parted.Growing.{few_copied}
 use Rattle.explore.proofs.Keyed.Growing.{grows_on, grows_same, rows_grow}
 use Rattle.explore.proofs.Keyed.OneTurn.{numbered_stays}
 use Rattle.local_states.proofs.Parted.SameKeys.{keys_back, key_again}

@@ -1,8 +1,0 @@
-//! The layer of worlds that the search goes on from, and the next one, with the edges between them.
-pub(crate) mod edges;
-pub(crate) mod ends;
-pub(crate) mod layer;
-pub(crate) mod passing;
-pub(crate) mod table;
-pub(crate) mod transitions;
-pub(crate) mod visited_set;
