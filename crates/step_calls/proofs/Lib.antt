@@ -6,3 +6,5 @@ pub mod LinkLemmas
 pub mod MomentLemmas
 pub mod OpenLemmas
 pub mod ParentLemmas
+pub mod RefusalLemmas
+pub mod ChangeLemmas

@@ -1,9 +1,10 @@
 -- What holds of every history.
-use Rattle.std.specs.Prelude.{◌≡◌, ℕ, ◌+◌, List, [], ◌∷◌, ◌==◌, Bool, true, false, ◌&&◌, ◌||◌, not, if◌then◌else◌}
-use Rattle.step_calls.specs.History.{is_magic, Exchange, opens_directory, opens_any, spares, asks_mount, asks_kind, asks_holder, asks_magic, asks_links, asks_layers, opens_to_read, reads, closes_read, asks_follow, reads_link, changes, closes, EINTR, EMFILE, ENFILE, ENOENT, ENOTDIR}
-use Rattle.step_calls.specs.declared.course.TheConstants.{MOUNT, KIND, MAY_HOLD_MAGIC, MAGIC, LINKS, LAYERS, OPEN_TO_READ, READ, CLOSE_READ, CLOSE, OPENED}
+use Rattle.std.specs.Prelude.{◌≡◌, ◌≢◌, ℕ, ◌+◌, List, [], ◌∷◌, ◌==◌, Bool, true, false, ◌&&◌, ◌||◌, not, if◌then◌else◌}
+use Rattle.step_calls.specs.History.{is_magic, next_after, Exchange, opens_directory, opens_any, spares, asks_mount, asks_kind, asks_holder, asks_magic, asks_links, asks_layers, opens_to_read, reads, closes_read, asks_follow, reads_link, changes, closes, EINTR, EMFILE, ENFILE, ENOENT, ENOTDIR, IsHistory}
+use Rattle.step_calls.specs.Refusals.{is_refusal}
+use Rattle.step_calls.specs.declared.course.TheConstants.{MOUNT, KIND, MAY_HOLD_MAGIC, MAGIC, LINKS, LAYERS, OPEN_TO_READ, READ, CLOSE_READ, CLOSE, OPENED, REFUSED}
 use Rattle.step_calls.specs.declared.facts.Facts.{Facts}
-use Rattle.step_calls.specs.declared.facts.TheConstants.{OPEN, PARENT}
+use Rattle.step_calls.specs.declared.facts.TheConstants.{IS_THERE, OPEN, PARENT}
 
 -- ---- descriptors
 
@@ -74,6 +75,12 @@ is_no_error f closes = false
 
 abbrev pub NoError : Facts → Exchange → Type 0
 NoError f e = is_no_error f e ≡ true
+
+-- Where a step ends as refused, the step table may refuse it by this error. So each other error ends it as not made.
+abbrev pub RefusalsAreOwn : Type 0
+RefusalsAreOwn = (f : Facts) (history : List Exchange) → f.what ≢ IS_THERE → IsHistory f history
+    → (next_after f history).next ≡ REFUSED
+    → is_refusal f.what f.mode f.text (next_after f history).error ≡ true
 
 -- ---- the end
 

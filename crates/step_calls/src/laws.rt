@@ -1,9 +1,10 @@
 //! What holds of each step, as laws over its exchanges: each function's contract is one, and its body is empty.
 ghost use Rattle.std.specs.Prelude.{◌≡◌, ◌≤◌, ◌+◌, ◌⊎◌, true, List, [], length};
 ghost use Rattle.std.specs.List.{AllByRecursion};
+ghost use Rattle.step_calls.specs.Changes.{MakesStood, RemovalsStood};
 ghost use Rattle.step_calls.specs.History.{next_after, Exchange, IsHistory};
 ghost use Rattle.step_calls.specs.Moments.{LinksWereRead, OpensStood, ParentsStood};
-ghost use Rattle.step_calls.specs.Promises.{costs, holds_after, needs_opened, needs_read, reads_after, NoError};
+ghost use Rattle.step_calls.specs.Promises.{costs, holds_after, needs_opened, needs_read, reads_after, NoError, RefusalsAreOwn};
 ghost use Rattle.step_calls.specs.declared.course.TheConstants.{CHANGE, OPENED, TEXT, DONE};
 ghost use Rattle.step_calls.specs.declared.facts.Facts.{Facts};
 
@@ -27,6 +28,14 @@ pub fn links_were_read()
     ensures { LinksWereRead }
 {}
 
+/// The same of what is made or removed by one system call (mkdirat(2), mknodat(2), symlinkat(2), openat(2) with O_CREAT
+/// and O_EXCL; unlinkat(2)): the step table makes or removes it at the moment of that call; and where the step is
+/// refused, the step table refuses it there by that error.
+pub fn changes_stood()
+    ensures makes { MakesStood }
+    ensures removals { RemovalsStood }
+{}
+
 /// The step's own descriptor is open where it is looked at or closed, and where the step ends with it; and a directory
 /// that is open to be read is read or closed. Nothing else is asked for then, and in the end nothing else is open: so
 /// each descriptor that isn't the answer is closed once.
@@ -45,6 +54,12 @@ pub fn no_error_is_passed_over()
         → ((next_after f history).next ≡ OPENED)
         ⊎ (((next_after f history).next ≡ TEXT) ⊎ ((next_after f history).next ≡ DONE))
         → AllByRecursion (NoError f) history }
+{}
+
+/// A step that is refused is refused by an error that the step table may refuse it by (`is_refusal`), whatever the
+/// system calls gave. The question whether a directory is there is no step.
+pub fn refusals_are_the_steps_own()
+    ensures { RefusalsAreOwn }
 {}
 
 /// A change is one system call, whatever it gives: nothing was asked for before.

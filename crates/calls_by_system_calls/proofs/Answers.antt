@@ -1,0 +1,191 @@
+-- The answer to a step is one by the nodes and by the node of its handle, but for the number of what it opens.
+use Rattle.std.proofs.Common.{◌≡◌, ℕ, Bool, true, false, not, List, length, Option, Some, None, slice_set, refl, sym, ap, ◌∙◌}
+use Rattle.path_text.specs.declared.errno.Errno.{Errno}
+use Rattle.path_text.specs.declared.errno.Errno.TheVariants.{NotFound, BadHandle, NotDir, TooMany}
+use Rattle.tree_model.specs.declared.answer.Answer.{Answer}
+use Rattle.tree_model.specs.declared.answer.Answer.TheVariants.{Opened, Done, Refused}
+use Rattle.tree_model.specs.declared.inode.Inode.{Inode}
+use Rattle.tree_model.specs.declared.inode.Object.{Object}
+use Rattle.tree_model.specs.declared.inode.Object.TheVariants as object
+use Rattle.tree_model.specs.declared.step.StepOf.TheVariants.{Open, Dup, Parent, ReadLink, NameBelow, Close}
+use Rattle.tree_model.specs.Entries.{refuse_if, with_some}
+use Rattle.tree_model.specs.declared.step.Kind.{Kind}
+use Rattle.tree_model.specs.StepLaws.{only_tells}
+use Rattle.tree_model.specs.State.{State, object_at, child, parent, is_dir, names_below}
+use Rattle.tree_model.specs.Steps.{Outcome, refused, held, is_full, kind_of, with_handle, opens, reads, shows, outcome}
+
+-- ---- what is opened
+
+abbrev found_at : List Inode → ℕ → ℕ → Answer
+found_at nodes x number = with_some (object_at nodes x) (Refused NotFound) (λ what. Opened number x (kind_of what))
+
+abbrev entered : List Inode → ℕ → Option ℕ → ℕ → Answer
+entered nodes d to number =
+    refuse_if (not (is_dir nodes d)) (Refused NotDir) (with_some to (Refused NotFound) (λ c. found_at nodes c number))
+
+pub at_number : ℕ → Answer → Answer
+at_number n (Opened h x k) = Opened n x k
+at_number n answer = answer
+
+answer_if : (test : Bool) (o p : Outcome) → (refuse_if test o p).answer ≡ refuse_if test o.answer p.answer
+answer_if true o p = refl
+answer_if false o p = refl
+
+answer_some : {A : Type 0} (o : Option A) (q : Outcome) (f : A → Outcome) (g : A → Answer) → ((x : A) → (f x).answer ≡ g x)
+    → (with_some o q f).answer ≡ with_some o q.answer g
+answer_some None q f g same = refl
+answer_some (Some x) q f g same = same x
+
+abbrev opened_as : State → ℕ → ℕ → Object → Outcome
+opened_as s a x what = record { answer = Opened (length s.handles) x (kind_of what); after = with_handle s a x }
+
+opens_is : (s : State) (a x : ℕ) → is_full s a ≡ false → (opens s a x).answer ≡ found_at s.nodes x (length s.handles)
+opens_is s a x room =
+    answer_if (is_full s a) (refused s TooMany) (with_some (object_at s.nodes x) (refused s NotFound) (opened_as s a x))
+    ∙ ap (λ t. refuse_if t (Refused TooMany) (with_some (object_at s.nodes x) (refused s NotFound) (opened_as s a x)).answer) room
+    ∙ answer_some (object_at s.nodes x) (refused s NotFound) (opened_as s a x)
+    (λ what. Opened (length s.handles) x (kind_of what)) (λ what. refl)
+
+enters_is : (s : State) (a d : ℕ) (to : Option ℕ) → is_full s a ≡ false
+    → (refuse_if (not (is_dir s.nodes d)) (refused s NotDir) (with_some to (refused s NotFound) (λ c. opens s a c))).answer
+    ≡ entered s.nodes d to (length s.handles)
+enters_is s a d to room =
+    answer_if (not (is_dir s.nodes d)) (refused s NotDir) (with_some to (refused s NotFound) (λ c. opens s a c))
+    ∙ ap (refuse_if (not (is_dir s.nodes d)) (Refused NotDir))
+    (answer_some to (refused s NotFound) (λ c. opens s a c) (λ c. found_at s.nodes c (length s.handles)) (λ c. opens_is s a c room))
+
+-- an entry's, or that above
+on_held : (s : State) (a h d : ℕ) (f : ℕ → Outcome) → held s a h ≡ Some d
+    → (with_some (held s a h) (refused s BadHandle) f).answer ≡ (f d).answer
+on_held s a h d f e = ap (λ o. (with_some o (refused s BadHandle) f).answer) e
+
+pub open_is : (s : State) (a h d : ℕ) (n : List ℕ) → held s a h ≡ Some d → is_full s a ≡ false
+    → (outcome s a (Open h n)).answer ≡ entered s.nodes d (child s.nodes d n) (length s.handles)
+open_is s a h d n e room =
+    on_held s a h d
+    (λ d. refuse_if (not (is_dir s.nodes d)) (refused s NotDir) (with_some (child s.nodes d n) (refused s NotFound) (λ c. opens s a c))) e
+    ∙ enters_is s a d (child s.nodes d n) room
+
+pub parent_is : (s : State) (a h d : ℕ) → held s a h ≡ Some d → is_full s a ≡ false
+    → (outcome s a (Parent h)).answer ≡ entered s.nodes d (parent s.nodes d) (length s.handles)
+parent_is s a h d e room =
+    on_held s a h d
+    (λ d. refuse_if (not (is_dir s.nodes d)) (refused s NotDir) (with_some (parent s.nodes d) (refused s NotFound) (λ c. opens s a c))) e
+    ∙ enters_is s a d (parent s.nodes d) room
+
+pub dup_is : (s : State) (a h d : ℕ) → held s a h ≡ Some d → is_full s a ≡ false
+    → (outcome s a (Dup h)).answer ≡ found_at s.nodes d (length s.handles)
+dup_is s a h d e room = on_held s a h d (λ x. opens s a x) e ∙ opens_is s a d room
+
+found_by : (nodes : List Inode) (x n m : ℕ) → at_number m (found_at nodes x n) ≡ found_at nodes x m
+unfolding at_number
+found_by nodes x n m = on (object_at nodes x)
+  where
+    on : (o : Option Object) → at_number m (with_some o (Refused NotFound) (λ what. Opened n x (kind_of what)))
+        ≡ with_some o (Refused NotFound) (λ what. Opened m x (kind_of what))
+    on None = refl
+    on (Some what) = refl
+
+pub entered_by : (nodes : List Inode) (d : ℕ) (to : Option ℕ) (n m : ℕ)
+    → at_number m (entered nodes d to n) ≡ entered nodes d to m
+unfolding at_number
+entered_by nodes d to n m = on (not (is_dir nodes d)) to
+  where
+    on : (t : Bool) (o : Option ℕ)
+        → at_number m (refuse_if t (Refused NotDir) (with_some o (Refused NotFound) (λ c. found_at nodes c n)))
+        ≡ refuse_if t (Refused NotDir) (with_some o (Refused NotFound) (λ c. found_at nodes c m))
+    on true o = refl
+    on false None = refl
+    on false (Some c) = found_by nodes c n m
+
+-- in two states with the same nodes a step by a handle on the same node is answered so
+pub same_open : (s t : State) (h k d : ℕ) (n : List ℕ) → t.nodes ≡ s.nodes → held s 0 h ≡ Some d → held t 0 k ≡ Some d
+    → is_full s 0 ≡ false → is_full t 0 ≡ false
+    → (outcome t 0 (Open k n)).answer ≡ at_number (length t.handles) (outcome s 0 (Open h n)).answer
+same_open s t h k d n same e1 e2 room1 room2 =
+    open_is t 0 k d n e2 room2
+    ∙ ap (λ nodes. entered nodes d (child nodes d n) (length t.handles)) same
+    ∙ sym (entered_by s.nodes d (child s.nodes d n) (length s.handles) (length t.handles))
+    ∙ ap (at_number (length t.handles)) (sym (open_is s 0 h d n e1 room1))
+
+pub same_parent : (s t : State) (h k d : ℕ) → t.nodes ≡ s.nodes → held s 0 h ≡ Some d → held t 0 k ≡ Some d
+    → is_full s 0 ≡ false → is_full t 0 ≡ false
+    → (outcome t 0 (Parent k)).answer ≡ at_number (length t.handles) (outcome s 0 (Parent h)).answer
+same_parent s t h k d same e1 e2 room1 room2 =
+    parent_is t 0 k d e2 room2
+    ∙ ap (λ nodes. entered nodes d (parent nodes d) (length t.handles)) same
+    ∙ sym (entered_by s.nodes d (parent s.nodes d) (length s.handles) (length t.handles))
+    ∙ ap (at_number (length t.handles)) (sym (parent_is s 0 h d e1 room1))
+
+-- ---- what is told
+
+reads_same : (s t : State) (o : Option Object) → (reads t o).answer ≡ (reads s o).answer
+reads_same s t None = refl
+reads_same s t (Some object.Dir) = refl
+reads_same s t (Some object.File) = refl
+reads_same s t (Some (object.Link text)) = refl
+
+shows_same : (s t : State) (o : Option (List (List ℕ))) → (shows t o).answer ≡ (shows s o).answer
+shows_same s t None = refl
+shows_same s t (Some names) = refl
+
+pub same_text : (s t : State) (h k d : ℕ) → t.nodes ≡ s.nodes → held s 0 h ≡ Some d → held t 0 k ≡ Some d
+    → (outcome t 0 (ReadLink k)).answer ≡ (outcome s 0 (ReadLink h)).answer
+same_text s t h k d same e1 e2 =
+    on_held t 0 k d (λ x. reads t (object_at t.nodes x)) e2
+    ∙ ap (λ nodes. (reads t (object_at nodes d)).answer) same
+    ∙ reads_same s t (object_at s.nodes d)
+    ∙ sym (on_held s 0 h d (λ x. reads s (object_at s.nodes x)) e1)
+
+pub same_place : (s t : State) (r k top d : ℕ) → t.nodes ≡ s.nodes → held t 0 r ≡ Some top → held t 0 k ≡ Some d
+    → (outcome t 0 (NameBelow r k)).answer ≡ (shows s (names_below s.nodes top d)).answer
+same_place s t r k top d same e1 e2 =
+    on_held t 0 r top (λ y. with_some (held t 0 k) (refused t BadHandle) (λ x. shows t (names_below t.nodes y x))) e1
+    ∙ on_held t 0 k d (λ x. shows t (names_below t.nodes top x)) e2
+    ∙ ap (λ nodes. (shows t (names_below nodes top d)).answer) same
+    ∙ shows_same s t (names_below s.nodes top d)
+
+pub same_close : (t : State) (k d : ℕ) → held t 0 k ≡ Some d → (outcome t 0 (Close k)).answer ≡ Done
+same_close t k d e =
+    on_held t 0 k d (λ x. record { answer = Done; after = record { nodes = t.nodes; handles = slice_set t.handles k None } }) e
+
+pub same_dup : (t : State) (k d : ℕ) (nodes : List Inode) → t.nodes ≡ nodes → held t 0 k ≡ Some d → is_full t 0 ≡ false
+    → object_at nodes d ≡ Some object.Dir → (outcome t 0 (Dup k)).answer ≡ Opened (length t.handles) d (kind_of object.Dir)
+same_dup t k d nodes same e room is =
+    dup_is t 0 k d e room
+    ∙ ap (λ o. with_some o (Refused NotFound) (λ what. Opened (length t.handles) d (kind_of what)))
+    (ap (λ ns. object_at ns d) same ∙ is)
+
+pub at_opened : (n h x : ℕ) (k : Kind) → at_number n (Opened h x k) ≡ Opened n x k
+unfolding at_number
+at_opened n h x k = refl
+
+pub at_refused : (n : ℕ) (error : Errno) → at_number n (Refused error) ≡ Refused error
+unfolding at_number
+at_refused n error = refl
+
+pub shows_tells : (s : State) (o : Option (List (List ℕ))) → only_tells (shows s o).answer ≡ true
+shows_tells s None = refl
+shows_tells s (Some names) = refl
+
+-- what was looked up with others
+pub passed_name : (t : State) (k d : ℕ) (name : List ℕ) (nodes : List Inode) (c : ℕ) (what : Object) → t.nodes ≡ nodes
+    → held t 0 k ≡ Some d → is_full t 0 ≡ false → is_dir nodes d ≡ true → child nodes d name ≡ Some c
+    → object_at nodes c ≡ Some what → (outcome t 0 (Open k name)).answer ≡ Opened (length t.handles) c (kind_of what)
+passed_name t k d name nodes c what same e room dir entry is =
+    open_is t 0 k d name e room
+    ∙ ap (λ ns. entered ns d (child ns d name) (length t.handles)) same
+    ∙ ap (λ o. entered nodes d o (length t.handles)) entry
+    ∙ ap (λ b. refuse_if (not b) (Refused NotDir) (found_at nodes c (length t.handles))) dir
+    ∙ ap (λ o. with_some o (Refused NotFound) (λ what. Opened (length t.handles) c (kind_of what))) is
+
+pub passed_up : (t : State) (k d : ℕ) (nodes : List Inode) (c : ℕ) → t.nodes ≡ nodes
+    → held t 0 k ≡ Some d → is_full t 0 ≡ false → is_dir nodes d ≡ true → parent nodes d ≡ Some c
+    → object_at nodes c ≡ Some object.Dir
+    → (outcome t 0 (Parent k)).answer ≡ Opened (length t.handles) c (kind_of object.Dir)
+passed_up t k d nodes c same e room dir above is =
+    parent_is t 0 k d e room
+    ∙ ap (λ ns. entered ns d (parent ns d) (length t.handles)) same
+    ∙ ap (λ o. entered nodes d o (length t.handles)) above
+    ∙ ap (λ b. refuse_if (not b) (Refused NotDir) (found_at nodes c (length t.handles))) dir
+    ∙ ap (λ o. with_some o (Refused NotFound) (λ what. Opened (length t.handles) c (kind_of what))) is

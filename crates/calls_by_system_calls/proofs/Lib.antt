@@ -1,0 +1,11 @@
+mod Woven
+mod Others
+mod Trees
+mod Moments
+mod Answers
+mod AtMoment
+mod Joining
+mod JoiningLines
+mod BySystemCalls
+mod Places
+mod WorkedRace

@@ -1,0 +1,45 @@
+-- A place for which Linux was asked was so at the moment of an answer.
+use Rattle.std.proofs.Common.{◌≡◌, ⊎_elim, ℕ, suc, ◌+◌, ◌<◌, Bool, true, List, length, Option, Some, None, reverse, sym, ap, ◌∙◌, subst, arith}
+use Rattle.std.proofs.lemmas.Bool.{false≢true}
+use Rattle.path_text.specs.Print.{names_read}
+use Rattle.tree_model.specs.declared.answer.Answer.TheVariants.{Names}
+use Rattle.tree_model.specs.State.{State, is_gone, names_below}
+use Rattle.tree_model.specs.Steps.{shows}
+use Rattle.step_resolver.proofs.Underway.AfterParent.{names_same}
+use Rattle.place_protocol.specs.Moments.{PlacesStood, StaysGone}
+use Rattle.calls_by_system_calls.specs.Linux.{Linux, state_at}
+use Rattle.calls_by_system_calls.specs.Places.{are_names, AskedPlacesStood, place_world}
+use Rattle.calls_by_system_calls.proofs.Moments.{at_next, longer_later}
+use Rattle.calls_by_system_calls.proofs.Trees.{gone_stays}
+
+shown : (s : State) (o told : Option (List (List ℕ))) (names : List (List ℕ)) → told ≡ Some names → are_names o told ≡ true
+    → (shows s o).answer ≡ Names names
+shown s None told names e is = absurd (false≢true is)
+shown s (Some below) None names e is = absurd (false≢true is)
+shown s (Some below) (Some told) names e is =
+    let same : told ≡ reverse below = names_same told (reverse below) is in
+    let read : told ≡ names = cc (e) in
+    ap Names (sym same ∙ read)
+
+stays_gone : (x : Linux) (m top node : ℕ) (passed : ℕ → List ℕ → Bool) (root object : ℕ → List ℕ)
+    → node < length (state_at x m).nodes → StaysGone (place_world x m top node passed root object)
+stays_gone x m top node passed root object within n gone =
+    let same : m + suc (n + 1) ≡ m + suc (suc n) = omega arith in
+    subst (λ (i : ℕ). is_gone (state_at x i).nodes node ≡ true) (sym same)
+    (subst (λ s. is_gone s.nodes node ≡ true) (sym (at_next x m (suc n)))
+    (gone_stays (state_at x (m + suc n)) (x.others (m + suc n)) node (longer_later x m (suc n) node within) gone))
+
+pub asked_places_stood : PlacesStood → AskedPlacesStood
+asked_places_stood stood x m calls top node answer linux within asked =
+    let w = place_world x m top node asked.passed asked.root asked.object in
+    let found = stood w asked.facts asked.kept asked.exchanges asked.place asked.is_root
+    (stays_gone x m top node asked.passed asked.root asked.object within) asked.says asked.texts asked.is asked.not_deleted in
+    let before : found.0 < calls = omega (arith, found.1, asked.all) in
+    let s = state_at x (m + suc found.0) in
+    record {
+      n = suc found.0;
+      by = omega (arith, before);
+      stood = asked.tells ∙ sym (⊎_elim
+          (λ is. shown s (names_below s.nodes top node) (names_read asked.place) asked.names asked.reads is)
+          (λ gone. absurd (false≢true (sym (asked.seen gone.0 found.0 before) ∙ gone.1))) found.2);
+    }

@@ -1,0 +1,133 @@
+-- The race, computed.
+use Rattle.std.proofs.Common.{◌≡◌, ◌≢◌, ⊎_elim, inl, inr, ℕ, zero, suc, Bool, true, false, if◌then◌else◌, List, [], ◌∷◌, length, refl, sym, subst, arith}
+use Rattle.std.specs.Prelude.{◌==◌}
+use Rattle.std.specs.List.{AllByRecursion}
+use Rattle.std.proofs.lemmas.Bool.{eqb-true, false≢true}
+use Rattle.tree_model.specs.declared.answer.Event.{Event}
+use Rattle.tree_model.specs.History.{IsLegal, after_events}
+use Rattle.tree_model.proofs.TreeTests.{IsState-from_test}
+use Rattle.step_calls.specs.History.{opens_directory, asks_links, asks_layers}
+use Rattle.step_calls.specs.declared.facts.Facts.{Facts}
+use Rattle.calls_by_system_calls.specs.Linux.{IsLinux, state_at}
+use Rattle.calls_by_system_calls.specs.Lines.{OpenIsMade, ParentIsMade}
+use Rattle.calls_by_system_calls.specs.WorkedRace.{move, race, race_nodes, race_opening, RaceIsMade}
+use Rattle.tree_model.specs.declared.answer.Answer.TheVariants.{Opened}
+use Rattle.tree_model.specs.declared.step.Kind.TheVariants as kind
+use Rattle.std.specs.Prelude.{codes}
+
+abbrev facts_of : ℕ → Facts
+facts_of what = record {
+  text = 0;
+  what = what;
+  mode = 0;
+  directory = true;
+  mount = false;
+  no_magic = false;
+  opened = false;
+  lived = false;
+  own_text = false;
+  was_read = false;
+  link = false;
+  second_name = false;
+}
+
+others_at : (P : ℕ → List Event → Type 0) → P 2 (move ∷ []) → ((n : ℕ) → P n []) → (n : ℕ) → P n (race.others n)
+others_at P at_two else_none n = by (n == 2) refl
+  where
+    by : (b : Bool) → (n == 2) ≡ b → P n (if b then move ∷ [] else [])
+    by true e = subst (λ (i : ℕ). P i (move ∷ [])) (sym (eqb-true n 2 e)) at_two
+    by false e = else_none n
+
+three : (n : ℕ) → length (state_at race n).handles ≡ 3
+three zero = refl
+three (suc n) =
+    others_at (λ i events. length (state_at race i).handles ≡ 3 → length (after_events (state_at race i) events).handles ≡ 3)
+    (λ e. refl) (λ i e. e) n (three n)
+
+linux : IsLinux race 0
+linux = record {
+  tree = IsState-from_test race_opening refl;
+  legal = others_at (λ n events. IsLegal (state_at race n) events) (refl, tt) (λ n. tt);
+  by_others = others_at (λ n events. AllByRecursion (λ (event : Event). event.actor ≢ 0) events) ((λ e. absurd (omega (arith, e))), tt) (λ n. tt);
+}
+
+opens_a : OpenIsMade race race_nodes 0 1 1 (codes "a") (Opened 51 51 kind.Dir)
+opens_a = record {
+  facts = facts_of 1;
+  history = opens_directory 0 ∷ [];
+  on = λ n. 2;
+  what = refl;
+  all = refl;
+  is = (refl, tt);
+  directory = refl;
+  says = (((λ e. record { entry = refl; is = refl }), (λ e. absurd (omega (arith, e)))), tt);
+  tells = (refl, refl, refl);
+}
+
+opens_b : OpenIsMade race race_nodes 1 1 2 (codes "b") (Opened 52 52 kind.Dir)
+opens_b = record {
+  facts = facts_of 1;
+  history = opens_directory 0 ∷ [];
+  on = λ n. 3;
+  what = refl;
+  all = refl;
+  is = (refl, tt);
+  directory = refl;
+  says = (((λ e. record { entry = refl; is = refl }), (λ e. absurd (omega (arith, e)))), tt);
+  tells = (refl, refl, refl);
+}
+
+opens_above : ParentIsMade race race_nodes 3 3 3 (Opened 53 53 kind.Dir)
+opens_above = record {
+  facts = facts_of 3;
+  history = asks_layers 0 61267 ∷ asks_links 0 2 ∷ opens_directory 0 ∷ [];
+  on = λ n. 9;
+  layered = false;
+  what = refl;
+  all = refl;
+  is = (refl, (refl, (refl, tt)));
+  directory = refl;
+  opened = λ e. absurd (false≢true e);
+  says = (
+    (refl, (λ e type. refl)),
+    (
+      (refl, (λ e. ((λ none. absurd (omega (arith, none))), (λ some. inr refl)))),
+      (((λ e. record { above = inr refl; is = refl }), (λ e. absurd (omega (arith, e)))), tt),
+    ),
+  );
+  lived = λ e n by. absurd (false≢true e);
+  could_ask = λ o. ⊎_elim (λ failed. failed refl) (λ none. absurd none) o;
+  tells = (refl, refl, refl);
+}
+
+pub race_is_made : RaceIsMade
+race_is_made = record {
+  linux = linux;
+  made = (
+    (omega arith, 1, refl, inl opens_a),
+    (
+      (omega arith, 2, refl, inl opens_b),
+      (
+        (2, refl, refl),
+        (
+          (omega arith, 3, refl, inl opens_above),
+          (
+            (3, refl, refl),
+            (
+              (1, 9, refl, refl, record { n = 0; by = omega arith; stood = refl }),
+              ((9, refl, refl), tt),
+            ),
+          ),
+        ),
+      ),
+    ),
+  );
+  differ = (
+    ((λ e. absurd (omega (arith, e))), ((λ e. absurd (omega (arith, e))), ((λ e. absurd (omega (arith, e))), tt))),
+    (
+      ((λ e. absurd (omega (arith, e))), ((λ e. absurd (omega (arith, e))), tt)),
+      (((λ e. absurd (omega (arith, e))), tt), (tt, tt)),
+    ),
+  );
+  few = λ n. omega (arith, three n);
+}

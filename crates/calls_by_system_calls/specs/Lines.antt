@@ -1,0 +1,210 @@
+-- A line of a call as a program makes it by system calls: a conversation of step_calls, each of whose answers says of
+-- the tree what the manual pages say; or one of several names that one system call passes.
+use Rattle.std.specs.Prelude.{◌≡◌, ◌≢◌, ◌⊎◌, ◌≤◌, ◌<◌, ℕ, suc, ◌+◌, ◌-◌, ◌==◌, List, [], ◌∷◌, Bool, true, false, if◌then◌else◌, Option, Some, None}
+use Rattle.std.specs.List.{AllByRecursion}
+use Rattle.path_text.specs.Errno.{number_of}
+use Rattle.tree_model.specs.declared.answer.Answer.{Answer}
+use Rattle.tree_model.specs.declared.answer.Answer.TheVariants as answers
+use Rattle.tree_model.specs.declared.inode.Object.{Object}
+use Rattle.tree_model.specs.declared.inode.Object.TheVariants as object
+use Rattle.tree_model.specs.declared.step.Kind.TheVariants as kind
+use Rattle.tree_model.specs.declared.step.StepOf.TheVariants as steps
+use Rattle.tree_model.specs.State.{child, is_dir, names_below, object_at, parent}
+use Rattle.tree_model.specs.Steps.{kind_of, shows}
+use Rattle.tree_model.specs.StepWith.{StepWith}
+use Rattle.step_calls.specs.History.{next_after, Exchange, IsHistory, Next}
+use Rattle.step_calls.specs.Moments.{moment, number_of_kind, AreAnswers, CouldNotAsk, IsNoLink, IsThere, LinkSays, OpenSays, OpensAbove, ParentSays, World}
+use Rattle.step_calls.specs.declared.course.TheConstants.{OPENED, TEXT, REFUSED}
+use Rattle.step_calls.specs.declared.facts.Facts.{Facts}
+use Rattle.step_calls.specs.declared.facts.TheConstants.{OPEN, PARENT, READ_TEXT}
+use Rattle.step_resolver.specs.Order.{Line, answered, no_room, not_made}
+use Rattle.calls_by_system_calls.specs.Linux.{Linux, state_at}
+
+-- ---- descriptors
+
+-- How many handles the program has open; and on which node each of the call's own is, by the program's number of it.
+pub record Descriptors : Type 0 where
+  pub count : ℕ
+  pub on : ℕ → Option ℕ
+
+-- openat(2): one more; close(2): one less
+abbrev pub with_opened : Descriptors → ℕ → ℕ → Descriptors
+with_opened table h node = record { count = suc table.count; on = λ k. if k == h then Some node else table.on k }
+
+abbrev pub with_closed : Descriptors → ℕ → Descriptors
+with_closed table h = record { count = table.count - 1; on = λ k. if k == h then None else table.on k }
+
+-- getrlimit(2): the model's limit, which a program with fewer open doesn't meet
+abbrev pub HasRoom : Descriptors → Type 0
+HasRoom table = table.count < 1024
+
+-- ---- one step's conversation
+
+-- The tree from moment m on as a step's conversation has it, whose descriptor is open on the node. That handle is the
+-- only one there, since what a step is answered depends on no other.
+abbrev pub world : Linux → ℕ → ℕ → List ℕ → (ℕ → ℕ) → List ℕ → World
+world x m node name on text = record {
+  states = λ n.
+      record { nodes = (state_at x (m + n)).nodes; handles = Some (record { actor = 0; node = node }) ∷ [] };
+  actor = 0;
+  handle = 0;
+  node = node;
+  name = name;
+  on = on;
+  text = text;
+}
+
+-- The program tells what was opened by its own number for that node, with its kind; and a refusal by its error.
+abbrev pub TellsOpened : (ℕ → ℕ) → ℕ → Next → Answer → Type 0
+TellsOpened nodes on due (answers.Opened h x k) = (due.next ≡ OPENED) × (due.kind ≡ number_of_kind k) × (nodes x ≡ on)
+TellsOpened nodes on due (answers.Refused error) = (due.next ≡ REFUSED) × (due.error ≡ number_of error)
+TellsOpened nodes on due answer = ⊥
+
+-- what is above is a directory
+abbrev pub TellsAbove : (ℕ → ℕ) → ℕ → Next → Answer → Type 0
+TellsAbove nodes on due (answers.Opened h x k) = (due.next ≡ OPENED) × (k ≡ kind.Dir) × (nodes x ≡ on)
+TellsAbove nodes on due (answers.Refused error) = (due.next ≡ REFUSED) × (due.error ≡ number_of error)
+TellsAbove nodes on due answer = ⊥
+
+abbrev pub TellsText : List ℕ → Next → Answer → Type 0
+TellsText text due (answers.Text bytes) = (due.next ≡ TEXT) × (bytes ≡ text)
+TellsText text due (answers.Refused error) = (due.next ≡ REFUSED) × (due.error ≡ number_of error)
+TellsText text due answer = ⊥
+
+-- Open of a name: a conversation of so many system calls from moment m on
+pub record OpenIsMade (x : Linux) (nodes : ℕ → ℕ) (m calls dir : ℕ) (name : List ℕ) (answer : Answer) : Type 0 where
+  pub facts : Facts
+  pub history : List Exchange
+  pub on : ℕ → ℕ
+  pub what : facts.what ≡ OPEN
+  pub all : moment history ≡ calls
+  pub is : IsHistory facts history
+  -- openat(2): of what is no directory the errors are others (ENOTDIR)
+  pub directory : is_dir (state_at x m).nodes dir ≡ true
+  pub says : AreAnswers (OpenSays (world x m dir name on [])) history
+  pub tells : TellsOpened nodes (on (moment history)) (next_after facts history) answer
+
+-- Parent of a directory. `parents_stood` has three exceptions; here they are supposed not to be met: a child that isn't
+-- asked whether it is there, since it had an entry at the step before, is there still; and its file system, and a
+-- directory of overlayfs, could be asked.
+pub record ParentIsMade (x : Linux) (nodes : ℕ → ℕ) (m calls dir : ℕ) (answer : Answer) : Type 0 where
+  pub facts : Facts
+  pub history : List Exchange
+  pub on : ℕ → ℕ
+  pub layered : Bool
+  pub what : facts.what ≡ PARENT
+  pub all : moment history ≡ calls
+  pub is : IsHistory facts history
+  pub directory : is_dir (state_at x m).nodes dir ≡ true
+  pub opened : facts.opened ≡ true → OpensAbove (world x m dir [] on []) 0
+  pub says : AreAnswers (ParentSays (world x m dir [] on []) layered) history
+  pub lived : facts.lived ≡ true → (n : ℕ) → n ≤ calls → IsThere (world x m dir [] on []) n
+  pub could_ask : CouldNotAsk history → ⊥
+  pub tells : TellsAbove nodes (on (moment history)) (next_after facts history) answer
+
+-- ReadLink of a link
+pub record TextIsRead (x : Linux) (m calls link : ℕ) (answer : Answer) : Type 0 where
+  pub facts : Facts
+  pub history : List Exchange
+  pub text : List ℕ
+  pub what : facts.what ≡ READ_TEXT
+  pub all : moment history ≡ calls
+  pub is : IsHistory facts history
+  pub was_read : facts.was_read ≡ true → object_at (state_at x m).nodes link ≡ Some (object.Link text)
+  pub none : facts.link ≡ false → IsNoLink (world x m link [] (λ n. 0) text)
+  pub says : AreAnswers (LinkSays (world x m link [] (λ n. 0) text)) history
+  pub tells : TellsText text (next_after facts history) answer
+
+-- Open of a name by a look-up of several at once (openat2(2), RESOLVE_NO_SYMLINKS): path_resolution(7), the kernel
+-- looks names up one after another, each in the directory that the one before gave. At one of the moments the object
+-- was this name's. The moments are counted as for a conversation, and lie within the system call.
+abbrev pub NameIsPassed : Linux → (ℕ → ℕ) → ℕ → ℕ → ℕ → List ℕ → Answer → Type 0
+NameIsPassed x nodes m calls dir name (answers.Opened h y k) =
+    (n : ℕ) × (n ≤ calls) × (what : Object) × (is_dir (state_at x (m + n)).nodes dir ≡ true)
+    × (child (state_at x (m + n)).nodes dir name ≡ Some (nodes y))
+    × (object_at (state_at x (m + n)).nodes (nodes y) ≡ Some what) × (k ≡ kind_of what)
+NameIsPassed x nodes m calls dir name answer = ⊥
+
+-- the same of `..` at the end of such a look-up
+abbrev pub UpIsPassed : Linux → (ℕ → ℕ) → ℕ → ℕ → ℕ → Answer → Type 0
+UpIsPassed x nodes m calls dir (answers.Opened h y k) =
+    (n : ℕ) × (n ≤ calls) × (is_dir (state_at x (m + n)).nodes dir ≡ true)
+    × (parent (state_at x (m + n)).nodes dir ≡ Some (nodes y))
+    × (object_at (state_at x (m + n)).nodes (nodes y) ≡ Some object.Dir) × (k ≡ kind.Dir)
+UpIsPassed x nodes m calls dir answer = ⊥
+
+-- Dup of a directory: the new descriptor is open on the same node (openat(2) of `.`; or the program shares the old one)
+abbrev pub DupIsMade : Linux → (ℕ → ℕ) → ℕ → ℕ → Answer → Type 0
+DupIsMade x nodes m dir (answers.Opened h y k) =
+    (object_at (state_at x m).nodes dir ≡ Some object.Dir) × (k ≡ kind.Dir) × (nodes y ≡ dir)
+DupIsMade x nodes m dir answer = ⊥
+
+-- NameBelow, for which Linux has no one system call: its answer is what stood at one of the moments (a premise)
+pub record PlaceIsTold (x : Linux) (m calls top node : ℕ) (answer : Answer) : Type 0 where
+  pub n : ℕ
+  pub by : n ≤ calls
+  pub stood : answer ≡ (shows (state_at x (m + n)) (names_below (state_at x (m + n)).nodes top node)).answer
+
+-- By the descriptors that the program has. What changes entries, or lists them, isn't looked at here.
+abbrev pub StepIsMade : Linux → (ℕ → ℕ) → ℕ → Descriptors → ℕ → StepWith ℕ → Answer → Type 0
+StepIsMade x nodes m table calls (steps.Open h name) answer =
+    HasRoom table × (dir : ℕ) × (table.on h ≡ Some dir)
+    × (OpenIsMade x nodes m calls dir name answer ⊎ NameIsPassed x nodes m calls dir name answer)
+StepIsMade x nodes m table calls (steps.Dup h) answer =
+    HasRoom table × (dir : ℕ) × (table.on h ≡ Some dir) × DupIsMade x nodes m dir answer
+StepIsMade x nodes m table calls (steps.Parent h) answer =
+    HasRoom table × (dir : ℕ) × (table.on h ≡ Some dir)
+    × (ParentIsMade x nodes m calls dir answer ⊎ UpIsPassed x nodes m calls dir answer)
+StepIsMade x nodes m table calls (steps.ReadLink h) answer =
+    (link : ℕ) × (table.on h ≡ Some link) × TextIsRead x m calls link answer
+StepIsMade x nodes m table calls (steps.NameBelow r h) answer =
+    (top node : ℕ) × (table.on r ≡ Some top) × (table.on h ≡ Some node) × PlaceIsTold x m calls top node answer
+StepIsMade x nodes m table calls (steps.Close h) answer =
+    (node : ℕ) × (table.on h ≡ Some node) × (answer ≡ answers.Done)
+StepIsMade x nodes m table calls step answer = ⊥
+
+-- ---- line by line
+
+-- a step that wasn't made is no event, whatever the system calls gave
+abbrev pub LineIsMade : Linux → (ℕ → ℕ) → ℕ → Descriptors → ℕ → Line → Type 0
+LineIsMade x nodes m table calls (answered step answer) = StepIsMade x nodes m table calls step answer
+LineIsMade x nodes m table calls (no_room step answer) = StepIsMade x nodes m table calls step answer
+LineIsMade x nodes m table calls (not_made error) = Unit {0}
+
+abbrev pub after_step : (ℕ → ℕ) → Descriptors → StepWith ℕ → Answer → Descriptors
+after_step nodes table step (answers.Opened h x k) = with_opened table h (nodes x)
+after_step nodes table (steps.Close h) answer = with_closed table h
+after_step nodes table step answer = table
+
+abbrev pub after_line : (ℕ → ℕ) → Descriptors → Line → Descriptors
+after_line nodes table (answered step answer) = after_step nodes table step answer
+after_line nodes table (no_room step answer) = after_step nodes table step answer
+after_line nodes table (not_made error) = table
+
+-- The lines of a call, one after another from moment m on, and how many system calls each of them took.
+abbrev pub AreMade : Linux → (ℕ → ℕ) → ℕ → Descriptors → List Line → List ℕ → Type 0
+AreMade x nodes m table [] [] = Unit {0}
+AreMade x nodes m table (line ∷ lines) (calls ∷ counts) =
+    LineIsMade x nodes m table calls line
+    × AreMade x nodes (m + calls) (after_line nodes table line) lines counts
+AreMade x nodes m table lines counts = ⊥
+
+-- ---- numbers
+
+-- the numbers of the handles that are opened, in their order
+abbrev pub number_opened : Answer → List ℕ → List ℕ
+number_opened (answers.Opened h x k) hs = h ∷ hs
+number_opened answer hs = hs
+
+abbrev pub numbers_opened : List Line → List ℕ
+numbers_opened [] = []
+numbers_opened (answered step answer ∷ lines) = number_opened answer (numbers_opened lines)
+numbers_opened (no_room step answer ∷ lines) = number_opened answer (numbers_opened lines)
+numbers_opened (not_made error ∷ lines) = numbers_opened lines
+
+abbrev pub IsNoneOf : ℕ → List ℕ → Type 0
+IsNoneOf h hs = AllByRecursion (λ k. k ≢ h) hs
+
+abbrev pub AllDiffer : List ℕ → Type 0
+AllDiffer [] = Unit {0}
+AllDiffer (h ∷ hs) = IsNoneOf h hs × AllDiffer hs
