@@ -1,0 +1,5 @@
+use Rattle.ask_place.proofs.HistoryLemmas.{fails}
+use Rattle.ask_place.proofs.laws.why_it_fails.Goals as goal
+
+pub returns : goal.returns
+returns c = fails

@@ -1,0 +1,4 @@
+pub mod Asking
+pub mod History
+pub mod Promises
+pub mod Questions

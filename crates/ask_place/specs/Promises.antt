@@ -1,0 +1,83 @@
+-- What holds of every history.
+use Rattle.std.specs.Prelude.{◌≡◌, ℕ, List, [], ◌∷◌, ◌==◌, Bool, true, false, not, ◌&&◌, ◌||◌, if◌then◌else◌}
+use Rattle.system_calls.specs.Objects.{is_same_object}
+use Rattle.system_calls.specs.Tries.{EAGAIN}
+use Rattle.system_calls.specs.declared.objects.Object.{Object}
+use Rattle.ask_place.specs.History.{is_directory_after, is_nameless_after, object_after, Exchange, Next, ENOENT}
+use Rattle.ask_place.specs.declared.asking.Facts.{Facts}
+use Rattle.ask_place.specs.declared.asking.TheConstants.{LOOK, COPY, FIND, LOOK_UP, DEAD, CLOSE, ENDS, FAILS}
+
+-- ---- descriptors
+
+-- whether the copy is open
+abbrev pub open_by : Exchange → Bool → Bool
+open_by e was = if e.asked == COPY then e.gave.error == 0 else (if e.asked == CLOSE then false else was)
+
+abbrev pub is_open_after : List Exchange → Bool
+is_open_after [] = false
+is_open_after (e ∷ older) = open_by e (is_open_after older)
+
+abbrev pub needs_open : Facts → Next → Bool
+needs_open f n =
+    ((n.next == FIND) || ((n.next == LOOK_UP) || ((n.next == DEAD) || (n.next == CLOSE))))
+    || ((n.next == ENDS) && f.keeps)
+
+abbrev pub is_over : ℕ → Bool
+is_over next = (next == ENDS) || (next == FAILS)
+
+-- ---- what was found
+
+-- names were found
+abbrev pub is_found_after : List Exchange → Bool
+is_found_after [] = false
+is_found_after (e ∷ older) =
+    if e.asked == FIND then (e.gave.error == 0) && not (e.gave.length == 0) else is_found_after older
+
+-- a text alone may have told them
+abbrev pub is_alone_after : List Exchange → Bool
+is_alone_after [] = false
+is_alone_after (e ∷ older) = if e.asked == FIND then e.gave.yes else is_alone_after older
+
+-- they led to the object
+abbrev pub is_led_after : List Exchange → Bool
+is_led_after [] = false
+is_led_after (e ∷ older) =
+    if e.asked == FIND then false
+    else (if e.asked == LOOK_UP then (e.gave.error == 0) && is_same_object (object_after older) e.gave.object false
+    else is_led_after older)
+
+pub record IsFound (f : Facts) (history : List Exchange) : Type 0 where
+  pub found : is_found_after history ≡ true
+  pub led : is_alone_after history ≡ true → is_directory_after f history ≡ false → is_led_after history ≡ true
+
+-- ---- errors
+
+abbrev pub gone_error : Bool → ℕ
+gone_error gone = if gone then ENOENT else EAGAIN
+
+-- of what has no place, unless it is a directory: then it is asked about that
+abbrev pub missing_error : Bool → Bool → ℕ
+missing_error directory nameless = if directory then 0 else gone_error nameless
+
+abbrev pub find_error : ℕ → ℕ → Bool → Bool → ℕ
+find_error error length directory nameless =
+    if not (error == 0) && not (error == EAGAIN) then error
+    else (if not (error == 0) || (length == 0) then missing_error directory nameless else 0)
+
+abbrev pub error_of : Exchange → Object → Bool → Bool → ℕ
+error_of e object directory nameless =
+    if (e.asked == LOOK) || (e.asked == COPY) then e.gave.error
+    else (if e.asked == FIND then find_error e.gave.error e.gave.length directory nameless
+    else (if e.asked == LOOK_UP
+    then (if (e.gave.error == 0) && is_same_object object e.gave.object false then 0
+    else missing_error directory nameless)
+    else (if e.asked == DEAD then gone_error (e.gave.yes || nameless) else 0)))
+
+abbrev pub latest : ℕ → ℕ → ℕ
+latest error before = if error == 0 then before else error
+
+-- the last one
+abbrev pub why_after : Facts → List Exchange → ℕ
+why_after f [] = 0
+why_after f (e ∷ older) =
+    latest (error_of e (object_after older) (is_directory_after f older) (is_nameless_after older)) (why_after f older)

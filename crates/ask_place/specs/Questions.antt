@@ -1,0 +1,36 @@
+-- How often a place is asked for, and the error of a descriptor that must be of a directory.
+use Rattle.std.specs.Prelude.{ℕ, ◌==◌, Bool, ◌&&◌, if◌then◌else◌, nat_le, nat_lt}
+use Rattle.system_calls.specs.Objects.{format, S_IFDIR}
+use Rattle.system_calls.specs.Tries.{EAGAIN}
+use Rattle.ask_place.specs.declared.questions.Question.{Question}
+
+-- numbers of errno(3)
+abbrev pub EXDEV : ℕ
+EXDEV = 18
+
+abbrev pub ENOTDIR : ℕ
+ENOTDIR = 20
+
+abbrev pub ERANGE : ℕ
+ERANGE = 34
+
+-- so often at most
+abbrev pub MOST : ℕ
+MOST = 8
+
+abbrev pub is_again : ℕ → ℕ → Bool
+is_again asked error = (error == EAGAIN) && nat_lt asked MOST
+
+-- The names and a NUL have no room (getcwd(2)). What nobody finds in so many questions is outside.
+abbrev pub error_after : ℕ → ℕ → ℕ → ℕ → ℕ
+error_after asked error length size =
+    if is_again asked error then 0
+    else (if error == EAGAIN then EXDEV else (if (error == 0) && nat_le size length then ERANGE else error))
+
+abbrev pub next_question : ℕ → ℕ → ℕ → ℕ → Question
+next_question asked error length size =
+    record { error = error_after asked error length size; again = is_again asked error }
+
+-- openat(2) below what is no directory says the same
+abbrev pub directory_error : ℕ → ℕ → ℕ
+directory_error error mode = if error == 0 then (if format mode == S_IFDIR then 0 else ENOTDIR) else error

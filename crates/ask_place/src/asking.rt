@@ -1,0 +1,229 @@
+//! How far a question for an object's place has come, and what comes next.
+ghost use Rattle.std.specs.Prelude.{◌≡◌, List, [], ◌∷◌, ◌==◌, true, false};
+ghost use Rattle.ask_place.specs.History.{after_copy, after_find, after_look, after_look_up, is_question, lost, missing, over, told, Exchange};
+ghost use Rattle.ask_place.specs.Asking.{due_of, exchange, IsAt, Same};
+
+use system_calls::{Object, is_same_object};
+
+/// The object is looked at: statx(2), or fstat(2).
+pub const LOOK: u8 = 1;
+
+/// The descriptor is copied: fcntl(2) with F_DUPFD_CLOEXEC. A look-up may put its own in the copy's place.
+pub const COPY: u8 = 2;
+
+/// It is found out at which names below the root the object stands (`place_protocol`).
+pub const FIND: u8 = 3;
+
+/// It is looked at what these names lead to, in the thread's own root directory: statx(2), or fstatat(2).
+pub const LOOK_UP: u8 = 4;
+
+/// It is asked whether the directory was removed.
+pub const DEAD: u8 = 5;
+
+/// The copy is closed.
+pub const CLOSE: u8 = 6;
+
+/// Nothing comes: the object stands at the names that were found.
+pub const ENDS: u8 = 7;
+
+/// Nothing comes: it failed by an error.
+pub const FAILS: u8 = 8;
+
+const ENOENT: u32 = 2;
+
+const EAGAIN: u32 = 11;
+
+/// What is known before the first question.
+#[repr(C)]
+#[derive(Clone, Copy, Debug, PartialEq, Eq)]
+pub struct Facts {
+    /// The object is known to be a directory.
+    pub directory: bool,
+    /// The copy stays open where the place is told.
+    pub keeps: bool,
+}
+
+/// What a question was answered.
+#[repr(C)]
+#[derive(Clone, Copy, Debug, PartialEq, Eq)]
+pub struct Answer {
+    /// At LOOK and LOOK_UP: which object it is.
+    pub object: Object,
+    /// At LOOK: how many names it has.
+    pub links: u64,
+    /// At FIND: how long the names are, a slash before each; 0 if it doesn't stand below the root.
+    pub length: usize,
+    /// 0, or the number of an error (errno(3)).
+    pub error: u32,
+    /// At LOOK: it is a directory. At DEAD: it was removed. At FIND: the thread is in a jail, and has no openat2(2),
+    /// so that a text alone may have told the names.
+    pub yes: bool,
+}
+
+/// How far it has come. C keeps it.
+#[repr(C)]
+#[derive(Clone, Copy, Debug, PartialEq, Eq)]
+pub struct Asking {
+    /// The object that was looked at.
+    pub object: Object,
+    /// If it is FAILS, the number of the error (errno(3)). At CLOSE, the one by which it fails then, or 0.
+    pub error: u32,
+    /// What comes next: one of the numbers above.
+    pub next: u8,
+    /// The object is a directory.
+    pub directory: bool,
+    /// It had no name left as it was looked at.
+    pub nameless: bool,
+}
+
+fn asks(asking: Asking, next: u8, error: u32) -> Asking
+    ensures { result ≡ record asking { next = next; error = error } }
+{
+    Asking {
+        next,
+        error,
+        ..asking
+    }
+}
+
+fn over(asking: Asking, error: u32) -> Asking
+    ensures due { due_of result ≡ over error }
+    ensures same { Same asking result }
+{
+    asks(asking, if error == 0 { ENDS } else { FAILS }, error)
+}
+
+// The names are the object's place.
+fn told(asking: Asking, facts: &Facts) -> Asking
+    ensures due { due_of result ≡ told facts.now }
+    ensures same { Same asking result }
+{
+    if facts.keeps {
+        over(asking, 0)
+    } else {
+        asks(asking, CLOSE, 0)
+    }
+}
+
+// Nothing tells a place: the object was removed, or is outside, or others move it.
+fn lost(asking: Asking, gone: bool) -> Asking
+    ensures due { due_of result ≡ lost gone }
+    ensures same { Same asking result }
+{
+    asks(asking, CLOSE, if gone { ENOENT } else { EAGAIN })
+}
+
+fn missing(asking: Asking) -> Asking
+    ensures due { due_of result ≡ missing asking.directory asking.nameless }
+    ensures same { Same asking result }
+{
+    if asking.directory {
+        asks(asking, DEAD, 0)
+    } else {
+        lost(asking, asking.nameless)
+    }
+}
+
+fn after_look(asking: Asking, answer: &Answer) -> Asking
+    ensures due { due_of result ≡ after_look answer.now.error }
+    ensures directory { result.directory ≡ answer.now.yes }
+    ensures nameless { result.nameless ≡ (answer.now.links == 0) }
+    ensures object { result.object ≡ answer.now.object }
+{
+    let looked = Asking {
+        object: answer.object,
+        directory: answer.yes,
+        nameless: answer.links == 0,
+        ..asking
+    };
+    if answer.error == 0 {
+        asks(looked, COPY, 0)
+    } else {
+        asks(looked, FAILS, answer.error)
+    }
+}
+
+fn after_copy(asking: Asking, error: u32) -> Asking
+    ensures due { due_of result ≡ after_copy error }
+    ensures same { Same asking result }
+{
+    if error == 0 {
+        asks(asking, FIND, 0)
+    } else {
+        asks(asking, FAILS, error)
+    }
+}
+
+fn after_find(asking: Asking, facts: &Facts, answer: &Answer) -> Asking
+    ensures due { due_of result
+        ≡ after_find facts.now answer.now.error answer.now.length answer.now.yes asking.directory asking.nameless }
+    ensures same { Same asking result }
+{
+    if answer.error != 0 && answer.error != EAGAIN {
+        asks(asking, CLOSE, answer.error)
+    } else if answer.error != 0 || answer.length == 0 {
+        missing(asking)
+    } else if answer.yes && !asking.directory {
+        asks(asking, LOOK_UP, 0)
+    } else {
+        told(asking, facts)
+    }
+}
+
+fn after_look_up(asking: Asking, facts: &Facts, error: u32, same: bool) -> Asking
+    ensures due { due_of result ≡ after_look_up facts.now error same asking.directory asking.nameless }
+    ensures same { Same asking result }
+{
+    if error == 0 && same {
+        told(asking, facts)
+    } else {
+        missing(asking)
+    }
+}
+
+/// Begins to ask for an object's place. Takes no memory.
+pub fn begin(facts: &Facts) -> Asking
+    ensures { IsAt facts.now [] result }
+{
+    Asking {
+        object: Object {
+            device: 0,
+            inode: 0,
+            mount: 0,
+        },
+        error: 0,
+        next: if facts.directory { COPY } else { LOOK },
+        directory: facts.directory,
+        nameless: false,
+    }
+}
+
+/// Takes what the last demand gave, and says what comes next. The answer's error is 0, or the system call's
+/// (errno(3)); of FIND, 0 or the error for which the place could not be found out; of CLOSE it isn't looked at. Where
+/// nothing comes any more, nothing changes. Takes no memory.
+///
+/// It looks at the object, unless that is known to be a directory, copies the descriptor, and asks for the names. If
+/// a text alone may have told them, and the object is no directory, they must lead to this object.
+///
+/// Errors: ENOENT (2) of what has no place and was removed; EAGAIN (11) of anything else that has none; any other one
+/// of the last demand.
+pub fn next(asking: Asking, facts: &Facts, answer: &Answer) -> Asking
+    ensures goes { (history : List Exchange) → IsAt facts.now history asking → is_question asking.next ≡ true
+        → IsAt facts.now (exchange asking answer.now ∷ history) result }
+    ensures over { is_question asking.next ≡ false → result ≡ asking }
+{
+    match asking.next {
+        LOOK => after_look(asking, answer),
+        COPY => after_copy(asking, answer.error),
+        FIND => after_find(asking, facts, answer),
+        LOOK_UP => after_look_up(
+            asking,
+            facts,
+            answer.error,
+            is_same_object(&asking.object, &answer.object, false),
+        ),
+        DEAD => lost(asking, answer.yes || asking.nameless),
+        CLOSE => over(asking, asking.error),
+        _ => asking,
+    }
+}

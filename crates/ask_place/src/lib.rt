@@ -1,0 +1,19 @@
+//! Which system call comes next as a program asks where an object stands of which it has a descriptor, by what those
+//! before gave; how often it asks; and whether a descriptor is of a directory.
+//!
+//! A C driver makes the calls, one at a time, and hands over what a call gave. No function makes a system call or takes
+//! memory.
+#![tactic(auto)]
+
+mod asking;
+mod laws;
+mod questions;
+
+pub use asking::{
+    Answer, Asking, CLOSE, COPY, DEAD, ENDS, FAILS, FIND, Facts, LOOK, LOOK_UP, begin, next,
+};
+pub use laws::{
+    calls_are_few, questions_are_few, the_copy_is_closed_once_or_kept, what_is_there_is_told,
+    what_is_told_was_found, why_it_fails,
+};
+pub use questions::{Question, directory_error, next_question};

@@ -1,0 +1,4 @@
+pub mod BeginningLemmas
+pub mod FewLemmas
+pub mod SearchLemmas
+pub mod Turns
