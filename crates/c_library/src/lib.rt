@@ -1,6 +1,6 @@
 //! The functions by which a C program makes calls: a static library of the exports of `c_protocol`, `step_calls`,
 //! `place_protocol`, `open_or_make`, `make_through_links`, `remove_by_calls`, `look_ups`, `list_directory`,
-//! `call_course`, `kernel_text` and `system_calls`.
+//! `call_course`, `ask_place`, `give_entry`, `open_partial`, `kernel_text` and `system_calls`.
 //!
 //! Each export is the function of that name of one of these, with its clauses. What a C program owes is said in
 //! `host/calls.h`: what is kept is empty (zero) before the first call, and is left alone between two turns.
@@ -14,6 +14,7 @@ ghost use Rattle.c_protocol.specs.FollowedAtOnce.{follows_at_once};
 ghost use Rattle.c_protocol.specs.Left.{IsLeft};
 ghost use Rattle.c_protocol.specs.Runs.{ComeNext, IsRun};
 ghost use Rattle.c_protocol.specs.Split.{IsParted};
+ghost use Rattle.c_protocol.specs.Through.{begins_through, ends_through, goes_through, rises_through};
 ghost use Rattle.c_protocol.specs.Turns.{call_of, IsBegun, IsNext, IsTold};
 ghost use Rattle.place_protocol.specs.Told.{begun, facts_after_number, question_of, TellsNext};
 ghost use Rattle.place_protocol.specs.Texts.{texts_of};
@@ -26,7 +27,9 @@ ghost use Rattle.system_calls.specs.Objects.{is_node, is_same_object, kind_of};
 ghost use Rattle.system_calls.specs.Opening.{opening_of, reopen_flags};
 ghost use Rattle.system_calls.specs.Tries.{next_try};
 
+mod askings;
 mod calls;
+mod entries;
 mod listings;
 mod looks;
 mod removals;
@@ -141,6 +144,47 @@ pub extern "C" fn inroot_follows_at_once(asked: &Asked, path: &[u8]) -> bool
     ensures { result ≡ follows_at_once asked.now path.now }
 {
     c_protocol::follows_at_once(asked, path)
+}
+
+/// Whether a call may go on a path by names and links alone: `c_protocol::begins_through`.
+#[unsafe(no_mangle)]
+pub extern "C" fn inroot_begins_through(asked: &Asked, path: &[u8], whole: &[u8]) -> bool
+    ensures { result ≡ begins_through asked.now path.now whole.now }
+{
+    c_protocol::begins_through(asked, path, whole)
+}
+
+/// Whether a call goes on so behind a link: `c_protocol::goes_through`.
+#[unsafe(no_mangle)]
+pub extern "C" fn inroot_goes_through(
+    asked: &Asked,
+    links: usize,
+    whole: &[u8],
+    at: usize,
+    start: usize,
+    end: usize,
+    text: &[u8],
+    next: &[u8],
+) -> bool
+    ensures { result ≡ goes_through asked.now links (record { path = whole.now; at = at }) start end text.now next.now }
+{
+    c_protocol::goes_through(asked, links, whole, at, start, end, text, next)
+}
+
+/// Whether a call goes on so above: `c_protocol::rises_through`.
+#[unsafe(no_mangle)]
+pub extern "C" fn inroot_rises_through(whole: &[u8], at: usize, place: &[u8], next: &[u8]) -> bool
+    ensures { result ≡ rises_through (record { path = whole.now; at = at }) place.now next.now }
+{
+    c_protocol::rises_through(whole, at, place, next)
+}
+
+/// Whether a call ends so: `c_protocol::ends_through`.
+#[unsafe(no_mangle)]
+pub extern "C" fn inroot_ends_through(whole: &[u8], at: usize, kind: u8, place: &[u8]) -> bool
+    ensures { result ≡ ends_through (record { path = whole.now; at = at }) kind place.now }
+{
+    c_protocol::ends_through(whole, at, kind, place)
 }
 
 /// Where the last name of a path stands in it, or why it has none: `c_protocol::split`.

@@ -55,7 +55,7 @@ reprinted_more false b bs [] e h = cc (h)
 reprinted_more false b bs (p ∷ ps) e h = cc (h)
 
 -- what stands between slashes, with a slash before each
-reprinted : (text : List ℕ) → after_slashes (between_slashes text) ≡ SLASH ∷ text
+pub reprinted : (text : List ℕ) → after_slashes (between_slashes text) ≡ SLASH ∷ text
 reprinted [] = refl
 reprinted (b ∷ bs) = reprinted_more (b == SLASH) b bs (between_slashes bs) refl (reprinted bs)
 
@@ -70,14 +70,14 @@ no_names true h = cc (h)
 no_names false h = cc (h)
 
 -- a slash, and names between slashes
-record IsPlace (place : List ℕ) (names : List (List ℕ)) : Type 0 where
-  first : ℕ
-  text : List ℕ
-  is : place ≡ SLASH ∷ first ∷ text
-  pieces : between_slashes (first ∷ text) ≡ names
-  valid : list_all is_name names ≡ true
+pub record IsPlace (place : List ℕ) (names : List (List ℕ)) : Type 0 where
+  pub first : ℕ
+  pub text : List ℕ
+  pub is : place ≡ SLASH ∷ first ∷ text
+  pub pieces : between_slashes (first ∷ text) ≡ names
+  pub valid : list_all is_name names ≡ true
 
-placed : (place : List ℕ) (names : List (List ℕ)) → has_names (names_read place) ≡ true → names_read place ≡ Some names → IsPlace place names
+pub placed : (place : List ℕ) (names : List (List ℕ)) → has_names (names_read place) ≡ true → names_read place ≡ Some names → IsPlace place names
 placed [] names some is = cc (some)
 placed (b ∷ []) names some is = absurd (no_names (b == SLASH) some)
 placed (b ∷ c ∷ text) names some is =
@@ -90,7 +90,7 @@ placed (b ∷ c ∷ text) names some is =
       valid = ap (list_all is_name) (sym all.2) ∙ all.1;
     }
 
-no_fault : (fault : Option Errno) → is_none fault ≡ true → fault ≡ None
+pub no_fault : (fault : Option Errno) → is_none fault ≡ true → fault ≡ None
 no_fault None h = refl
 no_fault (Some error) h = cc (h)
 
@@ -99,7 +99,7 @@ short_if true true h = cc (h)
 short_if true false h = refl
 short_if false long h = cc (h)
 
-short : (name : List ℕ) → is_name name ≡ true → is_too_long name ≡ false
+pub short : (name : List ℕ) → is_name name ≡ true → is_too_long name ≡ false
 short name h = short_if (is_component name) (nat_lt NAME_MAX (length name)) h
 
 -- ---- from name to name
@@ -110,18 +110,18 @@ asked_more f n [] last = refl
 asked_more f n (p ∷ ps) last = refl
 
 -- the names passed, the innermost first
-abbrev onto : List Passed → Passed → List (List ℕ) → List (List ℕ)
+abbrev pub onto : List Passed → Passed → List (List ℕ) → List (List ℕ)
 onto [] last names = last.name ∷ names
 onto (p ∷ ps) last names = onto ps last (p.name ∷ names)
 
-onto_is : (ps : List Passed) (last : Passed) (names : List (List ℕ)) → onto ps last names ≡ reverse (names_passed ps last) ++ names
+pub onto_is : (ps : List Passed) (last : Passed) (names : List (List ℕ)) → onto ps last names ≡ reverse (names_passed ps last) ++ names
 onto_is [] last names = refl
 onto_is (p ∷ ps) last names =
     let rest = names_passed ps last in
     onto_is ps last (p.name ∷ names)
     ∙ sym (ap (λ ns. ns ++ names) (reverse-append (p.name ∷ []) rest) ∙ append_assoc (reverse rest) (p.name ∷ []) names)
 
-abbrev handle : Passed → Kind → Handle
+abbrev pub handle : Passed → Kind → Handle
 handle p kind = record { number = p.number; node = p.node; kind = kind }
 
 -- A walk of a call: what its turn makes of the call, and that the call goes on by the walk's own steps and ends with it.
@@ -201,7 +201,7 @@ same_text : (xs ys : List ℕ) → same_bytes xs ys ≡ true → xs ≡ ys
 same_text xs ys h = (bytes_decides xs ys).0 h
 
 -- with the slash at its beginning or without, the path has the same parts
-parts_either : (path text : List ℕ) (first : ℕ) (t : Bool) → same_bytes path (SLASH ∷ first ∷ text) ≡ t
+pub parts_either : (path text : List ℕ) (first : ℕ) (t : Bool) → same_bytes path (SLASH ∷ first ∷ text) ≡ t
     → (t || same_bytes path (first ∷ text)) ≡ true → parts_of path ≡ parts_of (SLASH ∷ first ∷ text)
 parts_either path text first true e h = ap parts_of (same_text path (SLASH ∷ first ∷ text) e)
 parts_either path text first false e h = ap parts_of (same_text path (first ∷ text) h)
@@ -252,7 +252,7 @@ makes_all below op path kind is dir = record {
     no_link File h = refl
     no_link Link h = cc (h)
 
-first_or : (b : Bool) → (b || false) ≡ true → b ≡ true
+pub first_or : (b : Bool) → (b || false) ≡ true → b ≡ true
 first_or true h = refl
 first_or false h = cc (h)
 

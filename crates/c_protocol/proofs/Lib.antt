@@ -6,6 +6,9 @@ mod Outright
 mod Passing
 mod PassingNames
 mod AtOnce
+mod StepsSeen
+mod ThroughTexts
+mod PassingThrough
 mod SplitLemmas
 mod GivingUp
 mod OwnExchanges

@@ -14,6 +14,7 @@ pub mod RunHistory
 pub mod OwnExchanges
 pub mod Refusals
 pub mod AtOnce
+pub mod Through
 pub mod SeenBelow
 pub mod FollowedAtOnce
 pub mod Split

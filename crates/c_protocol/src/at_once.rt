@@ -23,7 +23,7 @@ fn are_names(text: &[u8]) -> bool
 }
 
 // Whether it is a slash before each of one or more names.
-fn has_names(place: &[u8]) -> bool
+pub(crate) fn has_names(place: &[u8]) -> bool
     ensures { result ≡ has_names (names_read place.now) }
 {
     match place.split_first() {
@@ -34,7 +34,7 @@ fn has_names(place: &[u8]) -> bool
 }
 
 // Whether the path is the place's, with the slash at its beginning or without.
-fn spells_place(path: &[u8], place: &[u8]) -> bool
+pub(crate) fn spells_place(path: &[u8], place: &[u8]) -> bool
     ensures { result ≡ spells_place path.now place.now }
 {
     match place.split_first() {
@@ -44,7 +44,7 @@ fn spells_place(path: &[u8], place: &[u8]) -> bool
 }
 
 // Whether a call of this number opens what is of this kind, and follows no link there.
-fn opens_kind(op: u8, kind: u8) -> bool
+pub(crate) fn opens_kind(op: u8, kind: u8) -> bool
     ensures { result ≡ opens_kind op (kind_of kind) }
 {
     op == 2 || (op == 1 && kind != 3) || (op == 10 && kind == 1)

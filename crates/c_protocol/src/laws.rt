@@ -7,6 +7,7 @@ ghost use Rattle.c_protocol.specs.OwnExchanges.{ConversationsClose, UnmadeStepsE
 ghost use Rattle.c_protocol.specs.Refusals.{StepsAreRefusedSo};
 ghost use Rattle.c_protocol.specs.RunHistory.{ConversationsWithRunsTell};
 ghost use Rattle.c_protocol.specs.SeenBelow.{PlainSeenBelow, ResolvesSeenBelow};
+ghost use Rattle.c_protocol.specs.Through.{OpensThroughTell};
 
 use root_ops::{calls_tell, calls_tell_by_any_numbers, each_call_tells, opened_are_closed};
 
@@ -55,6 +56,17 @@ pub fn conversations_with_runs_tell()
 /// `conversations_tell` says of a call.
 pub fn opens_at_once_tell()
     ensures { OpensAtOnceTell }
+{
+    each_call_tells();
+}
+
+/// A call of which `begins_through` is true; then `goes_through` at each link, with the text that was read there, and
+/// `rises_through` at each `..`, with the place that was asked for, each of the path that the one before it gave; and
+/// `ends_through` of the last path. By whatever handles: the opens, the closes between them, the links' texts and the
+/// places are the lines of that call, which replies that it opened the last one. In each legal history in which these
+/// lines are the program's own events, it tells what `conversations_tell` says of a call.
+pub fn opens_through_tell()
+    ensures { OpensThroughTell }
 {
     each_call_tells();
 }

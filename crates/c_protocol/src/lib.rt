@@ -6,6 +6,8 @@
 //! spelled exactly, and that each answer is taken as the one that its numbers and bytes spell. Between two turns the
 //! C program keeps the call by its pointer, as a `Kept`. Where it has passed all names of a path by one system call, it
 //! needs no turns: `opens_at_once` says exactly for which calls, and the law `opens_at_once_tell` what holds of them.
+//! Nor where it has read each link on the way: `begins_through`, `goes_through`, `rises_through` and `ends_through` say
+//! how the path goes on, and exactly where it ends; by `opens_through_tell` that is such a call.
 //! Nor where one system call has followed the links: `follows_at_once` says for which calls, and
 //! `links_seen_below_tell` what holds of them.
 //! In the midst of a call `names_ahead` says which names come next, and `pass_names` takes the call past those that one
@@ -26,6 +28,7 @@ mod laws;
 mod left;
 mod numbers;
 mod runs;
+mod through;
 mod told;
 mod turns;
 
@@ -35,10 +38,11 @@ pub use kept::Kept;
 pub use last_name::{Parted, split};
 pub use laws::{
     conversations_are_calls, conversations_close, conversations_tell, conversations_with_runs_tell,
-    links_seen_below_tell, opens_at_once_tell, seen_below_tell, steps_are_refused_so,
-    unmade_steps_end_calls,
+    links_seen_below_tell, opens_at_once_tell, opens_through_tell, seen_below_tell,
+    steps_are_refused_so, unmade_steps_end_calls,
 };
 pub use left::{Left, parts_ahead};
 pub use numbers::{Answered, Asked, Told};
 pub use runs::{Ahead, Ran, names_ahead, pass_names};
+pub use through::{begins_through, ends_through, goes_through, rises_through};
 pub use turns::{begin, next};
