@@ -1,19 +1,18 @@
 -- How a call ends, and why.
-use Rattle.std.proofs.Common.{◌≡◌, ◌≢◌, ◌+◌, ◌-◌, ◌*◌, ◌≤◌, ◌<◌, ℕ, zero, suc, List, [], ◌∷◌, ◌++◌, length, Bool, true, false, not, ◌&&◌, ◌||◌, ◌⊎◌, inl, inr, refl, ap, sym, subst, ◌∙◌, arith}
-use Rattle.std.specs.Prelude.{◌==◌, nat_le, nat_lt, if◌then◌else◌}
-use Rattle.system_calls.specs.Tries.{pause_after, pauses_after, EAGAIN, TRIES}
-use Rattle.call_course.specs.Turns.{after_answer, asks, began, begun, gains, judged, lacks, noted, reply_error, root_error, start, COUNT, DONE, ENOMEM, OPENED, TEXT, is_again, is_unseen, may_go_by_another}
-use Rattle.call_course.specs.History.{exchange, is_question, next_after, Exchange, IsHistory}
-use Rattle.call_course.specs.Promises.{away_after, away_by, begun_after, changed_after, closed_by, error_of, is_walk, last_error, open_after, opened_by, others_after, others_by, owns_after, owns_by, pauses_of, reply_value, stepped_after, stepped_by, unopened_error, value_after, value_by, went_well, why_after, why_by, without, HomeFailed, RootHas}
+use Rattle.std.proofs.Common.{◌≡◌, ◌≢◌, List, [], ◌∷◌, length, Bool, true, false, not, ◌&&◌, ◌||◌, inl, inr, refl, ap, sym, subst, arith}
+use Rattle.std.specs.Prelude.{◌==◌}
+use Rattle.system_calls.specs.Tries.{EAGAIN}
+use Rattle.call_course.specs.Turns.{gains, lacks, noted, start}
+use Rattle.call_course.specs.History.{exchange, next_after, Exchange, IsHistory}
+use Rattle.call_course.specs.Promises.{HomeFailed, RootHas}
 use Rattle.call_course.specs.declared.calling.Calling.{Calling}
 use Rattle.call_course.specs.declared.calling.Answer.{Answer}
 use Rattle.call_course.specs.declared.calling.Facts.{Facts}
-use Rattle.call_course.specs.declared.calling.TheConstants.{BEGIN, JOIN, AT_ONCE, OWN_ROOT, PLACE, CONVERSE, TAKE, LET_GO, CLOSE, LOOK_AT_PROC, ANOTHER_PROC, CLOSE_PROC, GO_HOME, LOOK_AT_ROOT, ENDS, FAILS}
+use Rattle.call_course.specs.declared.calling.TheConstants.{BEGIN, LOOK_AT_ROOT, FAILS}
 use Rattle.std.proofs.lemmas.Bool.{false≢true}
-use Rattle.call_course.proofs.Asked.{asked_is}
-use Rattle.call_course.proofs.Leads.{judged_leads, made_of, away, pick, turn_at, Leads, Turn, to_proc, to_close, to_home, to_root, to_end, to_again, to_fail, t_begin, t_join, t_join_held, t_no_join, t_once, t_not_once, t_not_once_held, t_own_place, t_own_walk, t_own_given, t_no_own, t_place, t_no_place, t_opened, t_text, t_cut, t_done, t_made, t_lost, t_unopened, t_count, t_fault, t_took, t_not_took, t_let_go, t_close_made, t_closed, t_closed_stuck, t_same_proc, t_lost_proc, t_another, t_no_other, t_proc_closed, t_home, t_stuck_holds, t_stuck, t_root, t_bad_root}
-use Rattle.call_course.proofs.Sound.{another_ok, changed_ok, error_ok, holds_ok, made_ok, moved_ok, owns_ok, root_ok, sound, sound_start, sound_turn, stuck_ok, tries_ok, within}
-use Rattle.call_course.proofs.Rule.{always, is_sound, leads_same, sound_another, sound_changed, sound_error, sound_holds, sound_made, sound_moved, sound_owns, sound_root, sound_stuck, sound_tries}
+use Rattle.call_course.proofs.Leads.{Leads, Turn, to_proc, to_close, to_home, to_root, to_end, to_again, to_fail, t_begin, t_join, t_join_held, t_no_join, t_once, t_not_once, t_not_once_held, t_own_place, t_own_walk, t_own_given, t_no_own, t_place, t_no_place, t_opened, t_text, t_cut, t_done, t_made, t_lost, t_unopened, t_count, t_fault, t_took, t_not_took, t_let_go, t_close_made, t_closed, t_closed_stuck, t_same_proc, t_lost_proc, t_another, t_no_other, t_proc_closed, t_home, t_stuck_holds, t_stuck, t_root, t_bad_root}
+use Rattle.call_course.proofs.Sound.{sound}
+use Rattle.call_course.proofs.Rule.{always, leads_same, sound_root, sound_stuck}
 
 -- ---- the root is looked at before an error is given
 
@@ -57,43 +56,73 @@ root_turn c a n s t =
     let so = sound_stuck c s in
     elim t [
       | t_begin p0 is ↦ subst (λ m. root_seen (looked_by (exchange c a)) m ≡ true) (sym is) (grind (arith, p0, so))
-      | t_join p0 p1 p2 is ↦ subst (λ m. root_seen (looked_by (exchange c a)) m ≡ true) (sym is) (grind (arith, p0, p1, p2, so))
-      | t_join_held p0 p1 p2 is ↦ subst (λ m. root_seen (looked_by (exchange c a)) m ≡ true) (sym is) (grind (arith, p0, p1, p2, so))
-      | t_no_join p0 p1 is ↦ subst (λ m. root_seen (looked_by (exchange c a)) m ≡ true) (sym is) (grind (arith, p0, p1, so))
+      | t_join p0 p1 p2 is ↦ subst (λ m. root_seen (looked_by (exchange c a)) m ≡ true) (sym is)
+          (grind (arith, p0, p1, p2, so))
+      | t_join_held p0 p1 p2 is ↦
+          subst (λ m. root_seen (looked_by (exchange c a)) m ≡ true) (sym is) (grind (arith, p0, p1, p2, so))
+      | t_no_join p0 p1 is ↦ subst (λ m. root_seen (looked_by (exchange c a)) m ≡ true) (sym is)
+          (grind (arith, p0, p1, so))
       | t_once p0 p1 l ↦ root_leads true (gains a.value true (noted a c)) n (looked_by (exchange c a)) l
-      | t_not_once p0 p1 p2 is ↦ subst (λ m. root_seen (looked_by (exchange c a)) m ≡ true) (sym is) (grind (arith, p0, p1, p2, so))
-      | t_not_once_held p0 p1 p2 is ↦ subst (λ m. root_seen (looked_by (exchange c a)) m ≡ true) (sym is) (grind (arith, p0, p1, p2, so))
-      | t_own_place p0 p1 p2 p3 is ↦ subst (λ m. root_seen (looked_by (exchange c a)) m ≡ true) (sym is) (grind (arith, p0, p1, p2, p3, so))
-      | t_own_walk p0 p1 p2 p3 is ↦ subst (λ m. root_seen (looked_by (exchange c a)) m ≡ true) (sym is) (grind (arith, p0, p1, p2, p3, so))
-      | t_own_given p0 p1 p2 is ↦ subst (λ m. root_seen (looked_by (exchange c a)) m ≡ true) (sym is) (grind (arith, p0, p1, p2, so))
-      | t_no_own p0 p1 is ↦ subst (λ m. root_seen (looked_by (exchange c a)) m ≡ true) (sym is) (grind (arith, p0, p1, so))
+      | t_not_once p0 p1 p2 is ↦
+          subst (λ m. root_seen (looked_by (exchange c a)) m ≡ true) (sym is) (grind (arith, p0, p1, p2, so))
+      | t_not_once_held p0 p1 p2 is ↦
+          subst (λ m. root_seen (looked_by (exchange c a)) m ≡ true) (sym is) (grind (arith, p0, p1, p2, so))
+      | t_own_place p0 p1 p2 p3 is ↦
+          subst (λ m. root_seen (looked_by (exchange c a)) m ≡ true) (sym is) (grind (arith, p0, p1, p2, p3, so))
+      | t_own_walk p0 p1 p2 p3 is ↦
+          subst (λ m. root_seen (looked_by (exchange c a)) m ≡ true) (sym is) (grind (arith, p0, p1, p2, p3, so))
+      | t_own_given p0 p1 p2 is ↦
+          subst (λ m. root_seen (looked_by (exchange c a)) m ≡ true) (sym is) (grind (arith, p0, p1, p2, so))
+      | t_no_own p0 p1 is ↦ subst (λ m. root_seen (looked_by (exchange c a)) m ≡ true) (sym is)
+          (grind (arith, p0, p1, so))
       | t_place p0 p1 l ↦ root_leads true (gains a.length false (noted a c)) n (looked_by (exchange c a)) l
       | t_no_place p0 p1 l ↦ root_leads true (lacks a.error (noted a c)) n (looked_by (exchange c a)) l
-      | t_opened p0 p1 is ↦ subst (λ m. root_seen (looked_by (exchange c a)) m ≡ true) (sym is) (grind (arith, p0, p1, so))
-      | t_text p0 p1 p2 p3 is ↦ subst (λ m. root_seen (looked_by (exchange c a)) m ≡ true) (sym is) (grind (arith, p0, p1, p2, p3, so))
-      | t_cut p0 p1 p2 p3 is ↦ subst (λ m. root_seen (looked_by (exchange c a)) m ≡ true) (sym is) (grind (arith, p0, p1, p2, p3, so))
-      | t_done p0 p1 p2 p3 p4 is ↦ subst (λ m. root_seen (looked_by (exchange c a)) m ≡ true) (sym is) (grind (arith, p0, p1, p2, p3, p4, so))
-      | t_made p0 p1 p2 p3 p4 p5 is ↦ subst (λ m. root_seen (looked_by (exchange c a)) m ≡ true) (sym is) (grind (arith, p0, p1, p2, p3, p4, p5, so))
-      | t_lost p0 p1 p2 p3 p4 p5 p6 is ↦ subst (λ m. root_seen (looked_by (exchange c a)) m ≡ true) (sym is) (grind (arith, p0, p1, p2, p3, p4, p5, p6, so))
-      | t_unopened p0 p1 p2 p3 p4 p5 p6 is ↦ subst (λ m. root_seen (looked_by (exchange c a)) m ≡ true) (sym is) (grind (arith, p0, p1, p2, p3, p4, p5, p6, so))
-      | t_count p0 p1 p2 p3 p4 is ↦ subst (λ m. root_seen (looked_by (exchange c a)) m ≡ true) (sym is) (grind (arith, p0, p1, p2, p3, p4, so))
-      | t_fault p0 p1 p2 p3 p4 is ↦ subst (λ m. root_seen (looked_by (exchange c a)) m ≡ true) (sym is) (grind (arith, p0, p1, p2, p3, p4, so))
-      | t_took p0 p1 is ↦ subst (λ m. root_seen (looked_by (exchange c a)) m ≡ true) (sym is) (grind (arith, p0, p1, so))
-      | t_not_took p0 p1 is ↦ subst (λ m. root_seen (looked_by (exchange c a)) m ≡ true) (sym is) (grind (arith, p0, p1, so))
+      | t_opened p0 p1 is ↦ subst (λ m. root_seen (looked_by (exchange c a)) m ≡ true) (sym is)
+          (grind (arith, p0, p1, so))
+      | t_text p0 p1 p2 p3 is ↦
+          subst (λ m. root_seen (looked_by (exchange c a)) m ≡ true) (sym is) (grind (arith, p0, p1, p2, p3, so))
+      | t_cut p0 p1 p2 p3 is ↦
+          subst (λ m. root_seen (looked_by (exchange c a)) m ≡ true) (sym is) (grind (arith, p0, p1, p2, p3, so))
+      | t_done p0 p1 p2 p3 p4 is ↦
+          subst (λ m. root_seen (looked_by (exchange c a)) m ≡ true) (sym is) (grind (arith, p0, p1, p2, p3, p4, so))
+      | t_made p0 p1 p2 p3 p4 p5 is ↦
+          subst (λ m. root_seen (looked_by (exchange c a)) m ≡ true) (sym is)
+          (grind (arith, p0, p1, p2, p3, p4, p5, so))
+      | t_lost p0 p1 p2 p3 p4 p5 p6 is ↦
+          subst (λ m. root_seen (looked_by (exchange c a)) m ≡ true) (sym is)
+          (grind (arith, p0, p1, p2, p3, p4, p5, p6, so))
+      | t_unopened p0 p1 p2 p3 p4 p5 p6 is ↦
+          subst (λ m. root_seen (looked_by (exchange c a)) m ≡ true) (sym is)
+          (grind (arith, p0, p1, p2, p3, p4, p5, p6, so))
+      | t_count p0 p1 p2 p3 p4 is ↦
+          subst (λ m. root_seen (looked_by (exchange c a)) m ≡ true) (sym is) (grind (arith, p0, p1, p2, p3, p4, so))
+      | t_fault p0 p1 p2 p3 p4 is ↦
+          subst (λ m. root_seen (looked_by (exchange c a)) m ≡ true) (sym is) (grind (arith, p0, p1, p2, p3, p4, so))
+      | t_took p0 p1 is ↦ subst (λ m. root_seen (looked_by (exchange c a)) m ≡ true) (sym is)
+          (grind (arith, p0, p1, so))
+      | t_not_took p0 p1 is ↦ subst (λ m. root_seen (looked_by (exchange c a)) m ≡ true) (sym is)
+          (grind (arith, p0, p1, so))
       | t_let_go p0 p1 l ↦ root_leads true (c) n (looked_by (exchange c a)) l
-      | t_close_made p0 p1 is ↦ subst (λ m. root_seen (looked_by (exchange c a)) m ≡ true) (sym is) (grind (arith, p0, p1, so))
+      | t_close_made p0 p1 is ↦
+          subst (λ m. root_seen (looked_by (exchange c a)) m ≡ true) (sym is) (grind (arith, p0, p1, so))
       | t_closed p0 p1 l ↦ root_leads true (c) n (looked_by (exchange c a)) l
-      | t_closed_stuck p0 p1 is ↦ subst (λ m. root_seen (looked_by (exchange c a)) m ≡ true) (sym is) (grind (arith, p0, p1, so))
+      | t_closed_stuck p0 p1 is ↦
+          subst (λ m. root_seen (looked_by (exchange c a)) m ≡ true) (sym is) (grind (arith, p0, p1, so))
       | t_same_proc p0 p1 l ↦ root_leads false (c) n (looked_by (exchange c a)) l
-      | t_lost_proc p0 p1 is ↦ subst (λ m. root_seen (looked_by (exchange c a)) m ≡ true) (sym is) (grind (arith, p0, p1, so))
-      | t_another p0 p1 is ↦ subst (λ m. root_seen (looked_by (exchange c a)) m ≡ true) (sym is) (grind (arith, p0, p1, so))
+      | t_lost_proc p0 p1 is ↦
+          subst (λ m. root_seen (looked_by (exchange c a)) m ≡ true) (sym is) (grind (arith, p0, p1, so))
+      | t_another p0 p1 is ↦ subst (λ m. root_seen (looked_by (exchange c a)) m ≡ true) (sym is)
+          (grind (arith, p0, p1, so))
       | t_no_other p0 p1 l ↦ root_leads false (lacks a.error c) n (looked_by (exchange c a)) l
       | t_proc_closed p0 l ↦ root_leads false (record c { owns_proc = false }) n (looked_by (exchange c a)) l
       | t_home p0 p1 l ↦ root_leads false (record c { moved = false }) n (looked_by (exchange c a)) l
-      | t_stuck_holds p0 p1 p2 is ↦ subst (λ m. root_seen (looked_by (exchange c a)) m ≡ true) (sym is) (grind (arith, p0, p1, p2, so))
-      | t_stuck p0 p1 p2 is ↦ subst (λ m. root_seen (looked_by (exchange c a)) m ≡ true) (sym is) (grind (arith, p0, p1, p2, so))
+      | t_stuck_holds p0 p1 p2 is ↦
+          subst (λ m. root_seen (looked_by (exchange c a)) m ≡ true) (sym is) (grind (arith, p0, p1, p2, so))
+      | t_stuck p0 p1 p2 is ↦ subst (λ m. root_seen (looked_by (exchange c a)) m ≡ true) (sym is)
+          (grind (arith, p0, p1, p2, so))
       | t_root p0 p1 l ↦ subst (λ k. root_seen (k == LOOK_AT_ROOT) n ≡ true) (sym p0) (root_leads_seen c n l)
-      | t_bad_root p0 p1 is ↦ subst (λ m. root_seen (looked_by (exchange c a)) m ≡ true) (sym is) (grind (arith, p0, p1, so))
+      | t_bad_root p0 p1 is ↦ subst (λ m. root_seen (looked_by (exchange c a)) m ≡ true) (sym is)
+          (grind (arith, p0, p1, so))
     ]
 
 root_start : (facts : Facts) → root_seen false (start facts) ≡ true
@@ -142,9 +171,12 @@ again_turn c a n t =
       | t_text p0 p1 p2 p3 is ↦ subst (λ m. again_ok false m ≡ true) (sym is) (grind (arith, p0, p1, p2, p3))
       | t_cut p0 p1 p2 p3 is ↦ subst (λ m. again_ok false m ≡ true) (sym is) (grind (arith, p0, p1, p2, p3))
       | t_done p0 p1 p2 p3 p4 is ↦ subst (λ m. again_ok false m ≡ true) (sym is) (grind (arith, p0, p1, p2, p3, p4))
-      | t_made p0 p1 p2 p3 p4 p5 is ↦ subst (λ m. again_ok false m ≡ true) (sym is) (grind (arith, p0, p1, p2, p3, p4, p5))
-      | t_lost p0 p1 p2 p3 p4 p5 p6 is ↦ subst (λ m. again_ok false m ≡ true) (sym is) (grind (arith, p0, p1, p2, p3, p4, p5, p6))
-      | t_unopened p0 p1 p2 p3 p4 p5 p6 is ↦ subst (λ m. again_ok false m ≡ true) (sym is) (grind (arith, p0, p1, p2, p3, p4, p5, p6))
+      | t_made p0 p1 p2 p3 p4 p5 is ↦
+          subst (λ m. again_ok false m ≡ true) (sym is) (grind (arith, p0, p1, p2, p3, p4, p5))
+      | t_lost p0 p1 p2 p3 p4 p5 p6 is ↦
+          subst (λ m. again_ok false m ≡ true) (sym is) (grind (arith, p0, p1, p2, p3, p4, p5, p6))
+      | t_unopened p0 p1 p2 p3 p4 p5 p6 is ↦
+          subst (λ m. again_ok false m ≡ true) (sym is) (grind (arith, p0, p1, p2, p3, p4, p5, p6))
       | t_count p0 p1 p2 p3 p4 is ↦ subst (λ m. again_ok false m ≡ true) (sym is) (grind (arith, p0, p1, p2, p3, p4))
       | t_fault p0 p1 p2 p3 p4 is ↦ subst (λ m. again_ok false m ≡ true) (sym is) (grind (arith, p0, p1, p2, p3, p4))
       | t_took p0 p1 is ↦ subst (λ m. again_ok false m ≡ true) (sym is) (grind (arith, p0, p1))
@@ -184,7 +216,8 @@ not_both : (b : Bool) → b ≡ false → b ≡ true → ⊥
 not_both true x y = false≢true (sym x)
 not_both false x y = false≢true y
 
-own_turn : (older : List Exchange) (c : Calling) (a : Answer) (n : Calling) → sound c ≡ true → Turn c a n → n.is_root ≡ true
+own_turn : (older : List Exchange) (c : Calling) (a : Answer) (n : Calling) → sound c ≡ true → Turn c a n
+    → n.is_root ≡ true
     → RootHas n.error (exchange c a ∷ older)
 own_turn older c a n s t r =
     let so = sound_root c s in
@@ -193,15 +226,18 @@ own_turn older c a n s t r =
       | t_join p0 p1 p2 is ↦ absurd (grind (arith, p0, p1, p2, is, so, r))
       | t_join_held p0 p1 p2 is ↦ absurd (grind (arith, p0, p1, p2, is, so, r))
       | t_no_join p0 p1 is ↦ absurd (grind (arith, p0, p1, is, so, r))
-      | t_once p0 p1 l ↦ absurd (grind (arith, p0, p1, leads_same false true (gains a.value true (noted a c)) n l, so, r))
+      | t_once p0 p1 l ↦ absurd
+          (grind (arith, p0, p1, leads_same false true (gains a.value true (noted a c)) n l, so, r))
       | t_not_once p0 p1 p2 is ↦ absurd (grind (arith, p0, p1, p2, is, so, r))
       | t_not_once_held p0 p1 p2 is ↦ absurd (grind (arith, p0, p1, p2, is, so, r))
       | t_own_place p0 p1 p2 p3 is ↦ absurd (grind (arith, p0, p1, p2, p3, is, so, r))
       | t_own_walk p0 p1 p2 p3 is ↦ absurd (grind (arith, p0, p1, p2, p3, is, so, r))
       | t_own_given p0 p1 p2 is ↦ absurd (grind (arith, p0, p1, p2, is, so, r))
       | t_no_own p0 p1 is ↦ absurd (grind (arith, p0, p1, is, so, r))
-      | t_place p0 p1 l ↦ absurd (grind (arith, p0, p1, leads_same false true (gains a.length false (noted a c)) n l, so, r))
-      | t_no_place p0 p1 l ↦ absurd (grind (arith, p0, p1, leads_same false true (lacks a.error (noted a c)) n l, so, r))
+      | t_place p0 p1 l ↦ absurd
+          (grind (arith, p0, p1, leads_same false true (gains a.length false (noted a c)) n l, so, r))
+      | t_no_place p0 p1 l ↦ absurd
+          (grind (arith, p0, p1, leads_same false true (lacks a.error (noted a c)) n l, so, r))
       | t_opened p0 p1 is ↦ absurd (grind (arith, p0, p1, is, so, r))
       | t_text p0 p1 p2 p3 is ↦ absurd (grind (arith, p0, p1, p2, p3, is, so, r))
       | t_cut p0 p1 p2 p3 is ↦ absurd (grind (arith, p0, p1, p2, p3, is, so, r))
@@ -221,7 +257,8 @@ own_turn older c a n s t r =
       | t_lost_proc p0 p1 is ↦ absurd (grind (arith, p0, p1, is, so, r))
       | t_another p0 p1 is ↦ absurd (grind (arith, p0, p1, is, so, r))
       | t_no_other p0 p1 l ↦ absurd (grind (arith, p0, p1, leads_same false false (lacks a.error c) n l, so, r))
-      | t_proc_closed p0 l ↦ absurd (grind (arith, p0, leads_same false false (record c { owns_proc = false }) n l, so, r))
+      | t_proc_closed p0 l ↦ absurd
+          (grind (arith, p0, leads_same false false (record c { owns_proc = false }) n l, so, r))
       | t_home p0 p1 l ↦ absurd (grind (arith, p0, p1, leads_same false false (record c { moved = false }) n l, so, r))
       | t_stuck_holds p0 p1 p2 is ↦ absurd (grind (arith, p0, p1, p2, is, so, r))
       | t_stuck p0 p1 p2 is ↦ absurd (grind (arith, p0, p1, p2, is, so, r))
@@ -251,15 +288,18 @@ home_turn older c a n s w t r =
       | t_join p0 p1 p2 is ↦ absurd (grind (arith, p0, p1, p2, is, so, r))
       | t_join_held p0 p1 p2 is ↦ absurd (grind (arith, p0, p1, p2, is, so, r))
       | t_no_join p0 p1 is ↦ absurd (grind (arith, p0, p1, is, so, r))
-      | t_once p0 p1 l ↦ absurd (grind (arith, p0, p1, leads_same false true (gains a.value true (noted a c)) n l, so, r))
+      | t_once p0 p1 l ↦ absurd
+          (grind (arith, p0, p1, leads_same false true (gains a.value true (noted a c)) n l, so, r))
       | t_not_once p0 p1 p2 is ↦ absurd (grind (arith, p0, p1, p2, is, so, r))
       | t_not_once_held p0 p1 p2 is ↦ absurd (grind (arith, p0, p1, p2, is, so, r))
       | t_own_place p0 p1 p2 p3 is ↦ absurd (grind (arith, p0, p1, p2, p3, is, so, r))
       | t_own_walk p0 p1 p2 p3 is ↦ absurd (grind (arith, p0, p1, p2, p3, is, so, r))
       | t_own_given p0 p1 p2 is ↦ absurd (grind (arith, p0, p1, p2, is, so, r))
       | t_no_own p0 p1 is ↦ absurd (grind (arith, p0, p1, is, so, r))
-      | t_place p0 p1 l ↦ absurd (grind (arith, p0, p1, leads_same false true (gains a.length false (noted a c)) n l, so, r))
-      | t_no_place p0 p1 l ↦ absurd (grind (arith, p0, p1, leads_same false true (lacks a.error (noted a c)) n l, so, r))
+      | t_place p0 p1 l ↦ absurd
+          (grind (arith, p0, p1, leads_same false true (gains a.length false (noted a c)) n l, so, r))
+      | t_no_place p0 p1 l ↦ absurd
+          (grind (arith, p0, p1, leads_same false true (lacks a.error (noted a c)) n l, so, r))
       | t_opened p0 p1 is ↦ absurd (grind (arith, p0, p1, is, so, r))
       | t_text p0 p1 p2 p3 is ↦ absurd (grind (arith, p0, p1, p2, p3, is, so, r))
       | t_cut p0 p1 p2 p3 is ↦ absurd (grind (arith, p0, p1, p2, p3, is, so, r))
@@ -279,7 +319,8 @@ home_turn older c a n s w t r =
       | t_lost_proc p0 p1 is ↦ absurd (grind (arith, p0, p1, is, so, r))
       | t_another p0 p1 is ↦ absurd (grind (arith, p0, p1, is, so, r))
       | t_no_other p0 p1 l ↦ absurd (grind (arith, p0, p1, leads_same false false (lacks a.error c) n l, so, r))
-      | t_proc_closed p0 l ↦ absurd (grind (arith, p0, leads_same false false (record c { owns_proc = false }) n l, so, r))
+      | t_proc_closed p0 l ↦ absurd
+          (grind (arith, p0, leads_same false false (record c { owns_proc = false }) n l, so, r))
       | t_home p0 p1 l ↦ absurd (grind (arith, p0, p1, leads_same false false (record c { moved = false }) n l, so, r))
       | t_stuck_holds p0 p1 p2 is ↦ inl (p0, sym (ap (λ m. m.error) is))
       | t_stuck p0 p1 p2 is ↦ inl (p0, sym (ap (λ m. m.error) is))

@@ -1,20 +1,19 @@
 -- What a history says of a try is what is kept of it.
-use Rattle.std.proofs.Common.{◌≡◌, ◌≢◌, ◌+◌, ◌-◌, ◌*◌, ◌≤◌, ◌<◌, ℕ, zero, suc, List, [], ◌∷◌, ◌++◌, length, Bool, true, false, not, ◌&&◌, ◌||◌, ◌⊎◌, inl, inr, refl, ap, sym, subst, ◌∙◌, arith}
-use Rattle.std.specs.Prelude.{◌==◌, nat_le, nat_lt, if◌then◌else◌}
-use Rattle.system_calls.specs.Tries.{pause_after, pauses_after, EAGAIN, TRIES}
-use Rattle.call_course.specs.Turns.{after_answer, asks, began, begun, gains, judged, lacks, noted, reply_error, root_error, start, COUNT, DONE, ENOMEM, OPENED, TEXT, is_again, is_unseen, may_go_by_another}
-use Rattle.call_course.specs.History.{exchange, is_question, next_after, Exchange, IsHistory}
-use Rattle.call_course.specs.Promises.{away_after, away_by, begun_after, changed_after, closed_by, error_of, is_walk, last_error, open_after, opened_by, others_after, others_by, owns_after, owns_by, pauses_of, reply_value, stepped_after, stepped_by, unopened_error, value_after, value_by, went_well, why_after, why_by, without, HomeFailed, RootHas}
+use Rattle.std.proofs.Common.{◌≡◌, ℕ, suc, List, length, Bool, true, false, ◌&&◌, ◌||◌, refl, subst, arith}
+use Rattle.std.specs.Prelude.{◌==◌, if◌then◌else◌}
+use Rattle.call_course.specs.Turns.{gains, lacks, noted, start}
+use Rattle.call_course.specs.History.{exchange, next_after, Exchange, IsHistory}
+use Rattle.call_course.specs.Promises.{away_after, away_by, begun_after, changed_after, is_walk, owns_after, owns_by, stepped_after, stepped_by, value_after, value_by, why_after, why_by}
 use Rattle.call_course.specs.declared.calling.Calling.{Calling}
 use Rattle.call_course.specs.declared.calling.Answer.{Answer}
 use Rattle.call_course.specs.declared.calling.Facts.{Facts}
-use Rattle.call_course.specs.declared.calling.TheConstants.{BEGIN, JOIN, AT_ONCE, OWN_ROOT, PLACE, CONVERSE, TAKE, LET_GO, CLOSE, LOOK_AT_PROC, ANOTHER_PROC, CLOSE_PROC, GO_HOME, LOOK_AT_ROOT, ENDS, FAILS}
-use Rattle.call_course.proofs.Asked.{asked_is}
-use Rattle.call_course.proofs.Leads.{judged_leads, made_of, away, pick, turn_at, Leads, Turn, to_proc, to_close, to_home, to_root, to_end, to_again, to_fail, t_begin, t_join, t_join_held, t_no_join, t_once, t_not_once, t_not_once_held, t_own_place, t_own_walk, t_own_given, t_no_own, t_place, t_no_place, t_opened, t_text, t_cut, t_done, t_made, t_lost, t_unopened, t_count, t_fault, t_took, t_not_took, t_let_go, t_close_made, t_closed, t_closed_stuck, t_same_proc, t_lost_proc, t_another, t_no_other, t_proc_closed, t_home, t_stuck_holds, t_stuck, t_root, t_bad_root}
-use Rattle.call_course.proofs.Sound.{another_ok, changed_ok, error_ok, holds_ok, made_ok, moved_ok, owns_ok, root_ok, sound, sound_start, sound_turn, stuck_ok, tries_ok, within}
-use Rattle.call_course.proofs.Rule.{always, is_sound, leads_same, sound_another, sound_changed, sound_error, sound_holds, sound_made, sound_moved, sound_owns, sound_root, sound_stuck, sound_tries}
+use Rattle.call_course.specs.declared.calling.TheConstants.{BEGIN}
+use Rattle.call_course.proofs.Leads.{Turn, t_begin, t_join, t_join_held, t_no_join, t_once, t_not_once, t_not_once_held, t_own_place, t_own_walk, t_own_given, t_no_own, t_place, t_no_place, t_opened, t_text, t_cut, t_done, t_made, t_lost, t_unopened, t_count, t_fault, t_took, t_not_took, t_let_go, t_close_made, t_closed, t_closed_stuck, t_same_proc, t_lost_proc, t_another, t_no_other, t_proc_closed, t_home, t_stuck_holds, t_stuck, t_root, t_bad_root}
+use Rattle.call_course.proofs.Sound.{another_ok, changed_ok, error_ok, moved_ok, owns_ok, tries_ok}
+use Rattle.call_course.proofs.Rule.{always, leads_same, sound_another, sound_changed, sound_error, sound_moved, sound_owns, sound_tries}
 
-owns_turn : (c : Calling) (a : Answer) (n : Calling) (was : Bool) → owns_ok c ≡ true → another_ok c ≡ true → was ≡ c.owns_proc → Turn c a n
+owns_turn : (c : Calling) (a : Answer) (n : Calling) (was : Bool) → owns_ok c ≡ true → another_ok c ≡ true
+    → was ≡ c.owns_proc → Turn c a n
     → owns_by (exchange c a) was ≡ n.owns_proc
 owns_turn c a n was h0 h1 w t =
     elim t [
@@ -102,7 +101,8 @@ away_turn c a n was h0 w t =
       | t_bad_root p0 p1 is ↦ grind (arith, p0, p1, is)
     ]
 
-changed_turn : (c : Calling) (a : Answer) (n : Calling) (was : Bool) → changed_ok c ≡ true → was ≡ c.changed → Turn c a n
+changed_turn : (c : Calling) (a : Answer) (n : Calling) (was : Bool) → changed_ok c ≡ true → was ≡ c.changed
+    → Turn c a n
     → (was || (is_walk (exchange c a).asked && (exchange c a).gave.changed)) ≡ n.changed
 changed_turn c a n was h0 w t =
     elim t [
@@ -376,7 +376,8 @@ pub why_is : (facts : Facts) (history : List Exchange) → IsHistory facts histo
     → why_after facts history ≡ (next_after facts history).error
 why_is facts =
     always facts (λ h c. why_after facts h ≡ c.error) (why_start facts)
-    (λ older c a n s same t w. subst (λ f. why_by f (exchange c a) (why_after facts older) ≡ n.error) same (why_turn c a n (why_after facts older) (sound_error c s) w t))
+    (λ older c a n s same t w. subst (λ f. why_by f (exchange c a) (why_after facts older) ≡ n.error) same
+    (why_turn c a n (why_after facts older) (sound_error c s) w t))
 
 value_start : (facts : Facts) → 0 ≡ (start facts).value
 value_start facts = refl
@@ -385,4 +386,5 @@ pub value_is : (facts : Facts) (history : List Exchange) → IsHistory facts his
     → value_after facts history ≡ (next_after facts history).value
 value_is facts =
     always facts (λ h c. value_after facts h ≡ c.value) (value_start facts)
-    (λ older c a n s same t w. subst (λ f. value_by f (exchange c a) (value_after facts older) ≡ n.value) same (value_turn c a n (value_after facts older) w t))
+    (λ older c a n s same t w. subst (λ f. value_by f (exchange c a) (value_after facts older) ≡ n.value) same
+    (value_turn c a n (value_after facts older) w t))

@@ -1,27 +1,27 @@
 -- The laws, by what is kept of a call.
-use Rattle.std.proofs.Common.{◌≡◌, ◌≢◌, ◌≤◌, ◌<◌, ◌+◌, ◌*◌, ◌-◌, ℕ, List, [], ◌∷◌, ◌++◌, length, Bool, true, false, not, ◌&&◌, ◌||◌, ◌⊎◌, inl, inr, refl, ap, sym, subst, ◌∙◌, arith}
+use Rattle.std.proofs.Common.{◌≡◌, ◌≢◌, ◌≤◌, ◌<◌, ◌+◌, ◌*◌, ◌-◌, ℕ, List, [], ◌∷◌, ◌++◌, length, Bool, true, false, ◌⊎◌, inl, inr, refl, sym, subst, ◌∙◌, arith}
 use Rattle.std.specs.Prelude.{◌==◌, if◌then◌else◌}
 use Rattle.system_calls.specs.Tries.{EAGAIN, TRIES, pauses_after}
 use Rattle.std.proofs.lemmas.Bool.{eqb-true, false≢true}
 use Rattle.call_course.specs.History.{next_after, Exchange, IsHistory}
-use Rattle.call_course.specs.Promises.{away_after, begun_after, changed_after, given, open_after, others_after, owns_after, pauses_of, stepped_after, value_after, why_after, HomeFailed, LastWas, RootHas}
+use Rattle.call_course.specs.Promises.{away_after, begun_after, changed_after, given, open_after, owns_after, pauses_of, stepped_after, value_after, why_after, HomeFailed, LastWas}
 use Rattle.call_course.specs.declared.calling.Calling.{Calling}
 use Rattle.call_course.specs.declared.calling.Facts.{Facts}
 use Rattle.call_course.specs.declared.calling.TheConstants.{BEGIN, CLOSE, ANOTHER_PROC, CLOSE_PROC, LOOK_AT_ROOT, ENDS, FAILS}
-use Rattle.call_course.proofs.Ends.{again_is, again_ok, home_is, looked_last, none_yet, own_is, root_is_seen, root_seen}
+use Rattle.call_course.proofs.Ends.{again_is, again_ok, home_is, looked_last, none_yet, root_is_seen, root_seen}
 use Rattle.call_course.proofs.Fields.{away_is, begun_is, changed_is, owns_is, stepped_is, value_is, why_is}
 use Rattle.call_course.proofs.Open.{held, open_is, together}
-use Rattle.call_course.proofs.Others.{others_few}
 use Rattle.call_course.proofs.Pauses.{few_are, few_ok, rank, room, paid, pauses_are, pauses_most, pauses_ok}
-use Rattle.call_course.proofs.Rule.{has_facts, is_sound, sound_another, sound_changed, sound_error, sound_holds, sound_made, sound_moved, sound_owns, sound_root, sound_stuck, sound_tries}
-use Rattle.call_course.proofs.Sound.{another_ok, changed_ok, error_ok, holds_ok, made_ok, moved_ok, owns_ok, root_ok, sound, stuck_ok, tries_ok}
+use Rattle.call_course.proofs.Rule.{has_facts, is_sound, sound_changed, sound_error, sound_holds, sound_made, sound_moved, sound_owns, sound_root, sound_tries}
+use Rattle.call_course.proofs.Sound.{changed_ok, error_ok, holds_ok, made_ok, moved_ok, owns_ok, root_ok, tries_ok}
 
 -- ---- descriptors
 
 together_ends : (c : Calling) → made_ok c ≡ true → c.next ≡ ENDS → together c ≡ given c
 together_ends c h at = grind (arith, at, h)
 
-together_fails : (c : Calling) → made_ok c ≡ true → holds_ok c ≡ true → error_ok c ≡ true → c.next ≡ FAILS → together c ≡ []
+together_fails : (c : Calling) → made_ok c ≡ true → holds_ok c ≡ true → error_ok c ≡ true → c.next ≡ FAILS
+    → together c ≡ []
 together_fails c h1 h2 h3 at = grind (arith, at, h1, h2, h3)
 
 together_begins : (c : Calling) → made_ok c ≡ true → holds_ok c ≡ true → c.next ≡ BEGIN → together c ≡ []
@@ -30,47 +30,58 @@ together_begins c h1 h2 at = grind (arith, at, h1, h2)
 together_closes : (c : Calling) → c.next ≡ CLOSE → together c ≡ held c ++ (c.about ∷ [])
 together_closes c at = grind (arith, at)
 
-pub ends_open : (facts : Facts) (history : List Exchange) → IsHistory facts history → (next_after facts history).next ≡ ENDS
+pub ends_open : (facts : Facts) (history : List Exchange) → IsHistory facts history
+    → (next_after facts history).next ≡ ENDS
     → open_after history ≡ given (next_after facts history)
 ends_open facts history h at =
     let s = is_sound facts history h in
     open_is facts history h ∙ together_ends (next_after facts history) (sound_made (next_after facts history) s) at
 
-pub fails_open : (facts : Facts) (history : List Exchange) → IsHistory facts history → (next_after facts history).next ≡ FAILS
+pub fails_open : (facts : Facts) (history : List Exchange) → IsHistory facts history
+    → (next_after facts history).next ≡ FAILS
     → open_after history ≡ []
 fails_open facts history h at =
     let s = is_sound facts history h in
     open_is facts history h
-    ∙ together_fails (next_after facts history) (sound_made (next_after facts history) s) (sound_holds (next_after facts history) s) (sound_error (next_after facts history) s) at
+    ∙ together_fails (next_after facts history) (sound_made (next_after facts history) s)
+    (sound_holds (next_after facts history) s) (sound_error (next_after facts history) s) at
 
-pub begins_open : (facts : Facts) (history : List Exchange) → IsHistory facts history → (next_after facts history).next ≡ BEGIN
+pub begins_open : (facts : Facts) (history : List Exchange) → IsHistory facts history
+    → (next_after facts history).next ≡ BEGIN
     → open_after history ≡ []
 begins_open facts history h at =
     let s = is_sound facts history h in
-    open_is facts history h ∙ together_begins (next_after facts history) (sound_made (next_after facts history) s) (sound_holds (next_after facts history) s) at
+    open_is facts history h ∙ together_begins (next_after facts history) (sound_made (next_after facts history) s)
+    (sound_holds (next_after facts history) s) at
 
-pub closes_open : (facts : Facts) (history : List Exchange) → IsHistory facts history → (next_after facts history).next ≡ CLOSE
+pub closes_open : (facts : Facts) (history : List Exchange) → IsHistory facts history
+    → (next_after facts history).next ≡ CLOSE
     → (rest : List ℕ) × (open_after history ≡ rest ++ ((next_after facts history).about ∷ []))
-closes_open facts history h at = (held (next_after facts history), open_is facts history h ∙ together_closes (next_after facts history) at)
+closes_open facts history h at =
+    (held (next_after facts history), open_is facts history h ∙ together_closes (next_after facts history) at)
 
 -- ---- /proc
 
 owns_at : (c : Calling) → owns_ok c ≡ true → c.next ≡ CLOSE_PROC → c.owns_proc ≡ true
 owns_at c h at = grind (arith, at, h)
 
-owns_none : (c : Calling) → owns_ok c ≡ true → (c.next ≡ ENDS) ⊎ ((c.next ≡ FAILS) ⊎ (c.next ≡ BEGIN)) → c.owns_proc ≡ false
+owns_none : (c : Calling) → owns_ok c ≡ true → (c.next ≡ ENDS) ⊎ ((c.next ≡ FAILS) ⊎ (c.next ≡ BEGIN))
+    → c.owns_proc ≡ false
 owns_none c h (inl at) = grind (arith, at, h)
 owns_none c h (inr (inl at)) = grind (arith, at, h)
 owns_none c h (inr (inr at)) = grind (arith, at, h)
 
-pub proc_open : (facts : Facts) (history : List Exchange) → IsHistory facts history → (next_after facts history).next ≡ CLOSE_PROC
+pub proc_open : (facts : Facts) (history : List Exchange) → IsHistory facts history
+    → (next_after facts history).next ≡ CLOSE_PROC
     → owns_after history ≡ true
 proc_open facts history h at =
     let s = is_sound facts history h in
     owns_is facts history h ∙ owns_at (next_after facts history) (sound_owns (next_after facts history) s) at
 
 pub proc_closed : (facts : Facts) (history : List Exchange) → IsHistory facts history
-    → ((next_after facts history).next ≡ ENDS) ⊎ (((next_after facts history).next ≡ FAILS) ⊎ ((next_after facts history).next ≡ BEGIN)) → owns_after history ≡ false
+    → ((next_after facts history).next ≡ ENDS)
+    ⊎ (((next_after facts history).next ≡ FAILS) ⊎ ((next_after facts history).next ≡ BEGIN))
+    → owns_after history ≡ false
 proc_closed facts history h at =
     let s = is_sound facts history h in
     owns_is facts history h ∙ owns_none (next_after facts history) (sound_owns (next_after facts history) s) at
@@ -82,7 +93,8 @@ changed_none c h (inl at) = grind (arith, at, h)
 changed_none c h (inr at) = grind (arith, at, h)
 
 pub unchanged : (facts : Facts) (history : List Exchange) → IsHistory facts history
-    → ((next_after facts history).next ≡ BEGIN) ⊎ ((next_after facts history).next ≡ ANOTHER_PROC) → changed_after history ≡ false
+    → ((next_after facts history).next ≡ BEGIN) ⊎ ((next_after facts history).next ≡ ANOTHER_PROC)
+    → changed_after history ≡ false
 unchanged facts history h at =
     let s = is_sound facts history h in
     changed_is facts history h ∙ changed_none (next_after facts history) (sound_changed (next_after facts history) s) at
@@ -95,7 +107,8 @@ tries_most c h = grind (arith, h)
 pub tries_few : (facts : Facts) (history : List Exchange) → IsHistory facts history → begun_after history ≤ TRIES
 tries_few facts history h =
     let s = is_sound facts history h in
-    subst (λ n. n ≤ TRIES) (sym (begun_is facts history h)) (tries_most (next_after facts history) (sound_tries (next_after facts history) s))
+    subst (λ n. n ≤ TRIES) (sym (begun_is facts history h))
+    (tries_most (next_after facts history) (sound_tries (next_after facts history) s))
 
 paid_by : (c : Calling) → tries_ok c ≡ true → (b : Bool) → (c.next == BEGIN) ≡ b
     → (if b then pauses_after c.tries else pauses_after (c.tries - 1)) ≤ pauses_after 31
@@ -127,16 +140,19 @@ pauses_few facts history h =
 abbrev none_or : Facts → List Exchange → Type 0
 none_or facts history = (history ≡ []) ⊎ ((facts.may_retry ≡ true) × (why_after facts history ≡ EAGAIN))
 
-again_why : (facts : Facts) (history : List Exchange) (c : Calling) → again_ok (none_yet history) c ≡ true → c.facts ≡ facts
+again_why : (facts : Facts) (history : List Exchange) (c : Calling) → again_ok (none_yet history) c ≡ true
+    → c.facts ≡ facts
     → why_after facts history ≡ c.error → c.next ≡ BEGIN → none_or facts history
 again_why facts [] c ok same why at = inl refl
 again_why facts (e ∷ older) c ok same why at =
     inr (subst (λ f. f.may_retry ≡ true) same (again_may c ok at), why ∙ again_error c ok at)
 
-pub again_only : (facts : Facts) (history : List Exchange) → IsHistory facts history → (next_after facts history).next ≡ BEGIN
+pub again_only : (facts : Facts) (history : List Exchange) → IsHistory facts history
+    → (next_after facts history).next ≡ BEGIN
     → none_or facts history
 again_only facts history h at =
-    again_why facts history (next_after facts history) (again_is facts history h) (has_facts facts history h) (why_is facts history h) at
+    again_why facts history (next_after facts history) (again_is facts history h) (has_facts facts history h)
+    (why_is facts history h) at
 
 -- ---- the way home
 
@@ -153,7 +169,8 @@ home_ends facts history h at =
 away_or : (c : Calling) → moved_ok c ≡ true → c.next ≡ FAILS → (c.moved ≡ false) ⊎ (c.stuck ≡ true)
 away_or c h at = grind (arith, at, h)
 
-pub home_fails : (facts : Facts) (history : List Exchange) → IsHistory facts history → (next_after facts history).next ≡ FAILS
+pub home_fails : (facts : Facts) (history : List Exchange) → IsHistory facts history
+    → (next_after facts history).next ≡ FAILS
     → (away_after history ≡ false) ⊎ HomeFailed (next_after facts history).error history
 home_fails facts history h at =
     let s = is_sound facts history h in
@@ -168,11 +185,13 @@ root_facts : (c : Calling) → root_ok c ≡ true → error_ok c ≡ true → c.
     → (c.stepped ≡ false) × ((c.facts.jailed ≡ false) × (c.error ≢ 0))
 root_facts c h k at = grind (arith, at, h, k)
 
-pub root_only : (facts : Facts) (history : List Exchange) → IsHistory facts history → (next_after facts history).next ≡ LOOK_AT_ROOT
+pub root_only : (facts : Facts) (history : List Exchange) → IsHistory facts history
+    → (next_after facts history).next ≡ LOOK_AT_ROOT
     → (stepped_after history ≡ false) × ((facts.jailed ≡ false) × (why_after facts history ≢ 0))
 root_only facts history h at =
     let s = is_sound facts history h in
-    let r = root_facts (next_after facts history) (sound_root (next_after facts history) s) (sound_error (next_after facts history) s) at in (
+    let r = root_facts (next_after facts history) (sound_root (next_after facts history) s)
+    (sound_error (next_after facts history) s) at in (
       stepped_is facts history h ∙ r.0,
       (
         subst (λ f. f.jailed ≡ false) (has_facts facts history h) r.1.0,
@@ -184,15 +203,18 @@ looked_is : (history : List Exchange) → looked_last history ≡ true → LastW
 looked_is [] is = absurd (false≢true is)
 looked_is (e ∷ older) is = eqb-true e.asked LOOK_AT_ROOT is
 
-root_or : (c : Calling) (looked : Bool) → root_seen looked c ≡ true → c.next ≡ FAILS → c.stepped ≡ false → c.facts.jailed ≡ false
+root_or : (c : Calling) (looked : Bool) → root_seen looked c ≡ true → c.next ≡ FAILS → c.stepped ≡ false
+    → c.facts.jailed ≡ false
     → (looked ≡ true) ⊎ (c.stuck ≡ true)
 root_or c looked h at none own = grind (arith, at, h, none, own)
 
-pub root_always : (facts : Facts) (history : List Exchange) → IsHistory facts history → (next_after facts history).next ≡ FAILS
+pub root_always : (facts : Facts) (history : List Exchange) → IsHistory facts history
+    → (next_after facts history).next ≡ FAILS
     → stepped_after history ≡ false → facts.jailed ≡ false
     → LastWas LOOK_AT_ROOT history ⊎ HomeFailed (next_after facts history).error history
 root_always facts history h at none own =
-    elim (root_or (next_after facts history) (looked_last history) (root_is_seen facts history h) at (sym (stepped_is facts history h) ∙ none)
+    elim (root_or (next_after facts history) (looked_last history) (root_is_seen facts history h) at
+    (sym (stepped_is facts history h) ∙ none)
     (subst (λ f. f.jailed ≡ false) (sym (has_facts facts history h)) own)) [
       | inl looked ↦ inl (looked_is history looked)
       | inr stuck ↦ inr (home_is facts history h stuck)
@@ -206,21 +228,25 @@ some_error c h at = grind (arith, at, h)
 no_error : (c : Calling) → error_ok c ≡ true → c.next ≡ ENDS → c.error ≡ 0
 no_error c h at = grind (arith, at, h)
 
-pub fails_why : (facts : Facts) (history : List Exchange) → IsHistory facts history → (next_after facts history).next ≡ FAILS
+pub fails_why : (facts : Facts) (history : List Exchange) → IsHistory facts history
+    → (next_after facts history).next ≡ FAILS
     → ((next_after facts history).error ≡ why_after facts history) × (why_after facts history ≢ 0)
 fails_why facts history h at =
     let s = is_sound facts history h in (
       sym (why_is facts history h),
-      subst (λ n. n ≢ 0) (sym (why_is facts history h)) (some_error (next_after facts history) (sound_error (next_after facts history) s) at),
+      subst (λ n. n ≢ 0) (sym (why_is facts history h))
+          (some_error (next_after facts history) (sound_error (next_after facts history) s) at),
     )
 
-pub ends_why : (facts : Facts) (history : List Exchange) → IsHistory facts history → (next_after facts history).next ≡ ENDS
+pub ends_why : (facts : Facts) (history : List Exchange) → IsHistory facts history
+    → (next_after facts history).next ≡ ENDS
     → why_after facts history ≡ 0
 ends_why facts history h at =
     let s = is_sound facts history h in
     why_is facts history h ∙ no_error (next_after facts history) (sound_error (next_after facts history) s) at
 
-pub value_ends : (facts : Facts) (history : List Exchange) → IsHistory facts history → (next_after facts history).next ≡ ENDS
+pub value_ends : (facts : Facts) (history : List Exchange) → IsHistory facts history
+    → (next_after facts history).next ≡ ENDS
     → (next_after facts history).value ≡ value_after facts history
 value_ends facts history h at = sym (value_is facts history h)
 
@@ -243,4 +269,5 @@ few_room count c few h = few_number count (rank c) (room c) few (room_by c h (c.
 pub exchanges : (facts : Facts) (history : List Exchange) → IsHistory facts history → length history ≤ 18 * TRIES + 1
 exchanges facts history h =
     let s = is_sound facts history h in
-    few_room (length history) (next_after facts history) (few_are facts history h) (sound_tries (next_after facts history) s)
+    few_room (length history) (next_after facts history) (few_are facts history h)
+    (sound_tries (next_after facts history) s)

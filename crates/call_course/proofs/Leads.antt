@@ -1,16 +1,16 @@
 -- Where a turn leads: all that may be, one by one.
-use Rattle.std.proofs.Common.{◌≡◌, ◌≢◌, ◌-◌, ℕ, Bool, true, false, not, ◌&&◌, ◌||◌, refl, ap, sym, subst, ◌∙◌, arith}
-use Rattle.std.specs.Prelude.{◌==◌, nat_le, nat_lt, if◌then◌else◌}
+use Rattle.std.proofs.Common.{◌≡◌, ◌-◌, ℕ, Bool, true, false, not, ◌||◌, refl, ap, sym, subst}
+use Rattle.std.specs.Prelude.{◌==◌, if◌then◌else◌}
 use Rattle.system_calls.specs.Tries.{pause_after, EAGAIN}
 use Rattle.call_course.specs.Turns.{after_answer, after_own_root, after_proc, asks, began, begun, checked, ended, first, gains, homeward, is_again, is_unseen, judged, lacks, may_go_by_another, noted, over, replied, reply_error, root_error, done, text_of, stuck, COUNT, DONE, ENOMEM, OPENED, TEXT}
-use Rattle.call_course.specs.History.{is_question}
 use Rattle.call_course.specs.declared.calling.Calling.{Calling}
 use Rattle.call_course.specs.declared.calling.Answer.{Answer}
 use Rattle.call_course.specs.declared.calling.Facts.{Facts}
 use Rattle.call_course.specs.declared.calling.TheConstants.{BEGIN, JOIN, AT_ONCE, OWN_ROOT, PLACE, CONVERSE, TAKE, LET_GO, CLOSE, LOOK_AT_PROC, ANOTHER_PROC, CLOSE_PROC, GO_HOME, LOOK_AT_ROOT, ENDS, FAILS}
-use Rattle.call_course.proofs.Asked.{asked_is, Asked, is_begin, is_join, is_at_once, is_own_root, is_place, is_converse, is_take, is_let_go, is_close, is_look_at_proc, is_another_proc, is_close_proc, is_go_home, is_look_at_root}
+use Rattle.call_course.proofs.Asked.{Asked, is_begin, is_join, is_at_once, is_own_root, is_place, is_converse, is_take, is_let_go, is_close, is_look_at_proc, is_another_proc, is_close_proc, is_go_home, is_look_at_root}
 
-pub pick : (P : Calling → Type 0) (b : Bool) (x y : Calling) → (b ≡ true → P x) → (b ≡ false → P y) → P (if b then x else y)
+pub pick : (P : Calling → Type 0) (b : Bool) (x y : Calling) → (b ≡ true → P x) → (b ≡ false → P y)
+    → P (if b then x else y)
 pick P true x y f g = f refl
 pick P false x y f g = g refl
 
@@ -44,7 +44,8 @@ pub data Leads (seen may : Bool) (c n : Calling) : Type 0 where
   to_proc : may ≡ true → may_go_by_another c ≡ true → n ≡ asks LOOK_AT_PROC 0 c → Leads seen may c n
   to_close : c.owns_proc ≡ true → n ≡ asks CLOSE_PROC 0 c → Leads seen may c n
   to_home : c.owns_proc ≡ false → c.moved ≡ true → n ≡ asks GO_HOME 0 c → Leads seen may c n
-  to_root : seen ≡ false → c.owns_proc ≡ false → c.moved ≡ false → is_unseen c ≡ true → n ≡ asks LOOK_AT_ROOT 0 c → Leads seen may c n
+  to_root : seen ≡ false → c.owns_proc ≡ false → c.moved ≡ false → is_unseen c ≡ true → n ≡ asks LOOK_AT_ROOT 0 c
+      → Leads seen may c n
   to_end : c.owns_proc ≡ false → c.moved ≡ false → (c.error == 0) ≡ true → n ≡ asks ENDS 0 c → Leads seen may c n
   to_again : c.owns_proc ≡ false → c.moved ≡ false → (seen || not (is_unseen c)) ≡ true → (c.error == 0) ≡ false
       → is_again c ≡ true → n ≡ asks BEGIN (pause_after c.tries) c → Leads seen may c n
@@ -93,42 +94,63 @@ away a c = record c { error = a.error; holds = false; stuck = true }
 pub data Turn (c : Calling) (a : Answer) (n : Calling) : Type 0 where
   t_begin : c.next ≡ BEGIN → n ≡ began c → Turn c a n
   t_join : c.next ≡ JOIN → (a.error == 0) ≡ true → c.facts.held ≡ false → n ≡ asks OWN_ROOT 0 (noted a c) → Turn c a n
-  t_join_held : c.next ≡ JOIN → (a.error == 0) ≡ true → c.facts.held ≡ true → n ≡ asks CONVERSE 0 (noted a c) → Turn c a n
+  t_join_held : c.next ≡ JOIN → (a.error == 0) ≡ true → c.facts.held ≡ true → n ≡ asks CONVERSE 0 (noted a c)
+      → Turn c a n
   t_no_join : c.next ≡ JOIN → (a.error == 0) ≡ false → n ≡ asks LET_GO 0 (lacks a.error (noted a c)) → Turn c a n
   t_once : c.next ≡ AT_ONCE → (a.error == 0) ≡ true → Leads false true (gains a.value true (noted a c)) n → Turn c a n
-  t_not_once : c.next ≡ AT_ONCE → (a.error == 0) ≡ false → c.facts.held ≡ false → n ≡ asks OWN_ROOT 0 (noted a c) → Turn c a n
-  t_not_once_held : c.next ≡ AT_ONCE → (a.error == 0) ≡ false → c.facts.held ≡ true → n ≡ asks CONVERSE 0 (noted a c) → Turn c a n
-  t_own_place : c.next ≡ OWN_ROOT → (a.error == 0) ≡ true → (c.facts.error == 0) ≡ true → c.facts.places ≡ true → n ≡ asks PLACE 0 (noted a c) → Turn c a n
-  t_own_walk : c.next ≡ OWN_ROOT → (a.error == 0) ≡ true → (c.facts.error == 0) ≡ true → c.facts.places ≡ false → n ≡ asks CONVERSE 0 (noted a c) → Turn c a n
-  t_own_given : c.next ≡ OWN_ROOT → (a.error == 0) ≡ true → (c.facts.error == 0) ≡ false → n ≡ asks LET_GO 0 (noted a c) → Turn c a n
+  t_not_once : c.next ≡ AT_ONCE → (a.error == 0) ≡ false → c.facts.held ≡ false → n ≡ asks OWN_ROOT 0 (noted a c)
+      → Turn c a n
+  t_not_once_held : c.next ≡ AT_ONCE → (a.error == 0) ≡ false → c.facts.held ≡ true → n ≡ asks CONVERSE 0 (noted a c)
+      → Turn c a n
+  t_own_place : c.next ≡ OWN_ROOT → (a.error == 0) ≡ true → (c.facts.error == 0) ≡ true → c.facts.places ≡ true
+      → n ≡ asks PLACE 0 (noted a c) → Turn c a n
+  t_own_walk : c.next ≡ OWN_ROOT → (a.error == 0) ≡ true → (c.facts.error == 0) ≡ true → c.facts.places ≡ false
+      → n ≡ asks CONVERSE 0 (noted a c) → Turn c a n
+  t_own_given : c.next ≡ OWN_ROOT → (a.error == 0) ≡ true → (c.facts.error == 0) ≡ false → n ≡ asks LET_GO 0 (noted a c)
+      → Turn c a n
   t_no_own : c.next ≡ OWN_ROOT → (a.error == 0) ≡ false → n ≡ asks LET_GO 0 (lacks a.error (noted a c)) → Turn c a n
   t_place : c.next ≡ PLACE → (a.error == 0) ≡ true → Leads false true (gains a.length false (noted a c)) n → Turn c a n
   t_no_place : c.next ≡ PLACE → (a.error == 0) ≡ false → Leads false true (lacks a.error (noted a c)) n → Turn c a n
   t_opened : c.next ≡ CONVERSE → (a.reply == OPENED) ≡ true → n ≡ asks TAKE 0 (made_of a c) → Turn c a n
-  t_text : c.next ≡ CONVERSE → (a.reply == OPENED) ≡ false → (a.reply == TEXT) ≡ true → a.whole ≡ true → n ≡ asks LET_GO 0 (gains a.length false (made_of a c)) → Turn c a n
-  t_cut : c.next ≡ CONVERSE → (a.reply == OPENED) ≡ false → (a.reply == TEXT) ≡ true → a.whole ≡ false → n ≡ asks LET_GO 0 (lacks ENOMEM (made_of a c)) → Turn c a n
-  t_done : c.next ≡ CONVERSE → (a.reply == OPENED) ≡ false → (a.reply == TEXT) ≡ false → (a.reply == DONE) ≡ true → c.facts.gives ≡ false → n ≡ asks LET_GO 0 (gains 0 false (made_of a c)) → Turn c a n
-  t_made : c.next ≡ CONVERSE → (a.reply == OPENED) ≡ false → (a.reply == TEXT) ≡ false → (a.reply == DONE) ≡ true → c.facts.gives ≡ true → (a.made == 0) ≡ false → n ≡ asks LET_GO 0 (gains (a.made - 1) true (record (made_of a c) { made = 0 })) → Turn c a n
-  t_lost : c.next ≡ CONVERSE → (a.reply == OPENED) ≡ false → (a.reply == TEXT) ≡ false → (a.reply == DONE) ≡ true → c.facts.gives ≡ true → (a.made == 0) ≡ true → (a.unopened == 0) ≡ true → n ≡ asks LET_GO 0 (lacks EAGAIN (made_of a c)) → Turn c a n
-  t_unopened : c.next ≡ CONVERSE → (a.reply == OPENED) ≡ false → (a.reply == TEXT) ≡ false → (a.reply == DONE) ≡ true → c.facts.gives ≡ true → (a.made == 0) ≡ true → (a.unopened == 0) ≡ false → n ≡ asks LET_GO 0 (lacks a.unopened (made_of a c)) → Turn c a n
-  t_count : c.next ≡ CONVERSE → (a.reply == OPENED) ≡ false → (a.reply == TEXT) ≡ false → (a.reply == DONE) ≡ false → (a.reply == COUNT) ≡ true → n ≡ asks LET_GO 0 (gains a.value false (made_of a c)) → Turn c a n
-  t_fault : c.next ≡ CONVERSE → (a.reply == OPENED) ≡ false → (a.reply == TEXT) ≡ false → (a.reply == DONE) ≡ false → (a.reply == COUNT) ≡ false → n ≡ asks LET_GO 0 (lacks (reply_error a) (made_of a c)) → Turn c a n
+  t_text : c.next ≡ CONVERSE → (a.reply == OPENED) ≡ false → (a.reply == TEXT) ≡ true → a.whole ≡ true
+      → n ≡ asks LET_GO 0 (gains a.length false (made_of a c)) → Turn c a n
+  t_cut : c.next ≡ CONVERSE → (a.reply == OPENED) ≡ false → (a.reply == TEXT) ≡ true → a.whole ≡ false
+      → n ≡ asks LET_GO 0 (lacks ENOMEM (made_of a c)) → Turn c a n
+  t_done : c.next ≡ CONVERSE → (a.reply == OPENED) ≡ false → (a.reply == TEXT) ≡ false → (a.reply == DONE) ≡ true
+      → c.facts.gives ≡ false → n ≡ asks LET_GO 0 (gains 0 false (made_of a c)) → Turn c a n
+  t_made : c.next ≡ CONVERSE → (a.reply == OPENED) ≡ false → (a.reply == TEXT) ≡ false → (a.reply == DONE) ≡ true
+      → c.facts.gives ≡ true → (a.made == 0) ≡ false
+      → n ≡ asks LET_GO 0 (gains (a.made - 1) true (record (made_of a c) { made = 0 })) → Turn c a n
+  t_lost : c.next ≡ CONVERSE → (a.reply == OPENED) ≡ false → (a.reply == TEXT) ≡ false → (a.reply == DONE) ≡ true
+      → c.facts.gives ≡ true → (a.made == 0) ≡ true → (a.unopened == 0) ≡ true
+      → n ≡ asks LET_GO 0 (lacks EAGAIN (made_of a c)) → Turn c a n
+  t_unopened : c.next ≡ CONVERSE → (a.reply == OPENED) ≡ false → (a.reply == TEXT) ≡ false → (a.reply == DONE) ≡ true
+      → c.facts.gives ≡ true → (a.made == 0) ≡ true → (a.unopened == 0) ≡ false
+      → n ≡ asks LET_GO 0 (lacks a.unopened (made_of a c)) → Turn c a n
+  t_count : c.next ≡ CONVERSE → (a.reply == OPENED) ≡ false → (a.reply == TEXT) ≡ false → (a.reply == DONE) ≡ false
+      → (a.reply == COUNT) ≡ true → n ≡ asks LET_GO 0 (gains a.value false (made_of a c)) → Turn c a n
+  t_fault : c.next ≡ CONVERSE → (a.reply == OPENED) ≡ false → (a.reply == TEXT) ≡ false → (a.reply == DONE) ≡ false
+      → (a.reply == COUNT) ≡ false → n ≡ asks LET_GO 0 (lacks (reply_error a) (made_of a c)) → Turn c a n
   t_took : c.next ≡ TAKE → (a.error == 0) ≡ true → n ≡ asks LET_GO 0 (gains a.value true (noted a c)) → Turn c a n
   t_not_took : c.next ≡ TAKE → (a.error == 0) ≡ false → n ≡ asks LET_GO 0 (lacks a.error (noted a c)) → Turn c a n
   t_let_go : c.next ≡ LET_GO → (c.made == 0) ≡ true → Leads false true (c) n → Turn c a n
-  t_close_made : c.next ≡ LET_GO → (c.made == 0) ≡ false → n ≡ asks CLOSE (c.made - 1) (record c { made = 0 }) → Turn c a n
+  t_close_made : c.next ≡ LET_GO → (c.made == 0) ≡ false → n ≡ asks CLOSE (c.made - 1) (record c { made = 0 })
+      → Turn c a n
   t_closed : c.next ≡ CLOSE → c.stuck ≡ false → Leads false true (c) n → Turn c a n
   t_closed_stuck : c.next ≡ CLOSE → c.stuck ≡ true → n ≡ asks FAILS 0 c → Turn c a n
   t_same_proc : c.next ≡ LOOK_AT_PROC → (a.error == 0) ≡ true → Leads false false (c) n → Turn c a n
   t_lost_proc : c.next ≡ LOOK_AT_PROC → (a.error == 0) ≡ false → n ≡ asks ANOTHER_PROC 0 c → Turn c a n
-  t_another : c.next ≡ ANOTHER_PROC → (a.error == 0) ≡ true → n ≡ record (begun c) { has_proc = true; owns_proc = a.owns_proc; by_another = true } → Turn c a n
+  t_another : c.next ≡ ANOTHER_PROC → (a.error == 0) ≡ true
+      → n ≡ record (begun c) { has_proc = true; owns_proc = a.owns_proc; by_another = true } → Turn c a n
   t_no_other : c.next ≡ ANOTHER_PROC → (a.error == 0) ≡ false → Leads false false (lacks a.error c) n → Turn c a n
   t_proc_closed : c.next ≡ CLOSE_PROC → Leads false false (record c { owns_proc = false }) n → Turn c a n
   t_home : c.next ≡ GO_HOME → (a.error == 0) ≡ true → Leads false false (record c { moved = false }) n → Turn c a n
-  t_stuck_holds : c.next ≡ GO_HOME → (a.error == 0) ≡ false → c.holds ≡ true → n ≡ asks CLOSE c.value (away a c) → Turn c a n
+  t_stuck_holds : c.next ≡ GO_HOME → (a.error == 0) ≡ false → c.holds ≡ true → n ≡ asks CLOSE c.value (away a c)
+      → Turn c a n
   t_stuck : c.next ≡ GO_HOME → (a.error == 0) ≡ false → c.holds ≡ false → n ≡ asks FAILS 0 (away a c) → Turn c a n
   t_root : c.next ≡ LOOK_AT_ROOT → (root_error a == 0) ≡ true → Leads true false (c) n → Turn c a n
-  t_bad_root : c.next ≡ LOOK_AT_ROOT → (root_error a == 0) ≡ false → n ≡ asks FAILS 0 (record c { error = root_error a; is_root = true }) → Turn c a n
+  t_bad_root : c.next ≡ LOOK_AT_ROOT → (root_error a == 0) ≡ false
+      → n ≡ asks FAILS 0 (record c { error = root_error a; is_root = true }) → Turn c a n
 
 answered_turn : (c : Calling) (a : Answer) (next : ℕ) → ((a.error == 0) ≡ true → Turn c a (asks next 0 (noted a c)))
     → ((a.error == 0) ≡ false → Turn c a (asks LET_GO 0 (lacks a.error (noted a c))))
@@ -199,17 +221,47 @@ pub turn_at : (c : Calling) (a : Answer) → Asked c.next → (c.next ≡ GO_HOM
 turn_at c a asked home_owns root_owns root_moved =
     elim asked [
       | is_begin at ↦ subst (λ k. Turn c a (after_answer k a c)) (sym at) (t_begin at refl)
-      | is_join at ↦ subst (λ k. Turn c a (after_answer k a c)) (sym at) (answered_turn c a (checked CONVERSE c.facts) (λ x. join_turn c a at x c.facts.held refl) (λ x. t_no_join at x refl))
-      | is_at_once at ↦ subst (λ k. Turn c a (after_answer k a c)) (sym at) (pick (Turn c a) (a.error == 0) (ended (gains a.value true (noted a c))) (asks (checked CONVERSE c.facts) 0 (noted a c)) (λ x. t_once at x (ended_leads (gains a.value true (noted a c)))) (λ x. once_turn c a at x c.facts.held refl))
-      | is_own_root at ↦ subst (λ k. Turn c a (after_answer k a c)) (sym at) (answered_turn c a (after_own_root c.facts) (λ x. own_turn c a at x (c.facts.error == 0) c.facts.places refl refl) (λ x. t_no_own at x refl))
-      | is_place at ↦ subst (λ k. Turn c a (after_answer k a c)) (sym at) (pick (Turn c a) (a.error == 0) (ended (gains a.length false (noted a c))) (ended (lacks a.error (noted a c))) (λ x. t_place at x (ended_leads (gains a.length false (noted a c)))) (λ x. t_no_place at x (ended_leads (lacks a.error (noted a c)))))
+      | is_join at ↦ subst (λ k. Turn c a (after_answer k a c)) (sym at)
+          (answered_turn c a (checked CONVERSE c.facts) (λ x. join_turn c a at x c.facts.held refl)
+          (λ x. t_no_join at x refl))
+      | is_at_once at ↦ subst (λ k. Turn c a (after_answer k a c)) (sym at)
+          (pick (Turn c a) (a.error == 0) (ended (gains a.value true (noted a c)))
+          (asks (checked CONVERSE c.facts) 0 (noted a c))
+          (λ x. t_once at x (ended_leads (gains a.value true (noted a c)))) (λ x. once_turn c a at x c.facts.held refl))
+      | is_own_root at ↦ subst (λ k. Turn c a (after_answer k a c)) (sym at)
+          (answered_turn c a (after_own_root c.facts)
+          (λ x. own_turn c a at x (c.facts.error == 0) c.facts.places refl refl) (λ x. t_no_own at x refl))
+      | is_place at ↦ subst (λ k. Turn c a (after_answer k a c)) (sym at)
+          (pick (Turn c a) (a.error == 0) (ended (gains a.length false (noted a c))) (ended (lacks a.error (noted a c)))
+          (λ x. t_place at x (ended_leads (gains a.length false (noted a c))))
+          (λ x. t_no_place at x (ended_leads (lacks a.error (noted a c)))))
       | is_converse at ↦ subst (λ k. Turn c a (after_answer k a c)) (sym at) (replied_turn c a at)
-      | is_take at ↦ subst (λ k. Turn c a (after_answer k a c)) (sym at) (pick (Turn c a) (a.error == 0) (asks LET_GO 0 (gains a.value true (noted a c))) (asks LET_GO 0 (lacks a.error (noted a c))) (λ x. t_took at x refl) (λ x. t_not_took at x refl))
-      | is_let_go at ↦ subst (λ k. Turn c a (after_answer k a c)) (sym at) (pick (Turn c a) (c.made == 0) (ended c) (asks CLOSE (c.made - 1) (record c { made = 0 })) (λ x. t_let_go at x (ended_leads c)) (λ x. t_close_made at x refl))
-      | is_close at ↦ subst (λ k. Turn c a (after_answer k a c)) (sym at) (pick (Turn c a) c.stuck (asks FAILS 0 c) (ended c) (λ x. t_closed_stuck at x refl) (λ x. t_closed at x (ended_leads c)))
-      | is_look_at_proc at ↦ subst (λ k. Turn c a (after_answer k a c)) (sym at) (pick (Turn c a) (a.error == 0) (after_proc c) (asks ANOTHER_PROC 0 c) (λ x. t_same_proc at x (after_proc_leads false c)) (λ x. t_lost_proc at x refl))
-      | is_another_proc at ↦ subst (λ k. Turn c a (after_answer k a c)) (sym at) (pick (Turn c a) (a.error == 0) (record (begun c) { has_proc = true; owns_proc = a.owns_proc; by_another = true }) (after_proc (lacks a.error c)) (λ x. t_another at x refl) (λ x. t_no_other at x (after_proc_leads false (lacks a.error c))))
-      | is_close_proc at ↦ subst (λ k. Turn c a (after_answer k a c)) (sym at) (t_proc_closed at (homeward_leads false (record c { owns_proc = false }) refl))
-      | is_go_home at ↦ subst (λ k. Turn c a (after_answer k a c)) (sym at) (pick (Turn c a) (a.error == 0) (judged (record c { moved = false })) (stuck a.error c) (λ x. t_home at x (judged_leads false (record c { moved = false }) (home_owns at) refl)) (λ x. pick (Turn c a) c.holds (asks CLOSE c.value (away a c)) (asks FAILS 0 (away a c)) (λ y. t_stuck_holds at x y refl) (λ y. t_stuck at x y refl)))
-      | is_look_at_root at ↦ subst (λ k. Turn c a (after_answer k a c)) (sym at) (pick (Turn c a) (root_error a == 0) (over c) (asks FAILS 0 (record c { error = root_error a; is_root = true })) (λ x. t_root at x (over_leads true false c (root_owns at) (root_moved at) refl)) (λ x. t_bad_root at x refl))
+      | is_take at ↦ subst (λ k. Turn c a (after_answer k a c)) (sym at)
+          (pick (Turn c a) (a.error == 0) (asks LET_GO 0 (gains a.value true (noted a c)))
+          (asks LET_GO 0 (lacks a.error (noted a c))) (λ x. t_took at x refl) (λ x. t_not_took at x refl))
+      | is_let_go at ↦ subst (λ k. Turn c a (after_answer k a c)) (sym at)
+          (pick (Turn c a) (c.made == 0) (ended c) (asks CLOSE (c.made - 1) (record c { made = 0 }))
+          (λ x. t_let_go at x (ended_leads c)) (λ x. t_close_made at x refl))
+      | is_close at ↦ subst (λ k. Turn c a (after_answer k a c)) (sym at)
+          (pick (Turn c a) c.stuck (asks FAILS 0 c) (ended c) (λ x. t_closed_stuck at x refl)
+          (λ x. t_closed at x (ended_leads c)))
+      | is_look_at_proc at ↦ subst (λ k. Turn c a (after_answer k a c)) (sym at)
+          (pick (Turn c a) (a.error == 0) (after_proc c) (asks ANOTHER_PROC 0 c)
+          (λ x. t_same_proc at x (after_proc_leads false c)) (λ x. t_lost_proc at x refl))
+      | is_another_proc at ↦ subst (λ k. Turn c a (after_answer k a c)) (sym at)
+          (pick (Turn c a) (a.error == 0)
+          (record (begun c) { has_proc = true; owns_proc = a.owns_proc; by_another = true })
+          (after_proc (lacks a.error c)) (λ x. t_another at x refl)
+          (λ x. t_no_other at x (after_proc_leads false (lacks a.error c))))
+      | is_close_proc at ↦ subst (λ k. Turn c a (after_answer k a c)) (sym at)
+          (t_proc_closed at (homeward_leads false (record c { owns_proc = false }) refl))
+      | is_go_home at ↦ subst (λ k. Turn c a (after_answer k a c)) (sym at)
+          (pick (Turn c a) (a.error == 0) (judged (record c { moved = false })) (stuck a.error c)
+          (λ x. t_home at x (judged_leads false (record c { moved = false }) (home_owns at) refl))
+          (λ x. pick (Turn c a) c.holds (asks CLOSE c.value (away a c)) (asks FAILS 0 (away a c))
+          (λ y. t_stuck_holds at x y refl) (λ y. t_stuck at x y refl)))
+      | is_look_at_root at ↦ subst (λ k. Turn c a (after_answer k a c)) (sym at)
+          (pick (Turn c a) (root_error a == 0) (over c)
+          (asks FAILS 0 (record c { error = root_error a; is_root = true }))
+          (λ x. t_root at x (over_leads true false c (root_owns at) (root_moved at) refl)) (λ x. t_bad_root at x refl))
     ]

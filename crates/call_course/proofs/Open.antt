@@ -1,19 +1,17 @@
 -- Which descriptors are open, from what is kept of a call.
-use Rattle.std.proofs.Common.{◌≡◌, ◌≢◌, ◌+◌, ◌-◌, ◌*◌, ◌≤◌, ◌<◌, ℕ, zero, suc, List, [], ◌∷◌, ◌++◌, length, Bool, true, false, not, ◌&&◌, ◌||◌, ◌⊎◌, inl, inr, refl, ap, sym, subst, ◌∙◌, arith}
-use Rattle.std.specs.Prelude.{◌==◌, nat_le, nat_lt, if◌then◌else◌}
-use Rattle.system_calls.specs.Tries.{pause_after, pauses_after, EAGAIN, TRIES}
-use Rattle.call_course.specs.Turns.{after_answer, asks, began, begun, gains, judged, lacks, noted, reply_error, root_error, start, COUNT, DONE, ENOMEM, OPENED, TEXT, is_again, is_unseen, may_go_by_another}
-use Rattle.call_course.specs.History.{exchange, is_question, next_after, Exchange, IsHistory}
-use Rattle.call_course.specs.Promises.{away_after, away_by, begun_after, changed_after, closed_by, error_of, is_walk, last_error, open_after, opened_by, others_after, others_by, owns_after, owns_by, pauses_of, reply_value, stepped_after, stepped_by, unopened_error, value_after, value_by, went_well, why_after, why_by, without, HomeFailed, RootHas}
+use Rattle.std.proofs.Common.{◌≡◌, ◌+◌, ◌-◌, ℕ, List, [], ◌∷◌, ◌++◌, length, Bool, true, false, refl, ap, sym, subst, arith}
+use Rattle.std.specs.Prelude.{◌==◌, if◌then◌else◌}
+use Rattle.call_course.specs.Turns.{gains, lacks, noted, start}
+use Rattle.call_course.specs.History.{exchange, next_after, Exchange, IsHistory}
+use Rattle.call_course.specs.Promises.{closed_by, open_after, opened_by, without}
 use Rattle.call_course.specs.declared.calling.Calling.{Calling}
 use Rattle.call_course.specs.declared.calling.Answer.{Answer}
 use Rattle.call_course.specs.declared.calling.Facts.{Facts}
-use Rattle.call_course.specs.declared.calling.TheConstants.{BEGIN, JOIN, AT_ONCE, OWN_ROOT, PLACE, CONVERSE, TAKE, LET_GO, CLOSE, LOOK_AT_PROC, ANOTHER_PROC, CLOSE_PROC, GO_HOME, LOOK_AT_ROOT, ENDS, FAILS}
-use Rattle.std.proofs.lemmas.Bool.{eqb-true, false≢true}
-use Rattle.call_course.proofs.Asked.{asked_is}
-use Rattle.call_course.proofs.Leads.{judged_leads, made_of, away, pick, turn_at, Leads, Turn, to_proc, to_close, to_home, to_root, to_end, to_again, to_fail, t_begin, t_join, t_join_held, t_no_join, t_once, t_not_once, t_not_once_held, t_own_place, t_own_walk, t_own_given, t_no_own, t_place, t_no_place, t_opened, t_text, t_cut, t_done, t_made, t_lost, t_unopened, t_count, t_fault, t_took, t_not_took, t_let_go, t_close_made, t_closed, t_closed_stuck, t_same_proc, t_lost_proc, t_another, t_no_other, t_proc_closed, t_home, t_stuck_holds, t_stuck, t_root, t_bad_root}
-use Rattle.call_course.proofs.Sound.{another_ok, changed_ok, error_ok, holds_ok, made_ok, moved_ok, owns_ok, root_ok, sound, sound_start, sound_turn, stuck_ok, tries_ok, within}
-use Rattle.call_course.proofs.Rule.{always, is_sound, leads_same, sound_another, sound_changed, sound_error, sound_holds, sound_made, sound_moved, sound_owns, sound_root, sound_stuck, sound_tries}
+use Rattle.call_course.specs.declared.calling.TheConstants.{CLOSE}
+use Rattle.std.proofs.lemmas.Bool.{eqb-true}
+use Rattle.call_course.proofs.Leads.{Leads, Turn, to_proc, to_close, to_home, to_root, to_end, to_again, to_fail, t_begin, t_join, t_join_held, t_no_join, t_once, t_not_once, t_not_once_held, t_own_place, t_own_walk, t_own_given, t_no_own, t_place, t_no_place, t_opened, t_text, t_cut, t_done, t_made, t_lost, t_unopened, t_count, t_fault, t_took, t_not_took, t_let_go, t_close_made, t_closed, t_closed_stuck, t_same_proc, t_lost_proc, t_another, t_no_other, t_proc_closed, t_home, t_stuck_holds, t_stuck, t_root, t_bad_root}
+use Rattle.call_course.proofs.Sound.{error_ok, holds_ok, made_ok, stuck_ok}
+use Rattle.call_course.proofs.Rule.{always, sound_error, sound_holds, sound_made, sound_stuck}
 
 abbrev of_result : Calling → List ℕ
 of_result c = if c.holds then c.value ∷ [] else []
@@ -47,7 +45,8 @@ without_one false v a is = refl
 without_itself : (a : ℕ) → without a (a ∷ []) ≡ []
 without_itself a = grind arith
 
-pub without_held : (holds : Bool) (v a : ℕ) → without a ((if holds then v ∷ [] else []) ++ (a ∷ [])) ≡ (if holds then v ∷ [] else [])
+pub without_held : (holds : Bool) (v a : ℕ)
+    → without a ((if holds then v ∷ [] else []) ++ (a ∷ [])) ≡ (if holds then v ∷ [] else [])
 without_held true v a = grind (arith, without_itself a, without_one (v == a) v a refl)
 without_held false v a = without_itself a
 
@@ -56,44 +55,91 @@ open_turn : (c : Calling) (a : Answer) (n : Calling) (was : List ℕ) → holds_
     → (opened_by (exchange c a) ++ closed_by (exchange c a) was) ≡ together n
 open_turn c a n was h1 h2 h3 h4 w t =
     elim t [
-      | t_begin p0 is ↦ subst (λ m. (opened_by (exchange c a) ++ closed_by (exchange c a) was) ≡ together m) (sym is) (grind (arith, p0))
-      | t_join p0 p1 p2 is ↦ subst (λ m. (opened_by (exchange c a) ++ closed_by (exchange c a) was) ≡ together m) (sym is) (grind (arith, p0, p1, p2))
-      | t_join_held p0 p1 p2 is ↦ subst (λ m. (opened_by (exchange c a) ++ closed_by (exchange c a) was) ≡ together m) (sym is) (grind (arith, p0, p1, p2))
-      | t_no_join p0 p1 is ↦ subst (λ m. (opened_by (exchange c a) ++ closed_by (exchange c a) was) ≡ together m) (sym is) (grind (arith, p0, p1))
+      | t_begin p0 is ↦ subst (λ m. (opened_by (exchange c a) ++ closed_by (exchange c a) was) ≡ together m) (sym is)
+          (grind (arith, p0))
+      | t_join p0 p1 p2 is ↦ subst (λ m. (opened_by (exchange c a) ++ closed_by (exchange c a) was) ≡ together m)
+          (sym is) (grind (arith, p0, p1, p2))
+      | t_join_held p0 p1 p2 is ↦
+          subst (λ m. (opened_by (exchange c a) ++ closed_by (exchange c a) was) ≡ together m) (sym is)
+          (grind (arith, p0, p1, p2))
+      | t_no_join p0 p1 is ↦ subst (λ m. (opened_by (exchange c a) ++ closed_by (exchange c a) was) ≡ together m)
+          (sym is) (grind (arith, p0, p1))
       | t_once p0 p1 l ↦ grind (arith, p0, p1, together_leads false true (gains a.value true (noted a c)) n l)
-      | t_not_once p0 p1 p2 is ↦ subst (λ m. (opened_by (exchange c a) ++ closed_by (exchange c a) was) ≡ together m) (sym is) (grind (arith, p0, p1, p2))
-      | t_not_once_held p0 p1 p2 is ↦ subst (λ m. (opened_by (exchange c a) ++ closed_by (exchange c a) was) ≡ together m) (sym is) (grind (arith, p0, p1, p2))
-      | t_own_place p0 p1 p2 p3 is ↦ subst (λ m. (opened_by (exchange c a) ++ closed_by (exchange c a) was) ≡ together m) (sym is) (grind (arith, p0, p1, p2, p3))
-      | t_own_walk p0 p1 p2 p3 is ↦ subst (λ m. (opened_by (exchange c a) ++ closed_by (exchange c a) was) ≡ together m) (sym is) (grind (arith, p0, p1, p2, p3))
-      | t_own_given p0 p1 p2 is ↦ subst (λ m. (opened_by (exchange c a) ++ closed_by (exchange c a) was) ≡ together m) (sym is) (grind (arith, p0, p1, p2))
-      | t_no_own p0 p1 is ↦ subst (λ m. (opened_by (exchange c a) ++ closed_by (exchange c a) was) ≡ together m) (sym is) (grind (arith, p0, p1))
+      | t_not_once p0 p1 p2 is ↦
+          subst (λ m. (opened_by (exchange c a) ++ closed_by (exchange c a) was) ≡ together m) (sym is)
+          (grind (arith, p0, p1, p2))
+      | t_not_once_held p0 p1 p2 is ↦
+          subst (λ m. (opened_by (exchange c a) ++ closed_by (exchange c a) was) ≡ together m) (sym is)
+          (grind (arith, p0, p1, p2))
+      | t_own_place p0 p1 p2 p3 is ↦
+          subst (λ m. (opened_by (exchange c a) ++ closed_by (exchange c a) was) ≡ together m) (sym is)
+          (grind (arith, p0, p1, p2, p3))
+      | t_own_walk p0 p1 p2 p3 is ↦
+          subst (λ m. (opened_by (exchange c a) ++ closed_by (exchange c a) was) ≡ together m) (sym is)
+          (grind (arith, p0, p1, p2, p3))
+      | t_own_given p0 p1 p2 is ↦
+          subst (λ m. (opened_by (exchange c a) ++ closed_by (exchange c a) was) ≡ together m) (sym is)
+          (grind (arith, p0, p1, p2))
+      | t_no_own p0 p1 is ↦ subst (λ m. (opened_by (exchange c a) ++ closed_by (exchange c a) was) ≡ together m)
+          (sym is) (grind (arith, p0, p1))
       | t_place p0 p1 l ↦ grind (arith, p0, p1, together_leads false true (gains a.length false (noted a c)) n l)
       | t_no_place p0 p1 l ↦ grind (arith, p0, p1, together_leads false true (lacks a.error (noted a c)) n l)
-      | t_opened p0 p1 is ↦ subst (λ m. (opened_by (exchange c a) ++ closed_by (exchange c a) was) ≡ together m) (sym is) (grind (arith, p0, p1))
-      | t_text p0 p1 p2 p3 is ↦ subst (λ m. (opened_by (exchange c a) ++ closed_by (exchange c a) was) ≡ together m) (sym is) (grind (arith, p0, p1, p2, p3))
-      | t_cut p0 p1 p2 p3 is ↦ subst (λ m. (opened_by (exchange c a) ++ closed_by (exchange c a) was) ≡ together m) (sym is) (grind (arith, p0, p1, p2, p3))
-      | t_done p0 p1 p2 p3 p4 is ↦ subst (λ m. (opened_by (exchange c a) ++ closed_by (exchange c a) was) ≡ together m) (sym is) (grind (arith, p0, p1, p2, p3, p4))
-      | t_made p0 p1 p2 p3 p4 p5 is ↦ subst (λ m. (opened_by (exchange c a) ++ closed_by (exchange c a) was) ≡ together m) (sym is) (grind (arith, p0, p1, p2, p3, p4, p5))
-      | t_lost p0 p1 p2 p3 p4 p5 p6 is ↦ subst (λ m. (opened_by (exchange c a) ++ closed_by (exchange c a) was) ≡ together m) (sym is) (grind (arith, p0, p1, p2, p3, p4, p5, p6))
-      | t_unopened p0 p1 p2 p3 p4 p5 p6 is ↦ subst (λ m. (opened_by (exchange c a) ++ closed_by (exchange c a) was) ≡ together m) (sym is) (grind (arith, p0, p1, p2, p3, p4, p5, p6))
-      | t_count p0 p1 p2 p3 p4 is ↦ subst (λ m. (opened_by (exchange c a) ++ closed_by (exchange c a) was) ≡ together m) (sym is) (grind (arith, p0, p1, p2, p3, p4))
-      | t_fault p0 p1 p2 p3 p4 is ↦ subst (λ m. (opened_by (exchange c a) ++ closed_by (exchange c a) was) ≡ together m) (sym is) (grind (arith, p0, p1, p2, p3, p4))
-      | t_took p0 p1 is ↦ subst (λ m. (opened_by (exchange c a) ++ closed_by (exchange c a) was) ≡ together m) (sym is) (grind (arith, p0, p1))
-      | t_not_took p0 p1 is ↦ subst (λ m. (opened_by (exchange c a) ++ closed_by (exchange c a) was) ≡ together m) (sym is) (grind (arith, p0, p1))
+      | t_opened p0 p1 is ↦ subst (λ m. (opened_by (exchange c a) ++ closed_by (exchange c a) was) ≡ together m)
+          (sym is) (grind (arith, p0, p1))
+      | t_text p0 p1 p2 p3 is ↦
+          subst (λ m. (opened_by (exchange c a) ++ closed_by (exchange c a) was) ≡ together m) (sym is)
+          (grind (arith, p0, p1, p2, p3))
+      | t_cut p0 p1 p2 p3 is ↦
+          subst (λ m. (opened_by (exchange c a) ++ closed_by (exchange c a) was) ≡ together m) (sym is)
+          (grind (arith, p0, p1, p2, p3))
+      | t_done p0 p1 p2 p3 p4 is ↦
+          subst (λ m. (opened_by (exchange c a) ++ closed_by (exchange c a) was) ≡ together m) (sym is)
+          (grind (arith, p0, p1, p2, p3, p4))
+      | t_made p0 p1 p2 p3 p4 p5 is ↦
+          subst (λ m. (opened_by (exchange c a) ++ closed_by (exchange c a) was) ≡ together m) (sym is)
+          (grind (arith, p0, p1, p2, p3, p4, p5))
+      | t_lost p0 p1 p2 p3 p4 p5 p6 is ↦
+          subst (λ m. (opened_by (exchange c a) ++ closed_by (exchange c a) was) ≡ together m) (sym is)
+          (grind (arith, p0, p1, p2, p3, p4, p5, p6))
+      | t_unopened p0 p1 p2 p3 p4 p5 p6 is ↦
+          subst (λ m. (opened_by (exchange c a) ++ closed_by (exchange c a) was) ≡ together m) (sym is)
+          (grind (arith, p0, p1, p2, p3, p4, p5, p6))
+      | t_count p0 p1 p2 p3 p4 is ↦
+          subst (λ m. (opened_by (exchange c a) ++ closed_by (exchange c a) was) ≡ together m) (sym is)
+          (grind (arith, p0, p1, p2, p3, p4))
+      | t_fault p0 p1 p2 p3 p4 is ↦
+          subst (λ m. (opened_by (exchange c a) ++ closed_by (exchange c a) was) ≡ together m) (sym is)
+          (grind (arith, p0, p1, p2, p3, p4))
+      | t_took p0 p1 is ↦ subst (λ m. (opened_by (exchange c a) ++ closed_by (exchange c a) was) ≡ together m) (sym is)
+          (grind (arith, p0, p1))
+      | t_not_took p0 p1 is ↦ subst (λ m. (opened_by (exchange c a) ++ closed_by (exchange c a) was) ≡ together m)
+          (sym is) (grind (arith, p0, p1))
       | t_let_go p0 p1 l ↦ grind (arith, p0, p1, together_leads false true (c) n l)
-      | t_close_made p0 p1 is ↦ subst (λ m. (opened_by (exchange c a) ++ closed_by (exchange c a) was) ≡ together m) (sym is) (grind (arith, p0, p1))
-      | t_closed p0 p1 l ↦ grind (arith, p0, p1, together_leads false true (c) n l, without_held c.holds c.value c.about)
-      | t_closed_stuck p0 p1 is ↦ subst (λ m. (opened_by (exchange c a) ++ closed_by (exchange c a) was) ≡ together m) (sym is) (grind (arith, p0, p1, without_held c.holds c.value c.about))
+      | t_close_made p0 p1 is ↦
+          subst (λ m. (opened_by (exchange c a) ++ closed_by (exchange c a) was) ≡ together m) (sym is)
+          (grind (arith, p0, p1))
+      | t_closed p0 p1 l ↦ grind
+          (arith, p0, p1, together_leads false true (c) n l, without_held c.holds c.value c.about)
+      | t_closed_stuck p0 p1 is ↦
+          subst (λ m. (opened_by (exchange c a) ++ closed_by (exchange c a) was) ≡ together m) (sym is)
+          (grind (arith, p0, p1, without_held c.holds c.value c.about))
       | t_same_proc p0 p1 l ↦ grind (arith, p0, p1, together_leads false false (c) n l)
-      | t_lost_proc p0 p1 is ↦ subst (λ m. (opened_by (exchange c a) ++ closed_by (exchange c a) was) ≡ together m) (sym is) (grind (arith, p0, p1))
-      | t_another p0 p1 is ↦ subst (λ m. (opened_by (exchange c a) ++ closed_by (exchange c a) was) ≡ together m) (sym is) (grind (arith, p0, p1))
+      | t_lost_proc p0 p1 is ↦
+          subst (λ m. (opened_by (exchange c a) ++ closed_by (exchange c a) was) ≡ together m) (sym is)
+          (grind (arith, p0, p1))
+      | t_another p0 p1 is ↦ subst (λ m. (opened_by (exchange c a) ++ closed_by (exchange c a) was) ≡ together m)
+          (sym is) (grind (arith, p0, p1))
       | t_no_other p0 p1 l ↦ grind (arith, p0, p1, together_leads false false (lacks a.error c) n l)
       | t_proc_closed p0 l ↦ grind (arith, p0, together_leads false false (record c { owns_proc = false }) n l)
       | t_home p0 p1 l ↦ grind (arith, p0, p1, together_leads false false (record c { moved = false }) n l)
-      | t_stuck_holds p0 p1 p2 is ↦ subst (λ m. (opened_by (exchange c a) ++ closed_by (exchange c a) was) ≡ together m) (sym is) (grind (arith, p0, p1, p2))
-      | t_stuck p0 p1 p2 is ↦ subst (λ m. (opened_by (exchange c a) ++ closed_by (exchange c a) was) ≡ together m) (sym is) (grind (arith, p0, p1, p2))
+      | t_stuck_holds p0 p1 p2 is ↦
+          subst (λ m. (opened_by (exchange c a) ++ closed_by (exchange c a) was) ≡ together m) (sym is)
+          (grind (arith, p0, p1, p2))
+      | t_stuck p0 p1 p2 is ↦ subst (λ m. (opened_by (exchange c a) ++ closed_by (exchange c a) was) ≡ together m)
+          (sym is) (grind (arith, p0, p1, p2))
       | t_root p0 p1 l ↦ grind (arith, p0, p1, together_leads true false (c) n l)
-      | t_bad_root p0 p1 is ↦ subst (λ m. (opened_by (exchange c a) ++ closed_by (exchange c a) was) ≡ together m) (sym is) (grind (arith, p0, p1))
+      | t_bad_root p0 p1 is ↦ subst (λ m. (opened_by (exchange c a) ++ closed_by (exchange c a) was) ≡ together m)
+          (sym is) (grind (arith, p0, p1))
     ]
 
 open_start : (facts : Facts) → [] ≡ together (start facts)
@@ -103,4 +149,5 @@ pub open_is : (facts : Facts) (history : List Exchange) → IsHistory facts hist
     → open_after history ≡ together (next_after facts history)
 open_is facts =
     always facts (λ h c. open_after h ≡ together c) (open_start facts)
-    (λ older c a n s same t w. open_turn c a n (open_after older) (sound_holds c s) (sound_made c s) (sound_error c s) (sound_stuck c s) w t)
+    (λ older c a n s same t w. open_turn c a n (open_after older) (sound_holds c s) (sound_made c s) (sound_error c s)
+    (sound_stuck c s) w t)

@@ -1,18 +1,16 @@
 -- Where a history leads, by what was done.
-use Rattle.std.proofs.Common.{◌≡◌, ◌≢◌, ◌+◌, ◌-◌, ◌*◌, ◌≤◌, ◌<◌, ℕ, zero, suc, List, [], ◌∷◌, ◌++◌, length, Bool, true, false, not, ◌&&◌, ◌||◌, ◌⊎◌, inl, inr, refl, ap, sym, subst, ◌∙◌, arith}
-use Rattle.std.specs.Prelude.{◌==◌, nat_le, nat_lt, if◌then◌else◌}
-use Rattle.system_calls.specs.Tries.{pause_after, pauses_after, EAGAIN, TRIES}
-use Rattle.call_course.specs.Turns.{after_answer, asks, began, begun, gains, judged, lacks, noted, reply_error, root_error, start, COUNT, DONE, ENOMEM, OPENED, TEXT, is_again, is_unseen, may_go_by_another}
-use Rattle.call_course.specs.History.{exchange, is_question, next_after, Exchange, IsHistory}
-use Rattle.call_course.specs.Promises.{away_after, away_by, begun_after, changed_after, closed_by, error_of, is_walk, last_error, open_after, opened_by, others_after, others_by, owns_after, owns_by, pauses_of, reply_value, stepped_after, stepped_by, unopened_error, value_after, value_by, went_well, why_after, why_by, without, HomeFailed, RootHas}
+use Rattle.std.proofs.Common.{◌≡◌, ◌≤◌, ℕ, List, length, Bool, true, false, not, ◌&&◌, ◌||◌, refl, sym, subst, arith}
+use Rattle.std.specs.Prelude.{◌==◌, nat_le, if◌then◌else◌}
+use Rattle.call_course.specs.Turns.{gains, lacks, noted, start, may_go_by_another}
+use Rattle.call_course.specs.History.{exchange, next_after, Exchange, IsHistory}
+use Rattle.call_course.specs.Promises.{others_after, others_by}
 use Rattle.call_course.specs.declared.calling.Calling.{Calling}
 use Rattle.call_course.specs.declared.calling.Answer.{Answer}
 use Rattle.call_course.specs.declared.calling.Facts.{Facts}
-use Rattle.call_course.specs.declared.calling.TheConstants.{BEGIN, JOIN, AT_ONCE, OWN_ROOT, PLACE, CONVERSE, TAKE, LET_GO, CLOSE, LOOK_AT_PROC, ANOTHER_PROC, CLOSE_PROC, GO_HOME, LOOK_AT_ROOT, ENDS, FAILS}
-use Rattle.call_course.proofs.Asked.{asked_is}
-use Rattle.call_course.proofs.Leads.{judged_leads, made_of, away, pick, turn_at, Leads, Turn, to_proc, to_close, to_home, to_root, to_end, to_again, to_fail, t_begin, t_join, t_join_held, t_no_join, t_once, t_not_once, t_not_once_held, t_own_place, t_own_walk, t_own_given, t_no_own, t_place, t_no_place, t_opened, t_text, t_cut, t_done, t_made, t_lost, t_unopened, t_count, t_fault, t_took, t_not_took, t_let_go, t_close_made, t_closed, t_closed_stuck, t_same_proc, t_lost_proc, t_another, t_no_other, t_proc_closed, t_home, t_stuck_holds, t_stuck, t_root, t_bad_root}
-use Rattle.call_course.proofs.Sound.{another_ok, changed_ok, error_ok, holds_ok, made_ok, moved_ok, owns_ok, root_ok, sound, sound_start, sound_turn, stuck_ok, tries_ok, within}
-use Rattle.call_course.proofs.Rule.{always, is_sound, leads_same, sound_another, sound_changed, sound_error, sound_holds, sound_made, sound_moved, sound_owns, sound_root, sound_stuck, sound_tries}
+use Rattle.call_course.specs.declared.calling.TheConstants.{JOIN, ANOTHER_PROC}
+use Rattle.call_course.proofs.Leads.{Leads, Turn, to_proc, to_close, to_home, to_root, to_end, to_again, to_fail, t_begin, t_join, t_join_held, t_no_join, t_once, t_not_once, t_not_once_held, t_own_place, t_own_walk, t_own_given, t_no_own, t_place, t_no_place, t_opened, t_text, t_cut, t_done, t_made, t_lost, t_unopened, t_count, t_fault, t_took, t_not_took, t_let_go, t_close_made, t_closed, t_closed_stuck, t_same_proc, t_lost_proc, t_another, t_no_other, t_proc_closed, t_home, t_stuck_holds, t_stuck, t_root, t_bad_root}
+use Rattle.call_course.proofs.Sound.{sound, within}
+use Rattle.call_course.proofs.Rule.{always, sound_another, sound_stuck}
 
 -- ---- another /proc
 
@@ -21,7 +19,8 @@ others_ok others c =
     nat_le others 1
     && (not (within JOIN ANOTHER_PROC c.next) || (c.stuck || (if c.by_another then others == 1 else others == 0)))
 
-others_leads : (seen may : Bool) (c n : Calling) (others : ℕ) → nat_le others 1 ≡ true → (may ≡ true → may_go_by_another c ≡ true → others ≡ 0)
+others_leads : (seen may : Bool) (c n : Calling) (others : ℕ) → nat_le others 1 ≡ true
+    → (may ≡ true → may_go_by_another c ≡ true → others ≡ 0)
     → Leads seen may c n → others_ok others n ≡ true
 others_leads seen may c n others few none l =
     elim l [
@@ -30,7 +29,8 @@ others_leads seen may c n others few none l =
       | to_home p0 p1 p2 ↦ subst (λ m. others_ok others m ≡ true) (sym p2) (grind (arith, few, p0, p1))
       | to_root p0 p1 p2 p3 p4 ↦ subst (λ m. others_ok others m ≡ true) (sym p4) (grind (arith, few, p0, p1, p2, p3))
       | to_end p0 p1 p2 p3 ↦ subst (λ m. others_ok others m ≡ true) (sym p3) (grind (arith, few, p0, p1, p2))
-      | to_again p0 p1 p2 p3 p4 p5 ↦ subst (λ m. others_ok others m ≡ true) (sym p5) (grind (arith, few, p0, p1, p2, p3, p4))
+      | to_again p0 p1 p2 p3 p4 p5 ↦
+          subst (λ m. others_ok others m ≡ true) (sym p5) (grind (arith, few, p0, p1, p2, p3, p4))
       | to_fail p0 p1 p2 p3 p4 ↦ subst (λ m. others_ok others m ≡ true) (sym p4) (grind (arith, few, p0, p1, p2, p3))
     ]
 
@@ -39,44 +39,92 @@ others_turn : (c : Calling) (a : Answer) (n : Calling) (was : ℕ) → sound c �
 others_turn c a n was s w t =
     let so = sound_stuck c s in let sa = sound_another c s in
     elim t [
-      | t_begin p0 is ↦ subst (λ m. others_ok (others_by (exchange c a) was) m ≡ true) (sym is) (grind (arith, p0, w, so, sa))
-      | t_join p0 p1 p2 is ↦ subst (λ m. others_ok (others_by (exchange c a) was) m ≡ true) (sym is) (grind (arith, p0, p1, p2, w, so, sa))
-      | t_join_held p0 p1 p2 is ↦ subst (λ m. others_ok (others_by (exchange c a) was) m ≡ true) (sym is) (grind (arith, p0, p1, p2, w, so, sa))
-      | t_no_join p0 p1 is ↦ subst (λ m. others_ok (others_by (exchange c a) was) m ≡ true) (sym is) (grind (arith, p0, p1, w, so, sa))
-      | t_once p0 p1 l ↦ others_leads false true (gains a.value true (noted a c)) n (others_by (exchange c a) was) (grind (arith, p0, p1, w)) (λ is can. grind (arith, p0, p1, w, so, can)) l
-      | t_not_once p0 p1 p2 is ↦ subst (λ m. others_ok (others_by (exchange c a) was) m ≡ true) (sym is) (grind (arith, p0, p1, p2, w, so, sa))
-      | t_not_once_held p0 p1 p2 is ↦ subst (λ m. others_ok (others_by (exchange c a) was) m ≡ true) (sym is) (grind (arith, p0, p1, p2, w, so, sa))
-      | t_own_place p0 p1 p2 p3 is ↦ subst (λ m. others_ok (others_by (exchange c a) was) m ≡ true) (sym is) (grind (arith, p0, p1, p2, p3, w, so, sa))
-      | t_own_walk p0 p1 p2 p3 is ↦ subst (λ m. others_ok (others_by (exchange c a) was) m ≡ true) (sym is) (grind (arith, p0, p1, p2, p3, w, so, sa))
-      | t_own_given p0 p1 p2 is ↦ subst (λ m. others_ok (others_by (exchange c a) was) m ≡ true) (sym is) (grind (arith, p0, p1, p2, w, so, sa))
-      | t_no_own p0 p1 is ↦ subst (λ m. others_ok (others_by (exchange c a) was) m ≡ true) (sym is) (grind (arith, p0, p1, w, so, sa))
-      | t_place p0 p1 l ↦ others_leads false true (gains a.length false (noted a c)) n (others_by (exchange c a) was) (grind (arith, p0, p1, w)) (λ is can. grind (arith, p0, p1, w, so, can)) l
-      | t_no_place p0 p1 l ↦ others_leads false true (lacks a.error (noted a c)) n (others_by (exchange c a) was) (grind (arith, p0, p1, w)) (λ is can. grind (arith, p0, p1, w, so, can)) l
-      | t_opened p0 p1 is ↦ subst (λ m. others_ok (others_by (exchange c a) was) m ≡ true) (sym is) (grind (arith, p0, p1, w, so, sa))
-      | t_text p0 p1 p2 p3 is ↦ subst (λ m. others_ok (others_by (exchange c a) was) m ≡ true) (sym is) (grind (arith, p0, p1, p2, p3, w, so, sa))
-      | t_cut p0 p1 p2 p3 is ↦ subst (λ m. others_ok (others_by (exchange c a) was) m ≡ true) (sym is) (grind (arith, p0, p1, p2, p3, w, so, sa))
-      | t_done p0 p1 p2 p3 p4 is ↦ subst (λ m. others_ok (others_by (exchange c a) was) m ≡ true) (sym is) (grind (arith, p0, p1, p2, p3, p4, w, so, sa))
-      | t_made p0 p1 p2 p3 p4 p5 is ↦ subst (λ m. others_ok (others_by (exchange c a) was) m ≡ true) (sym is) (grind (arith, p0, p1, p2, p3, p4, p5, w, so, sa))
-      | t_lost p0 p1 p2 p3 p4 p5 p6 is ↦ subst (λ m. others_ok (others_by (exchange c a) was) m ≡ true) (sym is) (grind (arith, p0, p1, p2, p3, p4, p5, p6, w, so, sa))
-      | t_unopened p0 p1 p2 p3 p4 p5 p6 is ↦ subst (λ m. others_ok (others_by (exchange c a) was) m ≡ true) (sym is) (grind (arith, p0, p1, p2, p3, p4, p5, p6, w, so, sa))
-      | t_count p0 p1 p2 p3 p4 is ↦ subst (λ m. others_ok (others_by (exchange c a) was) m ≡ true) (sym is) (grind (arith, p0, p1, p2, p3, p4, w, so, sa))
-      | t_fault p0 p1 p2 p3 p4 is ↦ subst (λ m. others_ok (others_by (exchange c a) was) m ≡ true) (sym is) (grind (arith, p0, p1, p2, p3, p4, w, so, sa))
-      | t_took p0 p1 is ↦ subst (λ m. others_ok (others_by (exchange c a) was) m ≡ true) (sym is) (grind (arith, p0, p1, w, so, sa))
-      | t_not_took p0 p1 is ↦ subst (λ m. others_ok (others_by (exchange c a) was) m ≡ true) (sym is) (grind (arith, p0, p1, w, so, sa))
-      | t_let_go p0 p1 l ↦ others_leads false true (c) n (others_by (exchange c a) was) (grind (arith, p0, p1, w)) (λ is can. grind (arith, p0, p1, w, so, can)) l
-      | t_close_made p0 p1 is ↦ subst (λ m. others_ok (others_by (exchange c a) was) m ≡ true) (sym is) (grind (arith, p0, p1, w, so, sa))
-      | t_closed p0 p1 l ↦ others_leads false true (c) n (others_by (exchange c a) was) (grind (arith, p0, p1, w)) (λ is can. grind (arith, p0, p1, w, so, can)) l
-      | t_closed_stuck p0 p1 is ↦ subst (λ m. others_ok (others_by (exchange c a) was) m ≡ true) (sym is) (grind (arith, p0, p1, w, so, sa))
-      | t_same_proc p0 p1 l ↦ others_leads false false (c) n (others_by (exchange c a) was) (grind (arith, p0, p1, w)) (λ is can. absurd (grind (arith, is))) l
-      | t_lost_proc p0 p1 is ↦ subst (λ m. others_ok (others_by (exchange c a) was) m ≡ true) (sym is) (grind (arith, p0, p1, w, so, sa))
-      | t_another p0 p1 is ↦ subst (λ m. others_ok (others_by (exchange c a) was) m ≡ true) (sym is) (grind (arith, p0, p1, w, so, sa))
-      | t_no_other p0 p1 l ↦ others_leads false false (lacks a.error c) n (others_by (exchange c a) was) (grind (arith, p0, p1, w)) (λ is can. absurd (grind (arith, is))) l
-      | t_proc_closed p0 l ↦ others_leads false false (record c { owns_proc = false }) n (others_by (exchange c a) was) (grind (arith, p0, w)) (λ is can. absurd (grind (arith, is))) l
-      | t_home p0 p1 l ↦ others_leads false false (record c { moved = false }) n (others_by (exchange c a) was) (grind (arith, p0, p1, w)) (λ is can. absurd (grind (arith, is))) l
-      | t_stuck_holds p0 p1 p2 is ↦ subst (λ m. others_ok (others_by (exchange c a) was) m ≡ true) (sym is) (grind (arith, p0, p1, p2, w, so, sa))
-      | t_stuck p0 p1 p2 is ↦ subst (λ m. others_ok (others_by (exchange c a) was) m ≡ true) (sym is) (grind (arith, p0, p1, p2, w, so, sa))
-      | t_root p0 p1 l ↦ others_leads true false (c) n (others_by (exchange c a) was) (grind (arith, p0, p1, w)) (λ is can. absurd (grind (arith, is))) l
-      | t_bad_root p0 p1 is ↦ subst (λ m. others_ok (others_by (exchange c a) was) m ≡ true) (sym is) (grind (arith, p0, p1, w, so, sa))
+      | t_begin p0 is ↦ subst (λ m. others_ok (others_by (exchange c a) was) m ≡ true) (sym is)
+          (grind (arith, p0, w, so, sa))
+      | t_join p0 p1 p2 is ↦ subst (λ m. others_ok (others_by (exchange c a) was) m ≡ true) (sym is)
+          (grind (arith, p0, p1, p2, w, so, sa))
+      | t_join_held p0 p1 p2 is ↦
+          subst (λ m. others_ok (others_by (exchange c a) was) m ≡ true) (sym is) (grind (arith, p0, p1, p2, w, so, sa))
+      | t_no_join p0 p1 is ↦ subst (λ m. others_ok (others_by (exchange c a) was) m ≡ true) (sym is)
+          (grind (arith, p0, p1, w, so, sa))
+      | t_once p0 p1 l ↦ others_leads false true (gains a.value true (noted a c)) n (others_by (exchange c a) was)
+          (grind (arith, p0, p1, w)) (λ is can. grind (arith, p0, p1, w, so, can)) l
+      | t_not_once p0 p1 p2 is ↦
+          subst (λ m. others_ok (others_by (exchange c a) was) m ≡ true) (sym is) (grind (arith, p0, p1, p2, w, so, sa))
+      | t_not_once_held p0 p1 p2 is ↦
+          subst (λ m. others_ok (others_by (exchange c a) was) m ≡ true) (sym is) (grind (arith, p0, p1, p2, w, so, sa))
+      | t_own_place p0 p1 p2 p3 is ↦
+          subst (λ m. others_ok (others_by (exchange c a) was) m ≡ true) (sym is)
+          (grind (arith, p0, p1, p2, p3, w, so, sa))
+      | t_own_walk p0 p1 p2 p3 is ↦
+          subst (λ m. others_ok (others_by (exchange c a) was) m ≡ true) (sym is)
+          (grind (arith, p0, p1, p2, p3, w, so, sa))
+      | t_own_given p0 p1 p2 is ↦
+          subst (λ m. others_ok (others_by (exchange c a) was) m ≡ true) (sym is) (grind (arith, p0, p1, p2, w, so, sa))
+      | t_no_own p0 p1 is ↦ subst (λ m. others_ok (others_by (exchange c a) was) m ≡ true) (sym is)
+          (grind (arith, p0, p1, w, so, sa))
+      | t_place p0 p1 l ↦ others_leads false true (gains a.length false (noted a c)) n (others_by (exchange c a) was)
+          (grind (arith, p0, p1, w)) (λ is can. grind (arith, p0, p1, w, so, can)) l
+      | t_no_place p0 p1 l ↦ others_leads false true (lacks a.error (noted a c)) n (others_by (exchange c a) was)
+          (grind (arith, p0, p1, w)) (λ is can. grind (arith, p0, p1, w, so, can)) l
+      | t_opened p0 p1 is ↦ subst (λ m. others_ok (others_by (exchange c a) was) m ≡ true) (sym is)
+          (grind (arith, p0, p1, w, so, sa))
+      | t_text p0 p1 p2 p3 is ↦
+          subst (λ m. others_ok (others_by (exchange c a) was) m ≡ true) (sym is)
+          (grind (arith, p0, p1, p2, p3, w, so, sa))
+      | t_cut p0 p1 p2 p3 is ↦
+          subst (λ m. others_ok (others_by (exchange c a) was) m ≡ true) (sym is)
+          (grind (arith, p0, p1, p2, p3, w, so, sa))
+      | t_done p0 p1 p2 p3 p4 is ↦
+          subst (λ m. others_ok (others_by (exchange c a) was) m ≡ true) (sym is)
+          (grind (arith, p0, p1, p2, p3, p4, w, so, sa))
+      | t_made p0 p1 p2 p3 p4 p5 is ↦
+          subst (λ m. others_ok (others_by (exchange c a) was) m ≡ true) (sym is)
+          (grind (arith, p0, p1, p2, p3, p4, p5, w, so, sa))
+      | t_lost p0 p1 p2 p3 p4 p5 p6 is ↦
+          subst (λ m. others_ok (others_by (exchange c a) was) m ≡ true) (sym is)
+          (grind (arith, p0, p1, p2, p3, p4, p5, p6, w, so, sa))
+      | t_unopened p0 p1 p2 p3 p4 p5 p6 is ↦
+          subst (λ m. others_ok (others_by (exchange c a) was) m ≡ true) (sym is)
+          (grind (arith, p0, p1, p2, p3, p4, p5, p6, w, so, sa))
+      | t_count p0 p1 p2 p3 p4 is ↦
+          subst (λ m. others_ok (others_by (exchange c a) was) m ≡ true) (sym is)
+          (grind (arith, p0, p1, p2, p3, p4, w, so, sa))
+      | t_fault p0 p1 p2 p3 p4 is ↦
+          subst (λ m. others_ok (others_by (exchange c a) was) m ≡ true) (sym is)
+          (grind (arith, p0, p1, p2, p3, p4, w, so, sa))
+      | t_took p0 p1 is ↦ subst (λ m. others_ok (others_by (exchange c a) was) m ≡ true) (sym is)
+          (grind (arith, p0, p1, w, so, sa))
+      | t_not_took p0 p1 is ↦ subst (λ m. others_ok (others_by (exchange c a) was) m ≡ true) (sym is)
+          (grind (arith, p0, p1, w, so, sa))
+      | t_let_go p0 p1 l ↦ others_leads false true (c) n (others_by (exchange c a) was) (grind (arith, p0, p1, w))
+          (λ is can. grind (arith, p0, p1, w, so, can)) l
+      | t_close_made p0 p1 is ↦
+          subst (λ m. others_ok (others_by (exchange c a) was) m ≡ true) (sym is) (grind (arith, p0, p1, w, so, sa))
+      | t_closed p0 p1 l ↦ others_leads false true (c) n (others_by (exchange c a) was) (grind (arith, p0, p1, w))
+          (λ is can. grind (arith, p0, p1, w, so, can)) l
+      | t_closed_stuck p0 p1 is ↦
+          subst (λ m. others_ok (others_by (exchange c a) was) m ≡ true) (sym is) (grind (arith, p0, p1, w, so, sa))
+      | t_same_proc p0 p1 l ↦ others_leads false false (c) n (others_by (exchange c a) was) (grind (arith, p0, p1, w))
+          (λ is can. absurd (grind (arith, is))) l
+      | t_lost_proc p0 p1 is ↦
+          subst (λ m. others_ok (others_by (exchange c a) was) m ≡ true) (sym is) (grind (arith, p0, p1, w, so, sa))
+      | t_another p0 p1 is ↦ subst (λ m. others_ok (others_by (exchange c a) was) m ≡ true) (sym is)
+          (grind (arith, p0, p1, w, so, sa))
+      | t_no_other p0 p1 l ↦ others_leads false false (lacks a.error c) n (others_by (exchange c a) was)
+          (grind (arith, p0, p1, w)) (λ is can. absurd (grind (arith, is))) l
+      | t_proc_closed p0 l ↦ others_leads false false (record c { owns_proc = false }) n (others_by (exchange c a) was)
+          (grind (arith, p0, w)) (λ is can. absurd (grind (arith, is))) l
+      | t_home p0 p1 l ↦ others_leads false false (record c { moved = false }) n (others_by (exchange c a) was)
+          (grind (arith, p0, p1, w)) (λ is can. absurd (grind (arith, is))) l
+      | t_stuck_holds p0 p1 p2 is ↦
+          subst (λ m. others_ok (others_by (exchange c a) was) m ≡ true) (sym is) (grind (arith, p0, p1, p2, w, so, sa))
+      | t_stuck p0 p1 p2 is ↦ subst (λ m. others_ok (others_by (exchange c a) was) m ≡ true) (sym is)
+          (grind (arith, p0, p1, p2, w, so, sa))
+      | t_root p0 p1 l ↦ others_leads true false (c) n (others_by (exchange c a) was) (grind (arith, p0, p1, w))
+          (λ is can. absurd (grind (arith, is))) l
+      | t_bad_root p0 p1 is ↦ subst (λ m. others_ok (others_by (exchange c a) was) m ≡ true) (sym is)
+          (grind (arith, p0, p1, w, so, sa))
     ]
 
 others_start : (facts : Facts) → others_ok 0 (start facts) ≡ true

@@ -1,20 +1,18 @@
 -- The thread's own root is checked before.
-use Rattle.std.proofs.Common.{◌≡◌, ◌≢◌, ◌+◌, ◌-◌, ◌*◌, ◌≤◌, ◌<◌, ℕ, zero, suc, List, [], ◌∷◌, ◌++◌, length, Bool, true, false, not, ◌&&◌, ◌||◌, ◌⊎◌, inl, inr, refl, ap, sym, subst, ◌∙◌, arith}
-use Rattle.std.specs.Prelude.{◌==◌, nat_le, nat_lt, if◌then◌else◌}
-use Rattle.system_calls.specs.Tries.{pause_after, pauses_after, EAGAIN, TRIES}
-use Rattle.call_course.specs.Turns.{after_answer, asks, began, begun, first, gains, judged, lacks, noted, reply_error, root_error, start, COUNT, DONE, ENOMEM, OPENED, TEXT, is_again, is_unseen, may_go_by_another}
-use Rattle.call_course.specs.History.{exchange, is_question, next_after, Exchange, IsHistory}
-use Rattle.call_course.specs.Promises.{away_after, away_by, begun_after, changed_after, check_error_after, check_error_by, checked_after, checked_by, closed_by, error_of, is_walk, last_error, open_after, opened_by, others_after, others_by, owns_after, owns_by, pauses_of, reply_value, stepped_after, stepped_by, unopened_error, value_after, value_by, went_well, why_after, why_by, without, HomeFailed, IsChecked, RootHas}
+use Rattle.std.proofs.Common.{◌≡◌, ◌≢◌, ◌-◌, ℕ, List, ◌∷◌, length, Bool, true, false, not, ◌&&◌, ◌||◌, ◌⊎◌, inl, inr, refl, ap, sym, subst, ◌∙◌, arith}
+use Rattle.std.specs.Prelude.{◌==◌}
+use Rattle.call_course.specs.Turns.{began, begun, first, gains, lacks, noted, start}
+use Rattle.call_course.specs.History.{exchange, next_after, Exchange, IsHistory}
+use Rattle.call_course.specs.Promises.{check_error_after, check_error_by, checked_after, checked_by, is_walk, last_error, HomeFailed, IsChecked}
 use Rattle.call_course.specs.declared.calling.Calling.{Calling}
 use Rattle.call_course.specs.declared.calling.Answer.{Answer}
 use Rattle.call_course.specs.declared.calling.Facts.{Facts}
-use Rattle.call_course.specs.declared.calling.TheConstants.{BEGIN, JOIN, AT_ONCE, OWN_ROOT, PLACE, CONVERSE, TAKE, LET_GO, CLOSE, LOOK_AT_PROC, ANOTHER_PROC, CLOSE_PROC, GO_HOME, LOOK_AT_ROOT, ENDS, FAILS}
+use Rattle.call_course.specs.declared.calling.TheConstants.{BEGIN, JOIN, OWN_ROOT, PLACE, CONVERSE, TAKE, ENDS, FAILS}
 use Rattle.std.proofs.lemmas.Bool.{eqb-true, false≢true}
-use Rattle.call_course.proofs.Asked.{asked_is}
-use Rattle.call_course.proofs.Leads.{judged_leads, First, f_given, f_check, f_check_place, f_place, f_join, f_once, first_is, made_of, away, pick, turn_at, Leads, Turn, to_proc, to_close, to_home, to_root, to_end, to_again, to_fail, t_begin, t_join, t_join_held, t_no_join, t_once, t_not_once, t_not_once_held, t_own_place, t_own_walk, t_own_given, t_no_own, t_place, t_no_place, t_opened, t_text, t_cut, t_done, t_made, t_lost, t_unopened, t_count, t_fault, t_took, t_not_took, t_let_go, t_close_made, t_closed, t_closed_stuck, t_same_proc, t_lost_proc, t_another, t_no_other, t_proc_closed, t_home, t_stuck_holds, t_stuck, t_root, t_bad_root}
-use Rattle.call_course.proofs.Sound.{another_ok, changed_ok, error_ok, holds_ok, made_ok, moved_ok, owns_ok, root_ok, sound, sound_start, sound_turn, stuck_ok, tries_ok, within}
+use Rattle.call_course.proofs.Leads.{First, f_given, f_check, f_check_place, f_place, f_join, f_once, first_is, Leads, Turn, to_proc, to_close, to_home, to_root, to_end, to_again, to_fail, t_begin, t_join, t_join_held, t_no_join, t_once, t_not_once, t_not_once_held, t_own_place, t_own_walk, t_own_given, t_no_own, t_place, t_no_place, t_opened, t_text, t_cut, t_done, t_made, t_lost, t_unopened, t_count, t_fault, t_took, t_not_took, t_let_go, t_close_made, t_closed, t_closed_stuck, t_same_proc, t_lost_proc, t_another, t_no_other, t_proc_closed, t_home, t_stuck_holds, t_stuck, t_root, t_bad_root}
+use Rattle.call_course.proofs.Sound.{within}
 use Rattle.call_course.proofs.Ends.{home_is}
-use Rattle.call_course.proofs.Rule.{always, has_facts, is_sound, leads_same, sound_another, sound_changed, sound_error, sound_holds, sound_made, sound_moved, sound_owns, sound_root, sound_stuck, sound_tries}
+use Rattle.call_course.proofs.Rule.{always, has_facts}
 
 -- ---- a call that has failed before makes that check, and nothing else of a try
 
@@ -90,8 +88,10 @@ given_turn c a n w t =
       | t_cut p0 p1 p2 p3 is ↦ subst (λ m. given_ok m ≡ true) (sym is) (grind (arith, p0, p1, p2, p3, w))
       | t_done p0 p1 p2 p3 p4 is ↦ subst (λ m. given_ok m ≡ true) (sym is) (grind (arith, p0, p1, p2, p3, p4, w))
       | t_made p0 p1 p2 p3 p4 p5 is ↦ subst (λ m. given_ok m ≡ true) (sym is) (grind (arith, p0, p1, p2, p3, p4, p5, w))
-      | t_lost p0 p1 p2 p3 p4 p5 p6 is ↦ subst (λ m. given_ok m ≡ true) (sym is) (grind (arith, p0, p1, p2, p3, p4, p5, p6, w))
-      | t_unopened p0 p1 p2 p3 p4 p5 p6 is ↦ subst (λ m. given_ok m ≡ true) (sym is) (grind (arith, p0, p1, p2, p3, p4, p5, p6, w))
+      | t_lost p0 p1 p2 p3 p4 p5 p6 is ↦
+          subst (λ m. given_ok m ≡ true) (sym is) (grind (arith, p0, p1, p2, p3, p4, p5, p6, w))
+      | t_unopened p0 p1 p2 p3 p4 p5 p6 is ↦
+          subst (λ m. given_ok m ≡ true) (sym is) (grind (arith, p0, p1, p2, p3, p4, p5, p6, w))
       | t_count p0 p1 p2 p3 p4 is ↦ subst (λ m. given_ok m ≡ true) (sym is) (grind (arith, p0, p1, p2, p3, p4, w))
       | t_fault p0 p1 p2 p3 p4 is ↦ subst (λ m. given_ok m ≡ true) (sym is) (grind (arith, p0, p1, p2, p3, p4, w))
       | t_took p0 p1 is ↦ subst (λ m. given_ok m ≡ true) (sym is) (grind (arith, p0, p1, w))
@@ -115,7 +115,8 @@ given_turn c a n w t =
 given_start : (facts : Facts) → given_ok (start facts) ≡ true
 given_start facts = grind arith
 
-pub given_is : (facts : Facts) (history : List Exchange) → IsHistory facts history → given_ok (next_after facts history) ≡ true
+pub given_is : (facts : Facts) (history : List Exchange) → IsHistory facts history
+    → given_ok (next_after facts history) ≡ true
 given_is facts =
     always facts (λ h c. given_ok c ≡ true) (given_start facts) (λ older c a n s same t w. given_turn c a n w t)
 
@@ -133,7 +134,8 @@ asked_leads seen may c n checked w l =
       | to_home p0 p1 is ↦ subst (λ m. asked_ok checked m ≡ true) (sym is) (grind (arith, p0, p1, w))
       | to_root p0 p1 p2 p3 is ↦ subst (λ m. asked_ok checked m ≡ true) (sym is) (grind (arith, p0, p1, p2, p3, w))
       | to_end p0 p1 p2 is ↦ subst (λ m. asked_ok checked m ≡ true) (sym is) (grind (arith, p0, p1, p2, w))
-      | to_again p0 p1 p2 p3 p4 is ↦ subst (λ m. asked_ok checked m ≡ true) (sym is) (grind (arith, p0, p1, p2, p3, p4, w))
+      | to_again p0 p1 p2 p3 p4 is ↦
+          subst (λ m. asked_ok checked m ≡ true) (sym is) (grind (arith, p0, p1, p2, p3, p4, w))
       | to_fail p0 p1 p2 p3 is ↦ subst (λ m. asked_ok checked m ≡ true) (sym is) (grind (arith, p0, p1, p2, p3, w))
     ]
 
@@ -148,7 +150,8 @@ asked_begun c k checked f =
       | f_once p0 at ↦ subst (λ j. asked_ok checked (begins c j) ≡ true) (sym at) (grind (arith, p0))
     ]
 
-asked_anew : (c : Calling) (a : Answer) (k : ℕ) (checked : Bool) → First c.facts k → asked_ok checked (anew c a k) ≡ true
+asked_anew : (c : Calling) (a : Answer) (k : ℕ) (checked : Bool) → First c.facts k
+    → asked_ok checked (anew c a k) ≡ true
 asked_anew c a k checked f =
     elim f [
       | f_given p0 p1 at ↦ subst (λ j. asked_ok checked (anew c a j) ≡ true) (sym at) (grind (arith, p0, p1))
@@ -159,48 +162,90 @@ asked_anew c a k checked f =
       | f_once p0 at ↦ subst (λ j. asked_ok checked (anew c a j) ≡ true) (sym at) (grind (arith, p0))
     ]
 
-asked_turn : (c : Calling) (a : Answer) (n : Calling) (was : Bool) → given_ok c ≡ true → asked_ok was c ≡ true → Turn c a n
+asked_turn : (c : Calling) (a : Answer) (n : Calling) (was : Bool) → given_ok c ≡ true → asked_ok was c ≡ true
+    → Turn c a n
     → asked_ok (checked_by (exchange c a) was) n ≡ true
 asked_turn c a n was g w t =
     elim t [
-      | t_begin p0 is ↦ subst (λ m. asked_ok (checked_by (exchange c a) was) m ≡ true) (sym is) (asked_begun c (first c.facts) (checked_by (exchange c a) was) (first_is c.facts))
-      | t_join p0 p1 p2 is ↦ subst (λ m. asked_ok (checked_by (exchange c a) was) m ≡ true) (sym is) (grind (arith, p0, p1, p2, g, w))
-      | t_join_held p0 p1 p2 is ↦ subst (λ m. asked_ok (checked_by (exchange c a) was) m ≡ true) (sym is) (grind (arith, p0, p1, p2, g, w))
-      | t_no_join p0 p1 is ↦ subst (λ m. asked_ok (checked_by (exchange c a) was) m ≡ true) (sym is) (grind (arith, p0, p1, g, w))
-      | t_once p0 p1 l ↦ asked_leads false true (gains a.value true (noted a c)) n (checked_by (exchange c a) was) (grind (arith, p0, p1, g, w)) l
-      | t_not_once p0 p1 p2 is ↦ subst (λ m. asked_ok (checked_by (exchange c a) was) m ≡ true) (sym is) (grind (arith, p0, p1, p2, g, w))
-      | t_not_once_held p0 p1 p2 is ↦ subst (λ m. asked_ok (checked_by (exchange c a) was) m ≡ true) (sym is) (grind (arith, p0, p1, p2, g, w))
-      | t_own_place p0 p1 p2 p3 is ↦ subst (λ m. asked_ok (checked_by (exchange c a) was) m ≡ true) (sym is) (grind (arith, p0, p1, p2, p3, g, w))
-      | t_own_walk p0 p1 p2 p3 is ↦ subst (λ m. asked_ok (checked_by (exchange c a) was) m ≡ true) (sym is) (grind (arith, p0, p1, p2, p3, g, w))
-      | t_own_given p0 p1 p2 is ↦ subst (λ m. asked_ok (checked_by (exchange c a) was) m ≡ true) (sym is) (grind (arith, p0, p1, p2, g, w))
-      | t_no_own p0 p1 is ↦ subst (λ m. asked_ok (checked_by (exchange c a) was) m ≡ true) (sym is) (grind (arith, p0, p1, g, w))
-      | t_place p0 p1 l ↦ asked_leads false true (gains a.length false (noted a c)) n (checked_by (exchange c a) was) (grind (arith, p0, p1, g, w)) l
-      | t_no_place p0 p1 l ↦ asked_leads false true (lacks a.error (noted a c)) n (checked_by (exchange c a) was) (grind (arith, p0, p1, g, w)) l
-      | t_opened p0 p1 is ↦ subst (λ m. asked_ok (checked_by (exchange c a) was) m ≡ true) (sym is) (grind (arith, p0, p1, g, w))
-      | t_text p0 p1 p2 p3 is ↦ subst (λ m. asked_ok (checked_by (exchange c a) was) m ≡ true) (sym is) (grind (arith, p0, p1, p2, p3, g, w))
-      | t_cut p0 p1 p2 p3 is ↦ subst (λ m. asked_ok (checked_by (exchange c a) was) m ≡ true) (sym is) (grind (arith, p0, p1, p2, p3, g, w))
-      | t_done p0 p1 p2 p3 p4 is ↦ subst (λ m. asked_ok (checked_by (exchange c a) was) m ≡ true) (sym is) (grind (arith, p0, p1, p2, p3, p4, g, w))
-      | t_made p0 p1 p2 p3 p4 p5 is ↦ subst (λ m. asked_ok (checked_by (exchange c a) was) m ≡ true) (sym is) (grind (arith, p0, p1, p2, p3, p4, p5, g, w))
-      | t_lost p0 p1 p2 p3 p4 p5 p6 is ↦ subst (λ m. asked_ok (checked_by (exchange c a) was) m ≡ true) (sym is) (grind (arith, p0, p1, p2, p3, p4, p5, p6, g, w))
-      | t_unopened p0 p1 p2 p3 p4 p5 p6 is ↦ subst (λ m. asked_ok (checked_by (exchange c a) was) m ≡ true) (sym is) (grind (arith, p0, p1, p2, p3, p4, p5, p6, g, w))
-      | t_count p0 p1 p2 p3 p4 is ↦ subst (λ m. asked_ok (checked_by (exchange c a) was) m ≡ true) (sym is) (grind (arith, p0, p1, p2, p3, p4, g, w))
-      | t_fault p0 p1 p2 p3 p4 is ↦ subst (λ m. asked_ok (checked_by (exchange c a) was) m ≡ true) (sym is) (grind (arith, p0, p1, p2, p3, p4, g, w))
-      | t_took p0 p1 is ↦ subst (λ m. asked_ok (checked_by (exchange c a) was) m ≡ true) (sym is) (grind (arith, p0, p1, g, w))
-      | t_not_took p0 p1 is ↦ subst (λ m. asked_ok (checked_by (exchange c a) was) m ≡ true) (sym is) (grind (arith, p0, p1, g, w))
+      | t_begin p0 is ↦ subst (λ m. asked_ok (checked_by (exchange c a) was) m ≡ true) (sym is)
+          (asked_begun c (first c.facts) (checked_by (exchange c a) was) (first_is c.facts))
+      | t_join p0 p1 p2 is ↦ subst (λ m. asked_ok (checked_by (exchange c a) was) m ≡ true) (sym is)
+          (grind (arith, p0, p1, p2, g, w))
+      | t_join_held p0 p1 p2 is ↦
+          subst (λ m. asked_ok (checked_by (exchange c a) was) m ≡ true) (sym is) (grind (arith, p0, p1, p2, g, w))
+      | t_no_join p0 p1 is ↦ subst (λ m. asked_ok (checked_by (exchange c a) was) m ≡ true) (sym is)
+          (grind (arith, p0, p1, g, w))
+      | t_once p0 p1 l ↦ asked_leads false true (gains a.value true (noted a c)) n (checked_by (exchange c a) was)
+          (grind (arith, p0, p1, g, w)) l
+      | t_not_once p0 p1 p2 is ↦
+          subst (λ m. asked_ok (checked_by (exchange c a) was) m ≡ true) (sym is) (grind (arith, p0, p1, p2, g, w))
+      | t_not_once_held p0 p1 p2 is ↦
+          subst (λ m. asked_ok (checked_by (exchange c a) was) m ≡ true) (sym is) (grind (arith, p0, p1, p2, g, w))
+      | t_own_place p0 p1 p2 p3 is ↦
+          subst (λ m. asked_ok (checked_by (exchange c a) was) m ≡ true) (sym is) (grind (arith, p0, p1, p2, p3, g, w))
+      | t_own_walk p0 p1 p2 p3 is ↦
+          subst (λ m. asked_ok (checked_by (exchange c a) was) m ≡ true) (sym is) (grind (arith, p0, p1, p2, p3, g, w))
+      | t_own_given p0 p1 p2 is ↦
+          subst (λ m. asked_ok (checked_by (exchange c a) was) m ≡ true) (sym is) (grind (arith, p0, p1, p2, g, w))
+      | t_no_own p0 p1 is ↦ subst (λ m. asked_ok (checked_by (exchange c a) was) m ≡ true) (sym is)
+          (grind (arith, p0, p1, g, w))
+      | t_place p0 p1 l ↦ asked_leads false true (gains a.length false (noted a c)) n (checked_by (exchange c a) was)
+          (grind (arith, p0, p1, g, w)) l
+      | t_no_place p0 p1 l ↦ asked_leads false true (lacks a.error (noted a c)) n (checked_by (exchange c a) was)
+          (grind (arith, p0, p1, g, w)) l
+      | t_opened p0 p1 is ↦ subst (λ m. asked_ok (checked_by (exchange c a) was) m ≡ true) (sym is)
+          (grind (arith, p0, p1, g, w))
+      | t_text p0 p1 p2 p3 is ↦
+          subst (λ m. asked_ok (checked_by (exchange c a) was) m ≡ true) (sym is) (grind (arith, p0, p1, p2, p3, g, w))
+      | t_cut p0 p1 p2 p3 is ↦
+          subst (λ m. asked_ok (checked_by (exchange c a) was) m ≡ true) (sym is) (grind (arith, p0, p1, p2, p3, g, w))
+      | t_done p0 p1 p2 p3 p4 is ↦
+          subst (λ m. asked_ok (checked_by (exchange c a) was) m ≡ true) (sym is)
+          (grind (arith, p0, p1, p2, p3, p4, g, w))
+      | t_made p0 p1 p2 p3 p4 p5 is ↦
+          subst (λ m. asked_ok (checked_by (exchange c a) was) m ≡ true) (sym is)
+          (grind (arith, p0, p1, p2, p3, p4, p5, g, w))
+      | t_lost p0 p1 p2 p3 p4 p5 p6 is ↦
+          subst (λ m. asked_ok (checked_by (exchange c a) was) m ≡ true) (sym is)
+          (grind (arith, p0, p1, p2, p3, p4, p5, p6, g, w))
+      | t_unopened p0 p1 p2 p3 p4 p5 p6 is ↦
+          subst (λ m. asked_ok (checked_by (exchange c a) was) m ≡ true) (sym is)
+          (grind (arith, p0, p1, p2, p3, p4, p5, p6, g, w))
+      | t_count p0 p1 p2 p3 p4 is ↦
+          subst (λ m. asked_ok (checked_by (exchange c a) was) m ≡ true) (sym is)
+          (grind (arith, p0, p1, p2, p3, p4, g, w))
+      | t_fault p0 p1 p2 p3 p4 is ↦
+          subst (λ m. asked_ok (checked_by (exchange c a) was) m ≡ true) (sym is)
+          (grind (arith, p0, p1, p2, p3, p4, g, w))
+      | t_took p0 p1 is ↦ subst (λ m. asked_ok (checked_by (exchange c a) was) m ≡ true) (sym is)
+          (grind (arith, p0, p1, g, w))
+      | t_not_took p0 p1 is ↦ subst (λ m. asked_ok (checked_by (exchange c a) was) m ≡ true) (sym is)
+          (grind (arith, p0, p1, g, w))
       | t_let_go p0 p1 l ↦ asked_leads false true c n (checked_by (exchange c a) was) (grind (arith, p0, p1, g, w)) l
-      | t_close_made p0 p1 is ↦ subst (λ m. asked_ok (checked_by (exchange c a) was) m ≡ true) (sym is) (grind (arith, p0, p1, g, w))
+      | t_close_made p0 p1 is ↦
+          subst (λ m. asked_ok (checked_by (exchange c a) was) m ≡ true) (sym is) (grind (arith, p0, p1, g, w))
       | t_closed p0 p1 l ↦ asked_leads false true c n (checked_by (exchange c a) was) (grind (arith, p0, p1, g, w)) l
-      | t_closed_stuck p0 p1 is ↦ subst (λ m. asked_ok (checked_by (exchange c a) was) m ≡ true) (sym is) (grind (arith, p0, p1, g, w))
-      | t_same_proc p0 p1 l ↦ asked_leads false false c n (checked_by (exchange c a) was) (grind (arith, p0, p1, g, w)) l
-      | t_lost_proc p0 p1 is ↦ subst (λ m. asked_ok (checked_by (exchange c a) was) m ≡ true) (sym is) (grind (arith, p0, p1, g, w))
-      | t_another p0 p1 is ↦ subst (λ m. asked_ok (checked_by (exchange c a) was) m ≡ true) (sym is) (asked_anew c a (first c.facts) (checked_by (exchange c a) was) (first_is c.facts))
-      | t_no_other p0 p1 l ↦ asked_leads false false (lacks a.error c) n (checked_by (exchange c a) was) (grind (arith, p0, p1, g, w)) l
-      | t_proc_closed p0 l ↦ asked_leads false false (record c { owns_proc = false }) n (checked_by (exchange c a) was) (grind (arith, p0, g, w)) l
-      | t_home p0 p1 l ↦ asked_leads false false (record c { moved = false }) n (checked_by (exchange c a) was) (grind (arith, p0, p1, g, w)) l
-      | t_stuck_holds p0 p1 p2 is ↦ subst (λ m. asked_ok (checked_by (exchange c a) was) m ≡ true) (sym is) (grind (arith, p0, p1, p2, g, w))
-      | t_stuck p0 p1 p2 is ↦ subst (λ m. asked_ok (checked_by (exchange c a) was) m ≡ true) (sym is) (grind (arith, p0, p1, p2, g, w))
+      | t_closed_stuck p0 p1 is ↦
+          subst (λ m. asked_ok (checked_by (exchange c a) was) m ≡ true) (sym is) (grind (arith, p0, p1, g, w))
+      | t_same_proc p0 p1 l ↦ asked_leads false false c n (checked_by (exchange c a) was)
+          (grind (arith, p0, p1, g, w)) l
+      | t_lost_proc p0 p1 is ↦
+          subst (λ m. asked_ok (checked_by (exchange c a) was) m ≡ true) (sym is) (grind (arith, p0, p1, g, w))
+      | t_another p0 p1 is ↦ subst (λ m. asked_ok (checked_by (exchange c a) was) m ≡ true) (sym is)
+          (asked_anew c a (first c.facts) (checked_by (exchange c a) was) (first_is c.facts))
+      | t_no_other p0 p1 l ↦ asked_leads false false (lacks a.error c) n (checked_by (exchange c a) was)
+          (grind (arith, p0, p1, g, w)) l
+      | t_proc_closed p0 l ↦ asked_leads false false (record c { owns_proc = false }) n (checked_by (exchange c a) was)
+          (grind (arith, p0, g, w)) l
+      | t_home p0 p1 l ↦ asked_leads false false (record c { moved = false }) n (checked_by (exchange c a) was)
+          (grind (arith, p0, p1, g, w)) l
+      | t_stuck_holds p0 p1 p2 is ↦
+          subst (λ m. asked_ok (checked_by (exchange c a) was) m ≡ true) (sym is) (grind (arith, p0, p1, p2, g, w))
+      | t_stuck p0 p1 p2 is ↦ subst (λ m. asked_ok (checked_by (exchange c a) was) m ≡ true) (sym is)
+          (grind (arith, p0, p1, p2, g, w))
       | t_root p0 p1 l ↦ asked_leads true false c n (checked_by (exchange c a) was) (grind (arith, p0, p1, g, w)) l
-      | t_bad_root p0 p1 is ↦ subst (λ m. asked_ok (checked_by (exchange c a) was) m ≡ true) (sym is) (grind (arith, p0, p1, g, w))
+      | t_bad_root p0 p1 is ↦ subst (λ m. asked_ok (checked_by (exchange c a) was) m ≡ true) (sym is)
+          (grind (arith, p0, p1, g, w))
     ]
 
 asked_start : (facts : Facts) → asked_ok false (start facts) ≡ true
@@ -209,7 +254,8 @@ asked_start facts = grind arith
 abbrev both_asked : List Exchange → Calling → Type 0
 both_asked h c = (given_ok c ≡ true) × (asked_ok (checked_after h) c ≡ true)
 
-asked_are : (facts : Facts) (history : List Exchange) → IsHistory facts history → both_asked history (next_after facts history)
+asked_are : (facts : Facts) (history : List Exchange) → IsHistory facts history
+    → both_asked history (next_after facts history)
 asked_are facts =
     always facts both_asked (given_start facts, asked_start facts)
     (λ older c a n s same t w. (given_turn c a n w.0 t, asked_turn c a n (checked_after older) w.0 w.1 t))
@@ -218,12 +264,14 @@ asked_are facts =
 
 abbrev pub order_ok : ℕ → Calling → Bool
 order_ok found c =
-    (c.facts.error == 0) || ((c.next == BEGIN) || (c.is_root || (c.stuck || (c.error == last_error found c.facts.error))))
+    (c.facts.error == 0) || ((c.next == BEGIN) ||
+    (c.is_root || (c.stuck || (c.error == last_error found c.facts.error))))
 
 abbrev order_was : ℕ → Calling → Bool
 order_was found c = (c.facts.error == 0) || (c.is_root || (c.stuck || (c.error == last_error found c.facts.error)))
 
-order_leads : (seen may : Bool) (c n : Calling) (found : ℕ) → order_was found c ≡ true → Leads seen may c n → order_ok found n ≡ true
+order_leads : (seen may : Bool) (c n : Calling) (found : ℕ) → order_was found c ≡ true → Leads seen may c n
+    → order_ok found n ≡ true
 order_leads seen may c n found w l =
     elim l [
       | to_proc p0 p1 is ↦ subst (λ m. order_ok found m ≡ true) (sym is) (grind (arith, p0, p1, w))
@@ -231,7 +279,8 @@ order_leads seen may c n found w l =
       | to_home p0 p1 is ↦ subst (λ m. order_ok found m ≡ true) (sym is) (grind (arith, p0, p1, w))
       | to_root p0 p1 p2 p3 is ↦ subst (λ m. order_ok found m ≡ true) (sym is) (grind (arith, p0, p1, p2, p3, w))
       | to_end p0 p1 p2 is ↦ subst (λ m. order_ok found m ≡ true) (sym is) (grind (arith, p0, p1, p2, w))
-      | to_again p0 p1 p2 p3 p4 is ↦ subst (λ m. order_ok found m ≡ true) (sym is) (grind (arith, p0, p1, p2, p3, p4, w))
+      | to_again p0 p1 p2 p3 p4 is ↦
+          subst (λ m. order_ok found m ≡ true) (sym is) (grind (arith, p0, p1, p2, p3, p4, w))
       | to_fail p0 p1 p2 p3 is ↦ subst (λ m. order_ok found m ≡ true) (sym is) (grind (arith, p0, p1, p2, p3, w))
     ]
 
@@ -240,43 +289,89 @@ order_turn : (c : Calling) (a : Answer) (n : Calling) (was : ℕ) → given_ok c
 order_turn c a n was g w t =
     elim t [
       | t_begin p0 is ↦ subst (λ m. order_ok (check_error_by (exchange c a) was) m ≡ true) (sym is) (grind (arith, p0))
-      | t_join p0 p1 p2 is ↦ subst (λ m. order_ok (check_error_by (exchange c a) was) m ≡ true) (sym is) (grind (arith, p0, p1, p2, g, w))
-      | t_join_held p0 p1 p2 is ↦ subst (λ m. order_ok (check_error_by (exchange c a) was) m ≡ true) (sym is) (grind (arith, p0, p1, p2, g, w))
-      | t_no_join p0 p1 is ↦ subst (λ m. order_ok (check_error_by (exchange c a) was) m ≡ true) (sym is) (grind (arith, p0, p1, g, w))
-      | t_once p0 p1 l ↦ order_leads false true (gains a.value true (noted a c)) n (check_error_by (exchange c a) was) (grind (arith, p0, p1, g, w)) l
-      | t_not_once p0 p1 p2 is ↦ subst (λ m. order_ok (check_error_by (exchange c a) was) m ≡ true) (sym is) (grind (arith, p0, p1, p2, g, w))
-      | t_not_once_held p0 p1 p2 is ↦ subst (λ m. order_ok (check_error_by (exchange c a) was) m ≡ true) (sym is) (grind (arith, p0, p1, p2, g, w))
-      | t_own_place p0 p1 p2 p3 is ↦ subst (λ m. order_ok (check_error_by (exchange c a) was) m ≡ true) (sym is) (grind (arith, p0, p1, p2, p3, g, w))
-      | t_own_walk p0 p1 p2 p3 is ↦ subst (λ m. order_ok (check_error_by (exchange c a) was) m ≡ true) (sym is) (grind (arith, p0, p1, p2, p3, g, w))
-      | t_own_given p0 p1 p2 is ↦ subst (λ m. order_ok (check_error_by (exchange c a) was) m ≡ true) (sym is) (grind (arith, p0, p1, p2, g, w))
-      | t_no_own p0 p1 is ↦ subst (λ m. order_ok (check_error_by (exchange c a) was) m ≡ true) (sym is) (grind (arith, p0, p1, g, w))
-      | t_place p0 p1 l ↦ order_leads false true (gains a.length false (noted a c)) n (check_error_by (exchange c a) was) (grind (arith, p0, p1, g, w)) l
-      | t_no_place p0 p1 l ↦ order_leads false true (lacks a.error (noted a c)) n (check_error_by (exchange c a) was) (grind (arith, p0, p1, g, w)) l
-      | t_opened p0 p1 is ↦ subst (λ m. order_ok (check_error_by (exchange c a) was) m ≡ true) (sym is) (grind (arith, p0, p1, g, w))
-      | t_text p0 p1 p2 p3 is ↦ subst (λ m. order_ok (check_error_by (exchange c a) was) m ≡ true) (sym is) (grind (arith, p0, p1, p2, p3, g, w))
-      | t_cut p0 p1 p2 p3 is ↦ subst (λ m. order_ok (check_error_by (exchange c a) was) m ≡ true) (sym is) (grind (arith, p0, p1, p2, p3, g, w))
-      | t_done p0 p1 p2 p3 p4 is ↦ subst (λ m. order_ok (check_error_by (exchange c a) was) m ≡ true) (sym is) (grind (arith, p0, p1, p2, p3, p4, g, w))
-      | t_made p0 p1 p2 p3 p4 p5 is ↦ subst (λ m. order_ok (check_error_by (exchange c a) was) m ≡ true) (sym is) (grind (arith, p0, p1, p2, p3, p4, p5, g, w))
-      | t_lost p0 p1 p2 p3 p4 p5 p6 is ↦ subst (λ m. order_ok (check_error_by (exchange c a) was) m ≡ true) (sym is) (grind (arith, p0, p1, p2, p3, p4, p5, p6, g, w))
-      | t_unopened p0 p1 p2 p3 p4 p5 p6 is ↦ subst (λ m. order_ok (check_error_by (exchange c a) was) m ≡ true) (sym is) (grind (arith, p0, p1, p2, p3, p4, p5, p6, g, w))
-      | t_count p0 p1 p2 p3 p4 is ↦ subst (λ m. order_ok (check_error_by (exchange c a) was) m ≡ true) (sym is) (grind (arith, p0, p1, p2, p3, p4, g, w))
-      | t_fault p0 p1 p2 p3 p4 is ↦ subst (λ m. order_ok (check_error_by (exchange c a) was) m ≡ true) (sym is) (grind (arith, p0, p1, p2, p3, p4, g, w))
-      | t_took p0 p1 is ↦ subst (λ m. order_ok (check_error_by (exchange c a) was) m ≡ true) (sym is) (grind (arith, p0, p1, g, w))
-      | t_not_took p0 p1 is ↦ subst (λ m. order_ok (check_error_by (exchange c a) was) m ≡ true) (sym is) (grind (arith, p0, p1, g, w))
-      | t_let_go p0 p1 l ↦ order_leads false true c n (check_error_by (exchange c a) was) (grind (arith, p0, p1, g, w)) l
-      | t_close_made p0 p1 is ↦ subst (λ m. order_ok (check_error_by (exchange c a) was) m ≡ true) (sym is) (grind (arith, p0, p1, g, w))
-      | t_closed p0 p1 l ↦ order_leads false true c n (check_error_by (exchange c a) was) (grind (arith, p0, p1, g, w)) l
-      | t_closed_stuck p0 p1 is ↦ subst (λ m. order_ok (check_error_by (exchange c a) was) m ≡ true) (sym is) (grind (arith, p0, p1, g, w))
-      | t_same_proc p0 p1 l ↦ order_leads false false c n (check_error_by (exchange c a) was) (grind (arith, p0, p1, g, w)) l
-      | t_lost_proc p0 p1 is ↦ subst (λ m. order_ok (check_error_by (exchange c a) was) m ≡ true) (sym is) (grind (arith, p0, p1, g, w))
-      | t_another p0 p1 is ↦ subst (λ m. order_ok (check_error_by (exchange c a) was) m ≡ true) (sym is) (grind (arith, p0, p1))
-      | t_no_other p0 p1 l ↦ order_leads false false (lacks a.error c) n (check_error_by (exchange c a) was) (grind (arith, p0, p1, g, w)) l
-      | t_proc_closed p0 l ↦ order_leads false false (record c { owns_proc = false }) n (check_error_by (exchange c a) was) (grind (arith, p0, g, w)) l
-      | t_home p0 p1 l ↦ order_leads false false (record c { moved = false }) n (check_error_by (exchange c a) was) (grind (arith, p0, p1, g, w)) l
-      | t_stuck_holds p0 p1 p2 is ↦ subst (λ m. order_ok (check_error_by (exchange c a) was) m ≡ true) (sym is) (grind (arith, p0, p1, p2, g, w))
-      | t_stuck p0 p1 p2 is ↦ subst (λ m. order_ok (check_error_by (exchange c a) was) m ≡ true) (sym is) (grind (arith, p0, p1, p2, g, w))
+      | t_join p0 p1 p2 is ↦ subst (λ m. order_ok (check_error_by (exchange c a) was) m ≡ true) (sym is)
+          (grind (arith, p0, p1, p2, g, w))
+      | t_join_held p0 p1 p2 is ↦
+          subst (λ m. order_ok (check_error_by (exchange c a) was) m ≡ true) (sym is) (grind (arith, p0, p1, p2, g, w))
+      | t_no_join p0 p1 is ↦ subst (λ m. order_ok (check_error_by (exchange c a) was) m ≡ true) (sym is)
+          (grind (arith, p0, p1, g, w))
+      | t_once p0 p1 l ↦ order_leads false true (gains a.value true (noted a c)) n (check_error_by (exchange c a) was)
+          (grind (arith, p0, p1, g, w)) l
+      | t_not_once p0 p1 p2 is ↦
+          subst (λ m. order_ok (check_error_by (exchange c a) was) m ≡ true) (sym is) (grind (arith, p0, p1, p2, g, w))
+      | t_not_once_held p0 p1 p2 is ↦
+          subst (λ m. order_ok (check_error_by (exchange c a) was) m ≡ true) (sym is) (grind (arith, p0, p1, p2, g, w))
+      | t_own_place p0 p1 p2 p3 is ↦
+          subst (λ m. order_ok (check_error_by (exchange c a) was) m ≡ true) (sym is)
+          (grind (arith, p0, p1, p2, p3, g, w))
+      | t_own_walk p0 p1 p2 p3 is ↦
+          subst (λ m. order_ok (check_error_by (exchange c a) was) m ≡ true) (sym is)
+          (grind (arith, p0, p1, p2, p3, g, w))
+      | t_own_given p0 p1 p2 is ↦
+          subst (λ m. order_ok (check_error_by (exchange c a) was) m ≡ true) (sym is) (grind (arith, p0, p1, p2, g, w))
+      | t_no_own p0 p1 is ↦ subst (λ m. order_ok (check_error_by (exchange c a) was) m ≡ true) (sym is)
+          (grind (arith, p0, p1, g, w))
+      | t_place p0 p1 l ↦ order_leads false true (gains a.length false (noted a c)) n
+          (check_error_by (exchange c a) was) (grind (arith, p0, p1, g, w)) l
+      | t_no_place p0 p1 l ↦ order_leads false true (lacks a.error (noted a c)) n (check_error_by (exchange c a) was)
+          (grind (arith, p0, p1, g, w)) l
+      | t_opened p0 p1 is ↦ subst (λ m. order_ok (check_error_by (exchange c a) was) m ≡ true) (sym is)
+          (grind (arith, p0, p1, g, w))
+      | t_text p0 p1 p2 p3 is ↦
+          subst (λ m. order_ok (check_error_by (exchange c a) was) m ≡ true) (sym is)
+          (grind (arith, p0, p1, p2, p3, g, w))
+      | t_cut p0 p1 p2 p3 is ↦
+          subst (λ m. order_ok (check_error_by (exchange c a) was) m ≡ true) (sym is)
+          (grind (arith, p0, p1, p2, p3, g, w))
+      | t_done p0 p1 p2 p3 p4 is ↦
+          subst (λ m. order_ok (check_error_by (exchange c a) was) m ≡ true) (sym is)
+          (grind (arith, p0, p1, p2, p3, p4, g, w))
+      | t_made p0 p1 p2 p3 p4 p5 is ↦
+          subst (λ m. order_ok (check_error_by (exchange c a) was) m ≡ true) (sym is)
+          (grind (arith, p0, p1, p2, p3, p4, p5, g, w))
+      | t_lost p0 p1 p2 p3 p4 p5 p6 is ↦
+          subst (λ m. order_ok (check_error_by (exchange c a) was) m ≡ true) (sym is)
+          (grind (arith, p0, p1, p2, p3, p4, p5, p6, g, w))
+      | t_unopened p0 p1 p2 p3 p4 p5 p6 is ↦
+          subst (λ m. order_ok (check_error_by (exchange c a) was) m ≡ true) (sym is)
+          (grind (arith, p0, p1, p2, p3, p4, p5, p6, g, w))
+      | t_count p0 p1 p2 p3 p4 is ↦
+          subst (λ m. order_ok (check_error_by (exchange c a) was) m ≡ true) (sym is)
+          (grind (arith, p0, p1, p2, p3, p4, g, w))
+      | t_fault p0 p1 p2 p3 p4 is ↦
+          subst (λ m. order_ok (check_error_by (exchange c a) was) m ≡ true) (sym is)
+          (grind (arith, p0, p1, p2, p3, p4, g, w))
+      | t_took p0 p1 is ↦ subst (λ m. order_ok (check_error_by (exchange c a) was) m ≡ true) (sym is)
+          (grind (arith, p0, p1, g, w))
+      | t_not_took p0 p1 is ↦ subst (λ m. order_ok (check_error_by (exchange c a) was) m ≡ true) (sym is)
+          (grind (arith, p0, p1, g, w))
+      | t_let_go p0 p1 l ↦ order_leads false true c n (check_error_by (exchange c a) was)
+          (grind (arith, p0, p1, g, w)) l
+      | t_close_made p0 p1 is ↦
+          subst (λ m. order_ok (check_error_by (exchange c a) was) m ≡ true) (sym is) (grind (arith, p0, p1, g, w))
+      | t_closed p0 p1 l ↦ order_leads false true c n (check_error_by (exchange c a) was)
+          (grind (arith, p0, p1, g, w)) l
+      | t_closed_stuck p0 p1 is ↦
+          subst (λ m. order_ok (check_error_by (exchange c a) was) m ≡ true) (sym is) (grind (arith, p0, p1, g, w))
+      | t_same_proc p0 p1 l ↦ order_leads false false c n (check_error_by (exchange c a) was)
+          (grind (arith, p0, p1, g, w)) l
+      | t_lost_proc p0 p1 is ↦
+          subst (λ m. order_ok (check_error_by (exchange c a) was) m ≡ true) (sym is) (grind (arith, p0, p1, g, w))
+      | t_another p0 p1 is ↦ subst (λ m. order_ok (check_error_by (exchange c a) was) m ≡ true) (sym is)
+          (grind (arith, p0, p1))
+      | t_no_other p0 p1 l ↦ order_leads false false (lacks a.error c) n (check_error_by (exchange c a) was)
+          (grind (arith, p0, p1, g, w)) l
+      | t_proc_closed p0 l ↦ order_leads false false (record c { owns_proc = false }) n
+          (check_error_by (exchange c a) was) (grind (arith, p0, g, w)) l
+      | t_home p0 p1 l ↦ order_leads false false (record c { moved = false }) n (check_error_by (exchange c a) was)
+          (grind (arith, p0, p1, g, w)) l
+      | t_stuck_holds p0 p1 p2 is ↦
+          subst (λ m. order_ok (check_error_by (exchange c a) was) m ≡ true) (sym is) (grind (arith, p0, p1, p2, g, w))
+      | t_stuck p0 p1 p2 is ↦ subst (λ m. order_ok (check_error_by (exchange c a) was) m ≡ true) (sym is)
+          (grind (arith, p0, p1, p2, g, w))
       | t_root p0 p1 l ↦ order_leads true false c n (check_error_by (exchange c a) was) (grind (arith, p0, p1, g, w)) l
-      | t_bad_root p0 p1 is ↦ subst (λ m. order_ok (check_error_by (exchange c a) was) m ≡ true) (sym is) (grind (arith, p0, p1, g, w))
+      | t_bad_root p0 p1 is ↦ subst (λ m. order_ok (check_error_by (exchange c a) was) m ≡ true) (sym is)
+          (grind (arith, p0, p1, g, w))
     ]
 
 order_start : (facts : Facts) → order_ok 0 (start facts) ≡ true
@@ -285,7 +380,8 @@ order_start facts = grind arith
 abbrev both_order : List Exchange → Calling → Type 0
 both_order h c = (given_ok c ≡ true) × (order_ok (check_error_after h) c ≡ true)
 
-order_are : (facts : Facts) (history : List Exchange) → IsHistory facts history → both_order history (next_after facts history)
+order_are : (facts : Facts) (history : List Exchange) → IsHistory facts history
+    → both_order history (next_after facts history)
 order_are facts =
     always facts both_order (given_start facts, order_start facts)
     (λ older c a n s same t w. (given_turn c a n w.0 t, order_turn c a n (check_error_after older) w.0 w.1 t))
@@ -322,30 +418,39 @@ steps_first facts k own f =
       | f_once p0 at ↦ subst (λ j. steps j ≡ false) (sym at) refl
     ]
 
-steps_turn : (older : List Exchange) (c : Calling) (a : Answer) (n : Calling) → c.facts.held ≡ false → Turn c a n → steps n.next ≡ true
+steps_turn : (older : List Exchange) (c : Calling) (a : Answer) (n : Calling) → c.facts.held ≡ false → Turn c a n
+    → steps n.next ≡ true
     → IsChecked (exchange c a ∷ older)
 steps_turn older c a n own t r =
     elim t [
-      | t_begin p0 is ↦ absurd (not_both (steps n.next) (subst (λ m. steps m.next ≡ false) (sym is) (steps_first c.facts (first c.facts) own (first_is c.facts))) r)
+      | t_begin p0 is ↦ absurd
+          (not_both (steps n.next)
+          (subst (λ m. steps m.next ≡ false) (sym is) (steps_first c.facts (first c.facts) own (first_is c.facts))) r)
       | t_join p0 p1 p2 is ↦ absurd (not_both (steps n.next) (subst (λ m. steps m.next ≡ false) (sym is) refl) r)
       | t_join_held p0 p1 p2 is ↦ absurd (not_both c.facts.held own p2)
       | t_no_join p0 p1 is ↦ absurd (not_both (steps n.next) (subst (λ m. steps m.next ≡ false) (sym is) refl) r)
-      | t_once p0 p1 l ↦ absurd (not_both (steps n.next) (steps_no_leads false true (gains a.value true (noted a c)) n l) r)
+      | t_once p0 p1 l ↦ absurd
+          (not_both (steps n.next) (steps_no_leads false true (gains a.value true (noted a c)) n l) r)
       | t_not_once p0 p1 p2 is ↦ absurd (not_both (steps n.next) (subst (λ m. steps m.next ≡ false) (sym is) refl) r)
       | t_not_once_held p0 p1 p2 is ↦ absurd (not_both c.facts.held own p2)
       | t_own_place p0 p1 p2 p3 is ↦ (p0, eqb-true a.error 0 p1)
       | t_own_walk p0 p1 p2 p3 is ↦ (p0, eqb-true a.error 0 p1)
       | t_own_given p0 p1 p2 is ↦ absurd (not_both (steps n.next) (subst (λ m. steps m.next ≡ false) (sym is) refl) r)
       | t_no_own p0 p1 is ↦ absurd (not_both (steps n.next) (subst (λ m. steps m.next ≡ false) (sym is) refl) r)
-      | t_place p0 p1 l ↦ absurd (not_both (steps n.next) (steps_no_leads false true (gains a.length false (noted a c)) n l) r)
-      | t_no_place p0 p1 l ↦ absurd (not_both (steps n.next) (steps_no_leads false true (lacks a.error (noted a c)) n l) r)
+      | t_place p0 p1 l ↦ absurd
+          (not_both (steps n.next) (steps_no_leads false true (gains a.length false (noted a c)) n l) r)
+      | t_no_place p0 p1 l ↦ absurd
+          (not_both (steps n.next) (steps_no_leads false true (lacks a.error (noted a c)) n l) r)
       | t_opened p0 p1 is ↦ absurd (not_both (steps n.next) (subst (λ m. steps m.next ≡ false) (sym is) refl) r)
       | t_text p0 p1 p2 p3 is ↦ absurd (not_both (steps n.next) (subst (λ m. steps m.next ≡ false) (sym is) refl) r)
       | t_cut p0 p1 p2 p3 is ↦ absurd (not_both (steps n.next) (subst (λ m. steps m.next ≡ false) (sym is) refl) r)
       | t_done p0 p1 p2 p3 p4 is ↦ absurd (not_both (steps n.next) (subst (λ m. steps m.next ≡ false) (sym is) refl) r)
-      | t_made p0 p1 p2 p3 p4 p5 is ↦ absurd (not_both (steps n.next) (subst (λ m. steps m.next ≡ false) (sym is) refl) r)
-      | t_lost p0 p1 p2 p3 p4 p5 p6 is ↦ absurd (not_both (steps n.next) (subst (λ m. steps m.next ≡ false) (sym is) refl) r)
-      | t_unopened p0 p1 p2 p3 p4 p5 p6 is ↦ absurd (not_both (steps n.next) (subst (λ m. steps m.next ≡ false) (sym is) refl) r)
+      | t_made p0 p1 p2 p3 p4 p5 is ↦
+          absurd (not_both (steps n.next) (subst (λ m. steps m.next ≡ false) (sym is) refl) r)
+      | t_lost p0 p1 p2 p3 p4 p5 p6 is ↦
+          absurd (not_both (steps n.next) (subst (λ m. steps m.next ≡ false) (sym is) refl) r)
+      | t_unopened p0 p1 p2 p3 p4 p5 p6 is ↦
+          absurd (not_both (steps n.next) (subst (λ m. steps m.next ≡ false) (sym is) refl) r)
       | t_count p0 p1 p2 p3 p4 is ↦ absurd (not_both (steps n.next) (subst (λ m. steps m.next ≡ false) (sym is) refl) r)
       | t_fault p0 p1 p2 p3 p4 is ↦ absurd (not_both (steps n.next) (subst (λ m. steps m.next ≡ false) (sym is) refl) r)
       | t_took p0 p1 is ↦ absurd (not_both (steps n.next) (subst (λ m. steps m.next ≡ false) (sym is) refl) r)
@@ -356,10 +461,14 @@ steps_turn older c a n own t r =
       | t_closed_stuck p0 p1 is ↦ absurd (not_both (steps n.next) (subst (λ m. steps m.next ≡ false) (sym is) refl) r)
       | t_same_proc p0 p1 l ↦ absurd (not_both (steps n.next) (steps_no_leads false false c n l) r)
       | t_lost_proc p0 p1 is ↦ absurd (not_both (steps n.next) (subst (λ m. steps m.next ≡ false) (sym is) refl) r)
-      | t_another p0 p1 is ↦ absurd (not_both (steps n.next) (subst (λ m. steps m.next ≡ false) (sym is) (steps_first c.facts (first c.facts) own (first_is c.facts))) r)
+      | t_another p0 p1 is ↦ absurd
+          (not_both (steps n.next)
+          (subst (λ m. steps m.next ≡ false) (sym is) (steps_first c.facts (first c.facts) own (first_is c.facts))) r)
       | t_no_other p0 p1 l ↦ absurd (not_both (steps n.next) (steps_no_leads false false (lacks a.error c) n l) r)
-      | t_proc_closed p0 l ↦ absurd (not_both (steps n.next) (steps_no_leads false false (record c { owns_proc = false }) n l) r)
-      | t_home p0 p1 l ↦ absurd (not_both (steps n.next) (steps_no_leads false false (record c { moved = false }) n l) r)
+      | t_proc_closed p0 l ↦ absurd
+          (not_both (steps n.next) (steps_no_leads false false (record c { owns_proc = false }) n l) r)
+      | t_home p0 p1 l ↦ absurd
+          (not_both (steps n.next) (steps_no_leads false false (record c { moved = false }) n l) r)
       | t_stuck_holds p0 p1 p2 is ↦ absurd (not_both (steps n.next) (subst (λ m. steps m.next ≡ false) (sym is) refl) r)
       | t_stuck p0 p1 p2 is ↦ absurd (not_both (steps n.next) (subst (λ m. steps m.next ≡ false) (sym is) refl) r)
       | t_root p0 p1 l ↦ absurd (not_both (steps n.next) (steps_no_leads true false c n l) r)
@@ -399,11 +508,13 @@ own_alone facts history h some =
     alone (next_after facts history) (given_is facts history h)
     (subst (λ f. f.error ≢ 0) (sym (has_facts facts history h)) some)
 
-asked_fails : (c : Calling) (checked : Bool) → asked_ok checked c ≡ true → c.facts.error ≢ 0 → c.facts.held ≡ false → c.next ≡ FAILS
+asked_fails : (c : Calling) (checked : Bool) → asked_ok checked c ≡ true → c.facts.error ≢ 0 → c.facts.held ≡ false
+    → c.next ≡ FAILS
     → checked ≡ true
 asked_fails c checked w some own at = grind (arith, w, some, own, at)
 
-pub own_asked : (facts : Facts) (history : List Exchange) → IsHistory facts history → facts.error ≢ 0 → facts.held ≡ false
+pub own_asked : (facts : Facts) (history : List Exchange) → IsHistory facts history → facts.error ≢ 0
+    → facts.held ≡ false
     → (next_after facts history).next ≡ FAILS → checked_after history ≡ true
 own_asked facts history h some own =
     let same = has_facts facts history h in
@@ -416,7 +527,8 @@ no_end c w some at = absurd (grind (arith, w, some, at))
 pub own_no_end : (facts : Facts) (history : List Exchange) → IsHistory facts history → facts.error ≢ 0
     → (next_after facts history).next ≢ ENDS
 own_no_end facts history h some =
-    no_end (next_after facts history) (given_is facts history h) (subst (λ f. f.error ≢ 0) (sym (has_facts facts history h)) some)
+    no_end (next_after facts history) (given_is facts history h)
+    (subst (λ f. f.error ≢ 0) (sym (has_facts facts history h)) some)
 
 either : (a b c : Bool) → (a || (b || c)) ≡ true → (a ≡ true) ⊎ ((b ≡ true) ⊎ (c ≡ true))
 either true b c is = inl refl
@@ -432,7 +544,8 @@ abbrev by_order : Facts → List Exchange → Calling → Type 0
 by_order facts history c =
     (c.is_root ≡ true) ⊎ (HomeFailed c.error history ⊎ (c.error ≡ last_error (check_error_after history) facts.error))
 
-order_of : (facts : Facts) (history : List Exchange) (c : Calling) → c.facts ≡ facts → (c.stuck ≡ true → HomeFailed c.error history)
+order_of : (facts : Facts) (history : List Exchange) (c : Calling) → c.facts ≡ facts
+    → (c.stuck ≡ true → HomeFailed c.error history)
     → order_ok (check_error_after history) c ≡ true → c.facts.error ≢ 0 → c.next ≡ FAILS → by_order facts history c
 order_of facts history c same home w some at =
     let found = check_error_after history in
@@ -440,7 +553,8 @@ order_of facts history c same home w some at =
       | inl root ↦ inl root
       | inr other ↦ elim other [
         | inl stuck ↦ inr (inl (home stuck))
-        | inr given ↦ inr (inr (eqb-true c.error (last_error found c.facts.error) given ∙ ap (λ f. last_error found f.error) same))
+        | inr given ↦ inr (inr (eqb-true c.error (last_error found c.facts.error) given
+            ∙ ap (λ f. last_error found f.error) same))
       ]
     ]
 

@@ -1,18 +1,17 @@
 -- How many exchanges and pauses there are.
-use Rattle.std.proofs.Common.{◌≡◌, ◌≢◌, ◌+◌, ◌-◌, ◌*◌, ◌≤◌, ◌<◌, ℕ, zero, suc, List, [], ◌∷◌, ◌++◌, length, Bool, true, false, not, ◌&&◌, ◌||◌, ◌⊎◌, inl, inr, refl, ap, sym, subst, ◌∙◌, arith}
-use Rattle.std.specs.Prelude.{◌==◌, nat_le, nat_lt, if◌then◌else◌}
-use Rattle.system_calls.specs.Tries.{pause_after, pauses_after, EAGAIN, TRIES}
-use Rattle.call_course.specs.Turns.{after_answer, asks, began, begun, gains, judged, lacks, noted, reply_error, root_error, start, COUNT, DONE, ENOMEM, OPENED, TEXT, is_again, is_unseen, may_go_by_another}
-use Rattle.call_course.specs.History.{exchange, is_question, next_after, Exchange, IsHistory}
-use Rattle.call_course.specs.Promises.{away_after, away_by, begun_after, changed_after, closed_by, error_of, is_walk, last_error, open_after, opened_by, others_after, others_by, owns_after, owns_by, pauses_of, reply_value, stepped_after, stepped_by, unopened_error, value_after, value_by, went_well, why_after, why_by, without, HomeFailed, RootHas}
+use Rattle.std.proofs.Common.{◌≡◌, ◌+◌, ◌-◌, ◌*◌, ◌≤◌, ℕ, zero, suc, List, length, Bool, true, false, ◌||◌, refl, ap, sym, subst, ◌∙◌, arith}
+use Rattle.std.specs.Prelude.{◌==◌, if◌then◌else◌}
+use Rattle.system_calls.specs.Tries.{pause_after, pauses_after}
+use Rattle.call_course.specs.Turns.{gains, lacks, noted, start, may_go_by_another}
+use Rattle.call_course.specs.History.{exchange, next_after, Exchange, IsHistory}
+use Rattle.call_course.specs.Promises.{pauses_of}
 use Rattle.call_course.specs.declared.calling.Calling.{Calling}
 use Rattle.call_course.specs.declared.calling.Answer.{Answer}
 use Rattle.call_course.specs.declared.calling.Facts.{Facts}
-use Rattle.call_course.specs.declared.calling.TheConstants.{BEGIN, JOIN, AT_ONCE, OWN_ROOT, PLACE, CONVERSE, TAKE, LET_GO, CLOSE, LOOK_AT_PROC, ANOTHER_PROC, CLOSE_PROC, GO_HOME, LOOK_AT_ROOT, ENDS, FAILS}
-use Rattle.call_course.proofs.Asked.{asked_is}
-use Rattle.call_course.proofs.Leads.{judged_leads, made_of, away, pick, turn_at, Leads, Turn, to_proc, to_close, to_home, to_root, to_end, to_again, to_fail, t_begin, t_join, t_join_held, t_no_join, t_once, t_not_once, t_not_once_held, t_own_place, t_own_walk, t_own_given, t_no_own, t_place, t_no_place, t_opened, t_text, t_cut, t_done, t_made, t_lost, t_unopened, t_count, t_fault, t_took, t_not_took, t_let_go, t_close_made, t_closed, t_closed_stuck, t_same_proc, t_lost_proc, t_another, t_no_other, t_proc_closed, t_home, t_stuck_holds, t_stuck, t_root, t_bad_root}
-use Rattle.call_course.proofs.Sound.{another_ok, changed_ok, error_ok, holds_ok, made_ok, moved_ok, owns_ok, root_ok, sound, sound_start, sound_turn, stuck_ok, tries_ok, within}
-use Rattle.call_course.proofs.Rule.{always, is_sound, leads_same, sound_another, sound_changed, sound_error, sound_holds, sound_made, sound_moved, sound_owns, sound_root, sound_stuck, sound_tries}
+use Rattle.call_course.specs.declared.calling.TheConstants.{BEGIN, JOIN, AT_ONCE, OWN_ROOT, PLACE, CONVERSE, TAKE, LET_GO, CLOSE, LOOK_AT_PROC, ANOTHER_PROC, CLOSE_PROC, GO_HOME, LOOK_AT_ROOT}
+use Rattle.call_course.proofs.Leads.{away, Leads, Turn, to_proc, to_close, to_home, to_root, to_end, to_again, to_fail, t_begin, t_join, t_join_held, t_no_join, t_once, t_not_once, t_not_once_held, t_own_place, t_own_walk, t_own_given, t_no_own, t_place, t_no_place, t_opened, t_text, t_cut, t_done, t_made, t_lost, t_unopened, t_count, t_fault, t_took, t_not_took, t_let_go, t_close_made, t_closed, t_closed_stuck, t_same_proc, t_lost_proc, t_another, t_no_other, t_proc_closed, t_home, t_stuck_holds, t_stuck, t_root, t_bad_root}
+use Rattle.call_course.proofs.Sound.{another_ok, moved_ok, owns_ok, sound, stuck_ok, tries_ok}
+use Rattle.call_course.proofs.Rule.{always, sound_another, sound_moved, sound_owns, sound_stuck, sound_tries}
 
 -- ---- pauses
 
@@ -44,7 +43,8 @@ pauses_leads seen may c n pauses w l =
       | to_home p0 p1 p2 ↦ subst (λ m. pauses_ok pauses m) (sym p2) (add_none pauses ∙ w)
       | to_root p0 p1 p2 p3 p4 ↦ subst (λ m. pauses_ok pauses m) (sym p4) (add_none pauses ∙ w)
       | to_end p0 p1 p2 p3 ↦ subst (λ m. pauses_ok pauses m) (sym p3) (add_none pauses ∙ w)
-      | to_again p0 p1 p2 p3 p4 p5 ↦ subst (λ m. pauses_ok pauses m) (sym p5) (ap (λ p. p + pause_after c.tries) w ∙ pauses_step c.tries)
+      | to_again p0 p1 p2 p3 p4 p5 ↦
+          subst (λ m. pauses_ok pauses m) (sym p5) (ap (λ p. p + pause_after c.tries) w ∙ pauses_step c.tries)
       | to_fail p0 p1 p2 p3 p4 ↦ subst (λ m. pauses_ok pauses m) (sym p4) (add_none pauses ∙ w)
     ]
 
@@ -53,44 +53,110 @@ pauses_turn : (c : Calling) (a : Answer) (n : Calling) (was : ℕ) → sound c �
 pauses_turn c a n was s w t =
     let so = sound_tries c s in
     elim t [
-      | t_begin p0 is ↦ subst (λ m. pauses_ok (if (exchange c a).asked == BEGIN then was + (exchange c a).about else was) m) (sym is) (grind (arith, p0, w, so))
-      | t_join p0 p1 p2 is ↦ subst (λ m. pauses_ok (if (exchange c a).asked == BEGIN then was + (exchange c a).about else was) m) (sym is) (grind (arith, p0, w))
-      | t_join_held p0 p1 p2 is ↦ subst (λ m. pauses_ok (if (exchange c a).asked == BEGIN then was + (exchange c a).about else was) m) (sym is) (grind (arith, p0, w))
-      | t_no_join p0 p1 is ↦ subst (λ m. pauses_ok (if (exchange c a).asked == BEGIN then was + (exchange c a).about else was) m) (sym is) (grind (arith, p0, w))
-      | t_once p0 p1 l ↦ pauses_leads false true (gains a.value true (noted a c)) n (if (exchange c a).asked == BEGIN then was + (exchange c a).about else was) (grind (arith, p0, w)) l
-      | t_not_once p0 p1 p2 is ↦ subst (λ m. pauses_ok (if (exchange c a).asked == BEGIN then was + (exchange c a).about else was) m) (sym is) (grind (arith, p0, w))
-      | t_not_once_held p0 p1 p2 is ↦ subst (λ m. pauses_ok (if (exchange c a).asked == BEGIN then was + (exchange c a).about else was) m) (sym is) (grind (arith, p0, w))
-      | t_own_place p0 p1 p2 p3 is ↦ subst (λ m. pauses_ok (if (exchange c a).asked == BEGIN then was + (exchange c a).about else was) m) (sym is) (grind (arith, p0, w))
-      | t_own_walk p0 p1 p2 p3 is ↦ subst (λ m. pauses_ok (if (exchange c a).asked == BEGIN then was + (exchange c a).about else was) m) (sym is) (grind (arith, p0, w))
-      | t_own_given p0 p1 p2 is ↦ subst (λ m. pauses_ok (if (exchange c a).asked == BEGIN then was + (exchange c a).about else was) m) (sym is) (grind (arith, p0, w))
-      | t_no_own p0 p1 is ↦ subst (λ m. pauses_ok (if (exchange c a).asked == BEGIN then was + (exchange c a).about else was) m) (sym is) (grind (arith, p0, w))
-      | t_place p0 p1 l ↦ pauses_leads false true (gains a.length false (noted a c)) n (if (exchange c a).asked == BEGIN then was + (exchange c a).about else was) (grind (arith, p0, w)) l
-      | t_no_place p0 p1 l ↦ pauses_leads false true (lacks a.error (noted a c)) n (if (exchange c a).asked == BEGIN then was + (exchange c a).about else was) (grind (arith, p0, w)) l
-      | t_opened p0 p1 is ↦ subst (λ m. pauses_ok (if (exchange c a).asked == BEGIN then was + (exchange c a).about else was) m) (sym is) (grind (arith, p0, w))
-      | t_text p0 p1 p2 p3 is ↦ subst (λ m. pauses_ok (if (exchange c a).asked == BEGIN then was + (exchange c a).about else was) m) (sym is) (grind (arith, p0, w))
-      | t_cut p0 p1 p2 p3 is ↦ subst (λ m. pauses_ok (if (exchange c a).asked == BEGIN then was + (exchange c a).about else was) m) (sym is) (grind (arith, p0, w))
-      | t_done p0 p1 p2 p3 p4 is ↦ subst (λ m. pauses_ok (if (exchange c a).asked == BEGIN then was + (exchange c a).about else was) m) (sym is) (grind (arith, p0, w))
-      | t_made p0 p1 p2 p3 p4 p5 is ↦ subst (λ m. pauses_ok (if (exchange c a).asked == BEGIN then was + (exchange c a).about else was) m) (sym is) (grind (arith, p0, w))
-      | t_lost p0 p1 p2 p3 p4 p5 p6 is ↦ subst (λ m. pauses_ok (if (exchange c a).asked == BEGIN then was + (exchange c a).about else was) m) (sym is) (grind (arith, p0, w))
-      | t_unopened p0 p1 p2 p3 p4 p5 p6 is ↦ subst (λ m. pauses_ok (if (exchange c a).asked == BEGIN then was + (exchange c a).about else was) m) (sym is) (grind (arith, p0, w))
-      | t_count p0 p1 p2 p3 p4 is ↦ subst (λ m. pauses_ok (if (exchange c a).asked == BEGIN then was + (exchange c a).about else was) m) (sym is) (grind (arith, p0, w))
-      | t_fault p0 p1 p2 p3 p4 is ↦ subst (λ m. pauses_ok (if (exchange c a).asked == BEGIN then was + (exchange c a).about else was) m) (sym is) (grind (arith, p0, w))
-      | t_took p0 p1 is ↦ subst (λ m. pauses_ok (if (exchange c a).asked == BEGIN then was + (exchange c a).about else was) m) (sym is) (grind (arith, p0, w))
-      | t_not_took p0 p1 is ↦ subst (λ m. pauses_ok (if (exchange c a).asked == BEGIN then was + (exchange c a).about else was) m) (sym is) (grind (arith, p0, w))
-      | t_let_go p0 p1 l ↦ pauses_leads false true (c) n (if (exchange c a).asked == BEGIN then was + (exchange c a).about else was) (grind (arith, p0, w)) l
-      | t_close_made p0 p1 is ↦ subst (λ m. pauses_ok (if (exchange c a).asked == BEGIN then was + (exchange c a).about else was) m) (sym is) (grind (arith, p0, w))
-      | t_closed p0 p1 l ↦ pauses_leads false true (c) n (if (exchange c a).asked == BEGIN then was + (exchange c a).about else was) (grind (arith, p0, w)) l
-      | t_closed_stuck p0 p1 is ↦ subst (λ m. pauses_ok (if (exchange c a).asked == BEGIN then was + (exchange c a).about else was) m) (sym is) (grind (arith, p0, w))
-      | t_same_proc p0 p1 l ↦ pauses_leads false false (c) n (if (exchange c a).asked == BEGIN then was + (exchange c a).about else was) (grind (arith, p0, w)) l
-      | t_lost_proc p0 p1 is ↦ subst (λ m. pauses_ok (if (exchange c a).asked == BEGIN then was + (exchange c a).about else was) m) (sym is) (grind (arith, p0, w))
-      | t_another p0 p1 is ↦ subst (λ m. pauses_ok (if (exchange c a).asked == BEGIN then was + (exchange c a).about else was) m) (sym is) (grind (arith, p0, w))
-      | t_no_other p0 p1 l ↦ pauses_leads false false (lacks a.error c) n (if (exchange c a).asked == BEGIN then was + (exchange c a).about else was) (grind (arith, p0, w)) l
-      | t_proc_closed p0 l ↦ pauses_leads false false (record c { owns_proc = false }) n (if (exchange c a).asked == BEGIN then was + (exchange c a).about else was) (grind (arith, p0, w)) l
-      | t_home p0 p1 l ↦ pauses_leads false false (record c { moved = false }) n (if (exchange c a).asked == BEGIN then was + (exchange c a).about else was) (grind (arith, p0, w)) l
-      | t_stuck_holds p0 p1 p2 is ↦ subst (λ m. pauses_ok (if (exchange c a).asked == BEGIN then was + (exchange c a).about else was) m) (sym is) (grind (arith, p0, w))
-      | t_stuck p0 p1 p2 is ↦ subst (λ m. pauses_ok (if (exchange c a).asked == BEGIN then was + (exchange c a).about else was) m) (sym is) (grind (arith, p0, w))
-      | t_root p0 p1 l ↦ pauses_leads true false (c) n (if (exchange c a).asked == BEGIN then was + (exchange c a).about else was) (grind (arith, p0, w)) l
-      | t_bad_root p0 p1 is ↦ subst (λ m. pauses_ok (if (exchange c a).asked == BEGIN then was + (exchange c a).about else was) m) (sym is) (grind (arith, p0, w))
+      | t_begin p0 is ↦ subst (λ m. pauses_ok
+          (if (exchange c a).asked == BEGIN then was + (exchange c a).about else was) m) (sym is)
+          (grind (arith, p0, w, so))
+      | t_join p0 p1 p2 is ↦ subst
+          (λ m. pauses_ok (if (exchange c a).asked == BEGIN then was + (exchange c a).about else was) m) (sym is)
+          (grind (arith, p0, w))
+      | t_join_held p0 p1 p2 is ↦
+          subst (λ m. pauses_ok (if (exchange c a).asked == BEGIN then was + (exchange c a).about else was) m) (sym is)
+          (grind (arith, p0, w))
+      | t_no_join p0 p1 is ↦ subst
+          (λ m. pauses_ok (if (exchange c a).asked == BEGIN then was + (exchange c a).about else was) m) (sym is)
+          (grind (arith, p0, w))
+      | t_once p0 p1 l ↦ pauses_leads false true (gains a.value true (noted a c)) n
+          (if (exchange c a).asked == BEGIN then was + (exchange c a).about else was) (grind (arith, p0, w)) l
+      | t_not_once p0 p1 p2 is ↦
+          subst (λ m. pauses_ok (if (exchange c a).asked == BEGIN then was + (exchange c a).about else was) m) (sym is)
+          (grind (arith, p0, w))
+      | t_not_once_held p0 p1 p2 is ↦
+          subst (λ m. pauses_ok (if (exchange c a).asked == BEGIN then was + (exchange c a).about else was) m) (sym is)
+          (grind (arith, p0, w))
+      | t_own_place p0 p1 p2 p3 is ↦
+          subst (λ m. pauses_ok (if (exchange c a).asked == BEGIN then was + (exchange c a).about else was) m) (sym is)
+          (grind (arith, p0, w))
+      | t_own_walk p0 p1 p2 p3 is ↦
+          subst (λ m. pauses_ok (if (exchange c a).asked == BEGIN then was + (exchange c a).about else was) m) (sym is)
+          (grind (arith, p0, w))
+      | t_own_given p0 p1 p2 is ↦
+          subst (λ m. pauses_ok (if (exchange c a).asked == BEGIN then was + (exchange c a).about else was) m) (sym is)
+          (grind (arith, p0, w))
+      | t_no_own p0 p1 is ↦ subst
+          (λ m. pauses_ok (if (exchange c a).asked == BEGIN then was + (exchange c a).about else was) m) (sym is)
+          (grind (arith, p0, w))
+      | t_place p0 p1 l ↦ pauses_leads false true (gains a.length false (noted a c)) n
+          (if (exchange c a).asked == BEGIN then was + (exchange c a).about else was) (grind (arith, p0, w)) l
+      | t_no_place p0 p1 l ↦ pauses_leads false true (lacks a.error (noted a c)) n
+          (if (exchange c a).asked == BEGIN then was + (exchange c a).about else was) (grind (arith, p0, w)) l
+      | t_opened p0 p1 is ↦ subst
+          (λ m. pauses_ok (if (exchange c a).asked == BEGIN then was + (exchange c a).about else was) m) (sym is)
+          (grind (arith, p0, w))
+      | t_text p0 p1 p2 p3 is ↦
+          subst (λ m. pauses_ok (if (exchange c a).asked == BEGIN then was + (exchange c a).about else was) m) (sym is)
+          (grind (arith, p0, w))
+      | t_cut p0 p1 p2 p3 is ↦
+          subst (λ m. pauses_ok (if (exchange c a).asked == BEGIN then was + (exchange c a).about else was) m) (sym is)
+          (grind (arith, p0, w))
+      | t_done p0 p1 p2 p3 p4 is ↦
+          subst (λ m. pauses_ok (if (exchange c a).asked == BEGIN then was + (exchange c a).about else was) m) (sym is)
+          (grind (arith, p0, w))
+      | t_made p0 p1 p2 p3 p4 p5 is ↦
+          subst (λ m. pauses_ok (if (exchange c a).asked == BEGIN then was + (exchange c a).about else was) m) (sym is)
+          (grind (arith, p0, w))
+      | t_lost p0 p1 p2 p3 p4 p5 p6 is ↦
+          subst (λ m. pauses_ok (if (exchange c a).asked == BEGIN then was + (exchange c a).about else was) m) (sym is)
+          (grind (arith, p0, w))
+      | t_unopened p0 p1 p2 p3 p4 p5 p6 is ↦
+          subst (λ m. pauses_ok (if (exchange c a).asked == BEGIN then was + (exchange c a).about else was) m) (sym is)
+          (grind (arith, p0, w))
+      | t_count p0 p1 p2 p3 p4 is ↦
+          subst (λ m. pauses_ok (if (exchange c a).asked == BEGIN then was + (exchange c a).about else was) m) (sym is)
+          (grind (arith, p0, w))
+      | t_fault p0 p1 p2 p3 p4 is ↦
+          subst (λ m. pauses_ok (if (exchange c a).asked == BEGIN then was + (exchange c a).about else was) m) (sym is)
+          (grind (arith, p0, w))
+      | t_took p0 p1 is ↦ subst
+          (λ m. pauses_ok (if (exchange c a).asked == BEGIN then was + (exchange c a).about else was) m) (sym is)
+          (grind (arith, p0, w))
+      | t_not_took p0 p1 is ↦ subst
+          (λ m. pauses_ok (if (exchange c a).asked == BEGIN then was + (exchange c a).about else was) m) (sym is)
+          (grind (arith, p0, w))
+      | t_let_go p0 p1 l ↦ pauses_leads false true (c) n
+          (if (exchange c a).asked == BEGIN then was + (exchange c a).about else was) (grind (arith, p0, w)) l
+      | t_close_made p0 p1 is ↦
+          subst (λ m. pauses_ok (if (exchange c a).asked == BEGIN then was + (exchange c a).about else was) m) (sym is)
+          (grind (arith, p0, w))
+      | t_closed p0 p1 l ↦ pauses_leads false true (c) n
+          (if (exchange c a).asked == BEGIN then was + (exchange c a).about else was) (grind (arith, p0, w)) l
+      | t_closed_stuck p0 p1 is ↦
+          subst (λ m. pauses_ok (if (exchange c a).asked == BEGIN then was + (exchange c a).about else was) m) (sym is)
+          (grind (arith, p0, w))
+      | t_same_proc p0 p1 l ↦ pauses_leads false false (c) n
+          (if (exchange c a).asked == BEGIN then was + (exchange c a).about else was) (grind (arith, p0, w)) l
+      | t_lost_proc p0 p1 is ↦
+          subst (λ m. pauses_ok (if (exchange c a).asked == BEGIN then was + (exchange c a).about else was) m) (sym is)
+          (grind (arith, p0, w))
+      | t_another p0 p1 is ↦ subst
+          (λ m. pauses_ok (if (exchange c a).asked == BEGIN then was + (exchange c a).about else was) m) (sym is)
+          (grind (arith, p0, w))
+      | t_no_other p0 p1 l ↦ pauses_leads false false (lacks a.error c) n
+          (if (exchange c a).asked == BEGIN then was + (exchange c a).about else was) (grind (arith, p0, w)) l
+      | t_proc_closed p0 l ↦ pauses_leads false false (record c { owns_proc = false }) n
+          (if (exchange c a).asked == BEGIN then was + (exchange c a).about else was) (grind (arith, p0, w)) l
+      | t_home p0 p1 l ↦ pauses_leads false false (record c { moved = false }) n
+          (if (exchange c a).asked == BEGIN then was + (exchange c a).about else was) (grind (arith, p0, w)) l
+      | t_stuck_holds p0 p1 p2 is ↦
+          subst (λ m. pauses_ok (if (exchange c a).asked == BEGIN then was + (exchange c a).about else was) m) (sym is)
+          (grind (arith, p0, w))
+      | t_stuck p0 p1 p2 is ↦ subst
+          (λ m. pauses_ok (if (exchange c a).asked == BEGIN then was + (exchange c a).about else was) m) (sym is)
+          (grind (arith, p0, w))
+      | t_root p0 p1 l ↦ pauses_leads true false (c) n
+          (if (exchange c a).asked == BEGIN then was + (exchange c a).about else was) (grind (arith, p0, w)) l
+      | t_bad_root p0 p1 is ↦ subst
+          (λ m. pauses_ok (if (exchange c a).asked == BEGIN then was + (exchange c a).about else was) m) (sym is)
+          (grind (arith, p0, w))
     ]
 
 pauses_start : (facts : Facts) → pauses_ok 0 (start facts)
@@ -163,51 +229,129 @@ few_leads seen may c n count f1 f2 f3 f4 f5 l =
       | to_fail p0 p1 p2 p3 p4 ↦ subst (λ m. few_ok count m) (sym p4) (omega (arith, f5))
     ]
 
-few_via : (k : ℕ) (c : Calling) (was : ℕ) (G : Type 0) → c.next ≡ k → (few_ok was (record c { next = k }) → G) → few_ok was c → G
+few_via : (k : ℕ) (c : Calling) (was : ℕ) (G : Type 0) → c.next ≡ k → (few_ok was (record c { next = k }) → G)
+    → few_ok was c → G
 few_via k c was G at f w = f (subst (λ j. few_ok was (record c { next = j })) at w)
 
-few_turn : (c : Calling) (a : Answer) (n : Calling) (was : ℕ) → owns_ok c ≡ true → another_ok c ≡ true → stuck_ok c ≡ true
+few_turn : (c : Calling) (a : Answer) (n : Calling) (was : ℕ) → owns_ok c ≡ true → another_ok c ≡ true
+    → stuck_ok c ≡ true
     → tries_ok c ≡ true → moved_ok c ≡ true → Turn c a n → few_ok was c → few_ok (suc was) n
 few_turn c a n was so sa ss st sm t =
     elim t [
-      | t_begin p0 is ↦ few_via BEGIN c was (few_ok (suc was) n) p0 (λ w. subst (λ m. few_ok (suc was) m) (sym is) (grind (arith, p0, w, st)))
-      | t_join p0 p1 p2 is ↦ few_via JOIN c was (few_ok (suc was) n) p0 (λ w. subst (λ m. few_ok (suc was) m) (sym is) (grind (arith, p0, p1, p2, w)))
-      | t_join_held p0 p1 p2 is ↦ few_via JOIN c was (few_ok (suc was) n) p0 (λ w. subst (λ m. few_ok (suc was) m) (sym is) (grind (arith, p0, p1, p2, w)))
-      | t_no_join p0 p1 is ↦ few_via JOIN c was (few_ok (suc was) n) p0 (λ w. subst (λ m. few_ok (suc was) m) (sym is) (grind (arith, p0, p1, w)))
-      | t_once p0 p1 l ↦ few_via AT_ONCE c was (few_ok (suc was) n) p0 (λ w. few_leads false true (gains a.value true (noted a c)) n (suc was) (λ is can. grind (arith, p0, p1, w, can)) (λ is. grind (arith, p0, p1, so, w, is)) (λ is away. grind (arith, p0, p1, w, away)) (λ is. grind (arith, p0, p1, w)) (grind (arith, p0, p1, w)) l)
-      | t_not_once p0 p1 p2 is ↦ few_via AT_ONCE c was (few_ok (suc was) n) p0 (λ w. subst (λ m. few_ok (suc was) m) (sym is) (grind (arith, p0, p1, p2, w)))
-      | t_not_once_held p0 p1 p2 is ↦ few_via AT_ONCE c was (few_ok (suc was) n) p0 (λ w. subst (λ m. few_ok (suc was) m) (sym is) (grind (arith, p0, p1, p2, w)))
-      | t_own_place p0 p1 p2 p3 is ↦ few_via OWN_ROOT c was (few_ok (suc was) n) p0 (λ w. subst (λ m. few_ok (suc was) m) (sym is) (grind (arith, p0, p1, p2, p3, w)))
-      | t_own_walk p0 p1 p2 p3 is ↦ few_via OWN_ROOT c was (few_ok (suc was) n) p0 (λ w. subst (λ m. few_ok (suc was) m) (sym is) (grind (arith, p0, p1, p2, p3, w)))
-      | t_own_given p0 p1 p2 is ↦ few_via OWN_ROOT c was (few_ok (suc was) n) p0 (λ w. subst (λ m. few_ok (suc was) m) (sym is) (grind (arith, p0, p1, p2, w)))
-      | t_no_own p0 p1 is ↦ few_via OWN_ROOT c was (few_ok (suc was) n) p0 (λ w. subst (λ m. few_ok (suc was) m) (sym is) (grind (arith, p0, p1, w)))
-      | t_place p0 p1 l ↦ few_via PLACE c was (few_ok (suc was) n) p0 (λ w. few_leads false true (gains a.length false (noted a c)) n (suc was) (λ is can. grind (arith, p0, p1, w, can)) (λ is. grind (arith, p0, p1, so, w, is)) (λ is away. grind (arith, p0, p1, w, away)) (λ is. grind (arith, p0, p1, w)) (grind (arith, p0, p1, w)) l)
-      | t_no_place p0 p1 l ↦ few_via PLACE c was (few_ok (suc was) n) p0 (λ w. few_leads false true (lacks a.error (noted a c)) n (suc was) (λ is can. grind (arith, p0, p1, w, can)) (λ is. grind (arith, p0, p1, so, w, is)) (λ is away. grind (arith, p0, p1, w, away)) (λ is. grind (arith, p0, p1, w)) (grind (arith, p0, p1, w)) l)
-      | t_opened p0 p1 is ↦ few_via CONVERSE c was (few_ok (suc was) n) p0 (λ w. subst (λ m. few_ok (suc was) m) (sym is) (grind (arith, p0, p1, w)))
-      | t_text p0 p1 p2 p3 is ↦ few_via CONVERSE c was (few_ok (suc was) n) p0 (λ w. subst (λ m. few_ok (suc was) m) (sym is) (grind (arith, p0, p1, p2, p3, w)))
-      | t_cut p0 p1 p2 p3 is ↦ few_via CONVERSE c was (few_ok (suc was) n) p0 (λ w. subst (λ m. few_ok (suc was) m) (sym is) (grind (arith, p0, p1, p2, p3, w)))
-      | t_done p0 p1 p2 p3 p4 is ↦ few_via CONVERSE c was (few_ok (suc was) n) p0 (λ w. subst (λ m. few_ok (suc was) m) (sym is) (grind (arith, p0, p1, p2, p3, p4, w)))
-      | t_made p0 p1 p2 p3 p4 p5 is ↦ few_via CONVERSE c was (few_ok (suc was) n) p0 (λ w. subst (λ m. few_ok (suc was) m) (sym is) (grind (arith, p0, p1, p2, p3, p4, p5, w)))
-      | t_lost p0 p1 p2 p3 p4 p5 p6 is ↦ few_via CONVERSE c was (few_ok (suc was) n) p0 (λ w. subst (λ m. few_ok (suc was) m) (sym is) (grind (arith, p0, p1, p2, p3, p4, p5, p6, w)))
-      | t_unopened p0 p1 p2 p3 p4 p5 p6 is ↦ few_via CONVERSE c was (few_ok (suc was) n) p0 (λ w. subst (λ m. few_ok (suc was) m) (sym is) (grind (arith, p0, p1, p2, p3, p4, p5, p6, w)))
-      | t_count p0 p1 p2 p3 p4 is ↦ few_via CONVERSE c was (few_ok (suc was) n) p0 (λ w. subst (λ m. few_ok (suc was) m) (sym is) (grind (arith, p0, p1, p2, p3, p4, w)))
-      | t_fault p0 p1 p2 p3 p4 is ↦ few_via CONVERSE c was (few_ok (suc was) n) p0 (λ w. subst (λ m. few_ok (suc was) m) (sym is) (grind (arith, p0, p1, p2, p3, p4, w)))
-      | t_took p0 p1 is ↦ few_via TAKE c was (few_ok (suc was) n) p0 (λ w. subst (λ m. few_ok (suc was) m) (sym is) (grind (arith, p0, p1, w)))
-      | t_not_took p0 p1 is ↦ few_via TAKE c was (few_ok (suc was) n) p0 (λ w. subst (λ m. few_ok (suc was) m) (sym is) (grind (arith, p0, p1, w)))
-      | t_let_go p0 p1 l ↦ few_via LET_GO c was (few_ok (suc was) n) p0 (λ w. few_leads false true (c) n (suc was) (λ is can. grind (arith, p0, p1, w, can)) (λ is. grind (arith, p0, p1, so, w, is)) (λ is away. grind (arith, p0, p1, w, away)) (λ is. grind (arith, p0, p1, w)) (grind (arith, p0, p1, w)) l)
-      | t_close_made p0 p1 is ↦ few_via LET_GO c was (few_ok (suc was) n) p0 (λ w. subst (λ m. few_ok (suc was) m) (sym is) (grind (arith, p0, p1, w, ss)))
-      | t_closed p0 p1 l ↦ few_via CLOSE c was (few_ok (suc was) n) p0 (λ w. few_leads false true (c) n (suc was) (λ is can. grind (arith, p0, p1, w, can)) (λ is. grind (arith, p0, p1, so, w, is)) (λ is away. grind (arith, p0, p1, w, away)) (λ is. grind (arith, p0, p1, w)) (grind (arith, p0, p1, w)) l)
-      | t_closed_stuck p0 p1 is ↦ few_via CLOSE c was (few_ok (suc was) n) p0 (λ w. subst (λ m. few_ok (suc was) m) (sym is) (grind (arith, p0, p1, w, ss)))
-      | t_same_proc p0 p1 l ↦ few_via LOOK_AT_PROC c was (few_ok (suc was) n) p0 (λ w. few_leads false false (c) n (suc was) (λ is can. absurd (grind (arith, is))) (λ is. grind (arith, p0, p1, so, w, is)) (λ is away. grind (arith, p0, p1, w, away)) (λ is. grind (arith, p0, p1, w)) (grind (arith, p0, p1, w)) l)
-      | t_lost_proc p0 p1 is ↦ few_via LOOK_AT_PROC c was (few_ok (suc was) n) p0 (λ w. subst (λ m. few_ok (suc was) m) (sym is) (grind (arith, p0, p1, w, sa)))
-      | t_another p0 p1 is ↦ few_via ANOTHER_PROC c was (few_ok (suc was) n) p0 (λ w. subst (λ m. few_ok (suc was) m) (sym is) (grind (arith, p0, p1, w, sa)))
-      | t_no_other p0 p1 l ↦ few_via ANOTHER_PROC c was (few_ok (suc was) n) p0 (λ w. few_leads false false (lacks a.error c) n (suc was) (λ is can. absurd (grind (arith, is))) (λ is. grind (arith, p0, p1, so, w, is)) (λ is away. grind (arith, p0, p1, w, away)) (λ is. grind (arith, p0, p1, w)) (grind (arith, p0, p1, w)) l)
-      | t_proc_closed p0 l ↦ few_via CLOSE_PROC c was (few_ok (suc was) n) p0 (λ w. few_leads false false (record c { owns_proc = false }) n (suc was) (λ is can. absurd (grind (arith, is))) (λ is. grind (arith, p0, so, w, is)) (λ is away. grind (arith, p0, w, away)) (λ is. grind (arith, p0, w)) (grind (arith, p0, w)) l)
-      | t_home p0 p1 l ↦ few_via GO_HOME c was (few_ok (suc was) n) p0 (λ w. few_leads false false (record c { moved = false }) n (suc was) (λ is can. absurd (grind (arith, is))) (λ is. grind (arith, p0, p1, so, w, is)) (λ is away. grind (arith, p0, p1, w, away)) (λ is. grind (arith, p0, p1, w)) (grind (arith, p0, p1, w)) l)
-      | t_stuck_holds p0 p1 p2 is ↦ few_via GO_HOME c was (few_ok (suc was) n) p0 (λ w. subst (λ m. few_ok (suc was) m) (sym is) (grind (arith, p0, p1, p2, w)))
-      | t_stuck p0 p1 p2 is ↦ few_via GO_HOME c was (few_ok (suc was) n) p0 (λ w. subst (λ m. few_ok (suc was) m) (sym is) (grind (arith, p0, p1, p2, w)))
-      | t_root p0 p1 l ↦ few_via LOOK_AT_ROOT c was (few_ok (suc was) n) p0 (λ w. few_leads true false (c) n (suc was) (λ is can. absurd (grind (arith, is))) (λ is. grind (arith, p0, p1, so, w, is)) (λ is away. grind (arith, p0, p1, w, away, sm)) (λ is. absurd (grind (arith, is))) (grind (arith, p0, p1, w)) l)
-      | t_bad_root p0 p1 is ↦ few_via LOOK_AT_ROOT c was (few_ok (suc was) n) p0 (λ w. subst (λ m. few_ok (suc was) m) (sym is) (grind (arith, p0, p1, w)))
+      | t_begin p0 is ↦ few_via BEGIN c was (few_ok (suc was) n) p0
+          (λ w. subst (λ m. few_ok (suc was) m) (sym is) (grind (arith, p0, w, st)))
+      | t_join p0 p1 p2 is ↦ few_via JOIN c was (few_ok (suc was) n) p0
+          (λ w. subst (λ m. few_ok (suc was) m) (sym is) (grind (arith, p0, p1, p2, w)))
+      | t_join_held p0 p1 p2 is ↦
+          few_via JOIN c was (few_ok (suc was) n) p0
+          (λ w. subst (λ m. few_ok (suc was) m) (sym is) (grind (arith, p0, p1, p2, w)))
+      | t_no_join p0 p1 is ↦ few_via JOIN c was (few_ok (suc was) n) p0
+          (λ w. subst (λ m. few_ok (suc was) m) (sym is) (grind (arith, p0, p1, w)))
+      | t_once p0 p1 l ↦ few_via AT_ONCE c was (few_ok (suc was) n) p0
+          (λ w. few_leads false true (gains a.value true (noted a c)) n (suc was)
+          (λ is can. grind (arith, p0, p1, w, can)) (λ is. grind (arith, p0, p1, so, w, is))
+          (λ is away. grind (arith, p0, p1, w, away)) (λ is. grind (arith, p0, p1, w)) (grind (arith, p0, p1, w)) l)
+      | t_not_once p0 p1 p2 is ↦
+          few_via AT_ONCE c was (few_ok (suc was) n) p0
+          (λ w. subst (λ m. few_ok (suc was) m) (sym is) (grind (arith, p0, p1, p2, w)))
+      | t_not_once_held p0 p1 p2 is ↦
+          few_via AT_ONCE c was (few_ok (suc was) n) p0
+          (λ w. subst (λ m. few_ok (suc was) m) (sym is) (grind (arith, p0, p1, p2, w)))
+      | t_own_place p0 p1 p2 p3 is ↦
+          few_via OWN_ROOT c was (few_ok (suc was) n) p0
+          (λ w. subst (λ m. few_ok (suc was) m) (sym is) (grind (arith, p0, p1, p2, p3, w)))
+      | t_own_walk p0 p1 p2 p3 is ↦
+          few_via OWN_ROOT c was (few_ok (suc was) n) p0
+          (λ w. subst (λ m. few_ok (suc was) m) (sym is) (grind (arith, p0, p1, p2, p3, w)))
+      | t_own_given p0 p1 p2 is ↦
+          few_via OWN_ROOT c was (few_ok (suc was) n) p0
+          (λ w. subst (λ m. few_ok (suc was) m) (sym is) (grind (arith, p0, p1, p2, w)))
+      | t_no_own p0 p1 is ↦ few_via OWN_ROOT c was (few_ok (suc was) n) p0
+          (λ w. subst (λ m. few_ok (suc was) m) (sym is) (grind (arith, p0, p1, w)))
+      | t_place p0 p1 l ↦ few_via PLACE c was (few_ok (suc was) n) p0
+          (λ w. few_leads false true (gains a.length false (noted a c)) n (suc was)
+          (λ is can. grind (arith, p0, p1, w, can)) (λ is. grind (arith, p0, p1, so, w, is))
+          (λ is away. grind (arith, p0, p1, w, away)) (λ is. grind (arith, p0, p1, w)) (grind (arith, p0, p1, w)) l)
+      | t_no_place p0 p1 l ↦ few_via PLACE c was (few_ok (suc was) n) p0
+          (λ w. few_leads false true (lacks a.error (noted a c)) n (suc was) (λ is can. grind (arith, p0, p1, w, can))
+          (λ is. grind (arith, p0, p1, so, w, is)) (λ is away. grind (arith, p0, p1, w, away))
+          (λ is. grind (arith, p0, p1, w)) (grind (arith, p0, p1, w)) l)
+      | t_opened p0 p1 is ↦ few_via CONVERSE c was (few_ok (suc was) n) p0
+          (λ w. subst (λ m. few_ok (suc was) m) (sym is) (grind (arith, p0, p1, w)))
+      | t_text p0 p1 p2 p3 is ↦
+          few_via CONVERSE c was (few_ok (suc was) n) p0
+          (λ w. subst (λ m. few_ok (suc was) m) (sym is) (grind (arith, p0, p1, p2, p3, w)))
+      | t_cut p0 p1 p2 p3 is ↦
+          few_via CONVERSE c was (few_ok (suc was) n) p0
+          (λ w. subst (λ m. few_ok (suc was) m) (sym is) (grind (arith, p0, p1, p2, p3, w)))
+      | t_done p0 p1 p2 p3 p4 is ↦
+          few_via CONVERSE c was (few_ok (suc was) n) p0
+          (λ w. subst (λ m. few_ok (suc was) m) (sym is) (grind (arith, p0, p1, p2, p3, p4, w)))
+      | t_made p0 p1 p2 p3 p4 p5 is ↦
+          few_via CONVERSE c was (few_ok (suc was) n) p0
+          (λ w. subst (λ m. few_ok (suc was) m) (sym is) (grind (arith, p0, p1, p2, p3, p4, p5, w)))
+      | t_lost p0 p1 p2 p3 p4 p5 p6 is ↦
+          few_via CONVERSE c was (few_ok (suc was) n) p0
+          (λ w. subst (λ m. few_ok (suc was) m) (sym is) (grind (arith, p0, p1, p2, p3, p4, p5, p6, w)))
+      | t_unopened p0 p1 p2 p3 p4 p5 p6 is ↦
+          few_via CONVERSE c was (few_ok (suc was) n) p0
+          (λ w. subst (λ m. few_ok (suc was) m) (sym is) (grind (arith, p0, p1, p2, p3, p4, p5, p6, w)))
+      | t_count p0 p1 p2 p3 p4 is ↦
+          few_via CONVERSE c was (few_ok (suc was) n) p0
+          (λ w. subst (λ m. few_ok (suc was) m) (sym is) (grind (arith, p0, p1, p2, p3, p4, w)))
+      | t_fault p0 p1 p2 p3 p4 is ↦
+          few_via CONVERSE c was (few_ok (suc was) n) p0
+          (λ w. subst (λ m. few_ok (suc was) m) (sym is) (grind (arith, p0, p1, p2, p3, p4, w)))
+      | t_took p0 p1 is ↦ few_via TAKE c was (few_ok (suc was) n) p0
+          (λ w. subst (λ m. few_ok (suc was) m) (sym is) (grind (arith, p0, p1, w)))
+      | t_not_took p0 p1 is ↦ few_via TAKE c was (few_ok (suc was) n) p0
+          (λ w. subst (λ m. few_ok (suc was) m) (sym is) (grind (arith, p0, p1, w)))
+      | t_let_go p0 p1 l ↦ few_via LET_GO c was (few_ok (suc was) n) p0
+          (λ w. few_leads false true (c) n (suc was) (λ is can. grind (arith, p0, p1, w, can))
+          (λ is. grind (arith, p0, p1, so, w, is)) (λ is away. grind (arith, p0, p1, w, away))
+          (λ is. grind (arith, p0, p1, w)) (grind (arith, p0, p1, w)) l)
+      | t_close_made p0 p1 is ↦
+          few_via LET_GO c was (few_ok (suc was) n) p0
+          (λ w. subst (λ m. few_ok (suc was) m) (sym is) (grind (arith, p0, p1, w, ss)))
+      | t_closed p0 p1 l ↦ few_via CLOSE c was (few_ok (suc was) n) p0
+          (λ w. few_leads false true (c) n (suc was) (λ is can. grind (arith, p0, p1, w, can))
+          (λ is. grind (arith, p0, p1, so, w, is)) (λ is away. grind (arith, p0, p1, w, away))
+          (λ is. grind (arith, p0, p1, w)) (grind (arith, p0, p1, w)) l)
+      | t_closed_stuck p0 p1 is ↦
+          few_via CLOSE c was (few_ok (suc was) n) p0
+          (λ w. subst (λ m. few_ok (suc was) m) (sym is) (grind (arith, p0, p1, w, ss)))
+      | t_same_proc p0 p1 l ↦ few_via LOOK_AT_PROC c was (few_ok (suc was) n) p0
+          (λ w. few_leads false false (c) n (suc was) (λ is can. absurd (grind (arith, is)))
+          (λ is. grind (arith, p0, p1, so, w, is)) (λ is away. grind (arith, p0, p1, w, away))
+          (λ is. grind (arith, p0, p1, w)) (grind (arith, p0, p1, w)) l)
+      | t_lost_proc p0 p1 is ↦
+          few_via LOOK_AT_PROC c was (few_ok (suc was) n) p0
+          (λ w. subst (λ m. few_ok (suc was) m) (sym is) (grind (arith, p0, p1, w, sa)))
+      | t_another p0 p1 is ↦ few_via ANOTHER_PROC c was (few_ok (suc was) n) p0
+          (λ w. subst (λ m. few_ok (suc was) m) (sym is) (grind (arith, p0, p1, w, sa)))
+      | t_no_other p0 p1 l ↦ few_via ANOTHER_PROC c was (few_ok (suc was) n) p0
+          (λ w. few_leads false false (lacks a.error c) n (suc was) (λ is can. absurd (grind (arith, is)))
+          (λ is. grind (arith, p0, p1, so, w, is)) (λ is away. grind (arith, p0, p1, w, away))
+          (λ is. grind (arith, p0, p1, w)) (grind (arith, p0, p1, w)) l)
+      | t_proc_closed p0 l ↦ few_via CLOSE_PROC c was (few_ok (suc was) n) p0
+          (λ w. few_leads false false (record c { owns_proc = false }) n (suc was)
+          (λ is can. absurd (grind (arith, is))) (λ is. grind (arith, p0, so, w, is))
+          (λ is away. grind (arith, p0, w, away)) (λ is. grind (arith, p0, w)) (grind (arith, p0, w)) l)
+      | t_home p0 p1 l ↦ few_via GO_HOME c was (few_ok (suc was) n) p0
+          (λ w. few_leads false false (record c { moved = false }) n (suc was) (λ is can. absurd (grind (arith, is)))
+          (λ is. grind (arith, p0, p1, so, w, is)) (λ is away. grind (arith, p0, p1, w, away))
+          (λ is. grind (arith, p0, p1, w)) (grind (arith, p0, p1, w)) l)
+      | t_stuck_holds p0 p1 p2 is ↦
+          few_via GO_HOME c was (few_ok (suc was) n) p0
+          (λ w. subst (λ m. few_ok (suc was) m) (sym is) (grind (arith, p0, p1, p2, w)))
+      | t_stuck p0 p1 p2 is ↦ few_via GO_HOME c was (few_ok (suc was) n) p0
+          (λ w. subst (λ m. few_ok (suc was) m) (sym is) (grind (arith, p0, p1, p2, w)))
+      | t_root p0 p1 l ↦ few_via LOOK_AT_ROOT c was (few_ok (suc was) n) p0
+          (λ w. few_leads true false (c) n (suc was) (λ is can. absurd (grind (arith, is)))
+          (λ is. grind (arith, p0, p1, so, w, is)) (λ is away. grind (arith, p0, p1, w, away, sm))
+          (λ is. absurd (grind (arith, is))) (grind (arith, p0, p1, w)) l)
+      | t_bad_root p0 p1 is ↦ few_via LOOK_AT_ROOT c was (few_ok (suc was) n) p0
+          (λ w. subst (λ m. few_ok (suc was) m) (sym is) (grind (arith, p0, p1, w)))
     ]
 
 few_start : (facts : Facts) → few_ok 0 (start facts)
@@ -217,4 +361,5 @@ pub few_are : (facts : Facts) (history : List Exchange) → IsHistory facts hist
     → few_ok (length history) (next_after facts history)
 few_are facts =
     always facts (λ h c. few_ok (length h) c) (few_start facts)
-    (λ older c a n s same t w. few_turn c a n (length older) (sound_owns c s) (sound_another c s) (sound_stuck c s) (sound_tries c s) (sound_moved c s) t w)
+    (λ older c a n s same t w. few_turn c a n (length older) (sound_owns c s) (sound_another c s) (sound_stuck c s)
+    (sound_tries c s) (sound_moved c s) t w)

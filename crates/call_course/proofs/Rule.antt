@@ -1,17 +1,14 @@
 -- What holds of each turn holds of every history.
-use Rattle.std.proofs.Common.{◌≡◌, ◌≢◌, ◌+◌, ◌-◌, ◌*◌, ◌≤◌, ◌<◌, ℕ, zero, suc, List, [], ◌∷◌, ◌++◌, length, Bool, true, false, not, ◌&&◌, ◌||◌, ◌⊎◌, inl, inr, refl, ap, sym, subst, ◌∙◌, arith}
-use Rattle.std.specs.Prelude.{◌==◌, nat_le, nat_lt, if◌then◌else◌}
-use Rattle.system_calls.specs.Tries.{pause_after, pauses_after, EAGAIN, TRIES}
-use Rattle.call_course.specs.Turns.{after_answer, asks, began, begun, gains, judged, lacks, noted, reply_error, root_error, start, COUNT, DONE, ENOMEM, OPENED, TEXT, is_again, is_unseen, may_go_by_another}
+use Rattle.std.proofs.Common.{◌≡◌, List, [], ◌∷◌, length, Bool, true, false, ◌&&◌, refl, ap, sym, subst, ◌∙◌, arith}
+use Rattle.call_course.specs.Turns.{after_answer, asks, gains, lacks, noted, start}
 use Rattle.call_course.specs.History.{exchange, is_question, next_after, Exchange, IsHistory}
-use Rattle.call_course.specs.Promises.{away_after, away_by, begun_after, changed_after, closed_by, error_of, is_walk, last_error, open_after, opened_by, others_after, others_by, owns_after, owns_by, pauses_of, reply_value, stepped_after, stepped_by, unopened_error, value_after, value_by, went_well, why_after, why_by, without, HomeFailed, RootHas}
 use Rattle.call_course.specs.declared.calling.Calling.{Calling}
 use Rattle.call_course.specs.declared.calling.Answer.{Answer}
 use Rattle.call_course.specs.declared.calling.Facts.{Facts}
-use Rattle.call_course.specs.declared.calling.TheConstants.{BEGIN, JOIN, AT_ONCE, OWN_ROOT, PLACE, CONVERSE, TAKE, LET_GO, CLOSE, LOOK_AT_PROC, ANOTHER_PROC, CLOSE_PROC, GO_HOME, LOOK_AT_ROOT, ENDS, FAILS}
+use Rattle.call_course.specs.declared.calling.TheConstants.{GO_HOME, LOOK_AT_ROOT}
 use Rattle.call_course.proofs.Asked.{asked_is}
-use Rattle.call_course.proofs.Leads.{judged_leads, made_of, away, pick, turn_at, Leads, Turn, to_proc, to_close, to_home, to_root, to_end, to_again, to_fail, t_begin, t_join, t_join_held, t_no_join, t_once, t_not_once, t_not_once_held, t_own_place, t_own_walk, t_own_given, t_no_own, t_place, t_no_place, t_opened, t_text, t_cut, t_done, t_made, t_lost, t_unopened, t_count, t_fault, t_took, t_not_took, t_let_go, t_close_made, t_closed, t_closed_stuck, t_same_proc, t_lost_proc, t_another, t_no_other, t_proc_closed, t_home, t_stuck_holds, t_stuck, t_root, t_bad_root}
-use Rattle.call_course.proofs.Sound.{another_ok, changed_ok, error_ok, holds_ok, made_ok, moved_ok, owns_ok, root_ok, sound, sound_start, sound_turn, stuck_ok, tries_ok, within}
+use Rattle.call_course.proofs.Leads.{turn_at, Leads, Turn, to_proc, to_close, to_home, to_root, to_end, to_again, to_fail, t_begin, t_join, t_join_held, t_no_join, t_once, t_not_once, t_not_once_held, t_own_place, t_own_walk, t_own_given, t_no_own, t_place, t_no_place, t_opened, t_text, t_cut, t_done, t_made, t_lost, t_unopened, t_count, t_fault, t_took, t_not_took, t_let_go, t_close_made, t_closed, t_closed_stuck, t_same_proc, t_lost_proc, t_another, t_no_other, t_proc_closed, t_home, t_stuck_holds, t_stuck, t_root, t_bad_root}
+use Rattle.call_course.proofs.Sound.{another_ok, changed_ok, error_ok, holds_ok, made_ok, moved_ok, owns_ok, root_ok, sound, sound_start, sound_turn, stuck_ok, tries_ok}
 
 -- ---- what sound says
 
@@ -26,11 +23,13 @@ ten a b c d e f g h i j k = grind (arith, k)
 
 abbrev sound_parts : (c : Calling) → Type 0
 sound_parts c =
-    Ten (holds_ok c) (error_ok c) (made_ok c) (stuck_ok c) (owns_ok c) (moved_ok c) (changed_ok c) (another_ok c) (tries_ok c) (root_ok c)
+    Ten (holds_ok c) (error_ok c) (made_ok c) (stuck_ok c) (owns_ok c) (moved_ok c) (changed_ok c) (another_ok c)
+    (tries_ok c) (root_ok c)
 
 parts : (c : Calling) → sound c ≡ true → sound_parts c
 parts c h =
-    ten (holds_ok c) (error_ok c) (made_ok c) (stuck_ok c) (owns_ok c) (moved_ok c) (changed_ok c) (another_ok c) (tries_ok c) (root_ok c) h
+    ten (holds_ok c) (error_ok c) (made_ok c) (stuck_ok c) (owns_ok c) (moved_ok c) (changed_ok c) (another_ok c)
+    (tries_ok c) (root_ok c) h
 
 pub sound_holds : (c : Calling) → sound c ≡ true → holds_ok c ≡ true
 sound_holds c h = (parts c h).0
@@ -132,7 +131,8 @@ root_owns c h at = let o = sound_owns c h in grind (arith, at, o)
 root_moved : (c : Calling) → sound c ≡ true → c.next ≡ LOOK_AT_ROOT → c.moved ≡ false
 root_moved c h at = let o = sound_moved c h in grind (arith, at, o)
 
-pub a_turn : (c : Calling) (a : Answer) → sound c ≡ true → is_question c.next ≡ true → Turn c a (after_answer c.next a c)
+pub a_turn : (c : Calling) (a : Answer) → sound c ≡ true → is_question c.next ≡ true
+    → Turn c a (after_answer c.next a c)
 a_turn c a h question =
     turn_at c a (asked_is c.next question) (home_owns c h) (root_owns c h) (root_moved c h)
 
@@ -142,10 +142,12 @@ start_facts facts = refl
 abbrev Stands : Facts → Calling → Type 0
 Stands facts c = (sound c ≡ true) × (c.facts ≡ facts)
 
-stands_step : (facts : Facts) (c : Calling) (e : Exchange) → Stands facts c → e.asked ≡ c.next → is_question e.asked ≡ true
+stands_step : (facts : Facts) (c : Calling) (e : Exchange) → Stands facts c → e.asked ≡ c.next
+    → is_question e.asked ≡ true
     → Stands facts (after_answer e.asked e.gave c) × Turn c e.gave (after_answer e.asked e.gave c)
 stands_step facts c e s at question =
-    let t = subst (λ k. Turn c e.gave (after_answer k e.gave c)) (sym at) (a_turn c e.gave s.0 (subst (λ k. is_question k ≡ true) at question)) in
+    let t = subst (λ k. Turn c e.gave (after_answer k e.gave c)) (sym at)
+    (a_turn c e.gave s.0 (subst (λ k. is_question k ≡ true) at question)) in
     let n = after_answer e.asked e.gave c in
     ((sound_turn c e.gave n t s.0, facts_turn c e.gave n t ∙ s.1), t)
 
@@ -154,10 +156,12 @@ stands facts [] h = (sound_start facts, start_facts facts)
 stands facts (e ∷ older) h =
     (stands_step facts (next_after facts older) e (stands facts older h.1) h.0.asked h.0.question).0
 
-pub is_sound : (facts : Facts) (history : List Exchange) → IsHistory facts history → sound (next_after facts history) ≡ true
+pub is_sound : (facts : Facts) (history : List Exchange) → IsHistory facts history
+    → sound (next_after facts history) ≡ true
 is_sound facts history h = (stands facts history h).0
 
-pub has_facts : (facts : Facts) (history : List Exchange) → IsHistory facts history → (next_after facts history).facts ≡ facts
+pub has_facts : (facts : Facts) (history : List Exchange) → IsHistory facts history
+    → (next_after facts history).facts ≡ facts
 has_facts facts history h = (stands facts history h).1
 
 -- the exchange is the one that came next
@@ -176,4 +180,5 @@ always facts I first turn (e ∷ older) h =
     let s = stands facts older h.1 in
     let n = after_answer e.asked e.gave c in
     subst (λ x. I (x ∷ older) n) (is_exchange c e h.0.asked h.0.about)
-    (turn older c e.gave n s.0 s.1 (stands_step facts c e s h.0.asked h.0.question).1 (always facts I first turn older h.1))
+    (turn older c e.gave n s.0 s.1 (stands_step facts c e s h.0.asked h.0.question).1
+    (always facts I first turn older h.1))

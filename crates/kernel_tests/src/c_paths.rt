@@ -2,7 +2,10 @@
 //! name stands, and which errors refuse a step.
 ghost use Rattle.std.specs.Prelude.{◌<◌, ◌≤◌};
 
-use c_protocol::{Asked, Parted, follows_at_once, opens_at_once, split};
+use c_protocol::{
+    Asked, Parted, begins_through, ends_through, follows_at_once, goes_through, opens_at_once,
+    rises_through, split,
+};
 use std::test::Fail;
 use step_calls::is_refusal;
 
@@ -208,5 +211,95 @@ fn errors_refuse_steps(rt: HostRuntime) -> Result<(), Fail> {
             "{what} {error}"
         );
     }
+    Ok(())
+}
+
+/// A path, the same from the root, and whether a resolve may go on it by names and links alone.
+const BEGUN: [(&str, &str, bool); 8] = [
+    ("a/b", "/a/b", true),
+    ("/a/../b", "/a/../b", true),
+    ("..", "/..", true),
+    ("a/b", "/a", false),
+    ("a/", "/a/", false),
+    ("./a", "/./a", false),
+    ("a//b", "/a//b", false),
+    ("", "/", false),
+];
+
+#[test]
+fn paths_begin_through_links(rt: HostRuntime) -> Result<(), Fail> {
+    for (path, whole, wanted) in &BEGUN {
+        let begins = |asked: &Asked| begins_through(asked, path.as_bytes(), whole.as_bytes());
+        assert!(rt; begins(&asked(1, false, false)) == *wanted, "{path}");
+        assert!(rt; !begins(&asked(1, false, true)), "{path}");
+        assert!(rt; !begins(&asked(2, false, false)), "{path}");
+    }
+    let beneath = asked(1, true, false);
+    assert!(rt; !begins_through(&beneath, b"/a", b"/a"));
+    assert!(rt; begins_through(&beneath, b"a", b"/a"));
+    Ok(())
+}
+
+/// A path, how many bytes of it were passed, where a link begins and ends, its text, and the path then.
+const GONE: [(&str, usize, usize, usize, &str, &str, bool); 10] = [
+    ("/d/l/f", 0, 2, 4, "e", "/d/e/f", true),
+    ("/d/l/f", 2, 2, 4, "../e", "/d/../e/f", true),
+    ("/d/l/f", 0, 2, 4, "/e/g", "/e/g/f", true),
+    ("/l", 0, 0, 2, "e", "/e", true),
+    // A part of a name, a name more, and another path.
+    ("/d/long/f", 0, 2, 4, "e", "/d/eng/f", false),
+    ("/d/l/f", 0, 2, 6, "e", "/d/e", false),
+    ("/d/l/f", 0, 2, 4, "e", "/d/e/g", false),
+    ("/d/l/f", 0, 2, 4, "e", "/d/e", false),
+    // Texts that aren't names and `..` alone.
+    ("/l", 0, 0, 2, "./e", "/./e", false),
+    ("/l", 0, 0, 2, "", "/", false),
+];
+
+#[test]
+fn links_are_gone_through(rt: HostRuntime) -> Result<(), Fail> {
+    let plain = asked(1, false, false);
+    for (whole, at, start, end, text, next, wanted) in &GONE {
+        let goes = |links: usize| {
+            goes_through(
+                &plain,
+                links,
+                whole.as_bytes(),
+                *at,
+                *start,
+                *end,
+                text.as_bytes(),
+                next.as_bytes(),
+            )
+        };
+        assert!(rt; goes(39) == *wanted, "{whole}");
+        assert!(rt; !goes(40), "{whole}");
+    }
+    let beneath = asked(1, true, false);
+    assert!(rt; !goes_through(&beneath, 0, b"/l", 0, 0, 2, b"/e", b"/e"));
+    Ok(())
+}
+
+#[test]
+fn parents_are_gone_through(rt: HostRuntime) -> Result<(), Fail> {
+    assert!(rt; rises_through(b"/a/b/../c", 4, b"/a", b"/a/c"));
+    assert!(rt; rises_through(b"/a/../c", 2, b"/", b"/c"));
+    assert!(rt; rises_through(b"/a/b/..", 4, b"/a", b"/a"));
+    assert!(rt; !rises_through(b"/a/b/../c", 4, b"/", b"/c"));
+    assert!(rt; !rises_through(b"/a/b/../c", 4, b"/a/b", b"/a/b/c"));
+    assert!(rt; !rises_through(b"/a/b/..c", 4, b"/a", b"/ac"));
+    assert!(rt; !rises_through(b"/../c", 0, b"/", b"/c"));
+    Ok(())
+}
+
+#[test]
+fn links_lead_to_an_end(rt: HostRuntime) -> Result<(), Fail> {
+    assert!(rt; ends_through(b"/a/b/f", 2, 2, b"/a/b/f"));
+    assert!(rt; ends_through(b"/a", 0, 1, b"/a"));
+    assert!(rt; !ends_through(b"/a/b/f", 2, 3, b"/a/b/f"));
+    assert!(rt; !ends_through(b"/a/b/f", 2, 2, b"/a/b"));
+    assert!(rt; !ends_through(b"/a/b/f", 2, 2, b"/a/b/f2"));
+    assert!(rt; !ends_through(b"/a/b/f", 6, 2, b"/a/b/f"));
+    assert!(rt; !ends_through(b"/a/../f", 2, 2, b"/a/../f"));
     Ok(())
 }

@@ -3,6 +3,8 @@
 #![tactic(auto)]
 
 #[cfg(test)]
+mod askings;
+#[cfg(test)]
 mod c_paths;
 #[cfg(test)]
 mod c_turns;
@@ -10,6 +12,10 @@ mod c_turns;
 mod callings;
 #[cfg(test)]
 mod courses;
+#[cfg(test)]
+mod givings;
+#[cfg(test)]
+mod laws;
 #[cfg(test)]
 mod listings;
 #[cfg(test)]
@@ -28,6 +34,8 @@ mod protocol;
 mod records;
 #[cfg(test)]
 mod removals;
+#[cfg(test)]
+mod searches;
 #[cfg(test)]
 mod steps;
 #[cfg(test)]

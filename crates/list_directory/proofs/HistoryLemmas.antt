@@ -30,7 +30,8 @@ asked_in false false false false false next a b c d e h = absurd (false≢true h
 
 pub asked_is : (next : ℕ) → is_question next ≡ true → Asked next
 asked_is next h =
-    asked_in (next == OPEN) (next == SPARE) (next == READ) (next == CLOSE) (next == SORT) next refl refl refl refl refl h
+    asked_in (next == OPEN) (next == SPARE) (next == READ) (next == CLOSE)
+    (next == SORT) next refl refl refl refl refl h
 
 pub to_open : (e : Exchange) (why : ℕ) → e.asked ≡ OPEN → after_exchange e why ≡ after_open e.error
 to_open e why is = ap (λ n. after_exchange (record e { asked = n }) why) is
@@ -89,7 +90,8 @@ well_step e why question none well =
       | sort_it at ↦ grind (arith, at)
     ]
 
-faultless_by : (b : Bool) (room : ℕ) (e : Exchange) → MatchBool b (ReadSome room e) (ReadNone e) → b ≡ false → e.fault ≡ 0
+faultless_by : (b : Bool) (room : ℕ) (e : Exchange) → MatchBool b (ReadSome room e) (ReadNone e) → b ≡ false
+    → e.fault ≡ 0
 faultless_by true room e took none = absurd (cc)
 faultless_by false room e took none = took.fault
 

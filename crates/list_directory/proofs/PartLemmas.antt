@@ -6,7 +6,8 @@ use Rattle.std.proofs.lemmas.List.Sums.{sum_by-cons}
 use Rattle.list_directory.specs.Parts.{beyond_least, held_after, part_size, share, without, Change, EachFits, ALL_NAMES, LEAST_PART, MOST_PART}
 use Rattle.list_directory.specs.Parts.Change.{reads, lets_go}
 
-size_by : (small large : Bool) (held : ℕ) → nat_lt (share held) LEAST_PART ≡ small → nat_lt MOST_PART (share held) ≡ large
+size_by : (small large : Bool) (held : ℕ) → nat_lt (share held) LEAST_PART ≡ small
+    → nat_lt MOST_PART (share held) ≡ large
     → ((if small then LEAST_PART else (if large then MOST_PART else share held)) ≡ LEAST_PART)
     ⊎ (held + 4 * (if small then LEAST_PART else (if large then MOST_PART else share held)) ≤ ALL_NAMES)
 size_by true large held s l = inl refl
@@ -26,7 +27,8 @@ beyond_less : (parts : List ℕ) → beyond_least parts ≤ sum parts
 beyond_less [] = omega arith
 beyond_less (part ∷ parts) = omega (arith, beyond_less parts, sum_more part parts, beyond_more part parts)
 
-fewer_by : (here : Bool) (part place : ℕ) (parts : List ℕ) → beyond_least (without (place - 1) parts) ≤ beyond_least parts
+fewer_by : (here : Bool) (part place : ℕ) (parts : List ℕ)
+    → beyond_least (without (place - 1) parts) ≤ beyond_least parts
     → beyond_least (if here then parts else part ∷ without (place - 1) parts) ≤ beyond_least (part ∷ parts)
 fewer_by true part place parts ih = omega (arith, beyond_more part parts)
 fewer_by false part place parts ih =
@@ -44,7 +46,8 @@ more used parts fits within (inr share) = omega (arith, fits, beyond_less parts,
 
 pub bounded : (changes : List Change) → EachFits changes → beyond_least (held_after changes) ≤ ALL_NAMES
 bounded [] fit = omega arith
-bounded (reads used ∷ older) fit = more used (held_after older) fit.0 (bounded older fit.1) (size_is (sum (held_after older)))
+bounded (reads used ∷ older) fit =
+    more used (held_after older) fit.0 (bounded older fit.1) (size_is (sum (held_after older)))
 bounded (lets_go place ∷ older) fit =
     let less = fewer place (held_after older) in
     let before = bounded older fit.1 in

@@ -26,7 +26,8 @@ use Rattle.list_directory.specs.declared.listing.TheConstants.{OPEN, SPARE, READ
 -- ---- the bytes of names
 
 pub entries-append : (xs ys : List (List ℕ)) → entries_text (xs ++ ys) ≡ entries_text xs ++ entries_text ys
-entries-append xs ys = ap after_slashes (filter-append is_entry xs ys) ∙ slashes-append (filter is_entry xs) (filter is_entry ys)
+entries-append xs ys = ap after_slashes (filter-append is_entry xs ys)
+    ∙ slashes-append (filter is_entry xs) (filter is_entry ys)
 
 pub used_more : (e : Exchange) (older : List Exchange)
     → used_after (e ∷ older) ≡ used_after older + length (entries_text e.names)
@@ -126,12 +127,14 @@ read_some listing result next why bytes old part new after taken t size whole fe
       within = omega (arith, used, t.within, size, few);
       laid = ap (λ n. take n (take listing.used old ++ (new ++ after))) more
           ∙ ap (λ l. take (listing.used + length (entries_text t.names)) (take listing.used old ++ (l ++ after))) t.laid
-          ∙ laid_behind listing.used old (entries_text t.names) (drop taken.used part) after (omega (arith, few, whole));
+          ∙ laid_behind listing.used old (entries_text t.names) (drop taken.used part) after
+          (omega (arith, few, whole));
       size = ap (λ (l : Listing). l.size) same;
       at_once = ap (λ (l : Listing). l.records) same;
     }
 
-pub read_none : (listing result : Listing) (next why gave : ℕ) (bytes old : List ℕ) → gave ≢ 0 → listing.used ≤ listing.size
+pub read_none : (listing result : Listing) (next why gave : ℕ) (bytes old : List ℕ) → gave ≢ 0
+    → listing.used ≤ listing.size
     → result ≡ record listing { next = next; error = why } → asks next why ≡ after_read gave (is_empty bytes) false 0
     → Reads listing gave bytes old result old
 read_none listing result next why gave bytes old some few same due =
@@ -141,7 +144,8 @@ read_none listing result next why gave bytes old some few same due =
       error = refl;
       records = refl;
       took = subst (λ b. MatchBool b
-          (ReadSome (listing.size - listing.used) (record { asked = READ; error = gave; records = bytes; names = []; full = false; fault = 0 }))
+          (ReadSome (listing.size - listing.used)
+          (record { asked = READ; error = gave; records = bytes; names = []; full = false; fault = 0 }))
           (ReadNone (record { asked = READ; error = gave; records = bytes; names = []; full = false; fault = 0 })))
           (sym (ne_eqb gave 0 some)) (record { names = refl; full = refl; fault = refl });
       due = ap due_of same ∙ due;
@@ -219,7 +223,8 @@ goes_reading held history listing result gave bytes room new at question is r =
     ∙ sym (to_read r.e listing.error r.asked) in (
       r.e,
       record { asked = asked; error = r.error; records = r.records },
-      goes_on held history listing result r.e room new at question asked r.took due r.used r.within r.laid r.size r.at_once,
+      goes_on held history listing result r.e room new at question asked r.took due r.used r.within r.laid r.size
+          r.at_once,
     )
 
 -- ---- how many exchanges there are

@@ -17,5 +17,6 @@ returns-then-error-eq-ENOENT c =
 pub returns-else-error-eq-ENOENT : goal.returns-else-error-eq-ENOENT
 returns-else-error-eq-ENOENT c =
     let r = c.asks-else-error-eq-ENOENT in
-    read_none c.args.listing r.result CLOSE c.args.error c.args.error c.args.records.now c.args.room.now c.if-error-eq0.false
+    read_none c.args.listing r.result CLOSE c.args.error c.args.error c.args.records.now c.args.room.now
+    c.if-error-eq0.false
     c.requires.used r.ensures (grind arith)

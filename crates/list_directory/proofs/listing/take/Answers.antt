@@ -6,7 +6,8 @@ use Rattle.list_directory.proofs.listing.take.Goals as goal
 pub returns-then-taken-ne0 : goal.returns-then-taken-ne0
 returns-then-taken-ne0 c =
     let t = c.take_names-taken in
-    read_some c.args.listing c.asks.result CLOSE c.from.result c.args.records.now c.args.room.now _ t.new.room _ t.result t.ensures
+    read_some c.args.listing c.asks.result CLOSE c.from.result c.args.records.now c.args.room.now _ t.new.room _
+    t.result t.ensures
     (grind arith) c.requires.size c.requires.used c.asks.ensures
     (fault_closes _ t.result.full t.result.error c.from.result c.from.ensures c.if-taken-ne0.true)
 
