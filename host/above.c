@@ -15,46 +15,45 @@
 enum { ROOT_SERIAL = 1 };
 
 /* The root itself is at hand, and its place needs no question. In a jail the thread may keep a descriptor of it. */
-static bool is_root(struct inroot_driver *d, int child, struct inroot_result *result)
+bool inroot_above_is_root(int root, int child)
 {
     enum inroot_kind kind;
-    int root = d->slots[0].fd == INROOT_JAILED ? inroot_trust_root() : d->slots[0].fd;
-    if (root < 0 || !inroot_is_entry(child, "..", root, &kind))
-        return false;
-    *result = inroot_opened(inroot_handles_share(d, (uint64_t)ROOT_SERIAL << 32), INROOT_KIND_DIR);
-    return true;
+    int held = root == INROOT_JAILED ? inroot_trust_root() : root;
+    return held >= 0 && inroot_is_entry(child, "..", held, &kind);
 }
 
-/* By so many of the names, which are more than none. */
-static int look_up(struct inroot_driver *d, size_t length)
+int inroot_above_look(struct inroot_driver *d, int root, int child, char *names, size_t length)
 {
-    char behind = d->passed[length];
-    d->passed[length] = 0;
-    int fd = inroot_look_up(d, d->slots[0].fd, d->passed + 1, O_DIRECTORY, RESOLVE_BENEATH);
-    d->passed[length] = behind;
-    return fd;
+    enum inroot_kind kind;
+    /* There getcwd(2) alone tells a directory's place: no look-up takes the place of a part of that. */
+    if (root == INROOT_JAILED)
+        return -1;
+    char behind = names[length];
+    names[length] = 0;
+    int fd = inroot_look_up(d, root, names + 1, O_DIRECTORY, RESOLVE_BENEATH);
+    names[length] = behind;
+    if (fd < 0 || inroot_is_entry(child, "..", fd, &kind))
+        return fd;
+    close(fd);
+    return -1;
 }
 
 bool inroot_above_open(struct inroot_driver *d, uint64_t handle, int child, bool goes_on, struct inroot_result *result)
 {
-    enum inroot_kind kind;
-    const int by_itself = INROOT_ONE_BY_ONE | INROOT_NO_XDEV;
+    const int root = d->slots[0].fd, by_itself = INROOT_ONE_BY_ONE | INROOT_NO_XDEV;
     ssize_t base = inroot_passed_base(d, handle);
     if (base <= 0 || d->counts || d->asked->flags & by_itself || !inroot_has_openat2())
         return false;
     size_t length = inroot_passed_above(d, (size_t)base);
-    if (length == 0)
-        return goes_on && is_root(d, child, result);
-    /* There getcwd(2) alone tells a directory's place: no look-up takes the place of a part of that. */
-    if (d->slots[0].fd == INROOT_JAILED)
-        return false;
-    int fd = look_up(d, length);
+    if (length == 0) {
+        if (!goes_on || !inroot_above_is_root(root, child))
+            return false;
+        *result = inroot_opened(inroot_handles_share(d, (uint64_t)ROOT_SERIAL << 32), INROOT_KIND_DIR);
+        return true;
+    }
+    int fd = inroot_above_look(d, root, child, d->passed, length);
     if (fd < 0)
         return false;
-    if (!inroot_is_entry(child, "..", fd, &kind)) {
-        close(fd);
-        return false;
-    }
     uint64_t above = inroot_handles_put(d, fd, INROOT_KIND_DIR, INROOT_SEEN_BELOW, handle);
     inroot_handles_slot(d, above)->is_above = true;
     inroot_passed_end(d, above, length);

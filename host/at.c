@@ -39,13 +39,11 @@ bool inroot_at_find(int at, int *root, int *dir)
     return true;
 }
 
-/* Whether it is a directory: 0 or -errno. */
-static int check_directory(int fd)
+int inroot_check_directory(int fd)
 {
-    struct stat about;
-    if (fstat(fd, &about) != 0)
-        return -errno;
-    return S_ISDIR(about.st_mode) ? 0 : -ENOTDIR;
+    struct stat about = {0};
+    int failed = fstat(fd, &about) != 0 ? errno : 0;
+    return -(int)inroot_directory_error((uint32_t)failed, about.st_mode);
 }
 
 /* Takes a place that is free: its number, or -EMFILE. */
@@ -66,9 +64,9 @@ int inroot_at_begin(int root, int dir, int *at)
     int failed = inroot_check(root, 0);
     inroot_at_find(root, &above, &unused);
     if (failed == 0 && above != INROOT_JAIL)
-        failed = check_directory(above);
+        failed = inroot_check_directory(above);
     if (failed == 0)
-        failed = check_directory(dir);
+        failed = inroot_check_directory(dir);
     int taken = failed ? failed : take_place(pair_of(above, dir));
     if (taken > FIRST)
         return inroot_error_alone(-taken, "", "");

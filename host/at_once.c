@@ -1,7 +1,8 @@
 /*
  * at_once.c: one openat2(2) opens a whole path, and the driver takes no turn. For plain names it asks for the object's place, and
  * the proved library says whether a call with these answers to its steps would reply so. Under INROOT_BELOW the kernel walks the
- * path through links and `..`, if the proved library says that one system call may. docs/HOST-WHY.md has the arguments.
+ * path through links and `..`, if the proved library says that one system call may. Otherwise links that are hinted at are read
+ * (through.c). docs/HOST-WHY.md has the arguments.
  */
 #define _GNU_SOURCE
 #include "driver.h"
@@ -15,7 +16,7 @@
 
 /* ---- a path of plain names */
 
-/* Writes the path as a place, with a slash before the first name. A path of plain names is one. Gives its length. */
+/* Writes the path as a place, with a slash before the first name. A path of names and links is one. Gives its length. */
 static size_t as_place(const struct inroot_driver *d, char *text)
 {
     size_t slash = d->asked->first[0] == '/' ? 0 : 1;
@@ -24,23 +25,27 @@ static size_t as_place(const struct inroot_driver *d, char *text)
     return slash + d->first_length;
 }
 
+/* How many slashes stand before this place. */
+static size_t names_before(const char *text, size_t end)
+{
+    size_t names = 0;
+    for (const char *at = text; at != NULL && at < text + end; at = memchr(at + 1, '/', (size_t)(text + end - at - 1)))
+        names++;
+    return names;
+}
+
 /*
  * Whether the path is to be tried as names alone, none of which was a link last, and by which the call may open a directory: the
- * library says so as it will of what is found there. Gives these names as they come next.
+ * library says so as it will of what is found there. These names come next.
  */
-static bool are_names(struct inroot_driver *d, const struct inroot_asked *numbers, struct inroot_coming *path)
+static bool are_names(struct inroot_driver *d, const struct inroot_asked *numbers, struct inroot_coming *path, size_t link)
 {
-    if (d->asked->flags & INROOT_ONE_BY_ONE || d->first_length >= INROOT_TEXT_MAX)
-        return false;
-    size_t used = as_place(d, path->text), names = 0;
-    path->text[used] = 0;
-    for (const char *at = path->text; at != NULL; at = strchr(at + 1, '/'))
-        names++;
-    path->ahead = (struct inroot_ahead_names){.names = names, .used = used, .ends = true};
-    if (!inroot_run_is_whole(d, path))
+    path->ahead.names = names_before(path->text, path->ahead.used);
+    const size_t linked = link == INROOT_NO_HINT ? link : names_before(path->text, link);
+    if (!inroot_run_is_whole(d, path, linked))
         return false;
     return inroot_opens_at_once(numbers, (const unsigned char *)d->asked->first, d->first_length, INROOT_KIND_DIR,
-                                (const unsigned char *)path->text, used);
+                                (const unsigned char *)path->text, path->ahead.used);
 }
 
 /* Finds the names at which the object stands. Under INROOT_BELOW the path has them. Tells whether it found them. */
@@ -67,10 +72,10 @@ static bool is_reply(struct inroot_driver *d, int root, const struct inroot_aske
 }
 
 /* Opens plain names: the descriptor, or INROOT_NONE. FAILED is an error by which they can't be opened, or zero. */
-static int open_names(struct inroot_driver *d, int root, const struct inroot_asked *numbers, char *text, int failed)
+static int open_names(struct inroot_driver *d, int root, const struct inroot_asked *numbers, struct inroot_coming *path, size_t link,
+                      char *text, int failed)
 {
-    struct inroot_coming path;
-    if (!are_names(d, numbers, &path) || !inroot_run_whole(d, root, &path, failed))
+    if (!are_names(d, numbers, path, link) || !inroot_run_whole(d, root, path, failed))
         return INROOT_NONE;
     if (!is_reply(d, root, numbers, text)) {
         /* The steps decide: the caller sees nothing of what was found here. */
@@ -82,6 +87,35 @@ static int open_names(struct inroot_driver *d, int root, const struct inroot_ask
     d->run.fd = INROOT_NONE;
     if (d->asked->opened != NULL)
         *d->asked->opened = d->run.kind;
+    return fd;
+}
+
+/* ---- a path of names, and links that were some last */
+
+/* Whether the call reads links by their names, and follows each. */
+static bool reads_links(const struct inroot_driver *d)
+{
+    const int by_steps = INROOT_NO_LINKS | INROOT_NO_XDEV | INROOT_NO_MAGICLINKS;
+    return d->asked->op == INROOT_ASK_RESOLVE && !(d->asked->flags & by_steps) && !d->below && inroot_has_openat2();
+}
+
+static int open_path(struct inroot_driver *d, int root, const struct inroot_asked *numbers, char *text, int failed)
+{
+    struct inroot_coming path;
+    bool by_steps;
+    if (d->asked->flags & INROOT_ONE_BY_ONE || d->first_length >= INROOT_TEXT_MAX)
+        return INROOT_NONE;
+    const size_t used = as_place(d, path.text);
+    path.text[used] = 0;
+    path.ahead = (struct inroot_ahead_names){.used = used, .ends = true};
+    const size_t link = inroot_hints_in(d, path.text, 0, used, &by_steps);
+    if (link == INROOT_NO_HINT || !reads_links(d))
+        return open_names(d, root, numbers, &path, link, text, failed);
+    if (by_steps || inroot_hints_is_missed(d, path.text, used))
+        return INROOT_NONE;
+    int fd = inroot_through(d, root, numbers, path.text, used, link, text);
+    if (fd < 0)
+        inroot_hints_miss(d, path.text, as_place(d, path.text));
     return fd;
 }
 
@@ -136,7 +170,7 @@ int inroot_at_once(struct inroot_driver *d, int root, const struct inroot_asked 
     int failed = 0;
     int fd = may_follow(d, numbers) ? follow(d, root, &failed) : INROOT_NONE;
     if (fd < 0)
-        fd = open_names(d, root, numbers, text, is_missing(failed) ? failed : 0);
+        fd = open_path(d, root, numbers, text, is_missing(failed) ? failed : 0);
     if (fd < 0)
         return INROOT_NONE;
     /* The step to report if the way back to the root fails. */

@@ -29,10 +29,13 @@ static int open_once(int dir, const char *path, uint64_t flags, uint64_t resolve
     return fd;
 }
 
-/* A file system may give EPERM of its own. Whoever refuses the system call itself refuses it for any directory. */
-static enum known try_here(void)
+/*
+ * A file system may give either error of its own, also for the current directory, and whoever serves it would take the second
+ * witness away. Where there is no directory, no file system is asked: what refuses that is the kernel or a filter.
+ */
+static enum known try_it(void)
 {
-    int fd = open_once(AT_FDCWD, ".", O_DIRECTORY, 0);
+    int fd = open_once(INROOT_NONE, ".", O_DIRECTORY, 0);
     if (fd >= 0)
         close(fd);
     return fd < 0 && (errno == ENOSYS || errno == EPERM) ? MISSING : THERE;
@@ -41,7 +44,7 @@ static enum known try_here(void)
 bool inroot_has_openat2(void)
 {
     if (known == NOT_YET)
-        known = try_here();
+        known = try_it();
     return known == THERE;
 }
 
@@ -50,7 +53,7 @@ static int open_here(int dir, const char *path, uint64_t flags, uint64_t resolve
 {
     int fd = open_once(dir, path, flags, resolve);
     int error = errno;
-    known = fd < 0 && (error == ENOSYS || error == EPERM) ? try_here() : THERE;
+    known = fd < 0 && (error == ENOSYS || error == EPERM) ? try_it() : THERE;
     errno = error;
     return fd;
 }
@@ -66,7 +69,9 @@ int inroot_look_through(struct inroot_driver *d, int dir, const char *path, uint
         int fd = open_here(from, path, flags, resolve);
         if (fd >= 0 || errno != EBADF || dir != INROOT_JAILED || from != inroot_trust_root())
             return fd;
-        /* The program has closed the descriptor that the thread keeps. The thread goes on without it. */
+        /* A server may say so, too. Else the program has closed what the thread keeps, and the thread goes on without. */
+        if (fcntl(from, F_GETFD) >= 0)
+            return fd;
         inroot_trust_end();
     }
 }

@@ -1,8 +1,8 @@
 /*
- * calls.h: the proved library's functions, and what passes between it and a driver. The numbers and bytes are those of
- * crates/c_protocol, step_calls, place_protocol, open_or_make, make_through_links, remove_by_calls, look_ups, list_directory,
- * call_course, kernel_text and system_calls, whose contracts say what they stand for. A program that makes calls includes inroot.h,
- * and not this.
+ * calls.h: the proved library's functions, and what passes between it and a driver. The numbers and bytes are those
+ * of crates/c_protocol, step_calls, place_protocol, open_or_make, make_through_links, remove_by_calls, look_ups,
+ * list_directory, call_course, ask_place, give_entry, open_partial, kernel_text and system_calls, whose contracts say
+ * what they stand for. A program that makes calls includes inroot.h, and not this.
  */
 #ifndef INROOT_CALLS_H
 #define INROOT_CALLS_H
@@ -135,6 +135,39 @@ bool inroot_opens_at_once(const struct inroot_asked *asked, const unsigned char 
  * nothing, and needs no call under way. docs/HOST-WHY.md has the argument.
  */
 bool inroot_follows_at_once(const struct inroot_asked *asked, const unsigned char *path, size_t path_length);
+
+/*
+ * The four that follow are asked as a call goes on a path through links, one after another, each of the path that the one before it
+ * gave: from the root, a slash before each part. The first is true of a resolve that follows links, of a PATH that has names and `..`
+ * alone and is not refused for its slash at the beginning; WHOLE is that path, with a slash before it.
+ */
+bool inroot_begins_through(const struct inroot_asked *asked, const unsigned char *path, size_t path_length,
+                           const unsigned char *whole, size_t whole_length);
+
+/*
+ * Behind a link: AT bytes of the path are names that were passed; those up to START are opened, each in the one before it; the name
+ * from START to END is a link there, with this TEXT; so many LINKS were followed before, at most 39. The text has names and `..` alone,
+ * and doesn't lead out. NEXT is the path then: the text stands in the link's place, of which START bytes were passed; or, where
+ * it begins with a slash, in that of all up to there, of which none were.
+ */
+bool inroot_goes_through(const struct inroot_asked *asked, size_t links, const unsigned char *whole, size_t whole_length, size_t at,
+                         size_t start, size_t end, const unsigned char *text, size_t text_length, const unsigned char *next,
+                         size_t next_length);
+
+/*
+ * Behind `..`, which comes behind the names passed: the directory above was asked for its PLACE, which is these names less the last.
+ * NEXT is the path then, of which these were passed.
+ */
+bool inroot_rises_through(const unsigned char *whole, size_t whole_length, size_t at, const unsigned char *place,
+                          size_t place_length, const unsigned char *next, size_t next_length);
+
+/*
+ * At the end: names alone are left, and lead to an object of this KIND, which is no link, and stands at the whole path when it is
+ * asked for its PLACE. Then the reply is what was opened. None of the four takes memory, or needs a call under way.
+ * docs/HOST-WHY.md has the argument.
+ */
+bool inroot_ends_through(const unsigned char *whole, size_t whole_length, size_t at, uint8_t kind, const unsigned char *place,
+                         size_t place_length);
 
 /* Where a path's last name stands in it, of so many bytes; or the error's number, and zeros. */
 struct inroot_parted {
@@ -526,6 +559,152 @@ void inroot_looks_begin(struct inroot_looks *looks, const struct inroot_coming_n
  * LINKED is as above; else it isn't looked at.
  */
 void inroot_looks_next(struct inroot_looks *looks, const struct inroot_coming_names *coming, uint32_t error, size_t linked);
+
+/* ---- which system call comes next, as the place of a descriptor's object is asked for. These take no memory. */
+
+/*
+ * The object is looked at: statx(2). The descriptor is copied. The names are found out at which the object stands, as
+ * above. What they lead to is looked at, in the thread's own root directory: statx(2). It is asked whether the
+ * directory was removed. The copy is closed. If it ENDS, the object stands at the names that were found. If it FAILS,
+ * there is an error.
+ */
+enum inroot_asking_next {
+    INROOT_ASKING_LOOK = 1, INROOT_ASKING_COPY, INROOT_ASKING_FIND, INROOT_ASKING_LOOK_UP, INROOT_ASKING_DEAD,
+    INROOT_ASKING_CLOSE, INROOT_ASKING_ENDS, INROOT_ASKING_FAILS,
+};
+
+/* The object is known to be a directory; and the copy is kept where the place is told. */
+struct inroot_asking_facts {
+    bool directory, keeps;
+};
+
+/*
+ * What a demand gave: 0, or an error. Of what was looked at: which object it is, and how many names it has. How long
+ * the names are that were found, or 0. YES: what was looked at is a directory; it was removed; or, of the names, that
+ * the thread is in a jail without openat2(2).
+ */
+struct inroot_asking_answer {
+    struct inroot_object object;
+    uint64_t links;
+    size_t length;
+    uint32_t error;
+    bool yes;
+};
+
+/*
+ * How far it has come. A driver reads what comes NEXT, and the ERROR if it fails. It leaves all of it alone between
+ * two turns.
+ */
+struct inroot_asking {
+    struct inroot_object object;
+    uint32_t error;
+    uint8_t next;
+    bool directory, nameless;
+};
+
+void inroot_asking_begin(const struct inroot_asking_facts *facts, struct inroot_asking *asking);
+void inroot_asking_next(struct inroot_asking *asking, const struct inroot_asking_facts *facts,
+                        const struct inroot_asking_answer *answer);
+
+/* Another question for a place is due; or it is the end, by an error or 0. */
+struct inroot_question {
+    uint32_t error;
+    bool again;
+};
+
+/*
+ * After so many questions, the last of which gave an error, or 0 and names of this LENGTH; these and a NUL have room
+ * of this SIZE.
+ */
+void inroot_next_question(uint32_t asked, uint32_t error, size_t length, size_t size, struct inroot_question *question);
+
+/* The error of a descriptor that must be a directory's, or 0: by the error of fstat(2), or by 0 and the mode. */
+uint32_t inroot_directory_error(uint32_t error, uint32_t mode);
+
+/* ---- which system call comes next, as an entry that a call has made is opened. These take no memory. */
+
+/*
+ * The entry is opened by its name: openat(2) with O_PATH, O_NOFOLLOW and O_CLOEXEC. What was opened is looked at:
+ * statx(2). So is the object that it must be. The text of the link that was opened is read: readlinkat(2). What was
+ * opened is closed. So is the descriptor by which the file was made. If it GIVES, what was opened is the entry. If it
+ * FAILS, there is an error.
+ */
+enum inroot_giving_next {
+    INROOT_GIVING_OPEN = 1, INROOT_GIVING_LOOK, INROOT_GIVING_COMPARE, INROOT_GIVING_READ, INROOT_GIVING_CLOSE,
+    INROOT_GIVING_CLOSE_MADE, INROOT_GIVING_GIVES, INROOT_GIVING_FAILS,
+};
+
+/*
+ * What the call has made: its MODE, of which the kind counts, and the number of a DEVICE. LINKED: an object got
+ * another name, and is known by its descriptor. MADE: the file is known by the descriptor by which it was made. There
+ * is one of these two at most.
+ */
+struct inroot_giving_facts {
+    uint64_t device;
+    uint32_t mode;
+    bool linked, made;
+};
+
+/*
+ * What a system call gave: an error, or 0; and of what was looked at, which object it is, its mode, and a device's
+ * number.
+ */
+struct inroot_giving_answer {
+    struct inroot_object object;
+    uint64_t device;
+    uint32_t error, mode;
+};
+
+/*
+ * How far it has come. A driver reads what comes NEXT, and the ERROR if it fails. It leaves all of it alone between
+ * two turns.
+ */
+struct inroot_giving {
+    struct inroot_object object;
+    uint32_t error;
+    uint8_t next;
+};
+
+void inroot_giving_begin(struct inroot_giving *giving);
+
+/*
+ * Takes what the last system call gave; the text that was READ, if one was; and the TEXT of the link that the call
+ * has made, if so.
+ */
+void inroot_giving_next(struct inroot_giving *giving, const struct inroot_giving_facts *facts,
+                        const struct inroot_giving_answer *answer, const unsigned char *read, size_t read_length,
+                        const unsigned char *text, size_t text_length);
+
+/* ---- how much of a path is tried next, as as much as is there is opened. These take no memory. */
+
+/*
+ * So many of the path's first pieces are opened: all of them as what they mean, fewer as a directory, none as the one
+ * where the path begins. A descriptor is closed. If it ENDS, what is there is open. If it FAILS, nothing is, and
+ * there is an error.
+ */
+enum inroot_search_next {
+    INROOT_SEARCH_TRY = 1, INROOT_SEARCH_CLOSE, INROOT_SEARCH_ENDS, INROOT_SEARCH_FAILS,
+};
+
+/*
+ * How far it has come. A driver reads what comes NEXT; how many of the PIECES are TRIED; the descriptor that it is
+ * ABOUT, if that is closed; how many are THERE in the end, by which DESCRIPTOR; and the ERROR if it fails. It leaves
+ * all of it alone between two turns.
+ */
+struct inroot_search {
+    size_t pieces, tried, there, missing;
+    uint32_t descriptor, about, error;
+    uint8_t next;
+    bool holds;
+};
+
+void inroot_search_begin(const unsigned char *text, size_t length, struct inroot_search *search);
+
+/* Takes what a try gave: 0 and a DESCRIPTOR, or an error. After a close neither is looked at. */
+void inroot_search_next(struct inroot_search *search, uint32_t error, uint32_t descriptor);
+
+/* How many bytes of a path have so many of its first pieces, with the slashes behind them. */
+size_t inroot_beginning(const unsigned char *text, size_t length, size_t pieces);
 
 /* ---- which system call comes next, as the names of a directory are read. These take no memory. */
 

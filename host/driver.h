@@ -6,6 +6,7 @@
 #include "inroot.h"
 
 #include <limits.h>
+#include <stdatomic.h>
 #include <stdbool.h>
 #include <stddef.h>
 #include <stdint.h>
@@ -145,6 +146,7 @@ struct inroot_driver {
     uint64_t lived;                /* the directory that had the entry which the last step but Close was about, or zero */
     uint64_t link, link_dir;       /* a link that was read by its name in that directory, or zero, and how long its text is */
     size_t link_length;
+    _Atomic uint32_t *missed;      /* the note that this path opened nothing last (hints.c), or NULL */
     /* What follows isn't cleared as a call begins: it is set then, or where what it belongs to is. */
     const struct inroot_request *asked;
     struct inroot_kept *kept;      /* the proved call, while it goes on */
@@ -209,12 +211,32 @@ size_t inroot_passed_above(const struct inroot_driver *d, size_t length);
 const char *inroot_passed_names(struct inroot_driver *d, uint64_t handle, size_t *length);
 
 /* hints.c */
-/* Which of these names, from a handle on, was a link last: the first has the number 0. Or -1. Before any step the handle is 0. */
-int inroot_hints_first(struct inroot_driver *d, uint64_t handle, const char *names, size_t length);
+static const size_t INROOT_NO_HINT = SIZE_MAX;
+/*
+ * Which name of a path, from a handle on, was a link last: the first has the number 0. Or INROOT_NO_HINT. A slash stands before each
+ * name. Before any step the handle is 0.
+ */
+size_t inroot_hints_first(struct inroot_driver *d, uint64_t handle, const char *path, size_t length);
 /* Notes that a name in a handle's directory is a link, or isn't. */
 void inroot_hints_tell(struct inroot_driver *d, uint64_t handle, const char *name, size_t length, bool is_link);
+/* Where in a path from the root the first such name stands that begins at FROM or behind it; and whether it is left to the steps. */
+size_t inroot_hints_in(const struct inroot_driver *d, const char *path, size_t from, size_t length, bool *by_steps);
+/* Notes that the last name of a path from the root is a link that is left to the steps, or is none. */
+void inroot_hints_leave(const struct inroot_driver *d, const char *path, size_t length, bool is_link);
+
+/*
+ * Whether a path from the root, through links, opened nothing last without a conversation; notes that it did so; and that the call
+ * which knew of such a note has opened something.
+ */
+bool inroot_hints_is_missed(struct inroot_driver *d, const char *path, size_t length);
+void inroot_hints_miss(const struct inroot_driver *d, const char *path, size_t length);
+void inroot_hints_find(const struct inroot_driver *d);
 
 /* above.c */
+/* Whether the directory above CHILD is the root itself. */
+bool inroot_above_is_root(int root, int child);
+/* Looks the directory above CHILD up by so many bytes of these names, but in a jail: a descriptor of that very one, or -1. */
+int inroot_above_look(struct inroot_driver *d, int root, int child, char *names, size_t length);
 /*
  * The directory above a handle's, which is CHILD, by the names passed: looked up from the root, so that the kernel sees it below
  * the root; and the child's `..` leads to that same one. Whether it could. Only if the call GOES_ON from there by a name it may
@@ -227,8 +249,15 @@ bool inroot_above_open(struct inroot_driver *d, uint64_t handle, int child, bool
  * Reads the first of these names as a link in a handle's directory. Gives 0 or an error's number: then it is no link, or is gone.
  */
 uint32_t inroot_followed_read(struct inroot_driver *d, uint64_t handle, int dir, const char *names, char *text);
-/* Whether that link is on a mount that follows no link. */
-bool inroot_followed_is_kept(struct inroot_driver *d);
+/* Asks that link's file system and mount, as fstatfs(2) does. Gives 0 or an error's number. */
+struct statfs;
+int inroot_followed_ask(struct inroot_driver *d, struct statfs *about);
+/* Whether no link in that directory is followed by its mount, or nobody can say. */
+bool inroot_followed_may_be_kept(int dir);
+/* Reads a name in a directory as a link: how long its text is, or -1. */
+ssize_t inroot_followed_text(int dir, const char *name, size_t length, char *text);
+/* Opens a directory by one name in another, or gives -1. */
+int inroot_followed_enter(int dir, const char *name, size_t length);
 
 /* below.c */
 /* Whether this thread has openat2(2). */
@@ -242,8 +271,11 @@ int inroot_look_up(struct inroot_driver *d, int dir, const char *names, uint64_t
 int inroot_look_through(struct inroot_driver *d, int dir, const char *path, uint64_t flags, uint64_t resolve);
 
 /* runs.c */
-/* Begins on a whole path from the root, before any step is made. Returns whether all of its names are to be looked up at once. */
-bool inroot_run_is_whole(struct inroot_driver *d, struct inroot_coming *path);
+/*
+ * Begins on a whole path from the root, before any step is made. LINKED is the number of the name that was a link last. Returns
+ * whether all of the names are to be looked up at once.
+ */
+bool inroot_run_is_whole(struct inroot_driver *d, struct inroot_coming *path, size_t linked);
 /*
  * Passes them then. Returns whether it could, and the kernel saw the object below the root. FAILED is the error of a look-up that
  * this one would fail by, too, or zero.
@@ -265,10 +297,20 @@ enum inroot_look inroot_run_begin(struct inroot_driver *d, struct inroot_told *t
 struct inroot_result inroot_run_tell(struct inroot_driver *d, struct inroot_told *told, char *room, const char *parts,
                                      size_t names);
 void inroot_run_drop(struct inroot_driver *d);
+/* Asks of what kind an object is. Whether it could; else errno says why. */
+bool inroot_kind(int fd, enum inroot_kind *kind);
 
 /* at_once.c */
 /* Opens the whole path at once, where the library says that this is the reply, or may be; or gives INROOT_NONE. */
 int inroot_at_once(struct inroot_driver *d, int root, const struct inroot_asked *numbers, char *text);
+
+/* through.c */
+/*
+ * The same of a path with links: from the root, a slash before each part, so many bytes, a NUL and room for INROOT_TEXT_MAX bytes; the
+ * first link begins there. It writes into the path.
+ */
+int inroot_through(struct inroot_driver *d, int root, const struct inroot_asked *numbers, char *path, size_t length, size_t link,
+                   char *text);
 
 /* error.c */
 /* Keeps the step, its name and where the walk stands, in case the call fails: the next turn overwrites the room. */
@@ -390,6 +432,17 @@ struct inroot_kept_root {
 const struct inroot_kept_root *inroot_root_kept(int root);
 
 /* place.c */
+/*
+ * Which object it is, while it is open; by which mount, where the kernel tells that; how many names it has; and which
+ * device it is.
+ */
+struct inroot_which {
+    struct inroot_object object;
+    uint64_t links, device;
+    mode_t mode;
+};
+/* Of what is open, or has a name in that directory. Whether it could be asked, or errno. */
+bool inroot_find_which(int fd, const char *name, struct inroot_which *which);
 /* Whether a name in a directory leads to the object that is open, by the same mount; and what kind that is. */
 bool inroot_is_entry(int dir, const char *name, int fd, enum inroot_kind *kind);
 /*
@@ -407,11 +460,19 @@ struct inroot_result inroot_name_below(struct inroot_driver *d, const struct inr
 
 /* stands.c */
 /*
+ * The names of a descriptor's object below the root: how long the text is, or -errno; -EAGAIN: it isn't below, or is
+ * moved. The slot has another descriptor of it, if that is kept.
+ */
+ssize_t inroot_ask_place(struct inroot_driver *d, int root, int fd, const struct inroot_asking_facts *facts, char *text,
+                         struct inroot_slot *slot);
+/*
  * The path of the request's object below the root: the length of the text in the room, or -errno; -EAGAIN: it isn't below.
  */
 ssize_t inroot_stands(struct inroot_driver *d, int root, char *room);
 
 /* at.c */
+/* Whether it is a directory: 0 or -errno. */
+int inroot_check_directory(int fd);
 /* Whether the number is one of a root and a directory below it, which it gives then. */
 bool inroot_at_find(int at, int *root, int *dir);
 
@@ -488,6 +549,7 @@ struct inroot_work {
     const char *name, *plain;      /* the name as a system call takes it, and as it is */
     int looks;                     /* what is looked at: the child, the link */
     int fd, reads;
+    uint32_t unknown;              /* by this error nobody knows whether a link may be followed: then the step isn't made */
     char *text;                    /* that of a link is read to here, and so long it is */
     size_t length;
 };
@@ -499,6 +561,8 @@ bool inroot_is_dead(int fd);
 /* steps.c */
 /* Another descriptor of the directory that a handle is on: it shares nothing else with that one. Or -errno. */
 int inroot_open_anew(struct inroot_driver *d, uint64_t handle);
+/* The directory above one that had an entry right before: a descriptor, or -1. */
+int inroot_parent_of(struct inroot_driver *d, int child);
 /*
  * Makes a step other than Close. Its names lie in the room. It writes what it reads to `text`. If it passes several names, it
  * reports them to the proved call, and STEP and the answer are those of the step that is due then. There is no answer if that step

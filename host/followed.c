@@ -19,20 +19,39 @@ static int start_of(int dir, const char **slash)
     return kept >= 0 ? kept : AT_FDCWD;
 }
 
-static ssize_t read_entry(int dir, const char *name, size_t length, char *text)
+/* The same, and a name in it as the system call takes that. */
+static int entry_of(int dir, const char *name, size_t length, char whole[NAME_MAX + 2])
 {
-    char whole[NAME_MAX + 2];
     const char *slash;
     int from = start_of(dir, &slash);
     size_t at = strlen(slash);
-    ssize_t got;
     memcpy(whole, slash, at);
     memcpy(whole + at, name, length);
     whole[at + length] = 0;
+    return from;
+}
+
+static ssize_t read_entry(int dir, const char *name, size_t length, char *text)
+{
+    char whole[NAME_MAX + 2];
+    int from = entry_of(dir, name, length, whole);
+    ssize_t got;
     do
         got = readlinkat(from, whole, text, INROOT_TEXT_MAX + 1);
     while (got < 0 && errno == EINTR);
     return got;
+}
+
+int inroot_followed_enter(int dir, const char *name, size_t length)
+{
+    char whole[NAME_MAX + 2];
+    if (length > NAME_MAX)
+        return -1;
+    int from = entry_of(dir, name, length, whole), fd;
+    do
+        fd = openat(from, whole, O_PATH | O_DIRECTORY | O_NOFOLLOW | O_CLOEXEC);
+    while (fd < 0 && errno == EINTR);
+    return fd;
 }
 
 uint32_t inroot_followed_read(struct inroot_driver *d, uint64_t handle, int dir, const char *names, char *text)
@@ -51,14 +70,32 @@ uint32_t inroot_followed_read(struct inroot_driver *d, uint64_t handle, int dir,
     return 0;
 }
 
-bool inroot_followed_is_kept(struct inroot_driver *d)
+ssize_t inroot_followed_text(int dir, const char *name, size_t length, char *text)
+{
+    return length > NAME_MAX ? -1 : read_entry(dir, name, length, text);
+}
+
+/* Asks the file system and mount of that directory, as fstatfs(2) does. Gives 0 or an error's number. */
+static int ask_in(int dir, struct statfs *about)
+{
+    const char *slash;
+    int from = start_of(dir, &slash);
+    int failed;
+    do
+        failed = *slash == 0 ? fstatfs(from, about) : statfs(slash, about);
+    while (failed != 0 && errno == EINTR);
+    return failed != 0 ? errno : 0;
+}
+
+int inroot_followed_ask(struct inroot_driver *d, struct statfs *about)
 {
     int dir;
-    const char *slash;
+    int lost = inroot_handles_fd(d, d->link_dir, &dir);
+    return lost ? lost : ask_in(dir, about);
+}
+
+bool inroot_followed_may_be_kept(int dir)
+{
     struct statfs about;
-    if (inroot_handles_fd(d, d->link_dir, &dir) != 0)
-        return false;
-    int from = start_of(dir, &slash);
-    int failed = *slash == 0 ? fstatfs(from, &about) : statfs(slash, &about);
-    return failed == 0 && about.f_flags & INROOT_NOSYMFOLLOW;
+    return ask_in(dir, &about) != 0 || about.f_flags & INROOT_NOSYMFOLLOW;
 }

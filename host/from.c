@@ -7,9 +7,7 @@
 #include "driver.h"
 
 #include <errno.h>
-#include <fcntl.h>
 #include <string.h>
-#include <sys/stat.h>
 #include <unistd.h>
 
 /* Whether the path begins at the directory. An empty path doesn't: the call tells its own error. */
@@ -29,22 +27,8 @@ static int count_names(const char *place)
 /* Finds where the caller's directory stands. Writes the place, and opens the directory again: its length or -errno. */
 static ssize_t find(struct inroot_driver *d, int root, int dir, char *text, struct inroot_slot *slot)
 {
-    size_t length;
-    *slot = (struct inroot_slot){.kind = INROOT_KIND_DIR, .way = INROOT_BY_NAME, .above = -1};
-    slot->fd = fcntl(dir, F_DUPFD_CLOEXEC, 0);
-    if (slot->fd < 0)
-        return -errno;
-    struct inroot_result result = inroot_find_place(d, root, slot, text, &length);
-    /* In a jail the kernel has a text of what is outside, too: it begins with no slash. */
-    if (result.what == INROOT_ANSWER_NAMES && length > 0 && text[0] == '/')
-        return (ssize_t)length;
-    int error = result.what != INROOT_ANSWER_NAMES ? d->unmade : EAGAIN;
-    if (error == EAGAIN && inroot_is_dead(slot->fd))
-        error = ENOENT;
-    close(slot->fd);
-    slot->fd = INROOT_NONE;
-    d->unmade = 0;
-    return -error;
+    const struct inroot_asking_facts facts = {.directory = true, .keeps = true};
+    return inroot_ask_place(d, root, dir, &facts, text, slot);
 }
 
 /* Joins the two. What doesn't fit is cut off: what is left is too long for a path, too. */
@@ -78,12 +62,10 @@ static void join_paths(struct inroot_driver *d, struct inroot_joined *joined)
 int inroot_from_join(struct inroot_driver *d, int root, int dir, const struct inroot_request *asked,
                      struct inroot_joined *joined)
 {
-    struct stat about;
     struct inroot_slot slot;
-    if (fstat(dir, &about) != 0)
-        return -errno;
-    if (!S_ISDIR(about.st_mode))
-        return -ENOTDIR;
+    int failed = inroot_check_directory(dir);
+    if (failed)
+        return failed;
     joined->request = *asked;
     joined->place[0] = 0;
     bool first = begins_there(asked->first), second = asked->op == INROOT_ASK_RENAME && begins_there(asked->second);

@@ -1,8 +1,7 @@
 /*
  * give.c: a descriptor of the entry that a call has just made (INROOT_GIVE). The driver opens it by its name in the
- * directory in which it made it, and looks at it: others may have moved it, or put another in its place. It knows a file
- * by the descriptor by which it made the file, and the object of a second name by the caller's descriptor. For any other
- * entry it compares the kind, and a link's text or a device's number.
+ * directory in which it made it, and looks at it: others may have moved it, or put another in its place. Which system
+ * call comes next, and whether the entry is the one, the proved library says (crates/give_entry).
  */
 #define _GNU_SOURCE
 #include "driver.h"
@@ -13,69 +12,86 @@
 #include <sys/stat.h>
 #include <unistd.h>
 
-static bool is_same(const struct stat *about, int fd)
+/* An entry that is being opened. It is open as FD, and the object that it must be as KNOWN. */
+struct giving {
+    struct inroot_driver *d;
+    int dir, fd, known;
+    const char *name;
+    struct inroot_giving course;
+    struct inroot_giving_answer answer;
+    size_t length;
+    char text[INROOT_TEXT_MAX + 1];
+};
+
+static uint32_t error_of(long failed)
 {
-    struct stat other;
-    return fstat(fd, &other) == 0 && other.st_dev == about->st_dev && other.st_ino == about->st_ino;
+    return failed < 0 ? (uint32_t)errno : 0;
 }
 
-/* Whether the link that is open has this text. */
-static bool has_text(int fd, const char *text)
+/* Under INROOT_NO_XDEV what is mounted over the entry isn't it. */
+static uint32_t open_entry(struct giving *g)
 {
-    char now[INROOT_TEXT_MAX + 1];
-    size_t length = strlen(text);
-    ssize_t got = readlinkat(fd, "", now, sizeof now);
-    return got >= 0 && (size_t)got == length && memcmp(now, text, length) == 0;
+    g->fd = inroot_mount_stay(g->d, openat(g->dir, g->name, O_PATH | O_NOFOLLOW | O_CLOEXEC));
+    return error_of(g->fd);
 }
 
-/* Whether this object can be the one that the call made. */
-static bool fits(const struct inroot_driver *d, int fd, const struct stat *about, const char *text)
+static uint32_t look(struct giving *g, int fd)
+{
+    struct inroot_which which;
+    if (!inroot_find_which(fd, "", &which))
+        return (uint32_t)errno;
+    g->answer.object = which.object;
+    g->answer.device = which.device;
+    g->answer.mode = which.mode;
+    return 0;
+}
+
+static uint32_t read_link(struct giving *g)
+{
+    ssize_t got = readlinkat(g->fd, "", g->text, sizeof g->text);
+    g->length = got < 0 ? 0 : (size_t)got;
+    return error_of(got);
+}
+
+/* Makes the system call that comes next. Gives 0 or an error's number. */
+static uint32_t turn(struct giving *g)
+{
+    switch (g->course.next) {
+    case INROOT_GIVING_OPEN: return open_entry(g);
+    case INROOT_GIVING_LOOK: return look(g, g->fd);
+    case INROOT_GIVING_COMPARE: return look(g, g->known);
+    case INROOT_GIVING_READ: return read_link(g);
+    case INROOT_GIVING_CLOSE: return error_of(close(g->fd));
+    default: return error_of(close(g->d->made));
+    }
+}
+
+/* What the call has made. */
+static struct inroot_giving_facts facts_of(const struct inroot_driver *d)
 {
     const struct inroot_request *asked = d->asked;
-    const mode_t kind = about->st_mode & S_IFMT;
-    if (asked->makes == INROOT_MAKES_LINKED)
-        return is_same(about, asked->object);
-    if (asked->op == INROOT_ASK_MKDIR)
-        return kind == S_IFDIR;
-    if (asked->op == INROOT_ASK_SYMLINK)
-        return kind == S_IFLNK && has_text(fd, text);
-    if (d->made >= 0 && !is_same(about, d->made))
-        return false;
-    const bool is_device = kind == S_IFCHR || kind == S_IFBLK;
-    return kind == (asked->bits & S_IFMT) && (!is_device || about->st_rdev == asked->device);
-}
-
-static int open_entry(int dir, const char *name)
-{
-    int fd;
-    do
-        fd = openat(dir, name, O_PATH | O_NOFOLLOW | O_CLOEXEC);
-    while (fd < 0 && errno == EINTR);
-    return fd;
-}
-
-/* Keeps this descriptor in place of the one by which the file was made. */
-static void keep(struct inroot_driver *d, int fd)
-{
-    if (d->made >= 0)
-        close(d->made);
-    d->made = fd;
+    const mode_t other = asked->op == INROOT_ASK_SYMLINK ? S_IFLNK : asked->bits;
+    return (struct inroot_giving_facts){
+        .device = asked->device, .mode = asked->op == INROOT_ASK_MKDIR ? S_IFDIR : other,
+        .linked = asked->makes == INROOT_MAKES_LINKED, .made = d->made >= 0,
+    };
 }
 
 void inroot_give(struct inroot_driver *d, int dir, const char *name, const char *text)
 {
-    struct stat about;
-    int fd = open_entry(dir, name);
-    if (fd < 0) {
-        d->unopened = errno == ENOENT ? EAGAIN : errno;
-    } else if (fstat(fd, &about) != 0 || !fits(d, fd, &about, text)) {
-        d->unopened = EAGAIN;
-        close(fd);
-        fd = INROOT_NONE;
+    const struct inroot_giving_facts facts = facts_of(d);
+    const int known = facts.linked ? d->asked->object : d->made;
+    struct giving g = {.d = d, .dir = dir, .fd = INROOT_NONE, .known = known, .name = name};
+    inroot_giving_begin(&g.course);
+    while (g.course.next < INROOT_GIVING_GIVES) {
+        g.answer.error = turn(&g);
+        inroot_giving_next(&g.course, &facts, &g.answer, (const unsigned char *)g.text, g.length,
+                           (const unsigned char *)text, strlen(text));
     }
-    if (fd < 0)
+    d->made = g.course.next == INROOT_GIVING_GIVES ? g.fd : INROOT_NONE;
+    d->unopened = (int)g.course.error;
+    if (d->made < 0)
         d->step = INROOT_STEP_GIVE;
-    keep(d, fd);
 }
 
 int inroot_give_file(struct inroot_driver *d, int dir, const char *name)

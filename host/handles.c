@@ -221,6 +221,7 @@ int inroot_handles_take(struct inroot_driver *d, uint64_t handle)
 {
     struct inroot_slot *slot = inroot_handles_slot(d, handle);
     int fd = slot->fd;
+    inroot_hints_find(d);
     if (d->asked->opened != NULL)
         *d->asked->opened = (enum inroot_kind)slot->kind;
     /* The names that were left behind `..` may all have led back to the root. No caller gets its own descriptor. */

@@ -55,6 +55,23 @@ static size_t name_length(const char *name, size_t most)
     return slash == NULL ? most : (size_t)(slash - name);
 }
 
+/* Adds names, a slash before each. */
+static uint64_t with_names(uint64_t key, const char *path, size_t length)
+{
+    for (size_t at = 0; at < length;) {
+        size_t name = name_length(path + at + 1, length - at - 1);
+        key = with_name(key, path + at + 1, name);
+        at += 1 + name;
+    }
+    return key;
+}
+
+/* The key of the root itself, behind which names are added. */
+static uint64_t key_of_root(const struct inroot_driver *d)
+{
+    return mix(1, (uint32_t)d->root);
+}
+
 /* Gives the key of the root and the names at which the handle stands. It is zero if the names aren't known. */
 static uint64_t key_of(struct inroot_driver *d, uint64_t handle)
 {
@@ -63,20 +80,17 @@ static uint64_t key_of(struct inroot_driver *d, uint64_t handle)
         return 0;
     if (handle != 0 && handle == d->keyed)
         return d->key;
-    uint64_t key = mix(1, (uint32_t)d->root);
-    for (size_t at = 0; at < (size_t)length;) {
-        size_t name = name_length(d->passed + at + 1, (size_t)length - at - 1);
-        key = with_name(key, d->passed + at + 1, name);
-        at += 1 + name;
-    }
     d->keyed = handle;
-    d->key = key;
-    return key;
+    d->key = with_names(key_of_root(d), d->passed, (size_t)length);
+    return d->key;
 }
+
+/* By the second bit a link is left to the steps. */
+enum { IS_THERE = 1, BY_STEPS = 2 };
 
 static uint32_t mark_of(uint64_t key)
 {
-    return (uint32_t)(key >> 32) | 1;
+    return ((uint32_t)(key >> 32) | IS_THERE) & ~(uint32_t)BY_STEPS;
 }
 
 /* Where a mark is in the key's row, or NULL. */
@@ -84,7 +98,7 @@ static _Atomic uint32_t *find(uint64_t key, uint32_t mark)
 {
     _Atomic uint32_t *row = hints[key % ROWS];
     for (size_t at = 0; at < ROW; at++)
-        if (atomic_load_explicit(row + at, memory_order_relaxed) == mark)
+        if ((atomic_load_explicit(row + at, memory_order_relaxed) & ~(uint32_t)BY_STEPS) == mark)
             return row + at;
     return NULL;
 }
@@ -99,25 +113,74 @@ static void put(uint64_t key)
     atomic_store_explicit(&is_any, true, memory_order_relaxed);
 }
 
-int inroot_hints_first(struct inroot_driver *d, uint64_t handle, const char *names, size_t length)
+/* Where the first name from a place on that was a link last stands in a path, a slash before each name; its mark; or NULL. */
+static _Atomic uint32_t *first_in(uint64_t key, const char *path, size_t from, size_t length, size_t *where)
 {
-    uint64_t key = atomic_load_explicit(&is_any, memory_order_relaxed) ? key_of(d, handle) : 0;
-    if (key == 0)
-        return -1;
-    int count = 0;
-    for (size_t at = 0; at < length; count++) {
-        size_t name = name_length(names + at, length - at);
-        key = with_name(key, names + at, name);
-        if (find(key, mark_of(key)) != NULL)
-            return count;
+    for (size_t at = 0; at < length;) {
+        size_t name = name_length(path + at + 1, length - at - 1);
+        key = with_name(key, path + at + 1, name);
+        _Atomic uint32_t *mark = at >= from ? find(key, mark_of(key)) : NULL;
+        *where = at;
+        if (mark != NULL)
+            return mark;
         at += name + 1;
     }
-    return -1;
+    return NULL;
+}
+
+static bool has_any(void)
+{
+    return atomic_load_explicit(&is_any, memory_order_relaxed);
+}
+
+size_t inroot_hints_first(struct inroot_driver *d, uint64_t handle, const char *path, size_t length)
+{
+    size_t where, count = 0;
+    uint64_t key = has_any() ? key_of(d, handle) : 0;
+    if (key == 0 || first_in(key, path, 0, length, &where) == NULL)
+        return INROOT_NO_HINT;
+    for (size_t at = 0; at < where; at++)
+        count += path[at] == '/';
+    return count;
+}
+
+size_t inroot_hints_in(const struct inroot_driver *d, const char *path, size_t from, size_t length, bool *by_steps)
+{
+    size_t where;
+    _Atomic uint32_t *mark = has_any() ? first_in(key_of_root(d), path, from, length, &where) : NULL;
+    *by_steps = mark != NULL && atomic_load_explicit(mark, memory_order_relaxed) & BY_STEPS;
+    return mark == NULL ? INROOT_NO_HINT : where;
+}
+
+/* Paths through links that opened nothing last. One by one they push another out. */
+enum { MISSED = 256 };
+static _Atomic uint32_t missed[MISSED];
+
+bool inroot_hints_is_missed(struct inroot_driver *d, const char *path, size_t length)
+{
+    const uint64_t key = with_names(key_of_root(d), path, length);
+    d->missed = &missed[key % MISSED];
+    if (atomic_load_explicit(d->missed, memory_order_relaxed) == mark_of(key))
+        return true;
+    d->missed = NULL;
+    return false;
+}
+
+void inroot_hints_miss(const struct inroot_driver *d, const char *path, size_t length)
+{
+    const uint64_t key = with_names(key_of_root(d), path, length);
+    atomic_store_explicit(&missed[key % MISSED], mark_of(key), memory_order_relaxed);
+}
+
+void inroot_hints_find(const struct inroot_driver *d)
+{
+    if (d->missed != NULL)
+        atomic_store_explicit(d->missed, 0, memory_order_relaxed);
 }
 
 void inroot_hints_tell(struct inroot_driver *d, uint64_t handle, const char *name, size_t length, bool is_link)
 {
-    uint64_t key = is_link || atomic_load_explicit(&is_any, memory_order_relaxed) ? key_of(d, handle) : 0;
+    uint64_t key = is_link || has_any() ? key_of(d, handle) : 0;
     if (key == 0)
         return;
     key = with_name(key, name, length);
@@ -126,4 +189,12 @@ void inroot_hints_tell(struct inroot_driver *d, uint64_t handle, const char *nam
         put(key);
     else if (!is_link && at != NULL)
         atomic_store_explicit(at, 0, memory_order_relaxed);
+}
+
+void inroot_hints_leave(const struct inroot_driver *d, const char *path, size_t length, bool is_link)
+{
+    const uint64_t key = with_names(key_of_root(d), path, length);
+    _Atomic uint32_t *at = find(key, mark_of(key));
+    if (at != NULL)
+        atomic_store_explicit(at, is_link ? mark_of(key) | BY_STEPS : 0, memory_order_relaxed);
 }

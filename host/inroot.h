@@ -411,9 +411,9 @@ ssize_t inroot_readlink(int root, const char *path, int flags, char *text, size_
  * where it may not be read. ROOT stays open until the walk is closed; and with INROOT_JAIL the same thread goes on.
  *
  * inroot_walk_next() gives 1 and an ENTRY; 0 behind the last; or -errno where the rest of a directory's entries isn't
- * given, whose PATH is in ENTRY then, and the next turn goes on behind it: EAGAIN where it was moved meanwhile, and
- * what getdents64(2) has. What is in ENTRY stays until the next turn. inroot_walk_skip() has the walk leave out what
- * is below the directory that was given last. inroot_walk_close() ends it, where it isn't NULL.
+ * given, whose PATH is in ENTRY then, and the next turn goes on behind it: EAGAIN where it was moved meanwhile, EIO where
+ * a name has no bytes, and what getdents64(2) has. What is in ENTRY stays until the next turn. inroot_walk_skip() has the
+ * walk leave out what is below the directory that was given last. inroot_walk_close() ends it, where it isn't NULL.
  *
  * The walk promises, whoever renames meanwhile: it follows no link below PATH. It opens each directory that it enters
  * by its name in the directory that has it; and that directory was below the root then, at that PATH, since a call of
@@ -486,7 +486,8 @@ int inroot_fremovexattr(int fd, const char *name);
  * Whoever may rename in that directory may have put another directory, FIFO, socket, link or device of just that kind
  * there meanwhile: then the call gives this one, which was there. If the entry was moved, removed or replaced
  * otherwise, the call gives EAGAIN and doesn't try again: it made the entry. It also made the entry if EMFILE, ENFILE,
- * ENOMEM or EACCES come from this opening. The step of such an error is `Give`.
+ * ENOMEM or EACCES come from this opening, or EIO from the look at it, and EXDEV under INROOT_NO_XDEV, where something is
+ * mounted over the entry. The step of such an error is `Give`.
  */
 
 /*

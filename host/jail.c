@@ -7,7 +7,6 @@
 #include <linux/capability.h>
 #include <pthread.h>
 #include <sched.h>
-#include <sys/stat.h>
 #include <sys/syscall.h>
 #include <unistd.h>
 
@@ -81,12 +80,8 @@ static bool may_change_root(void)
 /* Whether the root is a directory, and the thread may have it as its root: 0 or -errno. */
 static int check(int root)
 {
-    struct stat about;
-    if (fstat(root, &about) != 0)
-        return -errno;
-    if (!S_ISDIR(about.st_mode))
-        return -ENOTDIR;
-    return may_change_root() ? 0 : -EPERM;
+    int failed = inroot_check_directory(root);
+    return failed != 0 || may_change_root() ? failed : -EPERM;
 }
 
 /* unshare(2) first: other threads don't see the current directory change. */

@@ -8,8 +8,6 @@
 #include "openat2.h"
 
 #include <errno.h>
-#include <fcntl.h>
-#include <sys/syscall.h>
 #include <unistd.h>
 
 /*
@@ -18,10 +16,7 @@
  */
 int inroot_magic_follow(struct inroot_driver *d, int dir, const char *name)
 {
-    const struct open_how how = {.flags = O_PATH | O_CLOEXEC, .resolve = RESOLVE_BENEATH | RESOLVE_NO_MAGICLINKS};
-    if (!inroot_has_openat2() || !inroot_jail_start(d, &dir))
-        return ENOSYS;
-    int fd = (int)syscall(SYS_openat2, dir, name, &how, sizeof how);
+    int fd = inroot_look_through(d, dir, name, 0, RESOLVE_BENEATH);
     if (fd < 0)
         return errno;
     close(fd);

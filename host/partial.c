@@ -1,4 +1,7 @@
-/* partial.c: as much of a path as is there, and what is left of it. */
+/*
+ * partial.c: as much of a path as is there, and what is left of it. Which beginning of the path is tried next, the
+ * proved library says (crates/open_partial).
+ */
 #define _GNU_SOURCE
 #include "driver.h"
 
@@ -7,41 +10,18 @@
 #include <string.h>
 #include <unistd.h>
 
-/* A path, and what of it was tried: a beginning that is there, by its descriptor, and a longer one that isn't. */
 struct cut {
-    int root, from, flags, fd;
+    int root, from, flags;
     bool follows;
     char *text;
-    size_t pieces, there, missing;
+    size_t length;
 };
 
-/* Gives where this piece of the text begins. The text has such a piece. */
-static size_t piece_at(const char *text, size_t piece)
-{
-    size_t at = strspn(text, "/");
-    while (piece-- > 0) {
-        at += strcspn(text + at, "/");
-        at += strspn(text + at, "/");
-    }
-    return at;
-}
-
-static size_t count_pieces(const char *text)
-{
-    size_t count = 0;
-    for (size_t at = strspn(text, "/"); text[at] != 0; at += strspn(text + at, "/")) {
-        at += strcspn(text + at, "/");
-        count++;
-    }
-    return count;
-}
-
 /* Opens so many pieces of the text. All but the whole text end in a slash, and are a directory. */
-static int open_pieces(const struct cut *cut, size_t pieces)
+static int open_pieces(const struct cut *cut, size_t pieces, bool is_whole)
 {
     char *text = cut->text;
-    bool is_whole = pieces == cut->pieces;
-    size_t end = is_whole ? strlen(text) : piece_at(text, pieces);
+    size_t end = inroot_beginning((const unsigned char *)text, cut->length, pieces);
     char behind = text[end];
     text[end] = 0;
     const struct inroot_request asked = {
@@ -57,58 +37,28 @@ static int open_pieces(const struct cut *cut, size_t pieces)
     return fd;
 }
 
-/* Tries so many pieces, and notes whether they are there: 0, or -errno of any other failure. */
-static int try_pieces(struct cut *cut, size_t pieces)
+/* Does what comes next. */
+static void turn(const struct cut *cut, struct inroot_search *search)
 {
-    int fd = open_pieces(cut, pieces);
-    if (fd == -ENOENT || fd == -ENOTDIR) {
-        cut->missing = pieces;
-        return 0;
-    }
-    if (fd < 0)
-        return fd;
-    if (cut->fd >= 0)
-        close(cut->fd);
-    cut->fd = fd;
-    cut->there = pieces;
-    return 0;
-}
-
-/* Halves what is left between, until there is nothing. */
-static int search(struct cut *cut)
-{
-    int failed = 0;
-    while (failed == 0 && cut->there + 1 < cut->missing)
-        failed = try_pieces(cut, cut->there + (cut->missing - cut->there) / 2);
-    return failed;
+    int fd = 0;
+    if (search->next == INROOT_SEARCH_CLOSE)
+        close((int)search->about);
+    else
+        fd = open_pieces(cut, search->tried, search->tried == search->pieces);
+    inroot_search_next(search, fd < 0 ? (uint32_t)-fd : 0, fd < 0 ? 0 : (uint32_t)fd);
 }
 
 int inroot_partial(int root, int from, char *text, int flags, bool follows, size_t *rest)
 {
-    struct cut cut = {
-        .root = root,
-        .from = from,
-        .flags = flags,
-        .fd = INROOT_NONE,
-        .follows = follows,
-        .text = text,
-        .pieces = count_pieces(text),
+    const struct cut cut = {
+        .root = root, .from = from, .flags = flags, .follows = follows, .text = text, .length = strlen(text),
     };
-    int whole = open_pieces(&cut, cut.pieces);
-    *rest = strlen(text);
-    if ((whole != -ENOENT && whole != -ENOTDIR) || cut.pieces == 0)
-        return whole;
-    cut.missing = cut.pieces;
-    int failed = search(&cut);
-    /* Not even the first piece is there: the call gives where the text begins. */
-    if (failed == 0 && cut.fd < 0)
-        cut.fd = failed = open_pieces(&cut, 0);
-    *rest = piece_at(text, cut.there);
-    if (failed >= 0)
-        return cut.fd;
-    if (cut.fd >= 0)
-        close(cut.fd);
-    return failed;
+    struct inroot_search search;
+    inroot_search_begin((const unsigned char *)text, cut.length, &search);
+    while (search.next < INROOT_SEARCH_ENDS)
+        turn(&cut, &search);
+    *rest = inroot_beginning((const unsigned char *)text, cut.length, search.there);
+    return search.next == INROOT_SEARCH_ENDS ? (int)search.descriptor : -(int)search.error;
 }
 
 int inroot_open_partial(int root, const char *path, int flags, char *rest, size_t size)

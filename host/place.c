@@ -12,6 +12,7 @@
 #include <string.h>
 #include <sys/stat.h>
 #include <sys/syscall.h>
+#include <sys/sysmacros.h>
 #include <unistd.h>
 
 static struct inroot_result names(void)
@@ -21,26 +22,20 @@ static struct inroot_result names(void)
 
 /* ---- which object it is */
 
-/* Which object it is, while it is open; by which mount, where the kernel tells that; and how many names it has. */
-struct which {
-    struct inroot_object object;
-    uint64_t links;
-    mode_t mode;
-};
-
-/* Of what is open, or has a name in that directory. Nothing is asked of a server. A filter may refuse statx(2). */
-static bool find_which(int fd, const char *name, struct which *which)
+/* Nothing is asked of a server. A filter may refuse statx(2). */
+bool inroot_find_which(int fd, const char *name, struct inroot_which *which)
 {
     const int how = AT_EMPTY_PATH | AT_SYMLINK_NOFOLLOW | AT_NO_AUTOMOUNT;
     struct stat about;
 #ifdef STATX_MNT_ID
     struct statx more;
     if (statx(fd, name, how | AT_STATX_DONT_SYNC, STATX_TYPE | STATX_INO | STATX_NLINK | STATX_MNT_ID, &more) == 0) {
-        *which = (struct which){
+        *which = (struct inroot_which){
             .object.device = (uint64_t)more.stx_dev_major << 32 | more.stx_dev_minor,
             .object.inode = more.stx_ino,
             .object.mount = more.stx_mnt_id,
             .links = more.stx_nlink,
+            .device = makedev(more.stx_rdev_major, more.stx_rdev_minor),
             .mode = more.stx_mode,
         };
         return true;
@@ -48,16 +43,17 @@ static bool find_which(int fd, const char *name, struct which *which)
 #endif
     if (name[0] == 0 ? fstat(fd, &about) != 0 : fstatat(fd, name, &about, how) != 0)
         return false;
-    *which = (struct which){
-        .object.device = about.st_dev, .object.inode = about.st_ino, .links = about.st_nlink, .mode = about.st_mode,
+    *which = (struct inroot_which){
+        .object.device = about.st_dev, .object.inode = about.st_ino, .links = about.st_nlink, .device = about.st_rdev,
+        .mode = about.st_mode,
     };
     return true;
 }
 
 bool inroot_is_entry(int dir, const char *name, int fd, enum inroot_kind *kind)
 {
-    struct which a, b;
-    if (!find_which(fd, "", &a) || !find_which(dir, name, &b))
+    struct inroot_which a, b;
+    if (!inroot_find_which(fd, "", &a) || !inroot_find_which(dir, name, &b))
         return false;
     *kind = inroot_kind_of(a.mode);
     return inroot_is_same_object(&a.object, &b.object, false);
@@ -74,6 +70,7 @@ bool inroot_look_first(struct inroot_driver *d, int root, struct inroot_slot *sl
     if (!same)
         return false;
     slot->fd = found;
+    slot->kind = (uint8_t)kind;
     slot->way = INROOT_SEEN_BELOW;
     return true;
 }
@@ -155,8 +152,8 @@ static void read_root(struct search *s)
 /* A slash alone is the text of a top, which is its own parent, and of a root that was moved out of its mount: that has none. */
 static bool is_top(int root)
 {
-    struct which itself, above;
-    return find_which(root, "", &itself) && find_which(root, "..", &above) &&
+    struct inroot_which itself, above;
+    return inroot_find_which(root, "", &itself) && inroot_find_which(root, "..", &above) &&
            inroot_is_same_object(&itself.object, &above.object, true);
 }
 
@@ -185,8 +182,8 @@ static void read_cwd_again(struct search *s)
 /* Compares what was found with the object. If they can't be compared, that counts as others' doing. */
 static void compare(struct search *s)
 {
-    struct which held, found;
-    if (!find_which(s->slot->fd, "", &held) || !find_which(s->found, "", &found)) {
+    struct inroot_which held, found;
+    if (!inroot_find_which(s->slot->fd, "", &held) || !inroot_find_which(s->found, "", &found)) {
         s->answer.error = EAGAIN;
         return;
     }

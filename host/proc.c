@@ -41,11 +41,15 @@ int inroot_proc_own(int fd, struct inroot_own *own)
     struct stat about;
     /* A program that began without its standard files may give those numbers to others, whatever stands there. */
     int above = fd > STDERR_FILENO ? fd : fcntl(fd, F_DUPFD_CLOEXEC, STDERR_FILENO + 1);
+    bool is_held = above >= 0 && fstat(above, &about) == 0;
+    int error = errno;
     if (above != fd)
         close(fd);
-    if (above < 0 || fstat(above, &about) != 0) {
-        close(above);
-        return -EMFILE;
+    if (!is_held) {
+        if (above >= 0)
+            close(above);
+        /* A limit of three descriptors leaves no number above those: EINVAL. */
+        return error > 0 && error != EINVAL ? -error : -EMFILE;
     }
     *own = (struct inroot_own){.fd = above, .device = about.st_dev, .inode = about.st_ino};
     return 0;

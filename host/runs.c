@@ -48,17 +48,17 @@ void inroot_run_ask(struct inroot_driver *d, struct inroot_coming *coming)
 /* The number of the first of the names that was a link last. That of none is higher than that of any. */
 static size_t first_link(struct inroot_driver *d, uint64_t handle, const struct inroot_coming *coming)
 {
-    return (size_t)inroot_hints_first(d, handle, coming->text + 1, coming->ahead.used - (coming->ahead.up ? 4 : 1));
+    return inroot_hints_first(d, handle, coming->text, coming->ahead.used - (coming->ahead.up ? 3 : 0));
 }
 
 /* What the library is to know of the names. Before any step the handle is 0. */
-static void find_facts(struct inroot_driver *d, uint64_t handle, struct inroot_coming *coming)
+static void find_facts(struct inroot_driver *d, uint64_t handle, struct inroot_coming *coming, size_t linked)
 {
     const struct inroot_request *asked = d->asked;
     const int kept_from_reading = INROOT_ONE_BY_ONE | INROOT_NO_XDEV | INROOT_NO_MAGICLINKS;
     coming->facts = (struct inroot_coming_names){
         .names = coming->ahead.names,
-        .linked = first_link(d, handle, coming),
+        .linked = linked,
         .up = coming->ahead.up,
         .ends = coming->ahead.ends,
         .dot = coming->ahead.dot,
@@ -125,13 +125,13 @@ static uint32_t look_up_from_root(const struct passing *p)
     return run->passed == 0 ? EIO : look_up(p->d, p->d->slots[0].fd, p->d->passed + 1);
 }
 
-static uint32_t find_kind(struct inroot_run *run)
+bool inroot_kind(int fd, enum inroot_kind *kind)
 {
     struct stat about;
-    if (fstat(run->fd, &about) != 0)
-        return (uint32_t)errno;
-    run->kind = inroot_kind_of(about.st_mode);
-    return 0;
+    if (fstat(fd, &about) != 0)
+        return false;
+    *kind = inroot_kind_of(about.st_mode);
+    return true;
 }
 
 static uint32_t read_link(struct passing *p)
@@ -153,7 +153,7 @@ static uint32_t turn(struct passing *p)
     case INROOT_LOOK_FROM_ROOT:
         return look_up_from_root(p);
     case INROOT_LOOK_KIND:
-        return find_kind(run);
+        return inroot_kind(run->fd, &run->kind) ? 0 : (uint32_t)errno;
     case INROOT_LOOK_COMPARE:
         return inroot_is_entry(p->dir, p->coming->text + 1, run->fd, &run->kind) ? 0 : ESTALE;
     default:
@@ -174,9 +174,9 @@ static void pass(struct passing *p)
 
 /* ---- the whole path, and the next names of one */
 
-bool inroot_run_is_whole(struct inroot_driver *d, struct inroot_coming *path)
+bool inroot_run_is_whole(struct inroot_driver *d, struct inroot_coming *path, size_t linked)
 {
-    find_facts(d, 0, path);
+    find_facts(d, 0, path, linked);
     path->facts.any_kind = (d->root != INROOT_JAILED || d->below) && d->asked->opened == NULL;
     inroot_looks_begin(&d->looks, &path->facts);
     return d->looks.next == INROOT_LOOK_NAMES && d->looks.names == path->ahead.names;
@@ -197,7 +197,7 @@ enum inroot_look inroot_run_begin(struct inroot_driver *d, struct inroot_told *t
                                   char *text, struct inroot_result *result)
 {
     struct passing p = {.d = d, .handle = told->handle, .coming = coming, .text = text};
-    find_facts(d, told->handle, coming);
+    find_facts(d, told->handle, coming, first_link(d, told->handle, coming));
     if (inroot_handles_fd(d, told->handle, &p.dir) != 0)
         coming->facts.reads = false, coming->facts.one_by_one = true;
     if (is_one_by_one(d) || !inroot_handles_reserve(d))

@@ -1,4 +1,7 @@
-/* stands.c: an object's path below the root, by both witnesses. */
+/*
+ * stands.c: an object's path below the root, by both witnesses. Which question comes next, and how often one is
+ * asked, the proved library says (crates/ask_place).
+ */
 #define _GNU_SOURCE
 #include "driver.h"
 
@@ -8,50 +11,88 @@
 #include <sys/stat.h>
 #include <unistd.h>
 
-/* How often the driver asks, if the object is outside or is moved meanwhile. */
-enum { QUESTIONS = 8 };
-
 /*
- * In a jail without openat2(2) the text of what is no directory may be that from the top of what is outside. No look-up in that
- * thread leads out of its root.
+ * A descriptor whose object's place is asked for: by a copy in the slot, since a look-up may put its own in that
+ * one's place.
  */
-static bool is_there(struct inroot_driver *d, int root, const struct stat *about, const char *text)
+struct asking {
+    struct inroot_driver *d;
+    int root, fd;
+    char *text;
+    struct inroot_slot *slot;
+    struct inroot_asking course;
+    struct inroot_asking_answer answer;
+};
+
+static uint32_t look(struct asking *a, int dir, const char *name)
 {
-    struct stat now;
-    int dir = INROOT_JAILED;
-    if (root != INROOT_JAILED || S_ISDIR(about->st_mode) || inroot_has_openat2())
-        return true;
-    return inroot_jail_start(d, &dir) && fstatat(dir, text + 1, &now, AT_SYMLINK_NOFOLLOW) == 0 &&
-           now.st_dev == about->st_dev && now.st_ino == about->st_ino;
+    struct inroot_which which;
+    if (!inroot_find_which(dir, name, &which))
+        return (uint32_t)errno;
+    a->slot->kind = inroot_kind_of(which.mode);
+    a->answer.object = which.object;
+    a->answer.links = which.links;
+    a->answer.yes = a->slot->kind == INROOT_KIND_DIR;
+    return 0;
 }
 
-/* Asks with a copy of the caller's descriptor, since the look-up may put its own in place of what it is given. */
-static ssize_t ask(struct inroot_driver *d, int root, const struct stat *about, char *room)
+static uint32_t copy(struct asking *a)
 {
-    size_t length;
-    struct inroot_slot slot = {.kind = inroot_kind_of(about->st_mode), .way = INROOT_BY_NAME, .above = -1};
-    slot.fd = fcntl(d->asked->object, F_DUPFD_CLOEXEC, 0);
-    if (slot.fd < 0)
-        return -errno;
-    struct inroot_result result = inroot_find_place(d, root, &slot, room, &length);
-    bool is_dead = slot.kind == INROOT_KIND_DIR && inroot_is_dead(slot.fd);
-    close(slot.fd);
-    bool is_told = result.what == INROOT_ANSWER_NAMES;
-    if (!is_told && d->unmade != EAGAIN)
-        return -(ssize_t)d->unmade;
-    /* In a jail the kernel has a text of what is outside, too: it begins with no slash. */
-    if (is_told && length > 0 && room[0] == '/' && is_there(d, root, about, room))
-        return (ssize_t)length;
-    return is_dead || about->st_nlink == 0 ? -ENOENT : -EAGAIN;
+    a->slot->fd = fcntl(a->fd, F_DUPFD_CLOEXEC, 0);
+    return a->slot->fd < 0 ? (uint32_t)errno : 0;
+}
+
+static uint32_t find(struct asking *a)
+{
+    struct inroot_result result = inroot_find_place(a->d, a->root, a->slot, a->text, &a->answer.length);
+    a->answer.yes = a->root == INROOT_JAILED && !inroot_has_openat2();
+    const uint32_t error = result.what == INROOT_ANSWER_NAMES ? 0 : (uint32_t)a->d->unmade;
+    a->d->unmade = 0;
+    return error;
+}
+
+static uint32_t look_up(struct asking *a)
+{
+    int dir = INROOT_JAILED;
+    return inroot_jail_start(a->d, &dir) ? look(a, dir, a->text + 1) : (uint32_t)errno;
+}
+
+/* Asks what comes next. Gives 0 or an error's number. */
+static uint32_t turn(struct asking *a)
+{
+    switch (a->course.next) {
+    case INROOT_ASKING_LOOK: return look(a, a->fd, "");
+    case INROOT_ASKING_COPY: return copy(a);
+    case INROOT_ASKING_FIND: return find(a);
+    case INROOT_ASKING_LOOK_UP: return look_up(a);
+    case INROOT_ASKING_DEAD: a->answer.yes = inroot_is_dead(a->slot->fd); return 0;
+    default: return close(a->slot->fd) < 0 ? (uint32_t)errno : 0;
+    }
+}
+
+ssize_t inroot_ask_place(struct inroot_driver *d, int root, int fd, const struct inroot_asking_facts *facts, char *text,
+                         struct inroot_slot *slot)
+{
+    struct asking a = {.d = d, .root = root, .fd = fd, .text = text, .slot = slot};
+    size_t length = 0;
+    *slot = (struct inroot_slot){.kind = INROOT_KIND_DIR, .way = INROOT_BY_NAME, .above = -1};
+    inroot_asking_begin(facts, &a.course);
+    while (a.course.next < INROOT_ASKING_ENDS) {
+        a.answer = (struct inroot_asking_answer){.length = 0};
+        a.answer.error = turn(&a);
+        if (a.course.next == INROOT_ASKING_FIND)
+            length = a.answer.length;
+        inroot_asking_next(&a.course, facts, &a.answer);
+    }
+    return a.course.next == INROOT_ASKING_ENDS ? (ssize_t)length : -(ssize_t)a.course.error;
 }
 
 ssize_t inroot_stands(struct inroot_driver *d, int root, char *room)
 {
-    struct stat about;
+    struct inroot_slot slot;
+    const struct inroot_asking_facts facts = {.directory = false};
     d->step = INROOT_STEP_NAME_BELOW;
-    if (fstat(d->asked->object, &about) != 0)
-        return -errno;
-    return ask(d, root, &about, room);
+    return inroot_ask_place(d, root, d->asked->object, &facts, room, &slot);
 }
 
 ssize_t inroot_place(int root, int fd, char *path, size_t size)
@@ -60,16 +101,18 @@ ssize_t inroot_place(int root, int fd, char *path, size_t size)
     const struct inroot_request asked = {
         .op = INROOT_ASK_RESOLVE, .flags = INROOT_NO_RETRY, .first = "", .second = "", .places = true, .object = fd,
     };
-    ssize_t length = -EAGAIN;
-    for (int question = 0; question < QUESTIONS && length == -EAGAIN; question++)
+    struct inroot_question question = {.again = true};
+    ssize_t length = 0;
+    for (uint32_t count = 1; question.again; count++) {
         length = inroot_carry_out(root, &asked, room);
-    if (length == -EAGAIN)
-        return inroot_error_alone(EXDEV, "NameBelow", "");
-    if (length >= 0 && (size_t)length >= size)
-        return inroot_error_alone(ERANGE, "", "");
-    if (length >= 0) {
-        memcpy(path, room, (size_t)length);
-        path[length] = 0;
+        const uint32_t error = length < 0 ? (uint32_t)-length : 0;
+        inroot_next_question(count, error, error ? 0 : (size_t)length, size, &question);
     }
+    if (question.error != 0 && question.error == (uint32_t)-length)
+        return length;
+    if (question.error != 0)
+        return inroot_error_alone((int)question.error, length < 0 ? "NameBelow" : "", "");
+    memcpy(path, room, (size_t)length);
+    path[length] = 0;
     return length;
 }

@@ -175,7 +175,10 @@ static int enter(struct inroot_walk *walk, const char *name, size_t length)
 
 /* ---- entries */
 
-/* Gives 1 and the next name of the directory; 0 at its end, which one that is gone has, too; -errno. */
+/*
+ * Gives 1 and the next name of the directory; 0 at its end, which one that is gone has, too; -errno. A server may give a name that
+ * begins with the byte 0, so that nothing is left of it: the path would be that of the directory itself.
+ */
 static int next_record(struct level *level, const struct record **record)
 {
     while (level->at == level->got) {
@@ -189,7 +192,7 @@ static int next_record(struct level *level, const struct record **record)
     }
     *record = (const struct record *)(const void *)(level->records + level->at);
     level->at += (*record)->length;
-    return 1;
+    return (*record)->name[0] != 0 ? 1 : -EIO;
 }
 
 static bool is_entry(const char *name)

@@ -135,34 +135,35 @@ static void make_tree(void)
 
 /*
  * Each path, what is done and undone, where; and what a call with one try opens by then, or its error. A walk that is led up to
- * another directory than the one that it came from begins again.
+ * another directory than the one that it came from begins again: where links are known, it may do so by steps, which find what was done. A
+ * path that ends in `..` goes by steps from the beginning, and so it is with INROOT_BELOW.
  */
 static const struct {
     const char *path;
     void (*done)(void), (*undone)(void);
     enum moment moment;
     const char *opened;
-    int error;
+    int error, anew;
 } rows[] = {
-    {"p/s/k", NULL, NULL, AT_PARENT, "p/y", 0},
-    {"p/s/far", NULL, NULL, AT_PARENT, "p/t/y", 0},
-    {"p/s/up", NULL, NULL, AT_PARENT, "p", 0},
-    {"s/k", NULL, NULL, AT_PARENT, "y", 0},
-    {"s/up", NULL, NULL, AT_PARENT, ".", 0},
-    {"p/s/k", to_q, from_q, AT_PARENT, NULL, EAGAIN},
-    {"p/s/far", to_q, from_q, AT_PARENT, NULL, EAGAIN},
-    {"p/s/up", to_q, from_q, AT_PARENT, NULL, EAGAIN},
-    {"s/k", top_to_q, top_from_q, AT_PARENT, NULL, EAGAIN},
-    {"p/s/k", remove_child, make_child, AT_PARENT, "p/y", 0},
-    {"p/s/far", remove_child, make_child, AT_PARENT, "p/t/y", 0},
-    {"p/s/k", child_out, child_in, AT_PARENT, NULL, EAGAIN},
-    {"p/s/up", child_out, child_in, AT_PARENT, NULL, EAGAIN},
-    {"p/s/k", parent_out, parent_in, AT_TEXT, NULL, EAGAIN},
-    {"p/s/up", parent_out, parent_in, AT_TEXT, NULL, EAGAIN},
-    {"p/s/k", parent_beside, parent_back, AT_TEXT, NULL, EAGAIN},
-    {"p/s/up", parent_beside, parent_back, AT_TEXT, NULL, EAGAIN},
-    {"p/s/k", parent_beside, parent_back, AT_LOOK, NULL, EAGAIN},
-    {"p/s/up", parent_out, parent_in, AT_LOOK, NULL, EAGAIN},
+    {"p/s/k", NULL, NULL, AT_PARENT, "p/y", 0, 0},
+    {"p/s/far", NULL, NULL, AT_PARENT, "p/t/y", 0, 0},
+    {"p/s/up", NULL, NULL, AT_PARENT, "p", 0, 0},
+    {"s/k", NULL, NULL, AT_PARENT, "y", 0, 0},
+    {"s/up", NULL, NULL, AT_PARENT, ".", 0, 0},
+    {"p/s/k", to_q, from_q, AT_PARENT, NULL, EAGAIN, ENOENT},
+    {"p/s/far", to_q, from_q, AT_PARENT, NULL, EAGAIN, ENOENT},
+    {"p/s/up", to_q, from_q, AT_PARENT, NULL, EAGAIN, EAGAIN},
+    {"s/k", top_to_q, top_from_q, AT_PARENT, NULL, EAGAIN, ENOENT},
+    {"p/s/k", remove_child, make_child, AT_PARENT, "p/y", 0, 0},
+    {"p/s/far", remove_child, make_child, AT_PARENT, "p/t/y", 0, 0},
+    {"p/s/k", child_out, child_in, AT_PARENT, NULL, EAGAIN, ENOENT},
+    {"p/s/up", child_out, child_in, AT_PARENT, NULL, EAGAIN, EAGAIN},
+    {"p/s/k", parent_out, parent_in, AT_TEXT, NULL, EAGAIN, ENOENT},
+    {"p/s/up", parent_out, parent_in, AT_TEXT, NULL, EAGAIN, EAGAIN},
+    {"p/s/k", parent_beside, parent_back, AT_TEXT, NULL, EAGAIN, ENOENT},
+    {"p/s/up", parent_beside, parent_back, AT_TEXT, NULL, EAGAIN, EAGAIN},
+    {"p/s/k", parent_beside, parent_back, AT_LOOK, NULL, EAGAIN, ENOENT},
+    {"p/s/up", parent_out, parent_in, AT_LOOK, NULL, EAGAIN, EAGAIN},
 };
 
 /* In a jail the driver looks no directory above up. */
@@ -181,7 +182,8 @@ static void one(size_t row, int flags)
     bool has_acted = act == NULL && rows[row].done != NULL;
     act = NULL;
     gives(has_acted, rows[row].done != NULL, "row %zu, %s, flags %d: somebody acted", row, path, flags);
-    gives(fd < 0 ? fd : 0, -rows[row].error, "row %zu, %s, flags %d", row, path, flags);
+    const bool is_anew = fd == -rows[row].anew && !(flags & INROOT_BELOW);
+    gives(fd < 0 ? fd : 0, -(is_anew ? rows[row].anew : rows[row].error), "row %zu, %s, flags %d", row, path, flags);
     if (fd >= 0 && rows[row].opened != NULL) {
         gives_object(fd, root, rows[row].opened, "row %zu, %s, flags %d", row, path, flags);
         /* Where `..` leads is asked by both witnesses, whatever the last check is. The root's own place needs no question. */

@@ -8,11 +8,11 @@
  * twice; none closes a descriptor twice or leaves one open. What is outside is told by inodes, and what it was by all that
  * fstat(2) tells of it. To be linked with --wrap of each function that is wrapped here.
  *
- * usage: acts DIR [STRIDE]. Of all tries it makes each STRIDE-th, of each call, act and round other ones. Exits 0 where that
+ * usage: acts DIR [few]. With `few` somebody acts before one system call of each kind in one of three rounds. Exits 0 where that
  * holds, and a walk without checks is led out. 77: no openat2(2) here. 78: no right to change a root or to mount.
  */
 #define _GNU_SOURCE
-#include "acts.h"
+#include "tries.h"
 
 #include <sched.h>
 #include <sys/mount.h>
@@ -164,64 +164,64 @@ static int change_found(void)
 {
     const struct timespec times[2] = {{.tv_sec = 1}, {.tv_sec = 2}};
     int fd = inroot_open(at, "a/b/f", flags);
-    int failed = fd < 0 ? fd : inroot_fchmod(fd, 0640);
+    int failed = fd < 0 ? fd : inroot_fchmod(fd, 0740);
     if (failed == 0)
         failed = inroot_futimens(fd, times);
     if (failed == 0)
-        failed = inroot_fchown(fd, 0, 0);
+        failed = inroot_fchown(fd, geteuid(), getegid());
     if (fd >= 0)
         close(fd);
     return failed;
 }
 
 static const struct row rows[] = {
-    {"open a file", open_file, OPENS, 0},
-    {"open a directory", open_directory, OPENS, 0},
-    {"open behind ..", open_up, OPENS, 0},
-    {"open behind three ..", open_far_up, OPENS, 0},
-    {"open a link's target", open_link, OPENS, 0},
-    {"open behind an absolute link", open_absolute, OPENS, 0},
+    {"open a file", open_file, OPENS | ON_MOUNT, 0},
+    {"open a directory", open_directory, OPENS | BY_D | ON_MOUNT, 0},
+    {"open behind ..", open_up, OPENS | BY_D | ON_MOUNT, 0},
+    {"open behind three ..", open_far_up, OPENS | BY_D | ON_MOUNT, 0},
+    {"open a link's target", open_link, OPENS | ON_MOUNT, 0},
+    {"open behind an absolute link", open_absolute, OPENS | ON_MOUNT, 0},
     {"open for reading", open_reading, OPENS, 0},
-    {"open and truncate", open_truncated, OPENS, 0},
+    {"open and truncate", open_truncated, OPENS | ON_MOUNT, 0},
     {"open a file without a name", open_nameless, OPENS_NEW, 0},
-    {"open or make, missing", open_or_make, OPENS, ANY},
+    {"open or make, missing", open_or_make, OPENS | ON_MOUNT, ANY},
     {"open or make, there", open_there, OPENS, ANY},
-    {"open or make through a link", open_dangling, OPENS, ANY},
-    {"make and open", make_and_open, OPENS, 1},
+    {"open or make through a link", open_dangling, OPENS | ON_MOUNT, ANY},
+    {"make and open", make_and_open, OPENS | ON_MOUNT, 1},
     {"make and give by O_PATH", make_by_path, GIVES, 1},
     {"make a file", make_file, 0, 1},
     {"make and give a file", give_file, GIVES, 1},
     {"make a FIFO", make_pipe, 0, 1},
     {"make and give a FIFO", give_pipe, GIVES, 1},
     {"make a directory", make_directory, 0, 1},
-    {"make and give a directory", give_directory, GIVES, 1},
+    {"make and give a directory", give_directory, GIVES | BY_D | ON_MOUNT, 1},
     {"make a link", make_link, 0, 1},
     {"make and give a link", give_link, GIVES, 1},
     {"make a name", make_name, 0, 1},
     {"make and give a name", give_name, GIVES, 1},
     {"remove a file", remove_file, 0, 1},
-    {"remove a directory", remove_directory, 0, 1},
+    {"remove a directory", remove_directory, BY_D, 1},
     {"rename", rename_away, 0, 1},
     {"rename over", rename_over, 0, 1},
     {"exchange", rename_both, 0, 1},
     {"make all", make_all, OPENS, ANY},
-    {"make all behind ..", make_all_up, OPENS, ANY},
+    {"make all behind ..", make_all_up, OPENS | BY_D | ON_MOUNT, ANY},
     {"make all through a link", make_through, OPENS, ANY},
     {"make a file and all above", make_file_all, OPENS, ANY},
     {"make a file through a link", make_file_through, OPENS, ANY},
-    {"remove all", remove_all, 0, ANY},
+    {"remove all", remove_all, BY_D, ANY},
     {"status", status, 0, 0},
     {"read a link", read_link, 0, 0},
     {"open a parent", open_parent, OPENS, 0},
     {"open a part", open_partial, OPENS, 0},
-    {"the place of a file", place_of_file, COUNTS_ITSELF, 0},
-    {"the place of a directory", place_of_directory, COUNTS_ITSELF, 0},
-    {"walk", walk, 0, 0},
+    {"the place of a file", place_of_file, COUNTS_ITSELF | ON_MOUNT, 0},
+    {"the place of a directory", place_of_directory, COUNTS_ITSELF | BY_D, 0},
+    {"walk", walk, BY_D | ON_MOUNT, 0},
     {"open from a directory", open_from, OPENS | COUNTS_ITSELF, 0},
-    {"open behind .. from a directory", open_up_from, OPENS | COUNTS_ITSELF, 0},
-    {"make and give from a directory", make_from, GIVES | COUNTS_ITSELF, 1},
-    {"rename from a directory", rename_from, COUNTS_ITSELF, 1},
-    {"make all from a directory", make_all_from, OPENS | COUNTS_ITSELF, ANY},
+    {"open behind .. from a directory", open_up_from, OPENS | COUNTS_ITSELF | BY_D | ON_MOUNT, 0},
+    {"make and give from a directory", make_from, GIVES | COUNTS_ITSELF | ON_MOUNT, 1},
+    {"rename from a directory", rename_from, COUNTS_ITSELF | BY_D, 1},
+    {"make all from a directory", make_all_from, OPENS | COUNTS_ITSELF | BY_D, ANY},
     {"make a file from a directory", make_file_from, OPENS | COUNTS_ITSELF, ANY},
     {"change what was found", change_found, 0, ANY},
 };
@@ -233,8 +233,12 @@ static void each(const char *who, int by, const struct act *acts, int count)
 {
     flags = by;
     tries = 0;
+    turn = phase++;
+    held = -1;
     look_outside(outside);
     for (int one = 0; one < ROWS; one++) {
+        if (hand >= 0 && !(rows[one].what & ON_MOUNT))
+            continue;
         int length = count_moments(who, &rows[one]);
         for (int act = 0; act < count; act++)
             try_each(who, &rows[one], &acts[act], length);
@@ -247,6 +251,7 @@ static void by_descriptor(void)
     at = root;
     each("by a descriptor", 0, all_acts, ALL_ACTS);
     each("by a descriptor, one by one", INROOT_ONE_BY_ONE, all_acts, ALL_ACTS);
+    each("by a descriptor, without magic links", INROOT_NO_MAGICLINKS, all_acts, ALL_ACTS);
 }
 
 static void in_chroot(void)
@@ -265,23 +270,23 @@ static void where_openat2_is_missing(void)
     each("without openat2(2)", 0, all_acts + ROOT_ACTS, ALL_ACTS - ROOT_ACTS);
 }
 
-static void by_kept_root(int how, const char *who)
+static void by_kept_root(int how, const char *who, const struct act *acts, int count)
 {
     struct inroot_root *kept;
     gives(inroot_root_open(where_root, how, &kept), 0, "%s", who);
     at = inroot_root_fd(kept);
-    each(who, 0, all_acts, ALL_ACTS);
+    each(who, 0, acts, count);
     inroot_root_close(kept);
 }
 
 static void by_root_that_stays(void)
 {
-    by_kept_root(INROOT_ROOT_STAYS | INROOT_TRUST_PROC, "by a root that stays");
+    by_kept_root(INROOT_ROOT_STAYS | INROOT_TRUST_PROC, "by a root that stays", all_acts, ALL_ACTS);
 }
 
 static void by_root_below(void)
 {
-    by_kept_root(INROOT_BELOW, "by a root with INROOT_BELOW");
+    by_kept_root(INROOT_BELOW, "by a root with INROOT_BELOW", all_acts, ALL_ACTS);
 }
 
 static void in_jail(void)
@@ -305,9 +310,65 @@ static void beside_mounts(void)
     if (unshare(CLONE_NEWNS) != 0 || mount(NULL, "/", NULL, MS_REC | MS_PRIVATE, NULL) != 0)
         _exit(NO_RIGHT);
     may_mount = true;
+    open_directories();
     at = root;
     each("on one mount", INROOT_NO_XDEV, mount_acts, MOUNT_ACTS);
     each("on one mount, one by one", INROOT_NO_XDEV | INROOT_ONE_BY_ONE, mount_acts, MOUNT_ACTS);
+}
+
+/* a/b is a mount. */
+static void begin_mounts(void)
+{
+    if (unshare(CLONE_NEWNS) != 0 || mount(NULL, "/", NULL, MS_REC | MS_PRIVATE, NULL) != 0)
+        _exit(NO_RIGHT);
+    open_directories();
+    begin_hand();
+    at = root;
+}
+
+static void on_moved_mount(void)
+{
+    begin_mounts();
+    each("on a mount that is moved", 0, moved_acts, MOVED_ACTS);
+    each("on a mount that is moved, one by one", INROOT_ONE_BY_ONE, moved_acts, MOVED_ACTS);
+    by_kept_root(INROOT_ROOT_STAYS | INROOT_TRUST_PROC, "on a mount that is moved, by a root that stays", moved_acts, MOVED_ACTS);
+    by_kept_root(INROOT_BELOW, "on a mount that is moved, by a root with INROOT_BELOW", moved_acts, MOVED_ACTS);
+    if (fchdir(root) != 0 || chroot(".") != 0)
+        _exit(NO_RIGHT);
+    at = root;
+    each("on a mount that is moved, in a chroot", 0, moved_acts, MOVED_ACTS);
+}
+
+static void on_moved_root(void)
+{
+    is_root_moved = true;
+    begin_mounts();
+    each("on a root that is a mount and is moved", 0, moved_acts, MOVED_ACTS);
+    each("on a root that is a mount and is moved, one by one", INROOT_ONE_BY_ONE, moved_acts, MOVED_ACTS);
+}
+
+/* Nothing is promised then where a mount is taken off. */
+static void on_moved_mount_without_openat2(void)
+{
+    begin_mounts();
+    no_openat2 = true;
+    each("on a mount that is moved, without openat2(2)", 0, moved_acts, MOVES);
+}
+
+static void on_moved_mount_in_jail(void)
+{
+    begin_mounts();
+    jail_or_end(root, 0);
+    at = INROOT_JAIL;
+    each("on a mount that is moved, in a jail", 0, moved_acts, MOVED_ACTS);
+}
+
+static void on_moved_mount_in_trusting_jail(void)
+{
+    begin_mounts();
+    jail_or_end(root, INROOT_TRUST_PROC);
+    at = INROOT_JAIL;
+    each("on a mount that is moved, in a jail that trusts", 0, moved_acts, MOVED_ACTS);
 }
 
 /* What a call has made is known by its number alone. */
@@ -323,9 +384,9 @@ static void where_numbers_lie(void)
     };
     at = root;
     lies = true;
-    stride = 1;
+    few = false;
     for (size_t one = 0; one < sizeof found / sizeof *found; one++)
-        try_each("where numbers lie", &found[one], &brought, 1);
+        try_each("where numbers lie", &found[one], &brought, count_moments("where numbers lie", &found[one]));
 }
 
 static void where_calls_fail(void)
@@ -342,6 +403,26 @@ static void where_calls_fail(void)
         each("by a descriptor", 0, &fault, 1);
         each("by a descriptor, one by one", INROOT_ONE_BY_ONE, &fault, 1);
     }
+}
+
+/* Another thread has taken the last descriptor. */
+static void where_none_is_left(void)
+{
+    static const struct act taken = {"no descriptor is left", do_nothing, NULL, 0, 0};
+    at = root;
+    for (shortage = EMFILE; shortage >= ENFILE; shortage--) {
+        each("by a descriptor", 0, &taken, 1);
+        each("by a descriptor, one by one", INROOT_ONE_BY_ONE, &taken, 1);
+    }
+}
+
+static void where_none_is_left_in_jail(void)
+{
+    static const struct act taken = {"no descriptor is left", do_nothing, NULL, 0, 0};
+    jail_or_end(root, 0);
+    at = INROOT_JAIL;
+    shortage = EMFILE;
+    each("in a jail", 0, &taken, 1);
 }
 
 static void by_another_descriptor(void)
@@ -365,38 +446,58 @@ static int unchecked(void)
     return fd < 0 ? -errno : fd;
 }
 
-static void be_led_out(void)
+static void lead_out(const struct act *acts, int count, const char *by)
 {
     static const struct row control = {"a walk without checks", unchecked, OPENS | MAY_MISS, 0};
     const int before = wrong;
     quiet = true;
-    stride = 1;
-    for (int act = 0; act < ALL_ACTS; act++)
-        try_each("the control", &control, &all_acts[act], 1);
+    few = false;
+    led_out = 0;
+    int length = count_moments("the control", &control);
+    for (int act = 0; act < count; act++)
+        try_each("the control", &control, &acts[act], length);
     quiet = false;
-    printf("acts: a walk without checks: led out %d times\n", led_out);
+    printf("acts: a walk without checks: led out %d times by %s\n", led_out, by);
     wrong = before;
-    gives_least(led_out, 1, "how often a walk without checks is led out");
+    gives_least(led_out, 1, "how often a walk without checks is led out by %s", by);
+}
+
+static void be_led_out(void)
+{
+    lead_out(all_acts, ALL_ACTS, "renames");
+}
+
+static void be_led_out_by_mounts(void)
+{
+    begin_mounts();
+    lead_out(moved_acts, MOVED_ACTS, "a mount that is moved");
 }
 
 int main(int count, char **words)
 {
-    static void (*const rounds[])(void) = {
-        be_led_out, by_descriptor, in_chroot, where_openat2_is_missing, by_root_that_stays, by_root_below, in_jail,
-        in_trusting_jail, beside_mounts, where_numbers_lie, where_calls_fail, by_another_descriptor,
+    static const struct {
+        void (*run)(void);
+        unsigned phase;
+    } rounds[] = {
+        {be_led_out, 0}, {be_led_out_by_mounts, 0}, {by_descriptor, 0}, {in_chroot, 1}, {where_openat2_is_missing, 0},
+        {by_root_that_stays, 1}, {by_root_below, 2}, {in_jail, 0}, {in_trusting_jail, 2}, {beside_mounts, 0}, {on_moved_mount, 0},
+        {on_moved_root, 0}, {on_moved_mount_without_openat2, 0}, {on_moved_mount_in_jail, 1}, {on_moved_mount_in_trusting_jail, 2},
+        {where_numbers_lie, 0}, {where_calls_fail, 0}, {where_none_is_left, 0}, {where_none_is_left_in_jail, 1},
+        {by_another_descriptor, 0},
     };
     int skipped = 0;
     if (count < 2 || count > 3)
         return 2;
-    stride = count == 3 ? atoi(words[2]) : 1;
-    if (stride < 1)
+    few = count == 3 && strcmp(words[2], "few") == 0;
+    if (count == 3 && !few)
         return 2;
     if (!has_openat2())
         return NO_OPENAT2;
     begin_acts(words[1]);
     open_proc();
     for (size_t one = 0; one < sizeof rounds / sizeof *rounds; one++) {
-        int status = apart(rounds[one]);
+        phase = rounds[one].phase;
+        int status = apart(rounds[one].run);
         skipped = status != 0 ? status : skipped;
     }
     printf("acts: %d not as they are to be\n", wrong);

@@ -9,24 +9,13 @@
 
 #include <limits.h>
 #include <sys/mount.h>
-
-/* What a row's call gives: a descriptor of what is inside, of what it has made, of a file without a name; and it counts itself. */
-enum { OPENS = 1, GIVES = 2, OPENS_NEW = 4, COUNTS_ITSELF = 8, MAY_MISS = 16, ANY = -1 };
-
-struct row {
-    const char *name;
-    int (*call)(void);
-    int what;
-    int changes;           /* so many entries at most, or ANY */
-};
+#include <sys/socket.h>
 
 static int base, root, out, gone, spare_root;
 static char where_root[PATH_MAX], where_out[PATH_MAX];
 static const char *what_is_done = "";
 static bool breaks_promise, quiet;
 static int led_out;
-static long tries;
-static int stride = 1;
 
 /* ---- the tree */
 
@@ -38,22 +27,49 @@ static bool is_there(int dir, const char *name)
 
 static void make_file_of(int dir, const char *name)
 {
-    int fd = sure(__real_openat(dir, name, O_WRONLY | O_CREAT | O_EXCL | O_CLOEXEC, 0644), name);
-    sure((int)write(fd, "text", 4), name);
-    __real_close(fd);
+    sure(__real_mknodat(dir, name, S_IFREG | 0644, 0), name);
 }
+
+static const char *const dirs[] = {"a", "a/b", "a/b/d", "a/b/d/e", "t"};
+static const char *const files[] = {"a/b/f", "a/g", "t/f", "secret"};
+enum { DIRS = sizeof dirs / sizeof *dirs, FILES = sizeof files / sizeof *files };
 
 static void make_tree(int top)
 {
-    static const char *const dirs[] = {"a", "a/b", "a/b/d", "a/b/d/e", "t"};
-    static const char *const files[] = {"a/b/f", "a/g", "t/f", "secret"};
-    for (size_t one = 0; one < sizeof dirs / sizeof *dirs; one++)
+    for (size_t one = 0; one < DIRS; one++)
         sure(__real_mkdirat(top, dirs[one], 0755), dirs[one]);
-    for (size_t one = 0; one < sizeof files / sizeof *files; one++)
+    for (size_t one = 0; one < FILES; one++)
         make_file_of(top, files[one]);
     sure(__real_symlinkat("../../t/f", top, "a/b/l"), "l");
     sure(__real_symlinkat("../../t/none", top, "a/b/n"), "n");
     sure(__real_symlinkat("/a/b", top, "t/u"), "u");
+}
+
+static int open_at(const char *path)
+{
+    return sure(__real_openat(AT_FDCWD, path, O_PATH | O_DIRECTORY | O_CLOEXEC), path);
+}
+
+/* What a/b has. */
+static void make_part(int top)
+{
+    sure(__real_mkdirat(top, "d", 0755), "d");
+    sure(__real_mkdirat(top, "d/e", 0755), "d/e");
+    make_file_of(top, "f");
+    sure(__real_symlinkat("../../t/f", top, "l"), "l");
+    sure(__real_symlinkat("../../t/none", top, "n"), "n");
+}
+
+/* What most tries leave. A link that stands for a directory goes first, so that nothing is removed through it. */
+static void clear_tree(int top)
+{
+    static const char *const links[] = {"a", "t", "a/b", "a/b/l", "a/b/n", "t/u"};
+    for (size_t one = 0; one < sizeof links / sizeof *links; one++)
+        __real_unlinkat(top, links[one], 0);
+    for (size_t one = 0; one < FILES; one++)
+        __real_unlinkat(top, files[one], 0);
+    for (size_t one = DIRS; one > 0; one--)
+        __real_unlinkat(top, dirs[one - 1], AT_REMOVEDIR);
 }
 
 /* Removes what a directory has, whatever that is. */
@@ -105,7 +121,7 @@ static void is_unchanged_outside(void)
     look_outside(now);
     for (int one = 0; one < OUTSIDE; one++)
         expect(!is_changed(&outside[one], &now[one], one), "%s: out/%s is as it was", what_is_done, outside_names[one]);
-    look_outside(outside);
+    memcpy(outside, now, sizeof outside);
 }
 
 static void is_inside(const struct stat *about, const char *what)
@@ -239,9 +255,53 @@ static void unmount_at(const char *name)
 static void mount_a(void) { mount_at("a", "a"); }
 static void mount_b(void) { mount_at("a/b", "a/b"); }
 static void mount_f(void) { mount_at("a/b/f", "a/b/f"); }
+static void mount_t(void) { mount_at("t", "t"); }
+static void mount_new(void) { mount_at(is_there(root, "a/b/new/.") ? "a" : "secret", "a/b/new"); }
 static void unmount_a(void) { unmount_at("a"); }
 static void unmount_b(void) { unmount_at("a/b"); }
 static void unmount_f(void) { unmount_at("a/b/f"); }
+static void unmount_t(void) { unmount_at("t"); }
+static void unmount_new(void) { unmount_at("a/b/new"); }
+
+/* ---- a/b is a mount, which is moved and taken off */
+
+/* By a process of its own, since a thread in a jail comes to none of these paths. */
+static int hand = -1, store;
+static bool is_root_moved;     /* the mount is the root's own, and not a/b */
+static char where_store[PATH_MAX], where_moved[PATH_MAX + 8];
+enum { LAY = 'l', MOVE_OUT = 'o', MOVE_BACK = 'b', TAKE_OFF = 't', CLEAN = 'c' };
+
+static void lend_hand(int fd)
+{
+    char what, target[PATH_MAX + 8];
+    snprintf(target, sizeof target, "%s%s", where_root, is_root_moved ? "" : "/a/b");
+    while (read(fd, &what, 1) == 1) {
+        if (what == LAY)
+            sure(mount(where_store, target, NULL, MS_BIND, NULL), target);
+        else if (what == MOVE_OUT)
+            mount(target, where_moved, NULL, MS_MOVE, NULL);
+        else if (what == MOVE_BACK)
+            mount(where_moved, target, NULL, MS_MOVE, NULL);
+        else if (what == TAKE_OFF)
+            umount2(target, MNT_DETACH);
+        while (what == CLEAN && (umount2(target, MNT_DETACH) == 0 || umount2(where_moved, MNT_DETACH) == 0))
+            continue;
+        sure((int)write(fd, &what, 1), "write");
+    }
+    _exit(0);
+}
+
+static void ask_hand(char what)
+{
+    if (hand < 0)
+        return;
+    sure((int)write(hand, &what, 1), "write");
+    sure((int)read(hand, &what, 1), "read");
+}
+
+static void move_mount_out(void) { ask_hand(MOVE_OUT); }
+static void move_mount_back(void) { ask_hand(MOVE_BACK); }
+static void take_mount_off(void) { ask_hand(TAKE_OFF); }
 
 /* The first two are about the root's own directory. */
 enum { ROOT_ACTS = 2 };
@@ -282,148 +342,21 @@ static const struct act mount_acts[] = {
     {"a mount over b for a while longer", mount_b, unmount_b, 3, 0},
     {"a mount over f", mount_f, NULL, 0, 0},
     {"a mount over f for a while", mount_f, unmount_f, 2, 0},
+    {"a mount over t", mount_t, NULL, 0, 0},
+    {"a mount over what is made", mount_new, NULL, 0, 0},
+};
+/* The last two take the mount off. */
+static const struct act moved_acts[] = {
+    {"the mount is moved out", move_mount_out, NULL, 0, 0},
+    {"the mount is moved out, and back", move_mount_out, move_mount_back, 1, 0},
+    {"the mount is moved out, and back later", move_mount_out, move_mount_back, 3, 0},
+    {"the mount is moved out, and a link comes", move_mount_out, link_b, 1, 0},
+    {"the mount is taken off", take_mount_off, NULL, 0, 0},
+    {"the mount is taken off, and a link comes", take_mount_off, link_b, 1, 0},
 };
 static const struct act brought = {"a directory from outside is brought to one that was moved out", bring_outside, NULL, 0, 0};
 static const struct act lost_root = {"another file gets the number", put_another, NULL, 0, 0};
-enum { ALL_ACTS = sizeof all_acts / sizeof *all_acts, MOUNT_ACTS = sizeof mount_acts / sizeof *mount_acts };
-
-/* ---- a try */
-
-static int descriptors(void)
-{
-    int count = 0;
-    for (int fd = 0; fd < 48; fd++)
-        count += __real_fcntl(fd, F_GETFD) >= 0;
-    return count;
-}
-
-static bool may_mount;
-
-static void begin_try(void)
-{
-    struct stat now;
-    if (may_mount)
-        for (int one = 0; one < 2; one++) {
-            unmount_f();
-            unmount_b();
-            unmount_a();
-        }
-    if (breaks_promise)
-        sure(dup3(spare_root, root, O_CLOEXEC), "dup3");
-    sure(__real_fstatat(base, "out", &now, 0), "out");
-    if (now.st_ino != outside[0].st_ino)
-        exchange_root();
-    if (lies)
-        take_outside_back();
-    clear(root);
-    clear(gone);
-    make_tree(root);
-}
-
-static bool is_expected(int error)
-{
-    switch (error) {
-    case EAGAIN: case ENOENT: case ENOTDIR: case ELOOP: case EXDEV: case EEXIST: case EISDIR: case ENOTEMPTY: case EBUSY:
-        return true;
-    case EINVAL:
-        /* Of what is no link any more; of a directory that would be renamed into itself. */
-    case EPERM:
-        /* Of a directory that would get another name. */
-        return true;
-    default:
-        /* If /proc lacks a descriptor's link, it is no proc(5). */
-        return breaks_promise || error == acting->fault || (error == ENOSYS && acting->fault == ENOENT);
-    }
-}
-
-static bool says_made(void)
-{
-    struct inroot_error why;
-    return inroot_last_error(&why) == 0 && strcmp(why.step, "Give") == 0;
-}
-
-static void check_result(const struct row *row, int result, bool acted)
-{
-    bool opens = row->what & (OPENS | GIVES | OPENS_NEW);
-    if ((!acted || (acting->fault == EINTR && repeats)) && !(row->what & MAY_MISS))
-        expect(result >= 0, "%s: it gives %d where nobody acts (%s)", what_is_done, result, failed_call);
-    if (result < 0)
-        expect(is_expected(-result), "%s: it fails by %d (%s)", what_is_done, result, failed_call);
-    if (opens && result >= 0)
-        is_inside_fd(result, "what is opened");
-    if (row->changes == ANY || breaks_promise)
-        return;
-    bool made = result >= 0 || ((row->what & GIVES) && says_made());
-    int due = made ? row->changes : 0;
-    expect(changes == due, "%s: it gives %d, and has changed %d entries", what_is_done, result, changes);
-}
-
-/* Somebody acts before this system call. Gives whether the call came so far. */
-static bool try_once(const char *who, const struct row *row, const struct act *act, int first)
-{
-    char words[256];
-    begin_try();
-    snprintf(words, sizeof words, "%s, %s, %s at %d", who, row->name, act->name, first);
-    what_is_done = words;
-    int before = descriptors();
-    acting = act;
-    moment = changes = twice_closed = 0;
-    repeats = false;
-    moment_of_first = first;
-    moment_of_second = act->later > 0 ? first + act->later : 0;
-    counting = !(row->what & COUNTS_ITSELF);
-    int result = row->call();
-    counting = false;
-    check_result(row, result, moment >= first);
-    if (row->what & (OPENS | GIVES | OPENS_NEW) && result >= 0)
-        __real_close(result);
-    gives(descriptors(), before, "%s: open descriptors", what_is_done);
-    gives(twice_closed, 0, "%s: descriptors closed that were none", what_is_done);
-    if (!breaks_promise && !lies)
-        is_unchanged_outside();
-    tries++;
-    return moment >= first;
-}
-
-/* So many system calls the call makes, if nobody acts. */
-static int count_moments(const char *who, const struct row *row)
-{
-    static const struct act nothing = {"nobody acts", do_nothing, NULL, 0, 0};
-    try_once(who, row, &nothing, INT_MAX);
-    return moment;
-}
-
-/* Each stride-th moment, and others of each row, act and round. A call that is disturbed may come to later ones. */
-static void try_each(const char *who, const struct row *row, const struct act *act, int length)
-{
-    static unsigned turn;
-    const bool is_of_made = act->first == replace_new || act->first == link_new;
-    /* Between the making and the giving there is one moment. */
-    const int step = is_of_made && row->what & GIVES ? 1 : stride;
-    int first = 1 + (int)(turn++ % (unsigned)step);
-    /* Others may find what was put there. */
-    if ((act->first == replace_new && !(row->what & GIVES)) || first > length)
-        return;
-    while (try_once(who, row, act, first))
-        first += step;
-}
-
-static void begin_acts(const char *where)
-{
-    char path[PATH_MAX];
-    sure(realpath(where, path) == NULL ? -1 : 0, where);
-    snprintf(where_root, sizeof where_root, "%.4000s/box", path);
-    snprintf(where_out, sizeof where_out, "%.4000s/out", path);
-    base = sure(__real_openat(AT_FDCWD, path, O_PATH | O_DIRECTORY | O_CLOEXEC), path);
-    sure(__real_mkdirat(base, "box", 0755), "box");
-    sure(__real_mkdirat(base, "out", 0755), "out");
-    root = sure(__real_openat(base, "box", O_PATH | O_DIRECTORY | O_CLOEXEC), "box");
-    spare_root = sure(__real_openat(base, "box", O_PATH | O_DIRECTORY | O_CLOEXEC), "box");
-    out = sure(__real_openat(base, "out", O_PATH | O_DIRECTORY | O_CLOEXEC), "out");
-    make_tree(out);
-    sure(__real_mkdirat(out, "x", 0755), "x");
-    gone = sure(__real_openat(out, "x", O_PATH | O_DIRECTORY | O_CLOEXEC), "x");
-    look_outside(outside);
-}
+enum { ALL_ACTS = sizeof all_acts / sizeof *all_acts, MOUNT_ACTS = sizeof mount_acts / sizeof *mount_acts,
+       MOVED_ACTS = sizeof moved_acts / sizeof *moved_acts, MOVES = MOVED_ACTS - 2 };
 
 #endif

@@ -34,15 +34,28 @@ static bool repeats;
 static int moment, moment_of_first, moment_of_second, changes, twice_closed;
 static const struct act *acting;
 
+/* From the first moment on no descriptor is left: each call that would give one fails by this, if it isn't zero. */
+static int shortage;
+
 static void begin_counting(void) { counting = true; }
 static void end_counting(void) { counting = false; }
 
+/* Of what kind each system call of a call was, the last time that it was counted: the function, and what it was about. */
+struct kind {
+    const char *function;
+    long about;
+};
+enum { KINDS = 1024 };
+static struct kind kinds[KINDS];
+
 /* Whether this system call is the one that fails. */
-#define ask() ask_of(__func__)
-static bool ask_of(const char *function)
+#define ask() ask_of(__func__, 0)
+static bool ask_of(const char *function, long about)
 {
     if (!counting)
         return false;
+    if (moment < KINDS)
+        kinds[moment] = (struct kind){function, about};
     counting = false;
     int error = errno;
     moment++;
@@ -55,6 +68,14 @@ static bool ask_of(const char *function)
         failed_call = function;
     errno = fails ? acting->fault : error;
     counting = true;
+    return fails;
+}
+
+static bool is_short(void)
+{
+    bool fails = counting && shortage != 0 && moment >= moment_of_first;
+    if (fails)
+        errno = shortage;
     return fails;
 }
 
@@ -102,7 +123,6 @@ int __wrap_statx(int dir, const char *name, int flags, unsigned what, struct sta
 #endif
 BESIDE(int, fchdir, (int fd), (fd))
 BESIDE(int, chdir, (const char *path), (path))
-BESIDE(ssize_t, readlinkat, (int dir, const char *name, char *text, size_t size), (dir, name, text, size))
 BESIDE(int, fchmodat, (int dir, const char *name, mode_t mode, int how), (dir, name, mode, how))
 BESIDE(int, fchownat, (int dir, const char *name, uid_t user, gid_t group, int how), (dir, name, user, group, how))
 BESIDE(int, utimensat, (int dir, const char *name, const struct timespec *times, int how), (dir, name, times, how))
@@ -112,16 +132,12 @@ CHANGING(symlinkat, (const char *text, int dir, const char *name), (text, dir, n
 CHANGING(linkat, (int dir, const char *name, int to, const char *new, int how), (dir, name, to, new, how))
 CHANGING(unlinkat, (int dir, const char *name, int how), (dir, name, how))
 
-int __real_fcntl(int fd, int what, ...);
-int __wrap_fcntl(int fd, int what, ...);
-int __wrap_fcntl(int fd, int what, ...)
+static int my_fcntl(int fd, int what, int with)
 {
-    va_list more;
-    va_start(more, what);
-    int with = va_arg(more, int);
-    va_end(more);
-    return ask() ? -1 : __real_fcntl(fd, what, with);
+    return ask() || (what == F_DUPFD_CLOEXEC && is_short()) ? -1 : __real_fcntl(fd, what, with);
 }
+
+INSTEAD_OF_FCNTL(my_fcntl)
 
 int __real_close(int fd);
 int __wrap_close(int fd);
@@ -144,11 +160,22 @@ int __wrap_nanosleep(const struct timespec *time, struct timespec *rest)
     return 0;
 }
 
+/* Of a descriptor that is open, or by a link in /proc, or of an entry. */
+static long about_name(const char *name)
+{
+    return name[0] == 0 ? 1 : strcmp(name, ".") == 0 ? 2 : strcmp(name, "..") == 0 ? 3 : name[0] == 't' && name[1] == 'h' ? 4 : 5;
+}
+
+ssize_t __wrap_readlinkat(int dir, const char *name, char *text, size_t size)
+{
+    return ask_of(__func__, about_name(name)) ? -1 : __real_readlinkat(dir, name, text, size);
+}
+
 static int my_openat(int dir, const char *name, int how, mode_t mode)
 {
-    bool fails = ask();
+    bool fails = ask_of(__func__, (how & (O_DIRECTORY | O_CREAT)) + about_name(name));
     repeats = fails && how & O_PATH;
-    int fd = fails ? -1 : __real_openat(dir, name, how, mode);
+    int fd = fails || is_short() ? -1 : __real_openat(dir, name, how, mode);
     changes += counting && fd >= 0 && (how & (O_CREAT | O_EXCL)) == (O_CREAT | O_EXCL);
     return fd;
 }
@@ -157,10 +184,13 @@ INSTEAD_OF_OPENAT(my_openat)
 
 static long my_syscall(long number, const long *with)
 {
-    if (ask()) {
+    const struct open_how *how = number == SYS_openat2 ? (const struct open_how *)with[2] : NULL;
+    if (ask_of(__func__, how == NULL ? number : number + ((long)how->resolve << 16))) {
         repeats = number == SYS_openat2 || number == SYS_getdents64;
         return -1;
     }
+    if (number == SYS_openat2 && is_short())
+        return -1;
     if (number == SYS_openat2 && no_openat2) {
         errno = ENOSYS;
         return -1;

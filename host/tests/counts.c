@@ -14,7 +14,6 @@
 
 #include <errno.h>
 #include <pthread.h>
-#include <stdarg.h>
 #include <string.h>
 #include <sys/mman.h>
 #include <sys/stat.h>
@@ -44,18 +43,13 @@ COUNTED(int, mkdirat, (int dir, const char *name, mode_t mode), (dir, name, mode
 COUNTED(int, mknodat, (int dir, const char *name, mode_t mode, dev_t dev), (dir, name, mode, dev))
 COUNTED(int, unlinkat, (int dir, const char *name, int flags), (dir, name, flags))
 
-int __real_fcntl(int fd, int what, ...);
-int __wrap_fcntl(int fd, int what, ...);
-
-int __wrap_fcntl(int fd, int what, ...)
+static int my_fcntl(int fd, int what, int with)
 {
-    va_list more;
-    va_start(more, what);
-    int with = va_arg(more, int);
-    va_end(more);
     made++;
     return __real_fcntl(fd, what, with);
 }
+
+INSTEAD_OF_FCNTL(my_fcntl)
 
 static int my_openat(int dir, const char *name, int flags, mode_t mode)
 {
@@ -246,7 +240,7 @@ static const struct {
     {"make and give a/b/new", "a/b/new", give, {12, 14, 10, 16, 11, 14}},
     {"make a/b/f with all, which is there", "a/b/f", make_file_all, {6, 14, 5, 13, 3, 11}},
     {"make n/e/w with all", "n/e/w", make_file_all, {32, 26, 33, 30, 29, 26}},
-    {"tell the place of a/b", "a/b", tell_place, {10, 10, 12, 12, 10, 10}},
+    {"tell the place of a/b", "a/b", tell_place, {8, 8, 10, 10, 8, 8}},
 };
 
 enum { ROWS = sizeof rows / sizeof *rows };

@@ -1,6 +1,6 @@
 /*
  * filters: a filter refuses system calls that newer kernels and C libraries have, by EPERM as sandboxes do or by
- * ENOSYS as older kernels do. The calls go on.
+ * ENOSYS as older kernels do. The calls go on. And a filter's error is given as it is where the library keeps a descriptor.
  *
  * usage: filters DIR. Exits 0 where that holds. 78: no right to be filtered here.
  */
@@ -50,6 +50,17 @@ static void under_filter(void)
         each(INROOT_JAIL);
 }
 
+/* A descriptor of the library's own that got the number of a standard file can't be moved: the call gives the filter's error. */
+static void of_a_standard_file(void)
+{
+    int proc = sure(fcntl(sure(open("/proc", O_PATH | O_DIRECTORY | O_CLOEXEC), "/proc"), F_DUPFD_CLOEXEC, 100), "proc");
+    close(STDIN_FILENO);
+    int before = open_descriptors();
+    refuse_where(SYS_fcntl, 1, ~0U, F_DUPFD_CLOEXEC, EPERM);
+    gives(inroot_use_proc(proc), -EPERM, "a /proc that can't be kept");
+    gives(open_descriptors(), before, "open descriptors");
+}
+
 int main(int count, char **words)
 {
     static const long calls[] = {FACCESSAT2, SYS_statx, OPENAT2};
@@ -68,6 +79,7 @@ int main(int count, char **words)
             error = errors[by];
             skipped |= apart(under_filter) == NO_RIGHT;
         }
+    skipped |= apart(of_a_standard_file) == NO_RIGHT;
     printf("filters: %d not as they are to be\n", wrong);
     return wrong != 0 ? 1 : skipped ? NO_RIGHT : 0;
 }

@@ -9,6 +9,7 @@
 #define _GNU_SOURCE
 #include "../inroot.h"
 #include "../openat2.h"
+#include "wraps.h"
 
 #include <dirent.h>
 #include <errno.h>
@@ -107,14 +108,10 @@ WRAP(int, statx, (int dir, const char *name, int flags, unsigned what, struct st
 WRAP(int, unlinkat, (int dir, const char *name, int flags), (dir, name, flags))
 WRAP(int, linkat, (int from, const char *old, int to, const char *new, int flags), (from, old, to, new, flags))
 
-int __real_openat(int dir, const char *name, int flags, ...);
-int __wrap_openat(int dir, const char *name, int flags, ...);
 int __real_open(const char *name, int flags, ...);
 int __wrap_open(const char *name, int flags, ...);
 int __real_close(int fd);
 int __wrap_close(int fd);
-long __real_syscall(long number, ...);
-long __wrap_syscall(long number, ...);
 
 static int counted(int fd)
 {
@@ -122,18 +119,16 @@ static int counted(int fd)
     return fd;
 }
 
-int __wrap_openat(int dir, const char *name, int flags, ...)
+static int my_openat(int dir, const char *name, int flags, mode_t mode)
 {
-    va_list more;
-    va_start(more, flags);
-    mode_t mode = flags & O_CREAT || (flags & O_TMPFILE) == O_TMPFILE ? va_arg(more, mode_t) : 0;
-    va_end(more);
     int error = fails();
     if (error == 0)
         return counted(__real_openat(dir, name, flags, mode));
     errno = error;
     return -1;
 }
+
+INSTEAD_OF_OPENAT(my_openat)
 
 int __wrap_open(const char *name, int flags, ...)
 {
@@ -148,15 +143,8 @@ int __wrap_open(const char *name, int flags, ...)
     return -1;
 }
 
-int __real_fcntl(int fd, int what, ...);
-int __wrap_fcntl(int fd, int what, ...);
-
-int __wrap_fcntl(int fd, int what, ...)
+static int my_fcntl(int fd, int what, int with)
 {
-    va_list more;
-    va_start(more, what);
-    int with = va_arg(more, int);
-    va_end(more);
     int error = fails();
     if (error == 0) {
         int result = __real_fcntl(fd, what, with);
@@ -165,6 +153,8 @@ int __wrap_fcntl(int fd, int what, ...)
     errno = error;
     return -1;
 }
+
+INSTEAD_OF_FCNTL(my_fcntl)
 
 static bool was_kept(int fd)
 {
@@ -196,26 +186,21 @@ static long long_name(char *records)
     return length;
 }
 
-/* Takes more words than were handed in, as the function in its place does. */
-__attribute__((no_sanitize("address"))) long __wrap_syscall(long number, ...)
+static long my_syscall(long number, const long *with)
 {
-    long with[6];
-    va_list more;
-    va_start(more, number);
-    for (int at = 0; at < 6; at++)
-        with[at] = va_arg(more, long);
-    va_end(more);
     if (number == SYS_getdents64 && plan.armed && plan.left > 0 && *plan.at == 0xcf)
         return long_name((char *)with[1]);
     int error = fails();
     if (error == 0) {
-        long result = __real_syscall(number, with[0], with[1], with[2], with[3], with[4], with[5]);
+        long result = REAL_SYSCALL(number, with);
         return number == SYS_openat2 ? counted((int)result) : result;
     }
     /* Else the program would go on without openat2(2) from here on. */
     errno = number == SYS_openat2 && error == EPERM ? EIO : error;
     return -1;
 }
+
+INSTEAD_OF_SYSCALL(my_syscall)
 
 /* ---- the tree */
 

@@ -1,9 +1,10 @@
 /*
- * given: what a call makes is given by a descriptor (INROOT_GIVE, and O_PATH with O_CREAT); by /proc, in a jail, and in one that
- * trusts. Between the making and the opening the entry is moved, and another put in its place: then nothing is given. To be
- * linked with --wrap=openat.
+ * given: what a call makes is given by a descriptor (INROOT_GIVE, and O_PATH with O_CREAT); by /proc, in a jail, and
+ * in one that trusts. Between the making and the opening the entry is moved, and another put in its place: then
+ * nothing is given; nor is what can't be looked at. To be linked with --wrap=openat, statx and fstat.
  *
- * usage: given DIR. Exits 0 where each is as inroot.h says. 78: no right to change a root, so that a part is left out.
+ * usage: given DIR. Exits 0 where each is as inroot.h says. 78: no right to change a root, so that a part is left
+ * out.
  */
 #define _GNU_SOURCE
 #include "support.h"
@@ -18,6 +19,9 @@ static int root, jail_flags = -1;
 /* What somebody else does right before the entry that was made is opened by its name. */
 static void (*meanwhile)(void);
 static int refusal;
+
+/* The entry that was opened; and why it can't be looked at. */
+static int opened = -1, look_refusal;
 
 int __real_openat(int dir, const char *name, int flags, ...);
 int __wrap_openat(int dir, const char *name, int flags, ...);
@@ -43,8 +47,35 @@ int __wrap_openat(int dir, const char *name, int flags, ...)
             errno = refusal;
             return -1;
         }
+        return opened = __real_openat(dir, name, flags, mode);
     }
     return __real_openat(dir, name, flags, mode);
+}
+
+static bool is_refused(int fd)
+{
+    if (look_refusal == 0 || fd != opened)
+        return false;
+    errno = look_refusal;
+    return true;
+}
+
+#ifdef STATX_INO
+int __real_statx(int dir, const char *name, int flags, unsigned what, struct statx *about);
+int __wrap_statx(int dir, const char *name, int flags, unsigned what, struct statx *about);
+
+int __wrap_statx(int dir, const char *name, int flags, unsigned what, struct statx *about)
+{
+    return is_refused(dir) ? -1 : __real_statx(dir, name, flags, what, about);
+}
+#endif
+
+int __real_fstat(int fd, struct stat *about);
+int __wrap_fstat(int fd, struct stat *about);
+
+int __wrap_fstat(int fd, struct stat *about)
+{
+    return is_refused(fd) ? -1 : __real_fstat(fd, about);
 }
 
 /* ---- each kind of entry */
@@ -192,6 +223,21 @@ static void refused(int at)
     }
 }
 
+/* What can't be looked at was made; its error is told, and no descriptor stays open. */
+static void unseen(int at)
+{
+    for (int kind = 0; kind < KINDS; kind++) {
+        int before = open_descriptors();
+        opened = -1;
+        look_refusal = EIO;
+        gives(make_one(at, kind, INROOT_GIVE), -EIO, "kind %d that can't be looked at", kind);
+        look_refusal = 0;
+        gives(open_descriptors(), before, "kind %d: descriptors", kind);
+        expect(faccessat(root, "a/b/new", F_OK, AT_SYMLINK_NOFOLLOW) == 0, "kind %d wasn't made", kind);
+        clean();
+    }
+}
+
 /* O_PATH with O_CREAT gives what is there as well. */
 static void paths(int at)
 {
@@ -220,6 +266,7 @@ static void each(void)
     others(at);
     another_device(at);
     refused(at);
+    unseen(at);
     paths(at);
     expect(open_descriptors() == before, "%d descriptors are left", open_descriptors() - before);
 }

@@ -10,6 +10,7 @@
 #include <sys/types.h>
 
 int __real_openat(int dir, const char *name, int flags, ...);
+int __real_fcntl(int fd, int what, ...);
 long __real_syscall(long number, ...);
 ssize_t __real_readlinkat(int dir, const char *name, char *text, size_t size);
 ssize_t __wrap_readlinkat(int dir, const char *name, char *text, size_t size);
@@ -25,6 +26,18 @@ ssize_t __wrap_readlinkat(int dir, const char *name, char *text, size_t size);
                           ? va_arg(more, mode_t) : 0;                                     \
         va_end(more);                                                                     \
         return INSTEAD(dir, name, flags, mode);                                           \
+    }
+
+/* INSTEAD(fd, what, with) in the place of fcntl(2), which takes a number last. It takes one where none was handed in, too. */
+#define INSTEAD_OF_FCNTL(INSTEAD)                                                         \
+    int __wrap_fcntl(int fd, int what, ...);                                              \
+    int __wrap_fcntl(int fd, int what, ...)                                               \
+    {                                                                                     \
+        va_list more;                                                                     \
+        va_start(more, what);                                                             \
+        int with = va_arg(more, int);                                                     \
+        va_end(more);                                                                     \
+        return INSTEAD(fd, what, with);                                                   \
     }
 
 /* INSTEAD(number, with) in the place of syscall(2), with six arguments. It takes more than were handed in. */

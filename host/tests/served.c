@@ -1,0 +1,357 @@
+/*
+ * served: below the root is a file system whose server lies (FUSE). Each question is answered by an error, once, some times or for
+ * long; inode numbers are all the same, or new in each answer; a directory is a file by another answer; names have a slash, are
+ * `..`, are empty or too long; a link's text is empty, has 4,095 bytes, or leads out. No call opens, lists or removes anything
+ * outside, none leaves a descriptor open, and as soon as the server tells the truth each call gives what it gave before. An object is
+ * known by its size, about which the server doesn't lie.
+ *
+ * usage: served DIR. Exits 0 where that holds. 77: no openat2(2) here. 78: no right to mount such a file system, or to change a root.
+ */
+#define _GNU_SOURCE
+#include <sched.h>
+
+#include "server.h"
+
+#include <sys/vfs.h>
+
+static int root, at;
+static char where_box[4096], where_served[4096];
+static struct stat secret;
+static const char *who = "";
+
+/* ---- the calls. Each gives 0 and the number of the object that it found, or -errno. */
+
+static int number_of(int fd)
+{
+    struct stat about;
+    int number = fd < 0 ? fd : fstat(fd, &about) == 0 ? (int)about.st_size - SIZE_OF_NONE : -errno;
+    if (fd >= 0 && fstat(fd, &about) == 0)
+        expect(about.st_ino != secret.st_ino || about.st_dev != secret.st_dev, "%s: the file outside is opened", who);
+    if (fd >= 0)
+        close(fd);
+    return number;
+}
+
+static const char *prefix = "";
+
+static const char *below(const char *path)
+{
+    static char text[256];
+    snprintf(text, sizeof text, "%s%s", prefix, path);
+    return text;
+}
+
+static int open_file(void) { return number_of(inroot_open(at, below("a/b/f"), 0)); }
+static int open_one_by_one(void) { return number_of(inroot_open(at, below("a/b/f"), INROOT_ONE_BY_ONE)); }
+static int open_up(void) { return number_of(inroot_open(at, below("a/b/../../t/f"), 0)); }
+static int open_link(void) { return number_of(inroot_open(at, below("a/b/l"), 0)); }
+static int open_below(void) { return number_of(inroot_open(at, below("a/b/../b/f"), INROOT_BELOW)); }
+static int open_to_read(void) { return number_of(inroot_openat(at, below("a/b/f"), O_RDONLY, 0, 0)); }
+static int open_on_mount(void) { return number_of(inroot_open(at, below("a/../a/b/f"), INROOT_NO_XDEV)); }
+
+static int open_from(void)
+{
+    int other = -1, dir = inroot_open(at, below("a/b"), 0);
+    int number = dir < 0 ? dir : inroot_at_begin(at, dir, &other);
+    if (number == 0) {
+        number = number_of(inroot_open(other, "../../t/f", 0));
+        inroot_at_end(other);
+    }
+    if (dir >= 0)
+        close(dir);
+    return number;
+}
+
+static int place(void)
+{
+    char text[256] = "";
+    int fd = inroot_open(at, below("a/b/f"), 0);
+    int length = fd < 0 ? fd : (int)inroot_place(at, fd, text, sizeof text);
+    if (fd >= 0)
+        close(fd);
+    if (length >= 0)
+        expect(strcmp(text + 1, below("a/b/f")) == 0, "%s: the place is '%s'", who, text);
+    return length;
+}
+
+static int walk(void)
+{
+    struct inroot_walk *walk;
+    struct inroot_walk_entry entry;
+    int got, count = inroot_walk_open(at, below("a"), 0, 0, &walk);
+    if (count != 0)
+        return count;
+    for (; (got = inroot_walk_next(walk, &entry)) != 0; count += got > 0) {
+        const char *name = entry.name;
+        expect(got < 0 || (name[0] != 0 && strchr(name, '/') == NULL && strcmp(name, ".") != 0 && strcmp(name, "..") != 0),
+               "%s: a walk gives the name '%s'", who, name);
+    }
+    inroot_walk_close(walk);
+    return count;
+}
+
+static int remove_all(void) { return (int)inroot_remove_all(at, below("a/b/d"), INROOT_NO_RETRY); }
+
+static const struct {
+    const char *name;
+    int (*call)(void);
+    int found;
+} rows[] = {
+    {"open a file", open_file, LABEL_FILE},
+    {"open a file, name by name", open_one_by_one, LABEL_FILE},
+    {"open behind ..", open_up, LABEL_OTHER},
+    {"open a link's target", open_link, LABEL_OTHER},
+    {"open by the last check alone", open_below, LABEL_FILE},
+    {"open for reading", open_to_read, LABEL_FILE},
+    {"open on one mount", open_on_mount, LABEL_FILE},
+    {"open from a directory", open_from, LABEL_OTHER},
+    {"the place of a file", place, 0},
+    {"walk", walk, 0},
+    {"remove all", remove_all, 0},
+};
+enum { ROWS = sizeof rows / sizeof *rows, ONE_MOUNT = 6, FIRST_WITHOUT = 8 };
+
+/* ---- what is lied about */
+
+static void tell_truth(void)
+{
+    *lies = (struct lies){.text = "../../t/f", .text_length = 9, .questions = lies->questions};
+}
+
+static int usual[ROWS];
+
+static void is_as_usual(int row)
+{
+    tell_truth();
+    gives(rows[row].call(), usual[row], "%s, %s: afterwards", who, rows[row].name);
+}
+
+/* The call finds the object, or fails. Nothing stays open, and nothing is lost for later. */
+static void try_row(int row)
+{
+    int before = open_descriptors();
+    int got = rows[row].call();
+    expect(got < 0 || got == usual[row] || row >= FIRST_WITHOUT, "%s, %s: it gives %d", who, rows[row].name, got);
+    gives(open_descriptors(), before, "%s, %s: open descriptors", who, rows[row].name);
+    is_as_usual(row);
+}
+
+static void with_errors(void)
+{
+    static const int errors[] = {EPERM, ENOSYS, EINTR, EAGAIN, EACCES, ENOENT, EIO, ESTALE, EXDEV, ELOOP, ENOTDIR, EBADF};
+    static const uint32_t asked[] = {FUSE_LOOKUP, FUSE_GETATTR, FUSE_READLINK, FUSE_OPENDIR, FUSE_READDIR, ANY_QUESTION};
+    static const int times[] = {1, 3, 60};
+    for (unsigned error = 0; error < sizeof errors / sizeof *errors; error++)
+        for (unsigned kind = 0; kind < sizeof asked / sizeof *asked; kind++)
+            for (unsigned row = 0; row < ROWS; row++) {
+                const int often = times[(error + kind + row) % (sizeof times / sizeof *times)];
+                char words[128];
+                snprintf(words, sizeof words, "question %u gets %d, %d times", asked[kind], errors[error], often);
+                who = words;
+                lies->asked = asked[kind];
+                lies->error = errors[error];
+                lies->times = often;
+                try_row((int)row);
+            }
+}
+
+static void with_numbers(void)
+{
+    for (int row = 0; row < ROWS; row++) {
+        who = "all numbers are the same";
+        lies->same_number = 1;
+        expect(row >= FIRST_WITHOUT || rows[row].call() == usual[row], "%s, %s: another object", who, rows[row].name);
+        try_row(row);
+        who = "a number is new in each answer";
+        lies->new_number = 1;
+        try_row(row);
+    }
+}
+
+/* The kernel gives EIO for such an object from then on: so this comes last. */
+static void with_kinds(void)
+{
+    who = "a directory is a file, and a file a directory";
+    for (uint32_t node = NODES; node > 0; node--)
+        for (int row = 0; row < ROWS && nodes[node - 1].kind != S_IFLNK; row++) {
+            lies->other_kind = node;
+            int before = open_descriptors(), got = rows[row].call();
+            expect(got < 0 || got == usual[row] || row >= FIRST_WITHOUT, "%s, %s: it gives %d", who, rows[row].name, got);
+            gives(open_descriptors(), before, "%s, %s: open descriptors", who, rows[row].name);
+            tell_truth();
+        }
+}
+
+static void with_names(void)
+{
+    static const char *const what[] = {
+        "no names", "a slash in a name", "dots", "an empty name", "a long name", "a zero in a name", "no such name",
+    };
+    for (uint32_t names = 0; names < NAMES; names++)
+        for (int row = FIRST_WITHOUT; row < ROWS; row++) {
+            who = what[names];
+            lies->names = names;
+            try_row(row);
+        }
+}
+
+/* A link may lead anywhere in the root. Each text, and the object, or the error where the kernel has none of its own. */
+static void with_texts(void)
+{
+    static char longest[4095];
+    static const struct {
+        const char *text;
+        uint32_t length;
+        int served, own;
+    } texts[] = {
+        {"", 0, -ENOENT, -ENOENT},
+        {"../../../../out/secret", 22, -ENOENT, -ENOENT},
+        {"f\0/../../../../out/secret", 26, LABEL_FILE, LABEL_FILE},
+        {"/a/b/f", 6, -ENOENT, LABEL_FILE},
+        {longest, 4095, -ENOENT, -ENOENT},
+    };
+    memset(longest, '.', sizeof longest);
+    for (size_t one = 1; one < sizeof longest; one += 2)
+        longest[one] = '/';
+    memcpy(longest, "none", 4);
+    for (size_t one = 0; one < sizeof texts / sizeof *texts; one++) {
+        who = texts[one].text;
+        memcpy(lies->text, texts[one].text, texts[one].length);
+        lies->text_length = texts[one].length;
+        gives(open_link(), prefix[0] ? texts[one].served : texts[one].own, "a link's text of %u bytes: '%.30s'", texts[one].length, who);
+        tell_truth();
+    }
+}
+
+static void each(void)
+{
+    tell_truth();
+    who = "nobody lies";
+    for (int row = 0; row < ROWS; row++) {
+        usual[row] = rows[row].call();
+        if (row < FIRST_WITHOUT && row != ONE_MOUNT)
+            gives(usual[row], rows[row].found, "%s, %s", who, rows[row].name);
+    }
+    gives(usual[ONE_MOUNT], prefix[0] ? -EXDEV : LABEL_FILE, "%s, %s", who, rows[ONE_MOUNT].name);
+    with_names();
+    with_texts();
+    with_numbers();
+    /* After an ENOSYS the kernel asks some questions no more, and keeps what directories have. */
+    with_errors();
+    with_kinds();
+}
+
+/* ---- each way to have the root */
+
+/* The file system is mounted in the root, and the root is it or what is above or below it. */
+static void begin(const char *name, unsigned long flags)
+{
+    char path[8192];
+    begin_server(where_served, flags);
+    open_proc();
+    snprintf(path, sizeof path, "%s/%s", where_box, name);
+    root = sure(open(path, O_PATH | O_DIRECTORY | O_CLOEXEC), path);
+}
+
+static void by_descriptor(void)
+{
+    begin("", 0);
+    prefix = "m/";
+    at = root;
+    each();
+}
+
+/* ---- a mount on which no link is followed: whoever refuses to say so changes nothing */
+
+/* Of Linux 5.10; the headers may be older. */
+enum { NO_LINK_FOLLOWED = 256, ST_NO_LINK_FOLLOWED = 0x2000 };
+
+static void follow_none(void)
+{
+    static const int errors[] = {EIO, ENOSYS, EPERM, ENOENT, EINTR, EAGAIN};
+    static const int flags[] = {0, INROOT_ONE_BY_ONE};
+    struct statfs about;
+    if (fstatfs(root, &about) != 0 || !(about.f_flags & ST_NO_LINK_FOLLOWED))
+        return;
+    for (size_t one = 0; one < sizeof flags / sizeof *flags; one++) {
+        tell_truth();
+        gives(inroot_open(at, "a/b/l", flags[one]), -ELOOP, "a link where none is followed, flags %d", flags[one]);
+        for (size_t error = 0; error < sizeof errors / sizeof *errors; error++) {
+            lies->asked = FUSE_STATFS;
+            lies->error = errors[error];
+            lies->times = 3;
+            int got = inroot_open(at, "a/b/l", flags[one] | INROOT_NO_RETRY);
+            gives(got, errors[error] == EINTR ? -ELOOP : -errors[error], "the same, where the server gives %d instead", errors[error]);
+        }
+    }
+}
+
+static void where_no_link_is_followed(void)
+{
+    begin("m", NO_LINK_FOLLOWED);
+    at = root;
+    follow_none();
+}
+
+static void where_no_link_is_followed_in_jail(void)
+{
+    begin("m", NO_LINK_FOLLOWED);
+    jail_or_end(root, 0);
+    at = INROOT_JAIL;
+    follow_none();
+}
+
+/* It is the thread's root and current directory; and that root isn't a mount's, so that no text tells inside from outside. */
+static void in_chroot(void)
+{
+    begin("m/box", 0);
+    if (fchdir(root) != 0 || chroot(".") != 0)
+        _exit(NO_RIGHT);
+    at = root;
+    each();
+}
+
+static void in_jail(void)
+{
+    begin("m", 0);
+    jail_or_end(root, 0);
+    at = INROOT_JAIL;
+    each();
+}
+
+static void in_trusting_jail(void)
+{
+    begin("m", 0);
+    jail_or_end(root, INROOT_TRUST_PROC);
+    at = INROOT_JAIL;
+    each();
+}
+
+int main(int count, char **words)
+{
+    static void (*const ways[])(void) = {
+        by_descriptor, in_chroot, in_jail, in_trusting_jail, where_no_link_is_followed, where_no_link_is_followed_in_jail,
+    };
+    struct stat now;
+    int skipped = 0;
+    if (count != 2)
+        return 2;
+    if (!has_openat2())
+        return NO_OPENAT2;
+    snprintf(where_box, sizeof where_box, "%.4000s/box", words[1]);
+    snprintf(where_served, sizeof where_served, "%.4000s/box/m", words[1]);
+    sure(chdir(words[1]), words[1]);
+    sure(mkdir("box", 0755), "box");
+    sure(mkdir("box/m", 0755), "m");
+    sure(mkdir("out", 0755), "out");
+    sure(mknod("out/secret", S_IFREG | 0600, 0), "secret");
+    sure(stat("out/secret", &secret), "secret");
+    for (size_t one = 0; one < sizeof ways / sizeof *ways; one++) {
+        int status = apart(ways[one]);
+        skipped = status != 0 ? status : skipped;
+    }
+    sure(stat("out/secret", &now), "secret");
+    expect(now.st_ino == secret.st_ino && now.st_ctim.tv_nsec == secret.st_ctim.tv_nsec, "what is outside is as it was");
+    printf("served: %d not as they are to be\n", wrong);
+    return wrong != 0 ? 1 : skipped;
+}
