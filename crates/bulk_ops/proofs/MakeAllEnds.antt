@@ -13,7 +13,7 @@ use Rattle.tree_model.specs.Steps.{kind_of}
 use Rattle.tree_model.specs.Steps.{held as holding}
 use Rattle.step_machine.specs.Machine.{HasEnded}
 use Rattle.step_machine.proofs.Split.{ended_at, runs_split}
-use Rattle.step_resolver.specs.Order.{Handle, IsWant, is_dir_kind, Line, answered, no_room, not_made}
+use Rattle.step_resolver.specs.Order.{Handle, IsWant, is_close, is_dir_kind, Line, answered, no_room, not_made}
 use Rattle.step_resolver.specs.Order as walk
 use Rattle.step_resolver.specs.WalkHistory.{WalkInHistory, IsWalkInHistory, end_of, state_at, timeline}
 use Rattle.step_resolver.specs.Failures.{TellsWant}
@@ -23,7 +23,7 @@ use Rattle.step_resolver.proofs.Underway.WalkInvariant.{Lived, StepAt, held_at, 
 use Rattle.step_resolver.proofs.Underway.LegalHistory.{lived}
 use Rattle.step_resolver.proofs.Underway.OwnSteps.{own_events_leave_nodes}
 use Rattle.step_resolver.proofs.Ends.EveryWalk.{tree_laws, walks_tell}
-use Rattle.bulk_ops.specs.MakeAllOrder.{Making, walking, making, opening, leaving, ending, closing, MakeTurn, more, made, failed, begins, rest_fault, rest_names, gives_up, begins_to_make, after_walk, take, due, is_closing, under_way, calls, LeadsTo}
+use Rattle.bulk_ops.specs.MakeAllOrder.{Making, walking, making, opening, leaving, ending, closing, MakeTurn, more, made, failed, begins, rest_fault, rest_names, gives_up, begins_to_make, after_walk, take, due, under_way, calls, LeadsTo}
 use Rattle.bulk_ops.specs.MakeAllTells.{stays, DeepestAt, start_of, Reach, not_begun, begun, MayDo, Did, of_walk, no_directory, of_rest, for_want, MadeLast, MakeTells, MakesTell}
 use Rattle.bulk_ops.specs.WalkFirst.{walk_part}
 use Rattle.bulk_ops.proofs.Happening.{IsAlone, Rests, HappensAlone, before_or_from}
@@ -121,7 +121,7 @@ module _ {w : WalkInHistory} (lived_ : Lived w) where
     handles = way.handles;
   }
 
-  unmade_memory : (now : ℕ) → TellsWant NoMemory w.lines → (call : Making) → is_closing call ≡ false → GoodCall w now call → GoodTurn w now (take w.way true call (Refused NoMemory))
+  unmade_memory : (now : ℕ) → TellsWant NoMemory w.lines → (call : Making) → is_close (due w.way call) ≡ false → GoodCall w now call → GoodTurn w now (take w.way true call (Refused NoMemory))
   unmade_memory now told (walking walker) e good = absurd good
   unmade_memory now told (making held names n left) e good = want_fails now NoMemory held names (n ∷ left) (inl refl) told good
   unmade_memory now told (opening held names n left) e good = want_fails now NoMemory held names (n ∷ left) (inl refl) told good.way
@@ -129,7 +129,7 @@ module _ {w : WalkInHistory} (lived_ : Lived w) where
   unmade_memory now told (ending held names) e good = want_fails now NoMemory held names [] (inl refl) told good
   unmade_memory now told (closing h hs error) e good = cc (e)
 
-  unmade_book : (now : ℕ) → TellsWant BookFull w.lines → (call : Making) → is_closing call ≡ false → GoodCall w now call → GoodTurn w now (take w.way true call (Refused BookFull))
+  unmade_book : (now : ℕ) → TellsWant BookFull w.lines → (call : Making) → is_close (due w.way call) ≡ false → GoodCall w now call → GoodTurn w now (take w.way true call (Refused BookFull))
   unmade_book now told (walking walker) e good = absurd good
   unmade_book now told (making held names n left) e good = want_fails now BookFull held names (n ∷ left) (inr refl) told good
   unmade_book now told (opening held names n left) e good = want_fails now BookFull held names (n ∷ left) (inr refl) told good.way
@@ -137,7 +137,7 @@ module _ {w : WalkInHistory} (lived_ : Lived w) where
   unmade_book now told (ending held names) e good = want_fails now BookFull held names [] (inr refl) told good
   unmade_book now told (closing h hs error) e good = cc (e)
 
-  unmade_good : (now : ℕ) (error : Errno) → IsWant error → TellsWant error w.lines → (call : Making) → is_closing call ≡ false → GoodCall w now call
+  unmade_good : (now : ℕ) (error : Errno) → IsWant error → TellsWant error w.lines → (call : Making) → is_close (due w.way call) ≡ false → GoodCall w now call
       → GoodTurn w now (take w.way true call (Refused error))
   unmade_good now error (inl e) told call open_step good =
       subst (λ x. GoodTurn w now (take w.way true call (Refused x))) (sym e) (unmade_memory now (subst (λ x. TellsWant x w.lines) e told) call open_step good)

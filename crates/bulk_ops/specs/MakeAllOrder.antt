@@ -14,7 +14,7 @@ use Rattle.step_machine.specs.Machine.{Machine}
 use Rattle.step_machine.specs.Machine as machine
 use Rattle.step_resolver.specs.Asked.{AskedPart, Cur, Up, Named}
 use Rattle.step_resolver.specs.Meaning.{is_too_long}
-use Rattle.step_resolver.specs.Order.{Way, Handle, Walking, Line, IsWant, is_dir_kind, refusal_of}
+use Rattle.step_resolver.specs.Order.{Way, Handle, Walking, Line, IsUnmade, is_dir_kind, refusal_of}
 use Rattle.step_resolver.specs.Order as walk
 
 -- A call under way, by the step that is due. Names are those from the root down to what is held, the innermost first.
@@ -130,14 +130,6 @@ due way (leaving old new names left) = Close old
 due way (ending held names) = NameBelow way.root held.number
 due way (closing h hs error) = Close h
 
-abbrev pub is_closing : Making → Bool
-is_closing (walking walker) = walk.is_closing walker
-is_closing (making held names n left) = false
-is_closing (opening held names n left) = false
-is_closing (leaving old new names left) = true
-is_closing (ending held names) = false
-is_closing (closing h hs error) = true
-
 -- ---- a call's lines
 
 -- the call that goes on, where it does
@@ -146,13 +138,10 @@ under_way (more call) = Some call
 under_way (made handle names) = None
 under_way (failed error) = None
 
--- why a step wasn't made: for want of memory or of room in the book, but no Close for that
-abbrev pub IsUnmade : Making → Errno → Type 0
-IsUnmade call error = IsWant error × (is_closing call ≡ false)
-
 -- calls on this way, step by step
 abbrev pub calls : Way → Machine MakeTurn Making
-calls way = record { more = more; under_way = under_way; due = due way; IsUnmade = IsUnmade; take = take way }
+calls way =
+    record { more = more; under_way = under_way; due = due way; IsUnmade = λ c. IsUnmade (due way c); take = take way }
 
 -- These lines, one by one, lead from one turn to another.
 abbrev pub LeadsTo : Way → MakeTurn → List Line → MakeTurn → Type 0

@@ -14,7 +14,7 @@ use Rattle.tree_model.specs.StepWith.{StepWith}
 use Rattle.tree_model.specs.declared.step.StepOf.TheVariants.{Open, List as ListNames, Close, RemoveFile, RemoveDir}
 use Rattle.step_machine.specs.Machine.{Machine}
 use Rattle.step_machine.specs.Machine as machine
-use Rattle.step_resolver.specs.Order.{Way, Walking, refusal_of, Line, IsWant}
+use Rattle.step_resolver.specs.Order.{Way, Walking, refusal_of, Line, IsUnmade}
 use Rattle.step_resolver.specs.Order as walk
 use Rattle.bulk_ops.specs.declared.remove_all.clearing.TheConstants.{CLEARING_STEPS_MAX}
 
@@ -198,19 +198,6 @@ due (walking way target w) = walk.due way w
 due (clearing stage level above count left) = due_at stage level
 due (closing h hs end) = Close h
 
-abbrev pub closes_at : Stage → Bool
-closes_at removes_file = false
-closes_at opens = false
-closes_at (lists h) = false
-closes_at (shuts h) = true
-closes_at (leaves h) = true
-closes_at removes_dir = false
-
-abbrev pub is_closing : Removing → Bool
-is_closing (walking way target w) = walk.is_closing w
-is_closing (clearing stage level above count left) = closes_at stage
-is_closing (closing h hs end) = true
-
 -- ---- a call's lines
 
 -- the call that goes on, where it does
@@ -219,13 +206,9 @@ under_way (more call) = Some call
 under_way (removed count) = None
 under_way (failed error) = None
 
--- why a step wasn't made: for want of memory or of room in the book, but no Close for that
-abbrev pub IsUnmade : Removing → Errno → Type 0
-IsUnmade call error = IsWant error × (is_closing call ≡ false)
-
 -- calls, step by step
 abbrev pub calls : Machine Turn Removing
-calls = record { more = more; under_way = under_way; due = due; IsUnmade = IsUnmade; take = take }
+calls = record { more = more; under_way = under_way; due = due; IsUnmade = λ c. IsUnmade (due c); take = take }
 
 -- These lines, one by one, lead from one turn to another.
 abbrev pub LeadsTo : Turn → List Line → Turn → Type 0

@@ -1,6 +1,7 @@
 //! The functions by which a C program makes calls: a static library of the exports of `c_protocol`, `step_calls`,
 //! `place_protocol`, `open_or_make`, `make_through_links`, `remove_by_calls`, `look_ups`, `list_directory`,
-//! `call_course`, `ask_place`, `give_entry`, `open_partial`, `kernel_text` and `system_calls`.
+//! `call_course`, `ask_place`, `give_entry`, `open_partial`, `open_at_once`, `enter_directory`, `kernel_text` and
+//! `system_calls`.
 //!
 //! Each export is the function of that name of one of these, with its clauses. What a C program owes is said in
 //! `host/calls.h`: what is kept is empty (zero) before the first call, and is left alone between two turns.
@@ -25,22 +26,24 @@ ghost use Rattle.make_through_links.specs.History.{asked_of as making_asked, is_
 ghost use Rattle.make_through_links.specs.Making.{exchange as making_exchange, IsAt as IsMakingAt, IsWithin};
 ghost use Rattle.system_calls.specs.Objects.{is_node, is_same_object, kind_of};
 ghost use Rattle.system_calls.specs.Opening.{opening_of, reopen_flags};
-ghost use Rattle.system_calls.specs.Tries.{next_try};
 
 mod askings;
 mod calls;
 mod entries;
 mod listings;
 mod looks;
+mod mounts;
 mod removals;
 mod steps;
+mod walks;
+mod ways;
 
 use c_protocol::{Ahead, Answered, Asked, Kept, Left, Parted, Ran, Told};
 use make_through_links::{Making, Outcome};
 use open_or_make::Course;
 use place_protocol::{Answer, Facts};
 use std::alloc::Global;
-use system_calls::{MachineFlags, NextTry, Object, Opening};
+use system_calls::{MachineFlags, Object, Opening};
 
 /// Begins a call, and tells its first step or its reply: `c_protocol::begin`.
 #[unsafe(no_mangle)]
@@ -214,20 +217,6 @@ pub extern "C" fn inroot_reopen_flags(machine: &MachineFlags, flags: u32) -> u32
     ensures { result ≡ reopen_flags machine.now flags }
 {
     system_calls::reopen_flags(machine, flags)
-}
-
-/// Whether a call is begun again, and after which pause: `system_calls::next_try`.
-#[unsafe(no_mangle)]
-pub extern "C" fn inroot_next_try(
-    tries: u32,
-    may_retry: bool,
-    error: u32,
-    lost: bool,
-    next: &mut NextTry,
-)
-    ensures { next.new ≡ next_try tries may_retry error lost }
-{
-    *next = system_calls::next_try(tries, may_retry, error, lost);
 }
 
 /// Whether two answers are about the same object: `system_calls::is_same_object`.

@@ -1,13 +1,11 @@
 -- From turn to turn, each exchange is a line of the call.
 use Rattle.std.specs.Prelude.{◌≡◌, ◌⊎◌, ℕ, List, [], ◌∷◌, Bool, true, false, Option, Some, refl}
-use Rattle.std.proofs.Common.{sym, ◌∙◌, ap, subst, inl, inr, true≢false}
+use Rattle.std.proofs.Common.{sym, ◌∙◌, ap, subst, inl, inr}
 use Rattle.path_text.specs.declared.errno.Errno.TheVariants.{NoMemory}
 use Rattle.path_text.specs.declared.errno.Errno.TheVariants as errors
 use Rattle.tree_model.specs.declared.answer.Answer.{Answer}
 use Rattle.tree_model.specs.declared.answer.Answer.TheVariants.{Refused}
 use Rattle.tree_model.specs.declared.answer.Answer.TheVariants as answers
-use Rattle.tree_model.specs.StepWith.{StepWith}
-use Rattle.tree_model.specs.declared.step.StepOf.TheVariants as steps
 use Rattle.step_resolver.specs.Order.{Line, answered, no_room, not_made}
 use Rattle.root_ops.specs.declared.below.Below.{Below}
 use Rattle.root_ops.specs.declared.call.CallTurn.{CallTurn}
@@ -38,9 +36,6 @@ wanting (answers.Refused errors.NoMemory) = want refl
 wanting (answers.Refused error) = none (λ e. cc (e))
 wanting answer = none (λ e. cc (e))
 
-closes_nothing : (step : StepWith ℕ) → is_close step ≡ false → (h : ℕ) → step ≡ steps.Close h → ⊥
-closes_nothing step stays h e = absurd (true≢false (sym (ap is_close e) ∙ stays))
-
 -- ---- one exchange
 
 -- the line of an exchange, by which the turn is led on to the next one
@@ -59,7 +54,7 @@ module _ (below : Below) (doing : Doing) (heard : Heard) (x : Exchange) (next : 
         line = not_made NoMemory;
         line_of = (refl, ((spells.0, sym wants ∙ spells.1), (due below doing, (told, stays))));
         leads = λ lines end led. (
-          unmade below doing NoMemory (inl refl) (closes_nothing (due below doing) stays),
+          unmade below doing NoMemory (inl refl) stays,
           subst (λ t. LeadsTo below t lines end) same led,
         );
       }

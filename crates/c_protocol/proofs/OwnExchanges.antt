@@ -22,6 +22,7 @@ use Rattle.root_ops.specs.Order.{due, fault, starts, ends}
 use Rattle.root_ops.specs.Order as call
 use Rattle.root_ops.specs.OwnHandles.{OpenedAreClosed, AllFit, Fits, times, opened_by, closed_by, is_release, left_by}
 use Rattle.root_ops.specs.OwnHandles as lines
+use Rattle.root_ops.proofs.OwnHandles.OfCalls.{none_closed}
 use Rattle.root_ops.specs.TurnView.{turn_view}
 use Rattle.root_ops.specs.View.{CallView, reply_view}
 use Rattle.c_protocol.specs.Numbers.{op_of, mode_of, renames_as, below_asked, answer_of, below_answer, listed_answer, errno_of, kind_of, step_told, reply_told}
@@ -199,21 +200,6 @@ closed_same : (h : ℕ) (step : StepWith ℕ) (told : Told) (old new : List ℕ)
     → times h (closed_by step) ≡ cond ((told.what == 7) && (told.handle == h)) 1 0
 closed_same h step told old new is =
     numbers_same h step ∙ ap (λ (t : Told). cond ((t.what == 7) && (t.handle == h)) 1 0) (sym is.0)
-
-none_closed : (step : StepWith ℕ) → is_close step ≡ false → closed_by step ≡ []
-none_closed (steps.Close h) stays = absurd (true≢false stays)
-none_closed (steps.Open h n) stays = refl
-none_closed (steps.Dup h) stays = refl
-none_closed (steps.Parent h) stays = refl
-none_closed (steps.ReadLink h) stays = refl
-none_closed (steps.NameBelow r h) stays = refl
-none_closed (steps.List h) stays = refl
-none_closed (steps.MakeDir h n) stays = refl
-none_closed (steps.MakeFile h n) stays = refl
-none_closed (steps.MakeLink h n text) stays = refl
-none_closed (steps.RemoveFile h n) stays = refl
-none_closed (steps.RemoveDir h n) stays = refl
-none_closed (steps.Rename h n k m mode) stays = refl
 
 opens_told : (step : StepWith ℕ) → opens_one (step_told step).what ≡ true → lines.opens_one step ≡ true
 opens_told (steps.Open h n) opens = refl

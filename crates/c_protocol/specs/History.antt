@@ -6,8 +6,8 @@ use Rattle.path_text.specs.declared.errno.Errno.TheVariants.{NoMemory}
 use Rattle.tree_model.specs.declared.answer.Answer.{Answer}
 use Rattle.tree_model.specs.declared.answer.Answer.TheVariants.{Refused}
 use Rattle.tree_model.specs.StepWith.{StepWith}
-use Rattle.tree_model.specs.declared.step.StepOf.TheVariants as steps
 use Rattle.step_resolver.specs.Order.{Line, answered, no_room, not_made}
+pub use Rattle.step_resolver.specs.Order.{is_close}
 use Rattle.root_ops.specs.declared.call.CallTurn.{CallTurn}
 use Rattle.root_ops.specs.declared.op.Op.{Op}
 use Rattle.root_ops.specs.declared.reply.Reply.{Reply}
@@ -59,21 +59,6 @@ last_heard heard [] = heard
 last_heard heard (x ∷ xs) = last_heard x.heard xs
 
 -- ---- the lines of it
-
-abbrev pub is_close : StepWith ℕ → Bool
-is_close (steps.Open h n) = false
-is_close (steps.Dup h) = false
-is_close (steps.Parent h) = false
-is_close (steps.ReadLink h) = false
-is_close (steps.NameBelow r h) = false
-is_close (steps.List h) = false
-is_close (steps.Close h) = true
-is_close (steps.MakeDir h n) = false
-is_close (steps.MakeFile h n) = false
-is_close (steps.MakeLink h n text) = false
-is_close (steps.RemoveFile h n) = false
-is_close (steps.RemoveDir h n) = false
-is_close (steps.Rename h n k m mode) = false
 
 -- the numbers and bytes spell this answer, with memory for the bytes or without
 abbrev pub Spells : Exchange → Answer → Type 0

@@ -2,17 +2,18 @@
 use Rattle.std.proofs.Common.{◌≡◌, ℕ, Bool, true, false, not, List, length, Option, Some, None, slice_set, refl, sym, ap, ◌∙◌}
 use Rattle.path_text.specs.declared.errno.Errno.{Errno}
 use Rattle.path_text.specs.declared.errno.Errno.TheVariants.{NotFound, BadHandle, NotDir, TooMany}
+use Rattle.path_text.specs.Text.{text_fault}
 use Rattle.tree_model.specs.declared.answer.Answer.{Answer}
-use Rattle.tree_model.specs.declared.answer.Answer.TheVariants.{Opened, Done, Refused}
+use Rattle.tree_model.specs.declared.answer.Answer.TheVariants.{Opened, Listed, Done, Refused}
 use Rattle.tree_model.specs.declared.inode.Inode.{Inode}
 use Rattle.tree_model.specs.declared.inode.Object.{Object}
 use Rattle.tree_model.specs.declared.inode.Object.TheVariants as object
-use Rattle.tree_model.specs.declared.step.StepOf.TheVariants.{Open, Dup, Parent, ReadLink, NameBelow, Close}
-use Rattle.tree_model.specs.Entries.{refuse_if, with_some}
+use Rattle.tree_model.specs.declared.step.StepOf.TheVariants.{Open, Dup, Parent, ReadLink, NameBelow, List as ListNames, Close, MakeLink}
+use Rattle.tree_model.specs.Entries.{makes, makes_link, refuse_by, refuse_if, with_some}
 use Rattle.tree_model.specs.declared.step.Kind.{Kind}
 use Rattle.tree_model.specs.StepLaws.{only_tells}
-use Rattle.tree_model.specs.State.{State, object_at, child, parent, is_dir, names_below}
-use Rattle.tree_model.specs.Steps.{Outcome, refused, held, is_full, kind_of, with_handle, opens, reads, shows, outcome}
+use Rattle.tree_model.specs.State.{State, object_at, child, parent, is_dir, names_below, names_in, sorted_names}
+use Rattle.tree_model.specs.Steps.{Outcome, refused, answered, changes, held, is_full, kind_of, with_handle, opens, reads, shows, outcome}
 
 -- ---- what is opened
 
@@ -144,6 +145,21 @@ same_place s t r k top d same e1 e2 =
     ∙ on_held t 0 k d (λ x. shows t (names_below t.nodes top x)) e2
     ∙ ap (λ nodes. (shows t (names_below nodes top d)).answer) same
     ∙ shows_same s t (names_below s.nodes top d)
+
+pub same_list : (s t : State) (k d : ℕ) → t.nodes ≡ s.nodes → held t 0 k ≡ Some d → is_dir s.nodes d ≡ true
+    → (outcome t 0 (ListNames k)).answer ≡ Listed (sorted_names (names_in s.nodes d))
+same_list s t k d same e dir =
+    on_held t 0 k d (λ d. refuse_if (not (is_dir t.nodes d)) (refused t NotDir)
+    (answered t (Listed (sorted_names (names_in t.nodes d))))) e
+    ∙ answer_if (not (is_dir t.nodes d)) (refused t NotDir) (answered t (Listed (sorted_names (names_in t.nodes d))))
+    ∙ ap (λ nodes. refuse_if (not (is_dir nodes d)) (Refused NotDir) (Listed (sorted_names (names_in nodes d)))) same
+    ∙ ap (λ b. refuse_if (not b) (Refused NotDir) (Listed (sorted_names (names_in s.nodes d)))) dir
+
+pub bad_text : (t : State) (k d : ℕ) (n text : List ℕ) (fault : Errno) → held t 0 k ≡ Some d
+    → text_fault text ≡ Some fault → (outcome t 0 (MakeLink k n text)).answer ≡ Refused fault
+bad_text t k d n text fault e why =
+    on_held t 0 k d (λ d. changes t (makes_link t.nodes d n text)) e
+    ∙ ap (λ o. (changes t (refuse_by o (makes t.nodes d n (object.Link text)))).answer) why
 
 pub same_close : (t : State) (k d : ℕ) → held t 0 k ≡ Some d → (outcome t 0 (Close k)).answer ≡ Done
 same_close t k d e =

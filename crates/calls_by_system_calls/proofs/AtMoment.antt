@@ -25,9 +25,10 @@ use Rattle.step_calls.proofs.ParentLemmas.{parents-stood}
 use Rattle.step_calls.proofs.LinkLemmas.{links-were-read}
 use Rattle.step_calls.proofs.RefusalLemmas.{refusals-are-own}
 use Rattle.root_ops.specs.Renumbered.{Numbering, step_by, answer_by}
+use Rattle.c_protocol.specs.Numbers.{errno_of}
 use Rattle.calls_by_system_calls.specs.Linux.{Linux, state_at}
-use Rattle.calls_by_system_calls.specs.Lines.{Descriptors, HasRoom, OpenIsMade, ParentIsMade, TextIsRead, DupIsMade, NameIsPassed, PlaceIsTold, UpIsPassed, StepIsMade, after_step, with_opened, with_closed, world}
-use Rattle.calls_by_system_calls.proofs.Answers.{at_number, at_opened, at_refused, same_open, same_parent, same_text, same_place, same_close, same_dup, passed_name, passed_up}
+use Rattle.calls_by_system_calls.specs.Lines.{Descriptors, HasRoom, OpenIsMade, ParentIsMade, TextIsRead, DupIsMade, NameIsPassed, NamesAreListed, PlaceIsTold, TextIsRefused, UpIsPassed, LookIsMade, after_step, with_opened, with_closed, world}
+use Rattle.calls_by_system_calls.proofs.Answers.{at_number, at_opened, at_refused, same_open, same_parent, same_text, same_place, same_list, bad_text, same_close, same_dup, passed_name, passed_up}
 use Rattle.calls_by_system_calls.proofs.Moments.{directory_later, is_world, object_later}
 
 abbrev pub numbering : (ℕ → ℕ) → (ℕ → ℕ) → Numbering
@@ -60,39 +61,25 @@ pub record Made (x : Linux) (nodes : ℕ → ℕ) (m calls : ℕ) (table : Descr
 
 -- ---- errors and kinds
 
-not_found : (error : Errno) → number_of error ≡ 2 → error ≡ errors.NotFound
-not_found errors.NotFound e = refl
-not_found errors.BadHandle e = absurd (omega (arith, e))
-not_found errors.Raced e = absurd (omega (arith, e))
-not_found errors.NoMemory e = absurd (omega (arith, e))
-not_found errors.Busy e = absurd (omega (arith, e))
-not_found errors.Exists e = absurd (omega (arith, e))
-not_found errors.CrossRoot e = absurd (omega (arith, e))
-not_found errors.NotDir e = absurd (omega (arith, e))
-not_found errors.IsDir e = absurd (omega (arith, e))
-not_found errors.Invalid e = absurd (omega (arith, e))
-not_found errors.TooMany e = absurd (omega (arith, e))
-not_found errors.BookFull e = absurd (omega (arith, e))
-not_found errors.TooLong e = absurd (omega (arith, e))
-not_found errors.NotEmpty e = absurd (omega (arith, e))
-not_found errors.Loop e = absurd (omega (arith, e))
-
-invalid : (error : Errno) → number_of error ≡ 22 → error ≡ errors.Invalid
-invalid errors.NotFound e = absurd (omega (arith, e))
-invalid errors.BadHandle e = absurd (omega (arith, e))
-invalid errors.Raced e = absurd (omega (arith, e))
-invalid errors.NoMemory e = absurd (omega (arith, e))
-invalid errors.Busy e = absurd (omega (arith, e))
-invalid errors.Exists e = absurd (omega (arith, e))
-invalid errors.CrossRoot e = absurd (omega (arith, e))
-invalid errors.NotDir e = absurd (omega (arith, e))
-invalid errors.IsDir e = absurd (omega (arith, e))
-invalid errors.Invalid e = refl
-invalid errors.TooMany e = absurd (omega (arith, e))
-invalid errors.BookFull e = absurd (omega (arith, e))
-invalid errors.TooLong e = absurd (omega (arith, e))
-invalid errors.NotEmpty e = absurd (omega (arith, e))
-invalid errors.Loop e = absurd (omega (arith, e))
+pub same_error : (why error : Errno) → number_of why ≡ number_of error → why ≡ error
+same_error why error same = sym (by_number why) ∙ ap errno_of same ∙ by_number error
+  where
+    by_number : (error : Errno) → errno_of (number_of error) ≡ error
+    by_number errors.NotFound = refl
+    by_number errors.BadHandle = refl
+    by_number errors.Raced = refl
+    by_number errors.NoMemory = refl
+    by_number errors.Busy = refl
+    by_number errors.Exists = refl
+    by_number errors.CrossRoot = refl
+    by_number errors.NotDir = refl
+    by_number errors.IsDir = refl
+    by_number errors.Invalid = refl
+    by_number errors.TooMany = refl
+    by_number errors.BookFull = refl
+    by_number errors.TooLong = refl
+    by_number errors.NotEmpty = refl
+    by_number errors.Loop = refl
 
 same_kind : (j k : Kind) → number_of_kind j ≡ number_of_kind k → j ≡ k
 same_kind kind.Dir kind.Dir e = refl
@@ -148,7 +135,8 @@ module _ (x : Linux) (nodes : ℕ → ℕ) (m calls : ℕ) (table : Descriptors)
       let missing = stood.1 made.tells.0 in
       let own = refusals-are-own made.facts made.history (λ e. absurd (omega (arith, e, made.what))) made.is made.tells.0 in
       let own_open = subst (λ (i : ℕ). is_refusal i made.facts.mode made.facts.text (next_after made.facts made.history).error ≡ true) made.what own in
-      let error_is = not_found error (sym made.tells.1 ∙ eqb-true (next_after made.facts made.history).error 2 own_open) in
+      let error_is = same_error error errors.NotFound
+      (sym made.tells.1 ∙ eqb-true (next_after made.facts made.history).error 2 own_open) in
       record {
         at = record {
           n = missing.0;
@@ -206,7 +194,8 @@ module _ (x : Linux) (nodes : ℕ → ℕ) (m calls : ℕ) (table : Descriptors)
       let missing = stood.1 made.tells.0 in
       let own = refusals-are-own made.facts made.history (λ e. absurd (omega (arith, e, made.what))) made.is made.tells.0 in
       let own_parent = subst (λ (i : ℕ). is_refusal i made.facts.mode made.facts.text (next_after made.facts made.history).error ≡ true) made.what own in
-      let error_is = not_found error (sym made.tells.1 ∙ eqb-true (next_after made.facts made.history).error 2 own_parent) in
+      let error_is = same_error error errors.NotFound
+      (sym made.tells.1 ∙ eqb-true (next_after made.facts made.history).error 2 own_parent) in
       record {
         at = record {
           n = missing.0;
@@ -255,7 +244,8 @@ module _ (x : Linux) (nodes : ℕ → ℕ) (m calls : ℕ) (table : Descriptors)
       let none = read.1 made.tells.0 in
       let own = refusals-are-own made.facts made.history (λ e. absurd (omega (arith, e, made.what))) made.is made.tells.0 in
       let own_text = subst (λ (i : ℕ). is_refusal i made.facts.mode made.facts.text (next_after made.facts made.history).error ≡ true) made.what own in
-      let error_is = invalid error (sym made.tells.1 ∙ eqb-true (next_after made.facts made.history).error 22 own_text) in
+      let error_is = same_error error errors.Invalid
+      (sym made.tells.1 ∙ eqb-true (next_after made.facts made.history).error 22 own_text) in
       record {
         at = record {
           n = none.0;
@@ -273,7 +263,7 @@ module _ (x : Linux) (nodes : ℕ → ℕ) (m calls : ℕ) (table : Descriptors)
   at_text h link (Listed names) within on made = absurd made.tells
   at_text h link Done within on made = absurd made.tells
 
-  -- ---- Dup, NameBelow, Close
+  -- ---- Dup, NameBelow, List, Close
 
   at_dup : (h dir : ℕ) (answer : Answer) → HasRoom table → table.on h ≡ Some dir → DupIsMade x nodes m dir answer
       → Made x nodes m calls table (steps.Dup h) answer
@@ -319,6 +309,33 @@ module _ (x : Linux) (nodes : ℕ → ℕ) (m calls : ℕ) (table : Descriptors)
         effect = tells_place r h s o;
         by_handles = λ f g same.
             λ i. steps.NameBelow (same r top on_top i) (same h node on_node i);
+      })
+
+  at_list : (h dir : ℕ) (answer : Answer) → table.on h ≡ Some dir → NamesAreListed x m calls dir answer
+      → Made x nodes m calls table (steps.List h) answer
+  at_list h dir answer on made =
+      let s = state_at x (m + made.n) in
+      subst (λ a. Made x nodes m calls table (steps.List h) a) (sym made.stood) (record {
+        at = record {
+          n = made.n;
+          by = made.within;
+          tells = λ t f g same helds full number. same_list s t (f h) dir same (helds h dir on) made.directory;
+        };
+        effect = tells_only refl refl;
+        by_handles = λ f g same. ap (λ i. steps.List i) (same h dir on);
+      })
+
+  at_bad_text : (h dir : ℕ) (name text : List ℕ) (answer : Answer) → table.on h ≡ Some dir → TextIsRefused text answer
+      → Made x nodes m calls table (steps.MakeLink h name text) answer
+  at_bad_text h dir name text answer on made =
+      subst (λ a. Made x nodes m calls table (steps.MakeLink h name text) a) (sym made.refused) (record {
+        at = record {
+          n = 0;
+          by = omega arith;
+          tells = λ t f g same helds full number. bad_text t (f h) dir name text made.fault (helds h dir on) made.why;
+        };
+        effect = tells_only refl refl;
+        by_handles = λ f g same. ap (λ i. steps.MakeLink i name text) (same h dir on);
       })
 
   at_close : (h node : ℕ) (answer : Answer) → table.on h ≡ Some node → answer ≡ Done
@@ -377,7 +394,7 @@ module _ (x : Linux) (nodes : ℕ → ℕ) (m calls : ℕ) (table : Descriptors)
   at_up h dir (Refused error) room on made = absurd made
 
   pub made_at_moment : ((h d : ℕ) → table.on h ≡ Some d → d < length (state_at x m).nodes) → (step : StepWith ℕ) (answer : Answer)
-      → StepIsMade x nodes m table calls step answer → Made x nodes m calls table step answer
+      → LookIsMade x nodes m table calls step answer → Made x nodes m calls table step answer
   made_at_moment within (steps.Open h name) answer made =
       ⊎_elim (at_open h made.1 name answer made.0 made.2) (at_name h made.1 name answer made.0 made.2) made.3
   made_at_moment within (steps.Dup h) answer made = at_dup h made.1 answer made.0 made.2 made.3
@@ -386,10 +403,10 @@ module _ (x : Linux) (nodes : ℕ → ℕ) (m calls : ℕ) (table : Descriptors)
   made_at_moment within (steps.ReadLink h) answer made = at_text h made.0 answer (within h made.0 made.1) made.1 made.2
   made_at_moment within (steps.NameBelow r h) answer made = at_place r h made.0 made.1 answer made.2 made.3 made.4
   made_at_moment within (steps.Close h) answer made = at_close h made.0 answer made.1 made.2
-  made_at_moment within (steps.List h) answer made = absurd made
+  made_at_moment within (steps.List h) answer made = at_list h made.0 answer made.1 made.2
   made_at_moment within (steps.MakeDir h n) answer made = absurd made
   made_at_moment within (steps.MakeFile h n) answer made = absurd made
-  made_at_moment within (steps.MakeLink h n text) answer made = absurd made
+  made_at_moment within (steps.MakeLink h n text) answer made = at_bad_text h made.0 n text answer made.1 made.2
   made_at_moment within (steps.RemoveFile h n) answer made = absurd made
   made_at_moment within (steps.RemoveDir h n) answer made = absurd made
   made_at_moment within (steps.Rename h n j i mode) answer made = absurd made

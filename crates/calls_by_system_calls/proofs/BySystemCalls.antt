@@ -1,15 +1,11 @@
 -- A C program's call by system calls is a call in a history, of which the laws of c_protocol speak.
-use Rattle.std.proofs.Common.{◌≡◌, ◌⊎◌, inl, inr, ℕ, ◌+◌, ◌<◌, Bool, true, false, if◌then◌else◌, List, [], ◌∷◌, length, Option, Some, None, refl, sym, ap, ◌∙◌, subst, arith}
+use Rattle.std.proofs.Common.{◌≡◌, ◌⊎◌, inl, inr, ℕ, ◌+◌, Bool, true, false, if◌then◌else◌, List, [], ◌∷◌, length, Option, Some, None, refl, sym, ap, ◌∙◌, subst, arith}
 use Rattle.std.specs.Prelude.{◌==◌}
-use Rattle.std.proofs.lemmas.Bool.{eqb-true}
-use Rattle.std.proofs.lemmas.Option.{none-some, same_Some}
 use Rattle.path_text.specs.Print.{names_read}
 use Rattle.path_text.specs.declared.errno.Errno.TheVariants.{NoMemory}
 use Rattle.path_text.specs.declared.errno.Errno.TheVariants as errors
 use Rattle.tree_model.specs.declared.answer.Answer.{Answer}
 use Rattle.tree_model.specs.declared.answer.Answer.TheVariants as answers
-use Rattle.tree_model.specs.declared.tree.TheConstants.{NUMBERS_MAX}
-use Rattle.tree_model.specs.Steps.{held}
 use Rattle.step_resolver.specs.Order.{Line, answered, no_room, not_made}
 use Rattle.root_ops.specs.declared.op.Op.{Op}
 use Rattle.root_ops.specs.declared.reply.Reply.{Reply}
@@ -21,14 +17,13 @@ use Rattle.c_protocol.specs.Outright.{ConversationsTell, IsCallThatTells}
 use Rattle.c_protocol.specs.RunHistory.{ConversationsWithRunsTell}
 use Rattle.c_protocol.specs.declared.numbers.Answered.{Answered}
 use Rattle.c_protocol.specs.declared.numbers.Asked.{Asked}
-use Rattle.calls_by_system_calls.specs.Linux.{Linux, state_at}
-use Rattle.calls_by_system_calls.specs.Lines.{Descriptors, AreMade, AllDiffer, IsNoneOf, number_opened, numbers_opened}
+use Rattle.calls_by_system_calls.specs.Linux.{Linux}
+use Rattle.calls_by_system_calls.specs.Lines.{Descriptors, AreMade, AllDiffer, number_opened, numbers_opened}
 use Rattle.calls_by_system_calls.specs.Joined.{ExchangesAreMade, AreMadeBySystemCalls, CallsTellBySystemCalls, ComesTo, called, descriptors_before, numbers_given}
+use Rattle.calls_by_system_calls.specs.AtOnce.{LinesAreMade}
 use Rattle.calls_by_system_calls.specs.Runs.{CallsWithRunsTellBySystemCalls}
 use Rattle.calls_by_system_calls.proofs.AtMoment.{numbering}
-use Rattle.calls_by_system_calls.proofs.Joining.{Stands}
-use Rattle.calls_by_system_calls.proofs.JoiningLines.{Joined, joins}
-use Rattle.calls_by_system_calls.proofs.Woven.{not_woven}
+use Rattle.calls_by_system_calls.proofs.LinesJoined.{joined, root_held, root_is}
 
 -- ---- exchanges are lines
 
@@ -113,65 +108,41 @@ numbers_are_given heard (e ∷ exchanges) (not_made error ∷ lines) of =
 module _ (asked : Asked) (op : Op) (heard : Heard) (exchanges : List Exchange) (reply : Reply) (x : Linux) (nodes : ℕ → ℕ)
     (root node : ℕ) (counts : List ℕ) (made : AreMadeBySystemCalls x asked nodes root node heard exchanges counts)
     (it : IsCallThatTells asked op heard exchanges reply) where
-  abbrev table : Descriptors
-  table = descriptors_before x asked node
-
-  numbers : numbers_opened it.call.lines ≡ numbers_given exchanges
-  numbers = numbers_are_given heard exchanges it.call.lines it.call.lines_of
-
-  differs : AllDiffer (asked.root ∷ numbers_opened it.call.lines)
-  differs = subst (λ hs. AllDiffer (asked.root ∷ hs)) (sym numbers) made.differ
-
-  is_root : (h d : ℕ) → table.on h ≡ Some d → (h ≡ asked.root) × (node ≡ d)
-  is_root h d e = by (h == asked.root) refl e
-    where
-      by : (b : Bool) → (h == asked.root) ≡ b → (if b then Some node else None) ≡ Some d → (h ≡ asked.root) × (node ≡ d)
-      by true q p = (eqb-true h asked.root q, same_Some node d p)
-      by false q p = absurd (none-some d p)
-
-  begins_so : Stands x 0 x.opening 0 table (λ h. root)
-  begins_so = record {
-    handles = x.opening.handles;
-    is = refl;
-    woven = not_woven 0 x.opening.handles;
-    tree = made.linux.tree;
-    on = λ h d e. made.held ∙ ap Some (is_root h d e).1;
-    apart = λ h j d e p q r. (is_root h d p).0 ∙ sym (is_root j e q).0;
-    count = omega arith;
+  lines_made : LinesAreMade x asked nodes root node it.call.lines counts
+  lines_made = record {
+    linux = made.linux;
+    held = made.held;
+    directory = made.directory;
+    made =
+        lines_are_made x nodes 0 (descriptors_before x asked node) heard exchanges it.call.lines counts
+        it.call.lines_of made.made;
+    differ =
+        subst (λ hs. AllDiffer (asked.root ∷ hs))
+        (sym (numbers_are_given heard exchanges it.call.lines it.call.lines_of)) made.differ;
+    few = λ n. omega (arith, made.few n, as_many heard exchanges it.call.lines it.call.lines_of);
   }
-
-  few : (n : ℕ) → length (state_at x n).handles + (0 + length it.call.lines) < NUMBERS_MAX
-  few n =
-      let most : NUMBERS_MAX ≡ 281474976710656 = refl in
-      omega (arith, made.few n, as_many heard exchanges it.call.lines it.call.lines_of, most)
-
-  joined : Joined x made.linux nodes 0 x.opening it.call.lines counts (λ h. root)
-  joined =
-      joins x made.linux nodes it.call.lines counts 0 x.opening 0 table (λ h. root) few begins_so
-      (lines_are_made x nodes 0 table heard exchanges it.call.lines counts it.call.lines_of made.made)
-      (λ h d e. subst (λ z. IsNoneOf z (numbers_opened it.call.lines)) (sym (is_root h d e).0) differs.0) differs.1
 
   comes_to : ComesTo x asked op nodes root node heard exchanges counts reply
   comes_to =
-      let f : Numbering = numbering joined.g nodes in
-      let root_is : joined.g asked.root ≡ root = joined.same asked.root differs.0 in
-      let is_call : IsCallInHistory (called x asked op it.call.room it.call.lines node f joined.window) = record {
+      let all = joined x asked nodes root node it.call.lines counts lines_made in
+      let f : Numbering = numbering all.g nodes in
+      let is_call : IsCallInHistory (called x asked op it.call.room it.call.lines node f all.window) = record {
         tree = made.linux.tree;
         legal_before = tt;
-        legal = joined.legal;
-        own = joined.own;
-        root = ap (held x.opening 0) root_is ∙ made.held;
+        legal = all.legal;
+        own = all.own;
+        root = root_held x asked nodes root node it.call.lines counts lines_made;
         root_is_dir = made.directory;
       } in
       record {
         call = it.call;
         f = f;
         by_nodes = refl;
-        by_root = root_is;
-        window = joined.window;
-        is_window = joined.is_window;
+        by_root = root_is x asked nodes root node it.call.lines counts lines_made;
+        window = all.window;
+        is_window = all.is_window;
         is_call = is_call;
-        tells = it.tells_by f x.opening [] joined.window node is_call;
+        tells = it.tells_by f x.opening [] all.window node is_call;
       }
 
 ends_so : (asked : Asked) (op : Op) (heard : Heard) (exchanges : List Exchange) (reply : Reply) (x : Linux) (nodes : ℕ → ℕ)

@@ -1,6 +1,7 @@
 -- Line by line, a call's steps take their place among what others do.
-use Rattle.std.proofs.Common.{◌≡◌, ℕ, suc, ◌+◌, ◌<◌, ◌≤◌, Bool, true, false, if◌then◌else◌, List, [], ◌∷◌, ◌++◌, length, Option, Some, None, slice_get, slice_set, refl, sym, ap, ◌∙◌, subst, eq-eqb, ne_eqb, arith}
+use Rattle.std.proofs.Common.{◌≡◌, ◌≢◌, ℕ, suc, ◌+◌, ◌<◌, ◌≤◌, Bool, true, false, if◌then◌else◌, List, [], ◌∷◌, ◌++◌, length, Option, Some, None, slice_get, slice_set, refl, sym, ap, ◌∙◌, subst, eq-eqb, ne_eqb, arith}
 use Rattle.std.specs.Prelude.{◌==◌}
+use Rattle.std.specs.List.{AllByRecursion, count_by}
 use Rattle.std.proofs.lemmas.Bool.{eqb-true, eqb-false, false≢true}
 use Rattle.std.proofs.lemmas.Option.{none-some}
 use Rattle.path_text.specs.declared.errno.Errno.TheVariants.{BadHandle}
@@ -14,7 +15,7 @@ use Rattle.tree_model.specs.declared.tree.TheConstants.{NUMBERS_MAX}
 use Rattle.tree_model.specs.Entries.{with_some}
 use Rattle.tree_model.specs.History.{IsLegal, after_events}
 use Rattle.tree_model.specs.State.{State}
-use Rattle.tree_model.specs.Steps.{held, held_count, node_held, outcome, refused, with_handle}
+use Rattle.tree_model.specs.Steps.{held, held_count, is_held_by, node_held, outcome, refused, with_handle}
 use Rattle.tree_model.specs.StepLaws.{closed_count, is_close_of, only_tells, opened_count}
 use Rattle.tree_model.specs.StepWith.{StepWith}
 use Rattle.tree_model.specs.Trees.{IsState}
@@ -24,41 +25,37 @@ use Rattle.tree_model.proofs.StepLaws.{opened_is_open, own_handles_stay, telling
 use Rattle.tree_model.proofs.StepsKept.{steps_keep_trees}
 use Rattle.step_resolver.specs.WalkHistory.{own_events}
 use Rattle.root_ops.specs.Renumbered.{Numbering, step_by, answer_by}
-use Rattle.calls_by_system_calls.specs.Linux.{Linux, IsLinux, state_at, meanwhile, AreSame}
+use Rattle.calls_by_system_calls.specs.Linux.{AreSame}
 use Rattle.calls_by_system_calls.specs.Lines.{Descriptors, HasRoom, after_step, with_opened, with_closed, number_opened, IsNoneOf}
 use Rattle.calls_by_system_calls.proofs.AtMoment.{Effect, opens_one, closes_one, tells_only, numbering}
-use Rattle.calls_by_system_calls.proofs.Moments.{legal_meanwhile, others_meanwhile, reached}
 use Rattle.calls_by_system_calls.proofs.Others.{among, among_others}
 use Rattle.calls_by_system_calls.proofs.Woven.{Woven, woven_own, woven_own_closed}
 
 -- ---- where the history stands
 
--- The history's state is Linux's at that moment, with the call's handles among the others'.
-pub record Stands (x : Linux) (m : ℕ) (t : State) (k : ℕ) (table : Descriptors) (f : ℕ → ℕ) : Type 0 where
+-- The history's state is one of Linux's, with the call's handles among the others'.
+pub record Stands (s : State) (t : State) (k : ℕ) (table : Descriptors) (f : ℕ → ℕ) : Type 0 where
   pub handles : List (Option OpenHandle)
-  pub is : t ≡ among (state_at x m) handles
-  pub woven : Woven 0 k (state_at x m).handles handles
+  pub is : t ≡ among s handles
+  pub woven : Woven 0 k s.handles handles
   pub tree : IsState t
   pub on : (h d : ℕ) → table.on h ≡ Some d → held t 0 (f h) ≡ Some d
   pub apart : (h j d e : ℕ) → table.on h ≡ Some d → table.on j ≡ Some e → f h ≡ f j → h ≡ j
   pub count : held_count t 0 ≤ table.count
 
-pub record Moved (x : Linux) (m n : ℕ) (t : State) (k : ℕ) (table : Descriptors) (f : ℕ → ℕ) : Type 0 where
+pub record Moved (s : State) (events : List Event) (t : State) (k : ℕ) (table : Descriptors) (f : ℕ → ℕ) : Type 0 where
   pub others : List Event
-  pub same : AreSame (state_at x m) (meanwhile x m n) t others
+  pub same : AreSame s events t others
   pub legal : IsLegal t others
   pub not_own : own_events 0 others ≡ []
-  pub stands : Stands x (m + n) (after_events t others) k table f
+  pub stands : Stands (after_events s events) (after_events t others) k table f
 
-abbrev Few : Linux → ℕ → Type 0
-Few x k = (n : ℕ) → length (state_at x n).handles + k < NUMBERS_MAX
-
-pub moves : (x : Linux) → IsLinux x 0 → (m n : ℕ) (t : State) (k : ℕ) (table : Descriptors) (f : ℕ → ℕ) → Few x k
-    → Stands x m t k table f → Moved x m n t k table f
-moves x linux m n t k table f few s =
-    let there = reached x m n in
-    let moved = among_others 0 k (state_at x m) t s.handles s.is s.woven (meanwhile x m n) (others_meanwhile x linux m n)
-    (legal_meanwhile x linux m n) (subst (λ y. length y.handles + k < NUMBERS_MAX) (sym there) (few (m + n))) in
+-- these events of others move it
+pub moves : (s : State) (events : List Event) (t : State) (k : ℕ) (table : Descriptors) (f : ℕ → ℕ)
+    → AllByRecursion (λ event. event.actor ≢ 0) events → IsLegal s events
+    → length (after_events s events).handles + k < NUMBERS_MAX → Stands s t k table f → Moved s events t k table f
+moves s events t k table f all legal few stands =
+    let moved = among_others 0 k s t stands.handles stands.is stands.woven events all legal few in
     record {
       others = moved.others;
       same = moved.same;
@@ -66,13 +63,31 @@ moves x linux m n t k table f few s =
       not_own = moved.not_own;
       stands = record {
         handles = moved.handles;
-        is = moved.after ∙ ap (λ y. among y moved.handles) there;
-        woven = subst (λ y. Woven 0 k y.handles moved.handles) there moved.woven;
-        tree = (histories_keep_trees t moved.others s.tree).0;
-        on = λ h d e. moved.stay (f h) ∙ s.on h d e;
-        apart = s.apart;
-        count = omega (arith, moved.count, s.count);
+        is = moved.after;
+        woven = moved.woven;
+        tree = (histories_keep_trees t moved.others stands.tree).0;
+        on = λ h d e. moved.stay (f h) ∙ stands.on h d e;
+        apart = stands.apart;
+        count = omega (arith, moved.count, stands.count);
       };
+    }
+
+-- The step leaves the handles, and so does Linux's call, and then the nodes are the same.
+pub own_change : (s s' t : State) (k : ℕ) (table : Descriptors) (f : ℕ → ℕ) (step : StepWith ℕ)
+    → s'.handles ≡ s.handles → (outcome t 0 step).after ≡ record { nodes = s'.nodes; handles = t.handles }
+    → Stands s t k table f → Stands s' (outcome t 0 step).after k table f
+own_change s s' t k table f step kept leaves stands =
+    let same : (outcome t 0 step).after.handles ≡ t.handles = ap (λ (z : State). z.handles) leaves in
+    record {
+      handles = stands.handles;
+      is = leaves ∙ ap (λ (hs : List (Option OpenHandle)). record { nodes = s'.nodes; handles = hs })
+          (ap (λ (z : State). z.handles) stands.is);
+      woven = subst (λ (hs : List (Option OpenHandle)). Woven 0 k hs stands.handles) (sym kept) stands.woven;
+      tree = steps_keep_trees t 0 step stands.tree;
+      on = λ h d e. ap (λ (hs : List (Option OpenHandle)). node_held 0 (slice_get hs (f h))) same ∙ stands.on h d e;
+      apart = stands.apart;
+      count = subst (λ (hs : List (Option OpenHandle)). count_by (is_held_by 0) hs ≤ table.count)
+          (sym same) stands.count;
     }
 
 -- ---- the call's own step
@@ -84,12 +99,13 @@ event_of a step t = record { actor = a; step = step; answer = (outcome t a step)
 abbrev with_number : (ℕ → ℕ) → ℕ → ℕ → ℕ → ℕ
 with_number f h number j = if j == h then number else f j
 
-pub record Owned (x : Linux) (nodes : ℕ → ℕ) (m : ℕ) (t : State) (k : ℕ) (table : Descriptors) (f : ℕ → ℕ)
+pub record Owned (nodes : ℕ → ℕ) (s : State) (t : State) (k : ℕ) (table : Descriptors) (f : ℕ → ℕ)
     (step : StepWith ℕ) (answer : Answer) : Type 0 where
   pub g : ℕ → ℕ
   pub more : ℕ
   pub few : more ≤ suc k
-  pub stands : Stands x m (outcome t 0 (step_by (numbering f nodes) step)).after more (after_step nodes table step answer) g
+  pub stands : Stands s (outcome t 0 (step_by (numbering f nodes) step)).after more
+      (after_step nodes table step answer) g
   pub same : (j : ℕ) → IsNoneOf j (number_opened answer []) → g j ≡ f j
   pub number : (h y : ℕ) (kd : Kind) → answer ≡ Opened h y kd → g h ≡ length t.handles
 
@@ -117,8 +133,8 @@ none_behind : (xs : List (Option OpenHandle)) → slice_get xs (length xs) ≡ N
 none_behind [] = refl
 none_behind (x ∷ xs) = none_behind xs
 
-module _ (x : Linux) (nodes : ℕ → ℕ) (m : ℕ) (t : State) (k : ℕ) (table : Descriptors) (f : ℕ → ℕ)
-    (s : Stands x m t k table f) (step : StepWith ℕ) (answer : Answer)
+module _ (nodes : ℕ → ℕ) (z : State) (t : State) (k : ℕ) (table : Descriptors) (f : ℕ → ℕ)
+    (s : Stands z t k table f) (step : StepWith ℕ) (answer : Answer)
     (tells : (g : ℕ → ℕ) → ((h y : ℕ) (kd : Kind) → answer ≡ Opened h y kd → g h ≡ length t.handles)
     → (outcome t 0 (step_by (numbering f nodes) step)).answer ≡ answer_by (numbering g nodes) answer) where
   abbrev made : StepWith ℕ
@@ -169,7 +185,7 @@ module _ (x : Linux) (nodes : ℕ → ℕ) (m : ℕ) (t : State) (k : ℕ) (tabl
         by false true b c p q r = absurd (new_is_apart j d p (sym r))
         by false false b c p q r = s.apart j i d e p q r
 
-    opened_now : HasRoom table → Stands x m later (suc k) (with_opened table h (nodes y)) g_of
+    opened_now : HasRoom table → Stands z later (suc k) (with_opened table h (nodes y)) g_of
     opened_now room =
         let new = opened_is_open t 0 made (g_of h) (nodes y) kd told_now in
         let counted = (handles_are_counted t 0 made).0 in
@@ -223,7 +239,7 @@ module _ (x : Linux) (nodes : ℕ → ℕ) (m : ℕ) (t : State) (k : ℕ) (tabl
         by true p = absurd (none-some c p)
         by false p = p
 
-    closed_now : Stands x m later k (with_closed table h) f
+    closed_now : Stands z later k (with_closed table h) f
     closed_now =
         let told = tells f no_number ∙ ap (answer_by (numbering f nodes)) ea in
         let counted = (handles_are_counted t 0 made).0 in
@@ -239,12 +255,13 @@ module _ (x : Linux) (nodes : ℕ → ℕ) (m : ℕ) (t : State) (k : ℕ) (tabl
           count = omega (arith, counted, none, one, s.count);
         }
 
-  pub own_step : Effect nodes table step answer → Owned x nodes m t k table f step answer
+  pub own_step : Effect nodes table step answer → Owned nodes z t k table f step answer
   own_step (opens_one h y kd e room opens after) = record {
     g = g_of h y kd e opens;
     more = suc k;
     few = omega arith;
-    stands = subst (λ z. Stands x m later (suc k) z (g_of h y kd e opens)) (sym after) (opened_now h y kd e opens room);
+    stands = subst (λ (d : Descriptors). Stands z later (suc k) d (g_of h y kd e opens)) (sym after)
+        (opened_now h y kd e opens room);
     same = same_others h y kd e opens;
     number = is_number h y kd e opens;
   }
@@ -252,7 +269,7 @@ module _ (x : Linux) (nodes : ℕ → ℕ) (m : ℕ) (t : State) (k : ℕ) (tabl
     g = f;
     more = k;
     few = omega arith;
-    stands = subst (λ z. Stands x m later k z f) (sym after) (closed_now h d e ea at);
+    stands = subst (λ (d : Descriptors). Stands z later k d f) (sym after) (closed_now h d e ea at);
     same = λ j other. refl;
     number = λ j z l q. absurd (cc (q, ea));
   }
@@ -264,8 +281,8 @@ module _ (x : Linux) (nodes : ℕ → ℕ) (m : ℕ) (t : State) (k : ℕ) (tabl
         g = f;
         more = k;
         few = omega arith;
-        stands = subst (λ z. Stands x m z k (after_step nodes table step answer) f)
-            (sym (telling_changes_nothing t 0 made told)) (subst (λ z. Stands x m t k z f) (sym after) s);
+        stands = subst (λ (y : State). Stands z y k (after_step nodes table step answer) f)
+            (sym (telling_changes_nothing t 0 made told)) (subst (λ (d : Descriptors). Stands z t k d f) (sym after) s);
         same = λ j other. refl;
         number = none;
       }

@@ -1,11 +1,12 @@
 -- All lines of a call in a row: the window that they make together with what others do.
-use Rattle.std.proofs.Common.{◌≡◌, ℕ, suc, ◌+◌, ◌-◌, ◌<◌, Bool, true, false, cond, if◌then◌else◌, List, [], ◌∷◌, ◌++◌, length, Some, None, slice_get, refl, sym, ap, ◌∙◌, subst, append-nil, arith}
+use Rattle.std.proofs.Common.{◌≡◌, ⊎_elim, ℕ, suc, ◌+◌, ◌-◌, ◌<◌, ◌≤◌, Bool, true, false, cond, if◌then◌else◌, List, [], ◌∷◌, ◌++◌, length, Option, Some, None, slice_get, refl, sym, ap, ◌∙◌, subst, append-nil, arith}
 use Rattle.std.specs.Prelude.{◌==◌, nat_le}
 use Rattle.std.proofs.lemmas.Bool.{eqb-true, or_from}
 use Rattle.std.proofs.lemmas.Option.{none-some}
 use Rattle.tree_model.specs.declared.answer.Answer.{Answer}
 use Rattle.tree_model.specs.declared.answer.Answer.TheVariants.{Opened, Text, Names, NotBelow, Listed, Done, Refused}
 use Rattle.tree_model.specs.declared.answer.Event.{Event}
+use Rattle.tree_model.specs.declared.inode.OpenHandle.{OpenHandle}
 use Rattle.tree_model.specs.declared.step.Kind.{Kind}
 use Rattle.tree_model.specs.declared.tree.TheConstants.{HANDLES_MAX, NUMBERS_MAX}
 use Rattle.tree_model.specs.History.{IsLegal, after_events}
@@ -17,11 +18,13 @@ use Rattle.tree_model.proofs.StepLaws.{held-is}
 use Rattle.step_resolver.specs.Order.{Line, answered, no_room, not_made, events_of}
 use Rattle.step_resolver.specs.WalkHistory.{own_events}
 use Rattle.root_ops.specs.Renumbered.{step_by, answer_by, lines_by}
-use Rattle.calls_by_system_calls.specs.Linux.{Linux, IsLinux, state_at, meanwhile, AreSame}
+use Rattle.calls_by_system_calls.specs.Linux.{Linux, IsLinux, state_at, found_behind, meanwhile, AreSame, ChangeNothing}
 use Rattle.calls_by_system_calls.specs.Lines.{Descriptors, HasRoom, StepIsMade, AreMade, after_step, number_opened, numbers_opened, IsNoneOf, AllDiffer}
 use Rattle.calls_by_system_calls.specs.Window.{IsPlaced, IsWindow, events_here}
+use Rattle.calls_by_system_calls.proofs.AtChange.{Changed, changed_at_call}
 use Rattle.calls_by_system_calls.proofs.AtMoment.{Effect, Made, opens_one, closes_one, tells_only, made_at_moment, numbering}
-use Rattle.calls_by_system_calls.proofs.Joining.{Stands, moves, own_step}
+use Rattle.calls_by_system_calls.proofs.Joining.{Moved, Stands, moves, own_change, own_step}
+use Rattle.calls_by_system_calls.proofs.Moments.{fewer, later, legal_meanwhile, others_meanwhile, reached}
 use Rattle.calls_by_system_calls.proofs.Others.{below_is_no_more}
 use Rattle.calls_by_system_calls.proofs.Woven.{woven_length}
 
@@ -97,21 +100,30 @@ module _ (x : Linux) (linux : IsLinux x 0) (nodes : ℕ → ℕ) where
   few_now : (k lines : ℕ) → FewFor k lines → (n : ℕ) → length (state_at x n).handles + k < NUMBERS_MAX
   few_now k lines few n = omega (arith, few n)
 
-  room_there : (m : ℕ) (t : State) (k : ℕ) (table : Descriptors) (f : ℕ → ℕ)
-      → ((n : ℕ) → length (state_at x n).handles + k < NUMBERS_MAX) → Stands x m t k table f → HasRoom table
-      → is_full t 0 ≡ false
-  room_there m t k table f few s room =
+  room_there : (s t : State) (k : ℕ) (table : Descriptors) (f : ℕ → ℕ) → length s.handles + k < NUMBERS_MAX
+      → Stands s t k table f → HasRoom table → is_full t 0 ≡ false
+  room_there s t k table f few stands room =
       let most : HANDLES_MAX ≡ 1024 = refl in
-      let long = ap (λ z. length z.handles) s.is in
+      let long = ap (λ (z : State). length z.handles) stands.is in
       or_from (nat_le HANDLES_MAX (held_count t 0)) (nat_le NUMBERS_MAX (length t.handles))
-      (below_is_no_more HANDLES_MAX (held_count t 0) (omega (arith, most, room, s.count)))
-      (below_is_no_more NUMBERS_MAX (length t.handles) (omega (arith, long, woven_length s.woven, few m)))
+      (below_is_no_more HANDLES_MAX (held_count t 0) (omega (arith, most, room, stands.count)))
+      (below_is_no_more NUMBERS_MAX (length t.handles) (omega (arith, long, woven_length stands.woven, few)))
 
-  within : (m : ℕ) (t : State) (k : ℕ) (table : Descriptors) (f : ℕ → ℕ) → Stands x m t k table f
-      → (h d : ℕ) → table.on h ≡ Some d → d < length (state_at x m).nodes
-  within m t k table f s h d e =
-      let in_t = s.tree.handles (f h) (record { actor = 0; node = d }) (held-is 0 (slice_get t.handles (f h)) d (s.on h d e)) in
-      subst (λ z. d < length z.nodes) s.is in_t
+  within : (s t : State) (k : ℕ) (table : Descriptors) (f : ℕ → ℕ) → Stands s t k table f
+      → (h d : ℕ) → table.on h ≡ Some d → d < length s.nodes
+  within s t k table f stands h d e =
+      let in_t = stands.tree.handles (f h) (record { actor = 0; node = d })
+      (held-is 0 (slice_get t.handles (f h)) d (stands.on h d e)) in
+      subst (λ (z : State). d < length z.nodes) stands.is in_t
+
+  -- others go on, while no system call of the program changes anything
+  goes_on : (m n : ℕ) (t : State) (k : ℕ) (table : Descriptors) (f : ℕ → ℕ) → ChangeNothing x m n
+      → ((n : ℕ) → length (state_at x n).handles + k < NUMBERS_MAX) → Stands (state_at x m) t k table f
+      → Moved (state_at x m) (meanwhile x m n) t k table f
+  goes_on m n t k table f still few stands =
+      moves (state_at x m) (meanwhile x m n) t k table f (others_meanwhile x linux m n)
+      (legal_meanwhile x linux m n still)
+      (subst (λ (z : State). length z.handles + k < NUMBERS_MAX) (sym (reached x m n still)) (few (m + n))) stands
 
   -- ---- the window from a line on
 
@@ -142,75 +154,188 @@ module _ (x : Linux) (linux : IsLinux x 0) (nodes : ℕ → ℕ) where
     same : (j : ℕ) → IsNoneOf j (number_opened answer (numbers_opened lines)) → g j ≡ f j
     line : WithLine m calls t lines counts g (event_by g step answer ∷ [])
 
+  -- ---- one step among what others do
+
+  -- The others' events before it and behind it, and where the history stands then.
+  record Here (m calls : ℕ) (t : State) (k : ℕ) (table : Descriptors) (f : ℕ → ℕ) (step : StepWith ℕ)
+      (answer : Answer) : Type 0 where
+    n : ℕ
+    left : ℕ
+    sum : n + left ≡ calls
+    first : List Event
+    before : AreSame (state_at x m) (meanwhile x m n) t first
+    legal_first : IsLegal t first
+    others_first : own_events 0 first ≡ []
+    second : List Event
+    after : AreSame (state_at x (m + n)) (meanwhile x (m + n) left)
+        (outcome (after_events t first) 0 (step_by (numbering f nodes) step)).after second
+    legal_second : IsLegal (outcome (after_events t first) 0 (step_by (numbering f nodes) step)).after second
+    others_second : own_events 0 second ≡ []
+    more : ℕ
+    few : more ≤ suc k
+    g : ℕ → ℕ
+    stands : Stands (state_at x (m + calls))
+        (after_events (outcome (after_events t first) 0 (step_by (numbering f nodes) step)).after second) more
+        (after_step nodes table step answer) g
+    same : (j : ℕ) → IsNoneOf j (number_opened answer []) → g j ≡ f j
+    tells : (e : ℕ → ℕ) → ((h y : ℕ) (l : Kind) → answer ≡ Opened h y l → e h ≡ g h)
+        → (outcome (after_events t first) 0 (step_by (numbering f nodes) step)).answer
+        ≡ answer_by (numbering e nodes) answer
+    by_handles : (e : ℕ → ℕ) → ((h d : ℕ) → table.on h ≡ Some d → f h ≡ e h)
+        → step_by (numbering f nodes) step ≡ step_by (numbering e nodes) step
+    fresh : (hs : List ℕ) → ((h d : ℕ) → table.on h ≡ Some d → IsNoneOf h (number_opened answer hs))
+        → AllDiffer (number_opened answer hs)
+        → (h d : ℕ) → (after_step nodes table step answer).on h ≡ Some d → IsNoneOf h hs
+
+  -- a step that changes no entry, at one of its moments
+  look_here : (m calls : ℕ) (t : State) (k : ℕ) (table : Descriptors) (f : ℕ → ℕ) (step : StepWith ℕ) (answer : Answer)
+      → ((n : ℕ) → length (state_at x n).handles + suc k < NUMBERS_MAX) → Stands (state_at x m) t k table f
+      → ChangeNothing x m calls → Made x nodes m calls table step answer → Here m calls t k table f step answer
+  look_here m calls t k table f step answer few s still made =
+      let n = made.at.n in
+      let left = calls - n in
+      let sum : n + left ≡ calls = omega (arith, made.at.by) in
+      let still1 = fewer x m n calls made.at.by still in
+      let still2 = later x m n left calls sum still in
+      let few1 : (n : ℕ) → length (state_at x n).handles + k < NUMBERS_MAX = λ i. omega (arith, few i) in
+      let first = goes_on m n t k table f still1 few1 s in
+      let t1 = after_events t first.others in
+      let stands1 = subst (λ (z : State). Stands z t1 k table f) (reached x m n still1) first.stands in
+      let made_step = step_by (numbering f nodes) step in
+      let there : t1.nodes ≡ (state_at x (m + n)).nodes = ap (λ (z : State). z.nodes) stands1.is in
+      let room = room_there (state_at x (m + n)) t1 k table f (few1 (m + n)) stands1 in
+      let own = own_step nodes (state_at x (m + n)) t1 k table f stands1 step answer
+      (λ g number. made.at.tells t1 f g there stands1.on room number) made.effect in
+      let t2 = (outcome t1 0 made_step).after in
+      let few2 : (n : ℕ) → length (state_at x n).handles + own.more < NUMBERS_MAX
+      = λ i. omega (arith, few i, own.few) in
+      let second = goes_on (m + n) left t2 own.more (after_step nodes table step answer) own.g still2 few2 own.stands in
+      let sum2 : (m + n) + left ≡ m + calls = omega (arith, sum) in
+      record {
+        n = n;
+        left = left;
+        sum = sum;
+        first = first.others;
+        before = first.same;
+        legal_first = first.legal;
+        others_first = first.not_own;
+        second = second.others;
+        after = second.same;
+        legal_second = second.legal;
+        others_second = second.not_own;
+        more = own.more;
+        few = own.few;
+        g = own.g;
+        stands = subst (λ (i : ℕ). Stands (state_at x i) (after_events t2 second.others) own.more
+            (after_step nodes table step answer) own.g) sum2
+            (subst (λ (z : State). Stands z (after_events t2 second.others) own.more
+            (after_step nodes table step answer) own.g)
+            (reached x (m + n) left still2) second.stands);
+        same = own.same;
+        tells = λ e keeps.
+            made.at.tells t1 f e there stands1.on room (λ h y l told. keeps h y l told ∙ own.number h y l told);
+        by_handles = λ e same. made.by_handles f e same;
+        fresh = λ hs fresh differ. fresh_later nodes table step answer hs fresh differ made.effect;
+      }
+
+  -- a step that changes an entry, at the moment of its system call
+  change_here : (m calls : ℕ) (t : State) (k : ℕ) (table : Descriptors) (f : ℕ → ℕ) (step : StepWith ℕ)
+      (answer : Answer)
+      → ((n : ℕ) → length (state_at x n).handles + suc k < NUMBERS_MAX) → Stands (state_at x m) t k table f
+      → Changed x nodes m calls table step answer → Here m calls t k table f step answer
+  change_here m calls t k table f step answer few s made =
+      let left_same = made.handles in
+      let found_few : length (found_behind x m).handles + k < NUMBERS_MAX
+      = subst (λ (hs : List (Option OpenHandle)). length hs + k < NUMBERS_MAX) left_same (omega (arith, few (suc m))) in
+      let first = moves (state_at x m) (x.others m) t k table f (linux.by_others m) (linux.legal m) found_few s in
+      let t1 = after_events t first.others in
+      let made_step = step_by (numbering f nodes) step in
+      let there : t1.nodes ≡ (found_behind x m).nodes = ap (λ (z : State). z.nodes) first.stands.is in
+      let it = made.tells t1 f there first.stands.on in
+      let t2 = (outcome t1 0 made_step).after in
+      let behind = own_change (found_behind x m)
+      (state_at x (suc m)) t1 k table f made_step made.handles it.1 first.stands in
+      let next : suc m ≡ m + 1 = omega arith in
+      let end : suc m ≡ m + calls = omega (arith, made.one) in
+      let alone : x.others m ++ [] ≡ x.others m = append-nil (x.others m) in
+      record {
+        n = 1;
+        left = 0;
+        sum = omega (arith, made.one);
+        first = first.others;
+        before = subst (λ (es : List Event). AreSame (state_at x m) es t first.others) (sym alone) first.same;
+        legal_first = first.legal;
+        others_first = first.not_own;
+        second = [];
+        after = subst (λ (i : ℕ). t2.nodes ≡ (state_at x i).nodes) next (ap (λ (z : State). z.nodes) it.1);
+        legal_second = tt;
+        others_second = refl;
+        more = k;
+        few = omega arith;
+        g = f;
+        stands = subst (λ (i : ℕ). Stands (state_at x i) t2 k (after_step nodes table step answer) f) end
+            (subst (λ (d : Descriptors). Stands (state_at x (suc m)) t2 k d f) (sym made.same_table) behind);
+        same = λ j e. refl;
+        tells = λ e keeps. it.0 e;
+        by_handles = λ e same. made.by_handles f e same;
+        fresh = λ hs fresh differ h d on.
+            subst (λ (js : List ℕ). IsNoneOf h js) (made.opens_none hs)
+            (fresh h d (ap (λ (z : Descriptors). z.on h) (sym made.same_table) ∙ on));
+      }
+
   module _ (m calls : ℕ) (t : State) (k : ℕ) (table : Descriptors) (f : ℕ → ℕ) (step : StepWith ℕ) (answer : Answer)
-      (lines : List Line) (counts : List ℕ) (few : FewFor k (suc (length lines))) (s : Stands x m t k table f)
+      (lines : List Line) (counts : List ℕ) (few : FewFor k (suc (length lines)))
       (fresh : (h d : ℕ) → table.on h ≡ Some d → IsNoneOf h (number_opened answer (numbers_opened lines)))
       (differ : AllDiffer (number_opened answer (numbers_opened lines)))
-      (made : Made x nodes m calls table step answer)
+      (here : Here m calls t k table f step answer)
       (next : (t' : State) (k' : ℕ) (f' : ℕ → ℕ) → FewFor k' (length lines)
-      → Stands x (m + calls) t' k' (after_step nodes table step answer) f'
+      → Stands (state_at x (m + calls)) t' k' (after_step nodes table step answer) f'
       → ((h d : ℕ) → (after_step nodes table step answer).on h ≡ Some d → IsNoneOf h (numbers_opened lines))
       → Joined (m + calls) t' lines counts f') where
     joins_line : LineJoined m calls t step answer lines counts f
     joins_line =
-        let n = made.at.n in
-        let left = calls - n in
-        let sum : n + left ≡ calls = omega (arith, made.at.by) in
-        let first = moves x linux m n t k table f (few_now k (suc (length lines)) few) s in
-        let t1 = after_events t first.others in
+        let t1 = after_events t here.first in
         let made_step = step_by (numbering f nodes) step in
-        let there : t1.nodes ≡ (state_at x (m + n)).nodes = ap (λ z. z.nodes) first.stands.is in
-        let own = own_step x nodes (m + n) t1 k table f first.stands step answer
-        (λ g number. made.at.tells t1 f g there first.stands.on
-        (room_there (m + n) t1 k table f (few_now k (suc (length lines)) few) first.stands) number) made.effect in
         let t2 = (outcome t1 0 made_step).after in
-        let few2 : FewFor own.more (length lines) = λ i. omega (arith, few i, own.few) in
-        let second = moves x linux (m + n) left t2 own.more (after_step nodes table step answer) own.g
-        (few_now own.more (length lines) few2) own.stands in
-        let t3 = after_events t2 second.others in
-        let sum2 : (m + n) + left ≡ m + calls = omega (arith, sum) in
-        let rest = next t3 own.more own.g few2
-        (subst (λ (i : ℕ). Stands x i t3 own.more (after_step nodes table step answer) own.g) sum2 second.stands)
-        (fresh_later nodes table step answer (numbers_opened lines) fresh differ made.effect) in
+        let t3 = after_events t2 here.second in
+        let few2 : FewFor here.more (length lines) = λ i. omega (arith, few i, here.few) in
+        let rest = next t3 here.more here.g few2 here.stands (here.fresh (numbers_opened lines) fresh differ) in
         let own_event : Event = record { actor = 0; step = made_step; answer = (outcome t1 0 made_step).answer } in
         let later = differ_later answer (numbers_opened lines) differ in
-        let rest_keeps : (h y : ℕ) (l : Kind) → answer ≡ Opened h y l → rest.g h ≡ own.g h
-        = λ h y l e. rest.same h (later.0 h y l e) in
         let same_step : made_step ≡ step_by (numbering rest.g nodes) step
-        = made.by_handles f rest.g (λ h d e.
+        = here.by_handles rest.g (λ h d e.
         let none = none_here h answer (numbers_opened lines) (fresh h d e) in
-        sym (rest.same h none.1 ∙ own.same h none.0)) in
+        sym (rest.same h none.1 ∙ here.same h none.0)) in
         let same_told : (outcome t1 0 made_step).answer ≡ answer_by (numbering rest.g nodes) answer
-        = made.at.tells t1 f rest.g there first.stands.on
-        (room_there (m + n) t1 k table f (few_now k (suc (length lines)) few) first.stands)
-        (λ h y l e. rest_keeps h y l e ∙ own.number h y l e) in
+        = here.tells rest.g (λ h y l e. rest.same h (later.0 h y l e)) in
         let same_event : own_event ≡ event_by rest.g step answer
         = λ i. record { actor = 0; step = same_step i; answer = same_told i } in
-        let reaches : after_events t (first.others ++ (own_event ∷ second.others)) ≡ t3
-        = after_events-append t first.others (own_event ∷ second.others) in
-        let reaches_own : after_events t (first.others ++ (own_event ∷ [])) ≡ t2
-        = after_events-append t first.others (own_event ∷ []) in
+        let reaches : after_events t (here.first ++ (own_event ∷ here.second)) ≡ t3
+        = after_events-append t here.first (own_event ∷ here.second) in
+        let reaches_own : after_events t (here.first ++ (own_event ∷ [])) ≡ t2
+        = after_events-append t here.first (own_event ∷ []) in
         let with_own : WithLine m calls t lines counts rest.g (own_event ∷ []) = record {
-          window = (first.others ++ (own_event ∷ second.others)) ++ rest.window;
+          window = (here.first ++ (own_event ∷ here.second)) ++ rest.window;
           legal =
-              IsLegal-append t (first.others ++ (own_event ∷ second.others)) rest.window
-              (IsLegal-append t first.others (own_event ∷ second.others) first.legal (refl, second.legal))
+              IsLegal-append t (here.first ++ (own_event ∷ here.second)) rest.window
+              (IsLegal-append t here.first (own_event ∷ here.second) here.legal_first (refl, here.legal_second))
               (subst (λ z. IsLegal z rest.window) (sym reaches) rest.legal);
           owns =
-              own_append 0 (first.others ++ (own_event ∷ second.others)) rest.window
+              own_append 0 (here.first ++ (own_event ∷ here.second)) rest.window
               ∙ ap (λ z. z ++ own_events 0 rest.window)
-              (own_append 0 first.others (own_event ∷ second.others)
-              ∙ ap (λ z. z ++ own_events 0 (own_event ∷ second.others)) first.not_own
-              ∙ ap (λ z. own_event ∷ z) second.not_own)
+              (own_append 0 here.first (own_event ∷ here.second)
+              ∙ ap (λ z. z ++ own_events 0 (own_event ∷ here.second)) here.others_first
+              ∙ ap (λ z. own_event ∷ z) here.others_second)
               ∙ ap (λ z. own_event ∷ z) rest.own;
           placed = record {
-            n = n;
-            rest = left;
-            all = sum;
-            first = first.others;
-            second = second.others;
-            before = first.same;
-            after = subst (λ z. AreSame (state_at x (m + n)) (meanwhile x (m + n) left) z second.others) (sym reaches_own) second.same;
+            n = here.n;
+            rest = here.left;
+            all = here.sum;
+            first = here.first;
+            second = here.second;
+            before = here.before;
+            after = subst (λ z. AreSame (state_at x (m + here.n)) (meanwhile x (m + here.n) here.left) z here.second)
+                (sym reaches_own) here.after;
           };
           rest = rest.window;
           all = refl;
@@ -218,19 +343,23 @@ module _ (x : Linux) (linux : IsLinux x 0) (nodes : ℕ → ℕ) where
         } in
         record {
           g = rest.g;
-          same = λ j e. let none = none_here j answer (numbers_opened lines) e in rest.same j none.1 ∙ own.same j none.0;
+          same = λ j e. let none = none_here j answer (numbers_opened lines) e in rest.same j none.1
+              ∙ here.same j none.0;
           line = subst (λ z. WithLine m calls t lines counts rest.g (z ∷ [])) same_event with_own;
         }
 
   -- ---- all lines
 
   unmade : (m calls : ℕ) (t : State) (k : ℕ) (table : Descriptors) (f : ℕ → ℕ) (lines : List Line) (counts : List ℕ)
-      → ((n : ℕ) → length (state_at x n).handles + k < NUMBERS_MAX) → Stands x m t k table f
-      → ((t' : State) → Stands x (m + calls) t' k table f → Joined (m + calls) t' lines counts f)
+      → ((n : ℕ) → length (state_at x n).handles + k < NUMBERS_MAX) → Stands (state_at x m) t k table f
+      → ChangeNothing x m calls
+      → ((t' : State) → Stands (state_at x (m + calls)) t' k table f → Joined (m + calls) t' lines counts f)
       → (g : ℕ → ℕ) × (WithLine m calls t lines counts g []) × ((j : ℕ) → IsNoneOf j (numbers_opened lines) → g j ≡ f j)
-  unmade m calls t k table f lines counts few s next =
-      let first = moves x linux m calls t k table f few s in
-      let rest = next (after_events t first.others) first.stands in
+  unmade m calls t k table f lines counts few s still next =
+      let first = goes_on m calls t k table f still few s in
+      let stands = subst (λ (z : State). Stands z (after_events t first.others) k table f)
+      (reached x m calls still) first.stands in
+      let rest = next (after_events t first.others) stands in
       let whole : first.others ++ [] ≡ first.others = append-nil first.others in (
         rest.g,
         record {
@@ -246,7 +375,7 @@ module _ (x : Linux) (linux : IsLinux x 0) (nodes : ℕ → ℕ) where
             first = first.others;
             second = [];
             before = first.same;
-            after = ap (λ z. (after_events t z).nodes) whole ∙ ap (λ z. z.nodes) first.stands.is;
+            after = ap (λ z. (after_events t z).nodes) whole ∙ ap (λ (z : State). z.nodes) stands.is;
           };
           rest = rest.window;
           all = refl;
@@ -257,19 +386,25 @@ module _ (x : Linux) (linux : IsLinux x 0) (nodes : ℕ → ℕ) where
 
   abbrev Joins : List Line → Type 0
   Joins lines = (counts : List ℕ) (m : ℕ) (t : State) (k : ℕ) (table : Descriptors) (f : ℕ → ℕ) → FewFor k (length lines)
-      → Stands x m t k table f → AreMade x nodes m table lines counts
+      → Stands (state_at x m) t k table f → AreMade x nodes m table lines counts
       → ((h d : ℕ) → table.on h ≡ Some d → IsNoneOf h (numbers_opened lines)) → AllDiffer (numbers_opened lines)
       → Joined m t lines counts f
 
   made_line : (step : StepWith ℕ) (answer : Answer) (lines : List Line) → Joins lines → (calls : ℕ) (counts : List ℕ) (m : ℕ)
-      (t : State) (k : ℕ) (table : Descriptors) (f : ℕ → ℕ) → FewFor k (suc (length lines)) → Stands x m t k table f
+      (t : State) (k : ℕ) (table : Descriptors) (f : ℕ → ℕ) → FewFor k (suc (length lines))
+      → Stands (state_at x m) t k table f
       → StepIsMade x nodes m table calls step answer
       → AreMade x nodes (m + calls) (after_step nodes table step answer) lines counts
       → ((h d : ℕ) → table.on h ≡ Some d → IsNoneOf h (number_opened answer (numbers_opened lines)))
       → AllDiffer (number_opened answer (numbers_opened lines)) → LineJoined m calls t step answer lines counts f
   made_line step answer lines next calls counts m t k table f few s made are fresh differ =
-      joins_line m calls t k table f step answer lines counts few s fresh differ
-      (made_at_moment x nodes m calls table (within m t k table f s) step answer made)
+      let few1 : (n : ℕ) → length (state_at x n).handles + suc k < NUMBERS_MAX = λ i. omega (arith, few i) in
+      joins_line m calls t k table f step answer lines counts few fresh differ
+      (⊎_elim
+      (λ look. look_here m calls t k table f step answer few1 s look.0
+      (made_at_moment x nodes m calls table (within (state_at x m) t k table f s) step answer look.1))
+      (λ change. change_here m calls t k table f step answer few1 s
+      (changed_at_call x nodes m calls table step answer change)) made)
       (λ t' k' f' few' s' fresh'. next counts (m + calls) t' k' (after_step nodes table step answer) f' few' s' are fresh'
       (differ_later answer (numbers_opened lines) differ).1)
 
@@ -305,7 +440,7 @@ module _ (x : Linux) (linux : IsLinux x 0) (nodes : ℕ → ℕ) where
         same = it.same;
       }
   joins (not_made error ∷ lines) (calls ∷ counts) m t k table f few s are fresh differ =
-      let it = unmade m calls t k table f lines counts (few_now k (suc (length lines)) few) s
+      let it = unmade m calls t k table f lines counts (few_now k (suc (length lines)) few) s are.0
       (λ t' s'. joins lines counts (m + calls) t' k table f (λ n. omega (arith, few n)) s' are.1 fresh differ) in
       record {
         g = it.0;

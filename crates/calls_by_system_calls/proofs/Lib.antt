@@ -4,8 +4,12 @@ mod Trees
 mod Moments
 mod Answers
 mod AtMoment
+mod AtChange
 mod Joining
 mod JoiningLines
+mod LinesJoined
 mod BySystemCalls
+mod AtOnce
 mod Places
 mod WorkedRace
+mod WorkedChange

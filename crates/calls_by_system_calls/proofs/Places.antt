@@ -9,8 +9,7 @@ use Rattle.step_resolver.proofs.Underway.AfterParent.{names_same}
 use Rattle.place_protocol.specs.Moments.{PlacesStood, StaysGone}
 use Rattle.calls_by_system_calls.specs.Linux.{Linux, state_at}
 use Rattle.calls_by_system_calls.specs.Places.{are_names, AskedPlacesStood, place_world}
-use Rattle.calls_by_system_calls.proofs.Moments.{at_next, longer_later}
-use Rattle.calls_by_system_calls.proofs.Trees.{gone_stays}
+use Rattle.calls_by_system_calls.proofs.Moments.{gone_next, longer_later}
 
 shown : (s : State) (o told : Option (List (List ℕ))) (names : List (List ℕ)) → told ≡ Some names → are_names o told ≡ true
     → (shows s o).answer ≡ Names names
@@ -24,10 +23,9 @@ shown s (Some below) (Some told) names e is =
 stays_gone : (x : Linux) (m top node : ℕ) (passed : ℕ → List ℕ → Bool) (root object : ℕ → List ℕ)
     → node < length (state_at x m).nodes → StaysGone (place_world x m top node passed root object)
 stays_gone x m top node passed root object within n gone =
-    let same : m + suc (n + 1) ≡ m + suc (suc n) = omega arith in
-    subst (λ (i : ℕ). is_gone (state_at x i).nodes node ≡ true) (sym same)
-    (subst (λ s. is_gone s.nodes node ≡ true) (sym (at_next x m (suc n)))
-    (gone_stays (state_at x (m + suc n)) (x.others (m + suc n)) node (longer_later x m (suc n) node within) gone))
+    let same : suc (m + suc n) ≡ m + suc (n + 1) = omega arith in
+    subst (λ (i : ℕ). is_gone (state_at x i).nodes node ≡ true) same
+    (gone_next x (m + suc n) node (longer_later x m (suc n) node within) gone)
 
 pub asked_places_stood : PlacesStood → AskedPlacesStood
 asked_places_stood stood x m calls top node answer linux within asked =

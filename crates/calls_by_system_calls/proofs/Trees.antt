@@ -1,5 +1,5 @@
 -- What stays from one moment to the next: objects are of one kind for good, and what was removed stays so.
-use Rattle.std.proofs.Common.{◌≡◌, ◌≢◌, ℕ, ◌<◌, ◌≤◌, true, not, ◌==◌, ◌&&◌, List, [], ◌∷◌, length, Some, None, is_some, refl, sym, ap, ◌∙◌, arith}
+use Rattle.std.proofs.Common.{◌≡◌, ◌≢◌, ℕ, ◌<◌, ◌≤◌, true, not, ◌==◌, ◌&&◌, List, [], ◌∷◌, length, Option, Some, None, is_some, refl, sym, ap, ◌∙◌, arith}
 use Rattle.std.proofs.Math.Bool.{and-false}
 use Rattle.std.proofs.lemmas.Bool.{false≢true}
 use Rattle.tree_model.specs.declared.answer.Event.{Event}
@@ -15,6 +15,7 @@ use Rattle.tree_model.proofs.Children.{entry, place_at-child}
 use Rattle.tree_model.proofs.Outcomes.{Does, refuses, tells, opens_on, closes, changes_to, does}
 use Rattle.tree_model.proofs.Places.{place_at-append_within, place_at-put_other}
 use Rattle.tree_model.proofs.StepLaws.{numbers_grow, objects_stay}
+use Rattle.calls_by_system_calls.specs.Linux.{Change, both_open, with_change}
 
 -- ---- what was removed
 
@@ -68,3 +69,21 @@ pub object_stays : (s : State) (events : List Event) (y : ℕ) (what : Object) �
 object_stays s [] y what is = is
 object_stays s (event ∷ events) y what is =
     object_stays (after_event s event) events y what (objects_stay s event.actor event.step y what is)
+
+-- ---- the program's own change
+
+pub object_kept : (s : State) (own : Option Change) (y : ℕ) (what : Object) → object_at s.nodes y ≡ Some what
+    → object_at (with_change s own).nodes y ≡ Some what
+object_kept s None y what is = is
+object_kept s (Some change) y what is =
+    objects_stay (both_open s.nodes change.directory change.second) 0 change.step y what is
+
+pub nodes_kept : (s : State) (own : Option Change) → length s.nodes ≤ length (with_change s own).nodes
+nodes_kept s None = omega arith
+nodes_kept s (Some change) = (numbers_grow (both_open s.nodes change.directory change.second) 0 change.step).0
+
+pub gone_kept : (s : State) (own : Option Change) (y : ℕ) → y < length s.nodes → is_gone s.nodes y ≡ true
+    → is_gone (with_change s own).nodes y ≡ true
+gone_kept s None y within gone = gone
+gone_kept s (Some change) y within gone =
+    gone_by (does (both_open s.nodes change.directory change.second) 0 change.step) y within gone

@@ -15,7 +15,7 @@ use Rattle.tree_model.specs.declared.answer.Answer.TheVariants.{Opened}
 use Rattle.tree_model.specs.declared.step.Kind.TheVariants as kind
 use Rattle.std.specs.Prelude.{codes}
 
-abbrev facts_of : ℕ → Facts
+abbrev pub facts_of : ℕ → Facts
 facts_of what = record {
   text = 0;
   what = what;
@@ -104,18 +104,18 @@ pub race_is_made : RaceIsMade
 race_is_made = record {
   linux = linux;
   made = (
-    (omega arith, 1, refl, inl opens_a),
+    inl ((λ n by. refl), (omega arith, 1, refl, inl opens_a)),
     (
-      (omega arith, 2, refl, inl opens_b),
+      inl ((λ n by. refl), (omega arith, 2, refl, inl opens_b)),
       (
-        (2, refl, refl),
+        inl ((λ n by. refl), (2, refl, refl)),
         (
-          (omega arith, 3, refl, inl opens_above),
+          inl ((λ n by. refl), (omega arith, 3, refl, inl opens_above)),
           (
-            (3, refl, refl),
+            inl ((λ n by. refl), (3, refl, refl)),
             (
-              (1, 9, refl, refl, record { n = 0; by = omega arith; stood = refl }),
-              ((9, refl, refl), tt),
+              inl ((λ n by. refl), (1, 9, refl, refl, record { n = 0; by = omega arith; stood = refl })),
+              (inl ((λ n by. refl), (9, refl, refl)), tt),
             ),
           ),
         ),

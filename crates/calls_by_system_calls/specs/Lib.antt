@@ -1,7 +1,10 @@
 pub mod Linux
+pub mod Changes
 pub mod Lines
 pub mod Window
 pub mod Joined
 pub mod Runs
+pub mod AtOnce
 pub mod Places
 pub mod WorkedRace
+pub mod WorkedChange

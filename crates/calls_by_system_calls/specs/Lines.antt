@@ -2,14 +2,16 @@
 -- the tree what the manual pages say; or one of several names that one system call passes.
 use Rattle.std.specs.Prelude.{◌≡◌, ◌≢◌, ◌⊎◌, ◌≤◌, ◌<◌, ℕ, suc, ◌+◌, ◌-◌, ◌==◌, List, [], ◌∷◌, Bool, true, false, if◌then◌else◌, Option, Some, None}
 use Rattle.std.specs.List.{AllByRecursion}
+use Rattle.path_text.specs.declared.errno.Errno.{Errno}
 use Rattle.path_text.specs.Errno.{number_of}
+use Rattle.path_text.specs.Text.{text_fault}
 use Rattle.tree_model.specs.declared.answer.Answer.{Answer}
 use Rattle.tree_model.specs.declared.answer.Answer.TheVariants as answers
 use Rattle.tree_model.specs.declared.inode.Object.{Object}
 use Rattle.tree_model.specs.declared.inode.Object.TheVariants as object
 use Rattle.tree_model.specs.declared.step.Kind.TheVariants as kind
 use Rattle.tree_model.specs.declared.step.StepOf.TheVariants as steps
-use Rattle.tree_model.specs.State.{child, is_dir, names_below, object_at, parent}
+use Rattle.tree_model.specs.State.{child, is_dir, names_below, names_in, object_at, parent, sorted_names}
 use Rattle.tree_model.specs.Steps.{kind_of, shows}
 use Rattle.tree_model.specs.StepWith.{StepWith}
 use Rattle.step_calls.specs.History.{next_after, Exchange, IsHistory, Next}
@@ -18,7 +20,8 @@ use Rattle.step_calls.specs.declared.course.TheConstants.{OPENED, TEXT, REFUSED}
 use Rattle.step_calls.specs.declared.facts.Facts.{Facts}
 use Rattle.step_calls.specs.declared.facts.TheConstants.{OPEN, PARENT, READ_TEXT}
 use Rattle.step_resolver.specs.Order.{Line, answered, no_room, not_made}
-use Rattle.calls_by_system_calls.specs.Linux.{Linux, state_at}
+use Rattle.calls_by_system_calls.specs.Changes.{DirectoryIsRemoved, FileIsRemoved, LinkIsMade, MakeIsMade, RenameIsMade}
+use Rattle.calls_by_system_calls.specs.Linux.{Linux, state_at, ChangeNothing}
 
 -- ---- descriptors
 
@@ -145,31 +148,72 @@ pub record PlaceIsTold (x : Linux) (m calls top node : ℕ) (answer : Answer) : 
   pub by : n ≤ calls
   pub stood : answer ≡ (shows (state_at x (m + n)) (names_below (state_at x (m + n)).nodes top node)).answer
 
--- By the descriptors that the program has. What changes entries, or lists them, isn't looked at here.
-abbrev pub StepIsMade : Linux → (ℕ → ℕ) → ℕ → Descriptors → ℕ → StepWith ℕ → Answer → Type 0
-StepIsMade x nodes m table calls (steps.Open h name) answer =
+-- List, which the kernel answers in several calls: its answer was the whole directory at one of the moments (a
+-- premise). A driver that reads a whole directory so meets it if nobody changes that one's entries meanwhile.
+pub record NamesAreListed (x : Linux) (m calls dir : ℕ) (answer : Answer) : Type 0 where
+  pub n : ℕ
+  pub within : n ≤ calls
+  pub directory : is_dir (state_at x (m + n)).nodes dir ≡ true
+  pub stood : answer ≡ answers.Listed (sorted_names (names_in (state_at x (m + n)).nodes dir))
+
+-- MakeLink of a text that is none of a path: symlink(2) refuses it for that, an empty one by ENOENT, and one that is
+-- too long by ENAMETOOLONG.
+pub record TextIsRefused (text : List ℕ) (answer : Answer) : Type 0 where
+  pub fault : Errno
+  pub why : text_fault text ≡ Some fault
+  pub refused : answer ≡ answers.Refused fault
+
+-- A step that changes no entry, by the descriptors that the program has.
+abbrev pub LookIsMade : Linux → (ℕ → ℕ) → ℕ → Descriptors → ℕ → StepWith ℕ → Answer → Type 0
+LookIsMade x nodes m table calls (steps.Open h name) answer =
     HasRoom table × (dir : ℕ) × (table.on h ≡ Some dir)
     × (OpenIsMade x nodes m calls dir name answer ⊎ NameIsPassed x nodes m calls dir name answer)
-StepIsMade x nodes m table calls (steps.Dup h) answer =
+LookIsMade x nodes m table calls (steps.Dup h) answer =
     HasRoom table × (dir : ℕ) × (table.on h ≡ Some dir) × DupIsMade x nodes m dir answer
-StepIsMade x nodes m table calls (steps.Parent h) answer =
+LookIsMade x nodes m table calls (steps.Parent h) answer =
     HasRoom table × (dir : ℕ) × (table.on h ≡ Some dir)
     × (ParentIsMade x nodes m calls dir answer ⊎ UpIsPassed x nodes m calls dir answer)
-StepIsMade x nodes m table calls (steps.ReadLink h) answer =
+LookIsMade x nodes m table calls (steps.ReadLink h) answer =
     (link : ℕ) × (table.on h ≡ Some link) × TextIsRead x m calls link answer
-StepIsMade x nodes m table calls (steps.NameBelow r h) answer =
+LookIsMade x nodes m table calls (steps.NameBelow r h) answer =
     (top node : ℕ) × (table.on r ≡ Some top) × (table.on h ≡ Some node) × PlaceIsTold x m calls top node answer
-StepIsMade x nodes m table calls (steps.Close h) answer =
+LookIsMade x nodes m table calls (steps.List h) answer =
+    (dir : ℕ) × (table.on h ≡ Some dir) × NamesAreListed x m calls dir answer
+LookIsMade x nodes m table calls (steps.Close h) answer =
     (node : ℕ) × (table.on h ≡ Some node) × (answer ≡ answers.Done)
-StepIsMade x nodes m table calls step answer = ⊥
+LookIsMade x nodes m table calls (steps.MakeLink h name text) answer =
+    (dir : ℕ) × (table.on h ≡ Some dir) × TextIsRefused text answer
+LookIsMade x nodes m table calls step answer = ⊥
+
+-- The same of one that changes an entry.
+abbrev pub ChangeIsMade : Linux → ℕ → Descriptors → ℕ → StepWith ℕ → Answer → Type 0
+ChangeIsMade x m table calls (steps.MakeDir h name) answer =
+    (dir : ℕ) × (table.on h ≡ Some dir) × MakeIsMade x m calls 8 dir name [] (steps.MakeDir 0 name) answer
+ChangeIsMade x m table calls (steps.MakeFile h name) answer =
+    (dir : ℕ) × (table.on h ≡ Some dir) × MakeIsMade x m calls 9 dir name [] (steps.MakeFile 0 name) answer
+ChangeIsMade x m table calls (steps.MakeLink h name text) answer =
+    (dir : ℕ) × (table.on h ≡ Some dir) × LinkIsMade x m calls dir name text answer
+ChangeIsMade x m table calls (steps.RemoveFile h name) answer =
+    (dir : ℕ) × (table.on h ≡ Some dir) × FileIsRemoved x m calls dir name answer
+ChangeIsMade x m table calls (steps.RemoveDir h name) answer =
+    (dir : ℕ) × (table.on h ≡ Some dir) × DirectoryIsRemoved x m calls dir name answer
+ChangeIsMade x m table calls (steps.Rename h name k new mode) answer =
+    (dir second : ℕ) × (table.on h ≡ Some dir) × (table.on k ≡ Some second)
+    × RenameIsMade x m calls dir second name new mode answer
+ChangeIsMade x m table calls step answer = ⊥
+
+abbrev pub StepIsMade : Linux → (ℕ → ℕ) → ℕ → Descriptors → ℕ → StepWith ℕ → Answer → Type 0
+StepIsMade x nodes m table calls step answer =
+    (ChangeNothing x m calls × LookIsMade x nodes m table calls step answer)
+    ⊎ ChangeIsMade x m table calls step answer
 
 -- ---- line by line
 
--- a step that wasn't made is no event, whatever the system calls gave
+-- a step that wasn't made is no event, whatever the system calls gave; it changed nothing
 abbrev pub LineIsMade : Linux → (ℕ → ℕ) → ℕ → Descriptors → ℕ → Line → Type 0
 LineIsMade x nodes m table calls (answered step answer) = StepIsMade x nodes m table calls step answer
 LineIsMade x nodes m table calls (no_room step answer) = StepIsMade x nodes m table calls step answer
-LineIsMade x nodes m table calls (not_made error) = Unit {0}
+LineIsMade x nodes m table calls (not_made error) = ChangeNothing x m calls
 
 abbrev pub after_step : (ℕ → ℕ) → Descriptors → StepWith ℕ → Answer → Descriptors
 after_step nodes table step (answers.Opened h x k) = with_opened table h (nodes x)

@@ -8,7 +8,8 @@ use Rattle.root_ops.specs.Renumbered.{Numbering, lines_by}
 use Rattle.calls_by_system_calls.specs.Linux.{Linux, state_at, meanwhile, AreSame}
 
 -- A line's event, if it has one, within what others do while its system calls are made: first what they do up to one of
--- these moments, then the event, then what they do up to the last one. `t` is the tree before.
+-- these moments, then the event, then what they do up to the last one. `t` is the tree before. Behind the event the
+-- nodes are those of that moment, as the system call leaves them: so a change stands at the moment of its call.
 pub record IsPlaced (x : Linux) (m calls : ℕ) (t : State) (own : List Event) : Type 0 where
   pub n : ℕ
   pub rest : ℕ

@@ -26,7 +26,7 @@ move = record { actor = 8; step = Rename 1 (codes "b") 2 (codes "b") Plain; answ
 
 -- between the second system call of the program and the third one
 abbrev pub race : Linux
-race = record { opening = race_opening; others = λ n. if n == 2 then move ∷ [] else [] }
+race = record { opening = race_opening; own = λ n. None; others = λ n. if n == 2 then move ∷ [] else [] }
 
 -- The program numbers its handles from 50, its root's, and nodes as their handles: /c/a, /c/a/b, /secret.
 abbrev pub race_nodes : ℕ → ℕ

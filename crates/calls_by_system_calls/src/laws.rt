@@ -1,18 +1,24 @@
 //! What a C program's call tells whose steps are made by system calls.
+ghost use Rattle.calls_by_system_calls.specs.AtOnce.{OpensAtOnceBySystemCalls, OpensThroughBySystemCalls};
 ghost use Rattle.calls_by_system_calls.specs.Joined.{CallsTellBySystemCalls};
 ghost use Rattle.calls_by_system_calls.specs.Places.{AskedPlacesStood};
 ghost use Rattle.calls_by_system_calls.specs.Runs.{CallsWithRunsTellBySystemCalls};
+ghost use Rattle.calls_by_system_calls.specs.WorkedChange.{MkdirIsMade};
 ghost use Rattle.calls_by_system_calls.specs.WorkedRace.{RaceIsMade};
 
-use c_protocol::{conversations_tell, conversations_with_runs_tell};
+use c_protocol::{
+    conversations_tell, conversations_with_runs_tell, opens_at_once_tell, opens_through_tell,
+};
 use place_protocol::places_stood;
 
 /// A call of a C program, each of whose Opens, Parents and ReadLinks is a whole conversation of system calls by
-/// `step_calls`, while others change the tree between any two of these. What each answer of Linux says of the tree at
-/// its moment is a premise (openat(2), fstat(2), readlink(2), rmdir(2), statfs(2), getdents(2); `specs/Lines.antt`). So
-/// is it that a Dup and a Close do what they say, and that the answer to a NameBelow was so at one of its moments. Then
-/// there is a history that begins with the tree as the call did: what others did, with the call's steps among it, each
-/// at a moment of its own system calls. In this history the call tells what `conversations_tell` says.
+/// `step_calls`, and each change of an entry one system call, while others change the tree between any two of these.
+/// What each answer of Linux says of the tree at its moment is a premise (openat(2), fstat(2), readlink(2), rmdir(2),
+/// statfs(2), getdents(2), mkdir(2), mknod(2), symlink(2), unlink(2), renameat2(2); `specs/Lines.antt`,
+/// `specs/Changes.antt`). So is it that a Dup and a Close do what they say, and that the answer to a NameBelow or to a
+/// List was so at one of its moments. Then there is a history that begins with the tree as the call did: what others
+/// did, with the call's steps among it, each at a moment of its own system calls. In this history the call tells what
+/// `conversations_tell` says.
 pub fn calls_tell_by_system_calls()
     ensures { CallsTellBySystemCalls }
 {
@@ -28,6 +34,22 @@ pub fn calls_with_runs_tell_by_system_calls()
     conversations_with_runs_tell();
 }
 
+/// The same of a resolve, or of the making of all directories, that replies without its turns: its path is names alone,
+/// which one system call passed (openat2(2), RESOLVE_NO_SYMLINKS), or single ones, and then it was asked for the place.
+pub fn opens_at_once_by_system_calls()
+    ensures { OpensAtOnceBySystemCalls }
+{
+    opens_at_once_tell();
+}
+
+/// The same of a resolve through links and `..` that replies so, each link of which was read (readlinkat(2)), and after
+/// each `..` it was asked for the place.
+pub fn opens_through_by_system_calls()
+    ensures { OpensThroughBySystemCalls }
+{
+    opens_through_tell();
+}
+
 /// Where a conversation of `place_protocol` told a place that isn't called deleted, and its names are the answer to a
 /// NameBelow, this answer was so at the moment of one of its system calls (getcwd(2), proc(5), openat2(2), statx(2)).
 /// Of a directory in a jail that the kernel had seen below the root right before it is supposed that it isn't removed.
@@ -41,4 +63,10 @@ pub fn asked_places_stood()
 /// by ten system calls.
 pub fn worked_race_is_made()
     ensures { RaceIsMade }
+{}
+
+/// The same of a call that changes something: a directory is made in one that another moves out of the root between two
+/// of the call's system calls.
+pub fn worked_change_is_made()
+    ensures { MkdirIsMade }
 {}

@@ -28,7 +28,9 @@ use Rattle.step_resolver.specs.declared.walk.Turn.TheVariants.{More}
 use Rattle.step_resolver.specs.declared.driver.Resolved.{Resolved}
 use Rattle.step_resolver.specs.declared.driver.Resolved.TheVariants.{Found, Partial}
 use Rattle.walk_plan.specs.declared.goal.Goal.{Goal}
-use Rattle.step_resolver.specs.Driver.{IsAnswer, IsOwned}
+use Rattle.step_machine.specs.OnTree.{IsAnswer}
+use Rattle.step_machine.proofs.Closes.{takes_memory}
+use Rattle.step_resolver.specs.Driver.{IsOwned}
 use Rattle.step_resolver.proofs.FirstTurns.{first_lines_lead}
 use Rattle.step_machine.proofs.Runs.{leads_on}
 use Rattle.step_resolver.proofs.TurnsTell.{line_leads}
@@ -105,19 +107,19 @@ module _ (O : Type 0) (acts : O → State → O → State → Type 0) (way : Way
     on = (told, after);
   }
 
-  one_line : (walking : Walking) (s t : State) (answer : Answer) (to : Turn) → IsAnswer way walking a s t answer → TakesTo way walking answer to → OneLine walking s t to
+  one_line : (walking : Walking) (s t : State) (answer : Answer) (to : Turn) → IsAnswer (due way walking) a s t answer → TakesTo way walking answer to → OneLine walking s t to
   one_line walking s t answer to (inl is) taken = one_made walking s t answer to taken.0 taken.1 is.0 is.1
   one_line walking s t answer to (inr is) taken = record {
     line = not_made NoMemory;
     legal = tt;
-    after = sym is.1;
-    leads = line_leads way taken.0 walking answer to (not_made NoMemory) taken.1 ((inl refl, is.2), is.0);
-    on = (refl, is.1);
+    after = sym is.2;
+    leads = line_leads way taken.0 walking answer to (not_made NoMemory) taken.1 ((inl refl, takes_memory (due way walking) is.0), is.1);
+    on = (refl, is.2);
   }
 
   -- the others acted, and then one step was made, or there was no memory for it
   led_by_turn : LegalHistoriesJoin → (o : O) (s : State) (p : O) (u v : State) (walking : Walking) (answer : Answer) (to : Turn)
-      → ByOthers a s u → acts o s p u → IsAnswer way walking a u v answer → TakesTo way walking answer to → Led O acts way a o s (more walking) p v to
+      → ByOthers a s u → acts o s p u → IsAnswer (due way walking) a u v answer → TakesTo way walking answer to → Led O acts way a o s (more walking) p v to
   led_by_turn join o s p u v walking answer to by acted is taken =
       let one = one_line walking u v answer to is taken in
       let own = events_of a (one.line ∷ []) in
@@ -161,12 +163,13 @@ begun_led O acts way owner o s path outcome kept begun = record {
 pub led_further : LegalHistoriesJoin → (O : Type 0) (acts : O → State → O → State → Type 0) (owner : Owner) (way : Way) (o : O) (s : State) (p : O) (t : State) (q : O) (v u : State)
     (path : Reading) (outcome next : Outcome) (walk : WalkView) (answer : Answer)
     → outcome ≡ More walk → IsLed O acts owner way o s path p t outcome → ByOthers owner.actor t v → acts p t q v → Keeps walk.owner walk.way next
-    → IsAnswer walk.way walk.walking owner.actor v u answer → TakesTo walk.way walk.walking answer (turn_view walk.way.goal next) → IsLed O acts owner way o s path q u next
-led_further join O acts owner way o s p t q v u path outcome next walk answer e here by acted keeps is taken =
+    → (step : StepWith ℕ) → step ≡ due walk.way walk.walking → IsAnswer step owner.actor v u answer → TakesTo walk.way walk.walking answer (turn_view walk.way.goal next) → IsLed O acts owner way o s path q u next
+led_further join O acts owner way o s p t q v u path outcome next walk answer e here by acted keeps step is_due is taken =
     let at : IsLed O acts owner way o s path p t (More walk) = subst (λ z. IsLed O acts owner way o s path p t z) e here in
     let a = owner.actor in
     let end = turn_view way.goal next in
-    let is_so : IsAnswer way walk.walking a v u answer = subst (λ (w : Way). IsAnswer w walk.walking a v u answer) at.kept.1 is in
+    let is_so : IsAnswer (due way walk.walking) a v u answer = subst (λ (w : Way). IsAnswer (due w walk.walking) a v u answer) at.kept.1
+    (subst (λ x. IsAnswer x a v u answer) is_due is) in
     let taken_so : TakesTo way walk.walking answer end = subst (λ (w : Way). TakesTo w walk.walking answer (turn_view w.goal next)) at.kept.1 taken in
     record {
       kept = subst (λ (x : Owner). Keeps x way next) at.kept.0 (subst (λ (w : Way). Keeps walk.owner w next) at.kept.1 keeps);

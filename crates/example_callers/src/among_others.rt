@@ -3,14 +3,15 @@ ghost use Rattle.std.specs.Prelude.{◌≡◌, ℕ, Some, true};
 ghost use Rattle.tree_model.specs.State.{State, is_dir};
 ghost use Rattle.tree_model.specs.Steps.{held};
 ghost use Rattle.tree_model.specs.Trees.{IsState};
-ghost use Rattle.step_resolver.specs.Driver.{node_of, IsAnswer, IsOwned};
+ghost use Rattle.step_resolver.specs.Driver.{node_of, IsOwned};
 ghost use Rattle.step_resolver.specs.View.{way_from};
 ghost use Rattle.example_callers.specs.AmongOthers.{ByOthers, MayStep, TellsAmong, end_of};
 
 use path_text::{Errno, Flags, Path};
 use std::alloc::Global;
+use step_machine::answer_to;
 use step_resolver::{Goal, Resolved, Root, Turn, Walk, headline};
-use tree_model::{Actor, Answer, Step, Tree, legal_histories_join};
+use tree_model::{Actor, Step, Tree, legal_histories_join};
 
 /// Whoever else acts on a tree.
 pub trait Others<T: Tree> {
@@ -38,16 +39,6 @@ impl<T: Tree> Others<T> for EachTurn {
             // A step that there was no memory for wasn't made.
             let _ = tree.step(alloc, self.actor, &self.step.lend());
         }
-    }
-}
-
-// The answer to the step that is due: the tree's, or that it had no memory to make it.
-fn answer_due<T: Tree>(alloc: Global, tree: &mut T, actor: Actor, walk: &Walk) -> Answer
-    ensures { IsAnswer walk.now.way walk.now.walking actor (T.state tree.old) (T.state tree.new) result }
-{
-    match tree.step(alloc, actor, &walk.due()) {
-        Ok(answer) => answer,
-        Err(_) => Answer::Refused(Errno::NoMemory),
     }
 }
 
@@ -85,7 +76,7 @@ pub fn resolve_among<T: Tree, O: Others<T>>(
         match turn {
             Turn::More(walk) => {
                 others.act(alloc, tree, actor);
-                let answer = answer_due(alloc, tree, actor, &walk);
+                let answer = answer_to(alloc, tree, actor, &walk.due());
                 turn = walk.take(answer);
             }
             Turn::Found(standing) => return Ok(Resolved::Found(standing)),

@@ -1,7 +1,7 @@
 //! A path on a tree on which nobody else acts.
 ghost use Rattle.std.specs.Prelude.{◌≡◌, true};
 ghost use Rattle.step_resolver.specs.Driver.{node_of, ground_at, IsReady};
-ghost use Rattle.step_resolver.specs.Meaning.{reading_means, resolution};
+ghost use Rattle.step_resolver.specs.Meaning.{reading_means, resolution, resolved};
 ghost use Rattle.example_callers.specs.Lookup.{meaning_in, Gives, LeavesAllHandles};
 
 use handles::Owner;
@@ -52,6 +52,23 @@ pub fn look_up<T: Tree>(
     }
 }
 
+// The node that a path text means below the root. Nobody else acts meanwhile.
+fn look_up_text<T: Tree>(
+    alloc: Global,
+    tree: &mut T,
+    root: Root,
+    text: &[u8],
+    flags: Flags,
+) -> Result<Node, Errno>
+    requires { IsReady (T.state tree.old) root.owner.actor root.handle
+        (node_of (T.state tree.old) root.owner.actor root.handle) }
+    ensures { Gives (resolution (resolved (T.state tree.old).nodes
+        (node_of (T.state tree.old) root.owner.actor root.handle) text.now true flags)) result }
+{
+    let path = Path::parse(alloc, text)?;
+    look_up(alloc, tree, root, path, flags)
+}
+
 /// The node that a path text means in the tree of these entries, below the directory at the names `root` from the
 /// top. Entry k is node k + 1.
 ///
@@ -77,6 +94,5 @@ pub fn node_at(
         actor: Actor::new(0),
     };
     let handle = tree.grant(alloc, owner.actor, root)?;
-    let path = Path::parse(alloc, text)?;
-    look_up(alloc, &mut tree, Root { owner, handle }, path, flags)
+    look_up_text(alloc, &mut tree, Root { owner, handle }, text, flags)
 }

@@ -75,7 +75,6 @@ module _ {State Outcome : Type 0} (p : Plain State Outcome) where
     same_alike = λ memory n v w key other one two same. (one ∙ same) ∙ sym two;
     same_key = λ memory n v key other is same. is ∙ same;
     same_itself = λ key. refl;
-    same_back = λ key other same. sym same;
     same_counts = λ key other same. same;
     one_itself = λ key. refl;
     one_back = λ key other same. sym same;

@@ -11,9 +11,8 @@ use Rattle.race_core.specs.Worlds.{WorldView}
 use Rattle.local_states.specs.Worlds.{EndView, worlds, world_outcomes}
 use Rattle.local_states.proofs.Alike.PairedLists.{there_is, there_was}
 use Rattle.local_states.proofs.Lists.Places.{get_push}
-use Rattle.explore.specs.declared.limits.Scope.{Scope}
-use Rattle.explore.specs.Explored.{lists_in, IsAsked, AgreeIn, ClassView, HasClass}
-use Rattle.explore.specs.Lists.{cuts, changes, rank, is_at_most}
+use Rattle.local_states.specs.declared.limits.Scope.{Scope}
+use Rattle.explore.specs.Explored.{lists_in, IsAsked, AgreeIn, ClassView, HasClass, cuts, changes, rank, is_at_most}
 use Rattle.explore.specs.Promise.{IsMerged, IsMergedClass}
 use Rattle.explore.specs.Told.{IsToldBy, AreToldBy}
 use Rattle.schedule_graph.specs.Counted.{AreSoMany}

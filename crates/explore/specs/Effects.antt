@@ -10,7 +10,7 @@ use Rattle.explore.specs.declared.turns.memo.MemoKey.{MemoKey}
 use Rattle.explore.specs.declared.turns.memo.Entry.{Entry}
 use Rattle.explore.specs.declared.turns.world_counts.Counts.{Counts}
 use Rattle.explore.specs.declared.turns.world_counts.Start.{Start}
-use Rattle.local_states.specs.Alike.{full}
+use Rattle.local_states.specs.Worlds.{full}
 use Rattle.local_states.specs.Counting.{bumped}
 use Rattle.local_states.specs.Keys.{ComponentsView, IsPartAt, AreRows}
 use Rattle.local_states.specs.Local.{AreNumbered, AreAllGiven}

@@ -1,5 +1,6 @@
--- What is asked of a search of all schedules of a world, and what it tells.
-use Rattle.std.specs.Prelude.{◌≡◌, ℕ, List, Some, slice_get}
+-- What is asked of a search of all schedules of a world, and what it tells. Which lists are asked for, which are on the
+-- way, and which have one state is said as it is of all moves (`Asked` of `layered_search`).
+use Rattle.std.specs.Prelude.{◌≡◌, ℕ, List, Bool, Option, None, Some, slice_get}
 use Rattle.tree_model.specs.declared.answer.Event.{Event}
 use Rattle.tree_model.specs.State.{State}
 use Rattle.handles.specs.Objects.{StandingObject}
@@ -7,26 +8,21 @@ use Rattle.race_core.specs.declared.report.Outcome.{Outcome}
 use Rattle.race_core.specs.Worlds.{WorldView, ledgers_in, Reports}
 use Rattle.schedule_graph.specs.declared.fault.SearchFault.{SearchFault}
 use Rattle.layered_search.specs.Asked as asked
-pub use Rattle.layered_search.specs.Asked.{IsWithin, BeginsWith, GoAlong}
+pub use Rattle.layered_search.specs.Asked.{IsWithin, GoAlong}
+pub use Rattle.layered_search.specs.Lists.{plus, is_less_or, is_not_after, Rank, is_at_most, changes}
 use Rattle.layered_search.specs.Moves as moves
 use Rattle.layered_search.specs.Limits.{ScopeView, LimitsView}
-use Rattle.explore.specs.declared.limits.Scope.{Scope}
-use Rattle.explore.specs.declared.limits.Limits.{Limits}
-use Rattle.local_states.specs.Alike.{after_turns, world_moves}
+use Rattle.local_states.specs.declared.limits.Scope.{Scope}
+use Rattle.local_states.specs.declared.limits.Limits.{Limits}
+use Rattle.local_states.specs.Local.{SameParts}
 use Rattle.local_states.specs.Outside.{outside_of}
-use Rattle.explore.specs.Lists.{rank}
-use Rattle.local_states.specs.Worlds.{worlds}
+use Rattle.local_states.specs.Worlds.{after_turns, world_moves, worlds}
 pub use Rattle.local_states.specs.Worlds.{TellAlike}
 
 -- ---- which lists are asked for, and what they tell
 
--- which lists are gone through
-abbrev pub lists_in : Scope → ScopeView
-lists_in scope = record { cuts = scope.cuts; begin = scope.begin.items }
-
--- a full list with at most so many cuts, which begins with the turns that are asked for
 abbrev pub IsAsked : WorldView → Scope → List ℕ → Type 0
-IsAsked w scope = asked.IsAskedOf world_moves w (lists_in scope)
+IsAsked w scope = asked.IsAskedOf world_moves w scope.cuts scope.begin.items
 
 -- each turn is of an actor who has something left to do then
 abbrev pub AreBusy : WorldView → List ℕ → Type 0
@@ -36,10 +32,27 @@ AreBusy w is = moves.AreBusy world_moves w is
 abbrev pub AgreeIn : WorldView → Scope → List ℕ → List ℕ → Type 0
 AgreeIn w scope is js = TellAlike scope.outside (after_turns w is) (after_turns w js)
 
+-- ---- what counts in a list
+
+-- whether a turn of that actor cuts a call of the last one's
+abbrev pub is_cut : WorldView → Option ℕ → ℕ → Bool
+is_cut w last j = moves.is_cut world_moves w last j
+
+-- how many turns of the list cut a call, the last turn before being that actor's
+abbrev pub cuts_after : WorldView → Option ℕ → List ℕ → ℕ
+cuts_after w last is = moves.cuts_after world_moves w last is
+
+abbrev pub cuts : WorldView → List ℕ → ℕ
+cuts w is = cuts_after w None is
+
+-- by this a list is ordered: by the cuts, then by the changes of actor, then as lists
+abbrev pub rank : WorldView → List ℕ → Rank
+rank w is =
+    record { cuts = moves.cuts_after world_moves w None is; changes = moves.changes_after None is; turns = is }
+
 -- ---- what is found
 
--- a list of turns, how many cuts and changes of actor it has, its report, and, where that is told, how many changes
--- each actor made outside of its root
+-- a list of turns, what counts in it, its report, and, where that is told, each actor's changes outside of its root
 pub record EndingView : Type 0 where
   pub turns : List ℕ
   pub cuts : ℕ
@@ -70,23 +83,23 @@ pub record HasClass (w : WorldView) (scope : Scope) (classes : List ClassView) (
   pub there : slice_get classes at ≡ Some class
   pub agrees : AgreeIn w scope is class.least.turns
 
--- some list that is asked for has so many turns, and none has more
 abbrev pub IsLongest : WorldView → Scope → ℕ → Type 0
-IsLongest w scope = asked.IsLongestOf world_moves w (lists_in scope)
+IsLongest w scope = asked.IsLongestOf world_moves w scope.cuts scope.begin.items
 
 -- ---- states
 
--- Each turn of the list is of an actor who has something left to do then, and there are few cuts; it begins as is asked
--- for, as far as it goes.
 abbrev pub IsOnWay : WorldView → Scope → List ℕ → Type 0
-IsOnWay w scope = asked.IsOnWay (worlds scope.outside w) (lists_in scope)
+IsOnWay w scope = asked.IsOnWayOf world_moves w scope.cuts scope.begin.items
 
--- Two lists have one state: they are as long, and lead to worlds in which each actor has the same part. There are so
--- many states of lists on the way.
+-- worlds in which each actor has the same part count as one state
 abbrev pub AreStates : WorldView → Scope → ℕ → Type 0
-AreStates w scope = asked.AreStates (worlds scope.outside w) (lists_in scope)
+AreStates w scope = asked.AreStatesOf world_moves w SameParts scope.cuts scope.begin.items
 
 -- ---- why nothing is told
+
+-- which lists are gone through
+abbrev pub lists_in : Scope → ScopeView
+lists_in scope = record { cuts = scope.cuts; begin = scope.begin.items }
 
 -- what is gone through at most
 abbrev pub limits_in : Limits → LimitsView

@@ -2,10 +2,8 @@ pub mod Effects
 pub mod Worlds
 pub mod Replayed
 pub mod Search
-pub mod Lists
 pub mod Explored
 pub mod Opened
-pub mod Tally
 pub mod Promise
 pub mod Told
 pub mod WorldLaws

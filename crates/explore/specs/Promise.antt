@@ -1,10 +1,10 @@
 -- What a search of all schedules tells, clause by clause.
 --
 -- Of all schedules of a world, or of those with at most so many cuts,
---     `IsAsked`: the full lists of turns (`Search.IsFull`) with no more cuts (`Lists.cuts`) than that. The report of
+--     `IsAsked`: the full lists of turns (`Search.IsFull`) with no more cuts (`Explored.cuts`) than that. The report of
 --     every schedule is that of a full list (`Search.ReportsAreOfFullLists`);
 -- or of those whose turns begin with the ones that are asked for,
---     its `begins` (`Explored.BeginsWith`);
+--     its `begins`;
 -- it tells how many there are,
 --     `IsMerged`, its `counted`: exactly below `schedule_graph`'s cap, and else the cap (`Counted.AreSoMany`);
 -- and how many turns the longest has;
@@ -17,7 +17,7 @@
 -- of each outcome it tells how many lists lead to it,
 --     `IsMergedClass`, its `lists`;
 -- the least of them,
---     its `least`: by cuts, then by changes of actor, then as lists (`Lists.rank`, `Lists.is_at_most`);
+--     its `least`: by cuts, then by changes of actor, then as lists (`Explored.rank`, `Explored.is_at_most`);
 -- and what the run of that list comes to.
 --     its `ending` (`IsEnding`): its report, its cuts and changes of actor, and, where that is told, how many changes
 --     each actor made outside of its root.
@@ -28,9 +28,8 @@
 use Rattle.std.specs.Prelude.{◌≡◌, ℕ, List, true, slice_get, Some}
 use Rattle.race_core.specs.Worlds.{WorldView}
 use Rattle.schedule_graph.specs.Counted.{AreSoMany}
-use Rattle.explore.specs.declared.limits.Scope.{Scope}
-use Rattle.explore.specs.Lists.{rank, is_at_most}
-use Rattle.explore.specs.Explored.{IsAsked, AgreeIn, ClassView, IsEnding, HasClass, IsLongest}
+use Rattle.local_states.specs.declared.limits.Scope.{Scope}
+use Rattle.explore.specs.Explored.{IsAsked, AgreeIn, rank, is_at_most, ClassView, IsEnding, HasClass, IsLongest}
 
 -- The list is the least of those that are asked for and lead to its outcome, and so many do.
 pub record IsMergedClass (w : WorldView) (scope : Scope) (class : ClassView) : Type 0 where

@@ -8,8 +8,7 @@ use Rattle.race_core.specs.Book.{tree_now}
 use Rattle.race_core.specs.Worlds.{WorldView, ledgers_in, replies_in, RunsTo}
 use Rattle.layered_search.specs.Moves as moves
 use Rattle.layered_search.specs.Search as search
-use Rattle.local_states.specs.Alike.{after_turns, world_moves}
-use Rattle.local_states.specs.Worlds.{worlds}
+use Rattle.local_states.specs.Worlds.{after_turns, world_moves, worlds}
 use Rattle.local_states.specs.Local.{TellAlike}
 use Rattle.local_states.specs.OutOfMemory.{replies_out_of_memory}
 

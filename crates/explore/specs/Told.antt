@@ -2,10 +2,9 @@
 use Rattle.std.specs.Prelude.{◌≡◌, ℕ, List, length, Some, slice_get}
 use Rattle.race_core.specs.Worlds.{WorldView}
 use Rattle.layered_search.specs.declared.found.Class.{Class}
-use Rattle.explore.specs.declared.limits.Scope.{Scope}
+use Rattle.local_states.specs.declared.limits.Scope.{Scope}
 use Rattle.explore.specs.Explored.{ClassView, IsAsked}
-use Rattle.local_states.specs.Alike.{after_turns}
-use Rattle.local_states.specs.Worlds.{EndView, IsEndOf}
+use Rattle.local_states.specs.Worlds.{after_turns, EndView, IsEndOf}
 
 -- its end is that of the world after the least list; what was counted is as it was
 pub record IsToldBy (w : WorldView) (scope : Scope) (counted : Class EndView) (class : ClassView) : Type 0 where

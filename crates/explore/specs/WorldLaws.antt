@@ -39,7 +39,6 @@ worlds_have_keys told w = record {
     few = few_copied n key other (keys_back key other are) is.few;
   };
   same_itself = λ key. record { nodes = refl; events = refl; opened = refl; closed = refl; own = refl };
-  same_back = λ key other are. keys_back key other are;
   same_counts = λ key other are. record {
     nodes = are.nodes;
     events = are.events;

@@ -5,18 +5,16 @@
 //! may be asked for those alone that begin with some turns.
 //! The layer above uses that contract alone.
 //!
-//! The search tells worlds apart by their *keys*: the places of their nodes and of each actor's part (`local_states`).
-//! It goes on with one of the worlds that have one key, layer by layer (`specs/Layers.antt`). It keeps the key and a
-//! list of turns that leads there. `src/` has, by subject:
+//! A world is a system of actors who take turns, whose schedules `layered_search` goes through (`system.rt`;
+//! `specs/WorldLaws.antt` says that the laws of a system hold of it). A state is known by its *key*: the places of the
+//! world's nodes and of each actor's part (`local_states`). `src/` has, by subject:
 //!
 //! - `worlds`: where each schedule begins, and runs from there (`replayed.rt`). Whoever lacked memory says so at the
 //!   end of a run.
-//! - `turns`: what counts in a list of turns (`cost.rt`), and what turns come to. That depends on the nodes, the
-//!   actor's part, and how full the book is (`world_counts.rt`); so the search remembers it by these (`memo.rt`,
-//!   `specs/Effects.antt`). It finds a turn that it doesn't know by a run from the beginning, and the turns after it
-//!   that aren't known by the same run (`known_turns.rt`).
-//! - `frontier`: the layer that the search goes on from, and the next one: worlds, the configurations of lists on them,
-//!   transitions and edges. These make a graph, and the laws say that its words are the lists.
+//! - `turns`: what turns come to. That depends on the nodes, the actor's part, and how full the book is
+//!   (`world_counts.rt`); so the search remembers it by these (`memo.rt`, `specs/Effects.antt`). It finds a turn that
+//!   it doesn't know by a run from the beginning, and the turns after it that aren't known by the same run
+//!   (`known_turns.rt`).
 //! - `outcomes`: what is found, and which worlds come to the same.
 //! - `search.rt` puts these together; `limits.rt` has what is asked for.
 //!

@@ -2,4 +2,3 @@
 pub(crate) mod end;
 pub(crate) mod found;
 pub(crate) mod same;
-pub(crate) mod tally;

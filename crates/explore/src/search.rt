@@ -1,13 +1,13 @@
 //! All schedules of a world, by a search of the system that it is.
 ghost use Rattle.std.specs.Prelude.{◌≡◌, ◌≤◌, ℕ, length, Some, slice_get, IfOk, IfErr};
 ghost use Rattle.layered_search.specs.declared.found.Class.{Class as Counted};
-ghost use Rattle.explore.specs.declared.limits.Scope.{Scope};
+ghost use Rattle.local_states.specs.declared.limits.Scope.{Scope};
 ghost use Rattle.explore.specs.Explored.{AreStates, IsAsked, WhyNot};
 ghost use Rattle.explore.specs.Promise.{IsMerged};
 ghost use Rattle.explore.specs.Told.{IsToldBy, AreToldBy};
 ghost use Rattle.local_states.specs.Worlds.{EndView};
 
-use crate::limits::{Limits, Scope, SearchFault};
+use crate::limits::{Limits, Scope, SearchFault, of_system};
 use crate::outcomes::end::End;
 use crate::outcomes::found::{Class, Ending, Findings};
 use crate::system::Worlds;
@@ -89,7 +89,7 @@ pub fn explore<T: CopyTree + Drop, B: Beginnings<T>, P: Progress>(
     ensures counted { IfOk result (λ found. AreStates (B.opening beginnings.now) limits.now.scope found.states) }
     ensures err { IfErr result (WhyNot (B.opening beginnings.now) limits.now) }
 {
-    let asked = limits.of_system(alloc)?;
+    let asked = of_system(alloc, limits)?;
     let worlds: Worlds<'_, T, B> = Worlds {
         beginnings,
         told: limits.scope.outside,

@@ -8,11 +8,11 @@ use Rattle.scripts.specs.declared.turns.TurnOrder.TheVariants.{OfScript}
 use Rattle.scripts.specs.Scenario.{Said, said_for}
 use Rattle.scripts.specs.Writing.{tree_of, Wrote}
 use Rattle.tree_model.specs.State.{State}
-use Rattle.explore_command.specs.declared.search.Asked.{Asked}
+use Rattle.explore_parts.specs.declared.asked.Asked.{Asked}
 use Rattle.explore_command.specs.ExplorePart.{IsLineOf}
 use Rattle.explore_command.specs.Part.{IsPart}
-use Rattle.explore_command.specs.PartText.{part_line}
-use Rattle.explore_command.specs.Seal.{sum_of}
+use Rattle.explore_parts.specs.PartText.{part_line}
+use Rattle.explore_parts.specs.Seal.{sum_of}
 
 module _ (old new : Option (List ℕ)) (script sum text : List ℕ) (asked : Asked) (said : Said) (tree : State) (part : Part) where
   wrote : said_for OfScript script ≡ Ok said → tree ≡ tree_of said → IsPart asked tree said.plans said.lines part → sum ≡ sum_of script

@@ -6,7 +6,7 @@ use Rattle.tree_model.proofs.StepLaws.{slice_get-set_other}
 use Rattle.race_core.specs.declared.seat.Seat.{Seat}
 use Rattle.race_core.specs.Turns.{turned}
 use Rattle.race_core.specs.Worlds.{WorldView, turn, turn_of, is_busy_in, is_busy_at, Runs, AllGoToEnd, numbers_below, first_beyond}
-use Rattle.local_states.specs.Alike.{full, after_turns}
+use Rattle.local_states.specs.Worlds.{full, after_turns}
 use Rattle.explore.specs.Search.{IsOver, IsFull}
 use Rattle.local_states.proofs.Lists.Runs.{all_over, actors_stay}
 use Rattle.outcome_text.specs.Schedule.{rises, without_tail}

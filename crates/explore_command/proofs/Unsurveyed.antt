@@ -7,7 +7,7 @@ use Rattle.scripts.specs.Scenario.{Said}
 use Rattle.scripts.specs.Writing.{tree_of}
 use Rattle.outcome_text.specs.declared.fault.ExploreFault.{ExploreFault}
 use Rattle.outcome_text.specs.declared.fault.ExploreFault.TheVariants.{Run, NoSuchActor, NoSuchLine, Search, TooMuchMemory, NoGauge}
-use Rattle.explore_command.specs.declared.search.Asked.{Asked}
+use Rattle.explore_parts.specs.declared.asked.Asked.{Asked}
 use Rattle.explore_command.specs.Explore.{IsNoSurvey}
 use Rattle.explore_command.specs.Surveyed.{WhyNoSurvey}
 

@@ -3,10 +3,9 @@ use Rattle.std.specs.Prelude.{◌≡◌, ◌⊎◌, ◌+◌, ◌++◌, ℕ, zero
 use Rattle.std.specs.Global.{Vec}
 use Rattle.std.proofs.Common.{inl, inr, sym, ap, subst, ⊎_elim, below_more}
 use Rattle.std.proofs.lemmas.Option.{same_Some, none-some}
-use Rattle.explore.specs.declared.limits.Limits.{Limits}
-use Rattle.local_states.specs.Alike.{after_turns}
-use Rattle.explore.specs.Explored.{IsWithin}
-use Rattle.explore.specs.Lists.{cuts}
+use Rattle.local_states.specs.declared.limits.Limits.{Limits}
+use Rattle.local_states.specs.Worlds.{after_turns}
+use Rattle.explore.specs.Explored.{IsWithin, cuts}
 use Rattle.race_core.specs.Worlds.{WorldView, is_busy_at}
 use Rattle.schedule_graph.specs.Counted.{IsAmong}
 use Rattle.explore_command.specs.Part.{IsBarredAt, IsBarred, AreWhoMight, AreEachWhoMight}

@@ -6,8 +6,8 @@ use Rattle.tree_model.proofs.StepLaws.{slice_get-set_other}
 use Rattle.race_core.specs.declared.seat.Seat.{Seat}
 use Rattle.race_core.specs.Turns.{turned}
 use Rattle.race_core.specs.Worlds.{WorldView, turn, turn_of, is_within_in, is_within_at}
-use Rattle.local_states.specs.Alike.{full}
-use Rattle.explore.specs.Lists.{plus, is_cut, cuts_after}
+use Rattle.local_states.specs.Worlds.{full}
+use Rattle.explore.specs.Explored.{plus, is_cut, cuts_after}
 use Rattle.explore_command.specs.WholeCalls.{AreWholeCalls, OutcomesWithoutCutsAreOfWholeCalls}
 
 none_of : (b : Bool) (n : ℕ) → plus b n ≡ 0 → (b ≡ false) × (n ≡ 0)

@@ -8,7 +8,7 @@ use Rattle.scripts.specs.Writing.{tree_of, IsNoRun, IsWritingFaultOf, Wrote}
 use Rattle.scripts.specs.Scenario.{Said, said_for}
 use Rattle.outcome_text.specs.declared.fault.ExploreFault.{ExploreFault}
 use Rattle.outcome_text.specs.declared.fault.ExploreFault.TheVariants.{Run}
-use Rattle.explore_command.specs.declared.search.Asked.{Asked}
+use Rattle.explore_parts.specs.declared.asked.Asked.{Asked}
 use Rattle.explore_command.specs.Surveyed.{IsSurvey, WhyNoSurvey}
 
 -- the text of the survey of what a script says, and whether no property fails

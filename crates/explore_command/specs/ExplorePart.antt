@@ -8,10 +8,10 @@ use Rattle.scripts.specs.Writing.{tree_of, Wrote}
 use Rattle.outcome_text.specs.declared.fault.ExploreFault.{ExploreFault}
 use Rattle.outcome_text.specs.declared.fault.ExploreFault.TheVariants.{Run}
 use Rattle.outcome_text.specs.declared.part.Part.{Part}
-use Rattle.explore_command.specs.declared.search.Asked.{Asked}
+use Rattle.explore_parts.specs.declared.asked.Asked.{Asked}
 use Rattle.explore_command.specs.Part.{IsPart}
-use Rattle.explore_command.specs.PartText.{part_line}
-use Rattle.explore_command.specs.Seal.{sum_of}
+use Rattle.explore_parts.specs.PartText.{part_line}
+use Rattle.explore_parts.specs.Seal.{sum_of}
 
 -- the line of the part that is asked for of what the script with these bytes says
 abbrev pub IsLineOf : Asked → List ℕ → Said → List ℕ → Type 0

@@ -2,7 +2,7 @@
 use Rattle.std.specs.Prelude.{⊤, ◌≡◌, ◌<◌, ◌≤◌, ◌*◌, ◌⊎◌, ℕ, List, ◌++◌, Option, Some, None, codes, drop}
 use Rattle.std.specs.Str.{trim_start}
 use Rattle.std.specs.Str.Parse.{digits_value, without_leading_plus}
-use Rattle.explore_command.specs.declared.gauge.TheConstants.{MEGABYTE}
+use Rattle.explore_parts.specs.declared.asked.TheConstants.{MEGABYTE}
 use Rattle.outcome_text.specs.declared.fault.ExploreFault.{ExploreFault}
 use Rattle.outcome_text.specs.declared.fault.ExploreFault.TheVariants.{TooMuchMemory, NoGauge}
 use Rattle.outcome_text.specs.Unfound.{unfound_by}

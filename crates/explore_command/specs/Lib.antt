@@ -2,15 +2,7 @@ pub mod Classes
 pub mod Explore
 pub mod ExplorePart
 pub mod Gauge
-pub mod Lists
-pub mod Merging
-pub mod Options
 pub mod Part
-pub mod PartRead
-pub mod PartText
-pub mod Printed
-pub mod ReadBack
 pub mod Replayed
-pub mod Seal
 pub mod Surveyed
 pub mod WholeCalls

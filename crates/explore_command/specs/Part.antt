@@ -1,9 +1,8 @@
 -- The outcomes of the schedules that begin with some turns.
 use Rattle.std.specs.Prelude.{◌≡◌, ◌<◌, ◌⊎◌, ◌++◌, ℕ, suc, List, [], ◌∷◌, length, take, slice_get, Some}
 use Rattle.std.specs.Global.{Vec}
-use Rattle.explore.specs.declared.limits.Limits.{Limits}
-use Rattle.explore.specs.Explored.{ClassView, IsIdle, IsWithin}
-use Rattle.explore.specs.Lists.{cuts}
+use Rattle.local_states.specs.declared.limits.Limits.{Limits}
+use Rattle.explore.specs.Explored.{ClassView, IsIdle, IsWithin, cuts}
 use Rattle.explore.specs.Opened.{opened_world}
 use Rattle.explore.specs.Promise.{IsMerged}
 use Rattle.race_core.specs.declared.plan.ActorPlan.{ActorPlan}
@@ -11,7 +10,7 @@ use Rattle.race_core.specs.Worlds.{WorldView}
 use Rattle.schedule_graph.specs.Counted.{IsAmong}
 use Rattle.tree_model.specs.State.{State}
 use Rattle.outcome_text.specs.declared.part.Part.{Part}
-use Rattle.explore_command.specs.declared.search.Asked.{Asked}
+use Rattle.explore_parts.specs.declared.asked.Asked.{Asked}
 use Rattle.explore_command.specs.Classes.{AreTold}
 use Rattle.explore_command.specs.Surveyed.{IsOfThese}
 

@@ -5,7 +5,7 @@ use Rattle.explore.specs.Explored.{ClassView, AreStates, WhyNot}
 use Rattle.explore.specs.Opened.{opened_world}
 use Rattle.race_core.specs.declared.plan.ActorPlan.{ActorPlan}
 use Rattle.tree_model.specs.State.{State}
-use Rattle.explore_command.specs.declared.search.Asked.{Asked}
+use Rattle.explore_parts.specs.declared.asked.Asked.{Asked}
 use Rattle.outcome_text.specs.declared.fault.ExploreFault.{ExploreFault}
 use Rattle.outcome_text.specs.declared.fault.ExploreFault.TheVariants.{Run, NoSuchActor, NoSuchLine, Search, TooMuchMemory, NoGauge}
 use Rattle.outcome_text.specs.declared.survey.Told.{Told}

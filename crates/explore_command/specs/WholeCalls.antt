@@ -1,8 +1,8 @@
 -- What an outcome without a cut is.
 use Rattle.std.specs.Prelude.{◌≡◌, ◌≢◌, ℕ, List, [], ◌∷◌, false}
 use Rattle.race_core.specs.Worlds.{WorldView, turn, is_within_at}
-use Rattle.explore.specs.declared.limits.Scope.{Scope}
-use Rattle.local_states.specs.Alike.{full}
+use Rattle.local_states.specs.declared.limits.Scope.{Scope}
+use Rattle.local_states.specs.Worlds.{full}
 use Rattle.explore.specs.Explored.{EndingView, IsEnding}
 
 -- nobody has a call under way

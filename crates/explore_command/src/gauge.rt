@@ -4,17 +4,12 @@ ghost use Rattle.explore.specs.Opened.{opened_world};
 ghost use Rattle.explore_command.specs.Gauge.{IsOver, IsToldOver, SaysNoMore, SaysPeak};
 
 use explore::{Beginnings, Scene, SearchFault, Silent};
+use explore_parts::MEGABYTE;
 use outcome_text::ExploreFault;
 use path_text::NoMemory;
 use race_core::World;
 use std::alloc::Global;
 use tree_list::ListTree;
-
-/// A megabyte, in bytes.
-pub const MEGABYTE: u64 = 1_000_000;
-
-/// The most megabytes that may be asked for.
-pub const MEMORY_MAX: u32 = 1_000_000;
 
 /// Who knows how much memory the program has taken.
 pub trait Gauge {

@@ -1,5 +1,5 @@
 //! The outcomes of the schedules that begin with some turns: a part of those of all.
-ghost use Rattle.std.specs.Prelude.{◌≡◌, ◌≤◌, ◌++◌, ◌∷◌, [], false, length, take, OnOk, IfOk, MatchResult};
+ghost use Rattle.std.specs.Prelude.{◌≡◌, ◌≤◌, false, length, take, IfOk, MatchResult};
 ghost use Rattle.race_core.specs.declared.opening.TheConstants.{ACTORS_MAX as MOST_ACTORS};
 ghost use Rattle.explore_command.specs.Part.{IsBarredAt, IsBarred, AreWhoMight, AreEachWhoMight, AreFarEnough, HasNone, IsPart};
 ghost use Rattle.explore_command.specs.Gauge.{SaysNoMore, WhyTooMuch};
@@ -8,19 +8,12 @@ ghost use Rattle.outcome_text.specs.Unfound.{unfound_by};
 ghost use Rattle.explore.specs.Opened.{opened_world};
 
 use crate::gauge::{Bounded, Gauge, look, told_over};
-use crate::search::{Asked, check, told_in};
+use crate::search::{check, told_in};
 use explore::{Limits, Progress, Scene, Scope, SearchFault, Silent, explore};
+use explore_parts::Asked;
 use outcome_text::{ExploreFault, Part};
 use path_text::NoMemory;
 use std::alloc::Global;
-
-/// Adds one more.
-pub(crate) fn add<T: Drop>(all: &mut Vec<T>, one: T) -> Result<(), NoMemory>
-    ensures { OnOk result (all.new.items ≡ all.old.items ++ one ∷ []) }
-{
-    all.push(one)?;
-    Ok(())
-}
 
 // Equal turns.
 fn copy_of(alloc: Global, turns: &[u32]) -> Result<Vec<u32>, NoMemory>
@@ -73,9 +66,9 @@ fn who_might(
     let mut might = Vec::new(alloc);
     for actor in 0..scene.plans.len() as u32 {
         let mut begin = copy_of(alloc, turns)?;
-        add(&mut begin, actor)?;
+        begin.push(actor)?;
         if may_begin(alloc, scene, limits, begin)? {
-            add(&mut might, actor)?;
+            might.push(actor)?;
         }
     }
     Ok(might)
@@ -99,7 +92,7 @@ fn all_might(
     let mut all = Vec::new(alloc);
     for at in 0..turns {
         let might = who_might(alloc, scene, limits, &begin[..at])?;
-        add(&mut all, might)?;
+        all.push(might)?;
     }
     Ok(all)
 }

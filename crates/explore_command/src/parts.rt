@@ -3,11 +3,9 @@ ghost use Rattle.explore_command.specs.ExplorePart.{IsExplorePart};
 
 use crate::gauge::Gauge;
 use crate::part::part_of_scene;
-use crate::part_text::part_text;
-use crate::seal::sum_of;
-use crate::search::Asked;
 use crate::waiter::Waiter;
 use explore::Scene;
+use explore_parts::{Asked, part_text, sum_of};
 use outcome_text::ExploreFault;
 use scripts::{RunFault, TurnOrder, read_scene, read_script};
 use std::alloc::Global;

@@ -5,9 +5,10 @@ ghost use Rattle.explore_command.specs.Explore.{IsExplore, IsNoSurvey, IsSurveyO
 ghost use Rattle.explore_command.specs.Gauge.{SaysNoMore, WhyTooMuch};
 
 use crate::gauge::Gauge;
-use crate::search::{Asked, survey_scene};
+use crate::search::survey_scene;
 use crate::waiter::Waiter;
 use explore::{Progress, Scene};
+use explore_parts::Asked;
 use outcome_text::{ExploreFault, Survey};
 use scripts::{RunFault, Scenario, TurnOrder, read_scene};
 use std::alloc::Global;

@@ -10,29 +10,13 @@ ghost use Rattle.explore_command.specs.Gauge.{IsOfNoGauge, SaysNoMore, WhyTooMuc
 
 use crate::classes::tell_all;
 use crate::gauge::{Bounded, Gauge, look, told_over};
-use explore::{Class, Findings, Limits, Progress, Scene, SearchFault, explore};
+use explore::{Class, Findings, Progress, Scene, SearchFault, explore};
+use explore_parts::Asked;
 use outcome_text::{ExploreFault, Property, Survey, Told, first_untold, told_in_order};
 use path_text::NoMemory;
 use std::alloc::Global;
 use tree_list::ListTree;
 use tree_model::Tree;
-
-/// The most turns of a list that is gone through.
-pub const TURNS_MAX: u32 = 100_000;
-
-/// What is asked of a world.
-#[derive(Debug, Drop)]
-pub struct Asked {
-    /// The actors whose replies alone make an outcome; with none the replies of all, the tree and the open handles do.
-    pub named: Vec<u32>,
-    /// Which lists are gone through, whether it is told how many steps of each actor acted outside of its root, and how
-    /// many worlds are gone through at most.
-    pub limits: Limits,
-    /// How many megabytes may be taken at most; with none any number.
-    pub memory: Option<u32>,
-    /// Which reports count, and properties of each of these, whatever actors are named.
-    pub properties: Vec<Property>,
-}
 
 // The first of these that is none of so many actors.
 fn first_foreign(named: &[u32], actors: usize) -> Option<u32>

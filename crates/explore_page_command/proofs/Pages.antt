@@ -2,7 +2,7 @@
 use Rattle.std.proofs.Common.{◌≡◌, ◌≢◌, ◌≤◌, ℕ, Bool, List, [], length, sym, subst}
 use Rattle.std.specs.Prelude.{All, Option, Some, None, Result, Ok, Err, IfSome}
 use Rattle.std.proofs.KnownBytes.{Keeps-refl}
-use Rattle.explore_command.specs.declared.search.Asked.{Asked}
+use Rattle.explore_parts.specs.declared.asked.Asked.{Asked}
 use Rattle.explore_command.specs.Explore.{IsSurveyOf}
 use Rattle.explore_command.specs.Surveyed.{IsSurveyWith}
 use Rattle.explore_page_command.specs.declared.fault.ExplorePageFault.{ExplorePageFault}

@@ -6,7 +6,7 @@ use Rattle.std.proofs.lemmas.Bool.{ltb-true}
 use Rattle.std.proofs.lemmas.List.Elements.{All-nil, All-cons, All-append, All-head, All-tail, All-filter, All-take}
 use Rattle.explore.specs.Explored.{ClassView}
 use Rattle.explore.specs.Opened.{opened_world}
-use Rattle.explore_command.specs.declared.search.Asked.{Asked}
+use Rattle.explore_parts.specs.declared.asked.Asked.{Asked}
 use Rattle.explore_command.specs.Classes.{AreTold}
 use Rattle.explore_command.specs.Surveyed.{IsSurvey, outcomes_of}
 use Rattle.explore_command.proofs.Replayed.{written_lead_there}

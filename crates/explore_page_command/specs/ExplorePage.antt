@@ -2,7 +2,7 @@
 -- that it plays.
 use Rattle.std.specs.Prelude.{⊤, ◌≡◌, ◌≢◌, ℕ, Bool, List, Option, Result, MatchResult, IsOkAnd, IfSome}
 use Rattle.std.specs.Io.KnownBytes.{Keeps}
-use Rattle.explore_command.specs.declared.search.Asked.{Asked}
+use Rattle.explore_parts.specs.declared.asked.Asked.{Asked}
 use Rattle.explore_command.specs.Explore.{IsNoSurvey, IsExploreFaultOf}
 use Rattle.explore_command.specs.Gauge.{WhyTooMuch}
 use Rattle.explore_command.specs.Surveyed.{IsSurvey, outcomes_of}

@@ -12,7 +12,7 @@ use Rattle.tree_model.specs.State.{Stands}
 use Rattle.tree_model.specs.Steps.{opens}
 use Rattle.step_resolver.specs.Asked.{AskedPart, Up}
 use Rattle.step_resolver.specs.Trail.{all}
-use Rattle.step_resolver.specs.Order.{Handle, root_itself, holds, Todo, todo, After, gives, onward, judges, Walking, opening, reading, rising, judging, duping, ending, closing, Turn, failed, handles_of, gives_up, closes, take, is_closing, IsWant}
+use Rattle.step_resolver.specs.Order.{Handle, root_itself, holds, Todo, todo, After, gives, onward, judges, Walking, opening, reading, rising, judging, duping, ending, closing, Turn, failed, handles_of, gives_up, closes, take, due, is_close, IsWant}
 use Rattle.step_resolver.specs.Order.{end_of as ends_with}
 use Rattle.step_resolver.specs.WalkHistory.{WalkInHistory, state_at, timeline}
 use Rattle.step_resolver.proofs.WalkSteps.{one_handle}
@@ -173,7 +173,7 @@ module _ {w : WalkInHistory} (lived : Lived w) (end : Turn) (texts now t n h : �
 -- ---- steps that weren't made
 
 module _ (w : WalkInHistory) (end : Turn) (texts now n : ℕ) where
-  without_memory : (walk : Walking) → is_closing walk ≡ false → AheadAt w end texts now (take w.way true walk (Refused NoMemory)) n → AheadIn w end texts now walk (suc n)
+  without_memory : (walk : Walking) → is_close (due w.way walk) ≡ false → AheadAt w end texts now (take w.way true walk (Refused NoMemory)) n → AheadIn w end texts now walk (suc n)
   without_memory (opening position own follow name (todo inner rest b)) e ahead =
       gave_up_in w end texts now now n (opening position own follow name (todo inner rest b)) (handles_of position) NoMemory (omega (arith, one_handle position)) (on_the_way w) ahead
   without_memory (reading position link (todo inner rest b)) e ahead =
@@ -184,7 +184,7 @@ module _ (w : WalkInHistory) (end : Turn) (texts now n : ℕ) where
   without_memory (ending handle names rest) e ahead = gave_up_in w end texts now now n (ending handle names rest) (handle.number ∷ []) NoMemory (omega arith) (on_the_way w) ahead
   without_memory (closing h hs after) e ahead = cc (e)
 
-  without_room : (walk : Walking) → is_closing walk ≡ false → AheadAt w end texts now (take w.way true walk (Refused BookFull)) n → AheadIn w end texts now walk (suc n)
+  without_room : (walk : Walking) → is_close (due w.way walk) ≡ false → AheadAt w end texts now (take w.way true walk (Refused BookFull)) n → AheadIn w end texts now walk (suc n)
   without_room (opening position own follow name (todo inner rest b)) e ahead =
       gave_up_in w end texts now now n (opening position own follow name (todo inner rest b)) (handles_of position) BookFull (omega (arith, one_handle position)) (on_the_way w) ahead
   without_room (reading position link (todo inner rest b)) e ahead =
@@ -196,7 +196,7 @@ module _ (w : WalkInHistory) (end : Turn) (texts now n : ℕ) where
   without_room (closing h hs after) e ahead = cc (e)
 
   -- what a step that wasn't made leads to
-  pub not_made_ahead : (error : Errno) → IsWant error → (walk : Walking) → is_closing walk ≡ false
+  pub not_made_ahead : (error : Errno) → IsWant error → (walk : Walking) → is_close (due w.way walk) ≡ false
       → AheadAt w end texts now (take w.way true walk (Refused error)) n → AheadIn w end texts now walk (suc n)
   not_made_ahead error (inl e) walk open_step ahead =
       without_memory walk open_step (subst (λ x. AheadAt w end texts now (take w.way true walk (Refused x)) n) e ahead)

@@ -4,10 +4,9 @@ use Rattle.std.proofs.Common.{◌∙◌, inl, inr, sym, ap, subst, ⊎_elim, ari
 use Rattle.std.proofs.lemmas.Bool.{true≢false}
 use Rattle.std.proofs.lemmas.List.{append-nil, take-append-drop, length-take-le, take_all, take_at}
 use Rattle.race_core.specs.Worlds.{WorldView, turn}
-use Rattle.local_states.specs.Alike.{full}
-use Rattle.explore.specs.Lists.{plus, is_cut, cuts_after}
+use Rattle.local_states.specs.Worlds.{full}
+use Rattle.explore.specs.Explored.{plus, is_cut, cuts_after, IsWithin, AreBusy}
 use Rattle.explore.specs.Search.{IsFull}
-use Rattle.explore.specs.Explored.{IsWithin, AreBusy}
 use Rattle.further_world_laws.specs.Parts.{AllBeginningsCover}
 
 busy_first : (w : WorldView) (is : List ℕ) (n : ℕ) → IsFull w is → AreBusy w (take n is)

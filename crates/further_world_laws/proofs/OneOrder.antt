@@ -3,7 +3,7 @@ use Rattle.std.specs.Prelude.{◌≡◌, ◌<◌, ℕ, List, [], ◌∷◌, Bool
 use Rattle.std.proofs.Common.{⊎_elim, arith}
 use Rattle.std.proofs.lemmas.Bool.{false≢true}
 use Rattle.schedule_graph.proofs.Ranks.{less_cases}
-use Rattle.explore.specs.Lists.{is_less_or, is_not_after, Rank, is_at_most}
+use Rattle.explore.specs.Explored.{is_less_or, is_not_after, Rank, is_at_most}
 
 never_both : (m n : ℕ) → m < n → n < m → ⊥
 never_both m n lt gt = omega arith

@@ -1,29 +1,14 @@
 -- What a search of the lists that begin with some turns tells is the answer for that part.
-use Rattle.std.specs.Prelude.{◌++◌, ℕ, List, [], ◌∷◌, Bool, Option, refl}
+use Rattle.std.specs.Prelude.{ℕ, List, Bool, Option, refl}
 use Rattle.std.proofs.Common.{◌∙◌, inr, sym, ap, subst}
 use Rattle.race_core.specs.Worlds.{WorldView}
-use Rattle.explore.specs.declared.limits.Scope.{Scope}
-use Rattle.local_states.specs.Alike.{after_turns}
-use Rattle.explore.specs.Lists.{cuts}
+use Rattle.local_states.specs.declared.limits.Scope.{Scope}
+use Rattle.local_states.specs.Worlds.{after_turns}
+use Rattle.explore.specs.Explored.{cuts, IsWithin, IsAsked, TellAlike, AgreeIn, ClassView, HasClass}
 use Rattle.local_states.specs.Outside.{outside_of}
-use Rattle.explore.specs.Explored.{IsWithin, BeginsWith, IsAsked, TellAlike, AgreeIn, ClassView, HasClass}
 use Rattle.explore.specs.Promise.{IsMergedClass, IsMerged}
 use Rattle.further_world_laws.specs.Parts.{Begins, IsAskedFrom, IsPartClass, part_with, IsPart, IsWholeOf, SearchesTellParts}
 use Rattle.schedule_graph.proofs.Summing.{so_many_as}
-
--- ---- lists that begin so
-
-pub begins_to : (begin is : List ℕ) → BeginsWith begin is → Begins begin is
-begins_to [] is h = (is, refl)
-begins_to (j ∷ js) [] h = absurd h
-begins_to (j ∷ js) (i ∷ is) h = let rest = begins_to js is h.1 in (rest.0, (λ k. h.0 k ∷ rest.1 k))
-
-begins_own : (begin rest : List ℕ) → BeginsWith begin (begin ++ rest)
-begins_own [] rest = tt
-begins_own (j ∷ js) rest = (refl, begins_own js rest)
-
-begins_from : (begin is : List ℕ) → Begins begin is → BeginsWith begin is
-begins_from begin is h = subst (λ (js : List ℕ). BeginsWith begin js) (sym h.1) (begins_own begin h.0)
 
 module _ (w : WorldView) (part whole : Scope) (of : IsWholeOf part whole) where
   abbrev begin : List ℕ
@@ -34,16 +19,16 @@ module _ (w : WorldView) (part whole : Scope) (of : IsWholeOf part whole) where
     record {
       whole = asked.whole;
       few_cuts = subst (λ (most : Option ℕ). IsWithin most (cuts w is)) (sym of.cuts) asked.few_cuts;
-      begins = subst (λ (js : List ℕ). BeginsWith js is) (sym of.begin) tt;
+      begins = subst (λ (js : List ℕ). Begins js is) (sym of.begin) (is, refl);
     },
-    begins_to begin is asked.begins,
+    asked.begins,
   )
 
   asked_from : (is : List ℕ) → IsAskedFrom w whole begin is → IsAsked w part is
   asked_from is from = record {
     whole = from.0.whole;
     few_cuts = subst (λ (most : Option ℕ). IsWithin most (cuts w is)) of.cuts from.0.few_cuts;
-    begins = begins_from begin is from.1;
+    begins = from.1;
   }
 
   agree_to : (is js : List ℕ) → AgreeIn w part is js → AgreeIn w whole is js

@@ -3,10 +3,9 @@ use Rattle.std.specs.Prelude.{◌≡◌, ◌<◌, ◌⊎◌, ◌↔◌, ◌++◌
 use Rattle.race_core.specs.Worlds.{WorldView}
 use Rattle.schedule_graph.specs.declared.count.TheConstants.{COUNT_CAP}
 use Rattle.schedule_graph.specs.Counted.{IsAmong, EachOnce, AreSoMany, IsLongest}
-use Rattle.explore.specs.declared.limits.Scope.{Scope}
-use Rattle.explore.specs.Lists.{cuts, rank, is_at_most}
+use Rattle.local_states.specs.declared.limits.Scope.{Scope}
+use Rattle.explore.specs.Explored.{cuts, rank, is_at_most, IsWithin, IsAsked, AreBusy, AgreeIn, ClassView, IsEnding, HasClass}
 use Rattle.explore.specs.Search.{IsFull}
-use Rattle.explore.specs.Explored.{IsWithin, IsAsked, AreBusy, AgreeIn, ClassView, IsEnding, HasClass}
 use Rattle.explore.specs.Promise.{IsMerged}
 
 -- ---- a part of all lists: those that begin with some turns

@@ -5,7 +5,7 @@ use Rattle.path_text.specs.Reading.{Reading}
 use Rattle.tree_model.specs.declared.answer.Answer.{Answer}
 use Rattle.tree_model.specs.declared.answer.Answer.TheVariants.{Refused}
 use Rattle.tree_model.specs.declared.answer.Event.{Event}
-use Rattle.step_resolver.specs.Order.{Way, Walking, Turn, due, is_closing, Line, events_of, LeadsTo}
+use Rattle.step_resolver.specs.Order.{Way, Walking, Turn, due, is_close, Line, events_of, LeadsTo}
 use Rattle.step_resolver.specs.WalkHistory.{WalkInHistory, IsWalkInHistory}
 use Rattle.step_resolver.specs.Headline.{Headline}
 use Rattle.step_resolver.specs.Driver.{IsWithoutBook}
@@ -24,7 +24,7 @@ pub record TellsAlone (way : Way) (path : Reading) (a : ℕ) (before after : Lis
 abbrev pub IsAnswer : Way → Walking → ℕ → List Event → List Event → Answer → Type 0
 IsAnswer way walking a before after answer =
     (after ≡ before ++ record { actor = a; step = due way walking; answer = answer } ∷ [])
-    ⊎ ((answer ≡ Refused NoMemory) × (after ≡ before) × (is_closing walking ≡ false))
+    ⊎ ((answer ≡ Refused NoMemory) × (after ≡ before) × (is_close (due way walking) ≡ false))
 
 -- lines lead from one turn to the other, their events were booked, and the others are for want of memory
 pub record Leads (way : Way) (a : ℕ) (before : List Event) (from : Turn) (after : List Event)

@@ -2,8 +2,8 @@
 //! explores scripts of calls that race, and lets workers make a script's calls.
 //!
 //! It hands the words of its command line to `command_line`, and standard input and output to `walk_replay_command`,
-//! `draw_command`, `run_command`, `explore_command` and `explore_page_command`, where it is stated what a run writes;
-//! it ends with the status that `command_line` says of what happened.
+//! `draw_command`, `run_command`, `explore_command`, `explore_parts` and `explore_page_command`, where it is stated
+//! what a run writes; it ends with the status that `command_line` says of what happened.
 #![tactic(auto)]
 
 ghost use Rattle.std.specs.Prelude.{◌<◌, ◌≤◌};
@@ -19,8 +19,9 @@ use command_line::{
 };
 use draw_command::{Style, draw, draw_page, replay_json};
 use drawings::Closes;
-use explore_command::{Asked, explore_part, explore_script, merge_parts, read_asked};
+use explore_command::{explore_part, explore_script};
 use explore_page_command::{ExplorePageFault, explore_page};
+use explore_parts::{Asked, merge_parts, read_asked};
 use run_command::run_jobs;
 use scripts::{RunFault, TurnOrder, read_script, read_strictly};
 use std::alloc::Global;

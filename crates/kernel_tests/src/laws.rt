@@ -67,12 +67,32 @@ fn laws_of_whole_calls() {
 }
 
 #[test]
+fn laws_of_walks_into_directories() {
+    enter_directory::what_is_entered_was_found_below();
+    enter_directory::each_descriptor_is_closed_once();
+    enter_directory::why_it_fails();
+    enter_directory::the_directory_above_is_lost_by_its_path();
+    enter_directory::calls_are_few();
+}
+
+#[test]
+fn laws_of_paths_at_once() {
+    open_at_once::a_way_is_tried_by_leave();
+    open_at_once::what_is_given_was_opened();
+    open_at_once::plain_names_are_known_to_fail();
+    open_at_once::tries_are_few();
+}
+
+#[test]
 fn laws_of_single_steps() {
     step_calls::opens_stood();
     step_calls::parents_stood();
     step_calls::links_were_read();
+    step_calls::links_are_followed_by_leave();
     step_calls::each_descriptor_is_closed_once();
     step_calls::no_error_is_passed_over();
+    step_calls::changes_stood();
+    step_calls::renames_stood();
     step_calls::a_change_is_made_once();
     step_calls::calls_are_few();
 }

@@ -13,6 +13,8 @@ mod callings;
 #[cfg(test)]
 mod courses;
 #[cfg(test)]
+mod enterings;
+#[cfg(test)]
 mod givings;
 #[cfg(test)]
 mod laws;
@@ -22,6 +24,8 @@ mod listings;
 mod looks;
 #[cfg(test)]
 mod makings;
+#[cfg(test)]
+mod mounts;
 #[cfg(test)]
 mod objects;
 #[cfg(test)]
@@ -40,3 +44,5 @@ mod searches;
 mod steps;
 #[cfg(test)]
 mod tries;
+#[cfg(test)]
+mod ways;

@@ -141,11 +141,18 @@ fn mounts_and_magic_links(rt: HostRuntime) -> Result<(), Fail> {
     assert!(rt; plain.next == OPENED && plain.kind == LINK);
     let magic = says(&facts, holder, PROC);
     assert!(rt; magic.next == MAGIC && fails(&facts, magic, EINTR).next == MAGIC);
-    let followed = fails(&facts, magic, ENOENT);
-    assert!(rt; followed.next == OPENED && followed.kind == LINK);
+    let led_out = fails(&facts, magic, EXDEV);
+    assert!(rt; led_out.next == OPENED && led_out.kind == LINK);
+    assert!(rt;
+        works(&facts, magic).next == OPENED && fails(&facts, magic, ENOTDIR).next == OPENED
+    );
     let refused = fails(&facts, magic, ELOOP);
     assert!(rt; refused.next == CLOSE);
     assert!(rt; ends(works(&facts, refused), UNMADE, ELOOP));
+    let none_left = fails(&facts, magic, EMFILE);
+    assert!(rt; none_left.next == CLOSE);
+    assert!(rt; ends(works(&facts, none_left), UNMADE, EMFILE));
+    assert!(rt; ends(works(&facts, fails(&facts, magic, ENOENT)), UNMADE, ENOENT));
     Ok(())
 }
 
@@ -194,6 +201,8 @@ fn texts_are_read(rt: HostRuntime) -> Result<(), Fail> {
     };
     let flags = begin(&facts);
     assert!(rt; flags.next == NO_FOLLOW && ends(says(&facts, flags, NOSYMFOLLOW), UNMADE, ELOOP));
+    assert!(rt; fails(&facts, flags, EINTR).next == NO_FOLLOW);
+    assert!(rt; ends(fails(&facts, flags, EIO), UNMADE, EIO));
     let read = says(&facts, flags, 1);
     assert!(rt; read.next == READ_LINK && works(&facts, read).next == TEXT);
     assert!(rt; fails(&facts, read, EINTR).next == READ_LINK);

@@ -1,3 +1,4 @@
 pub mod Listing
+pub mod Mounts
 pub mod Place
 pub mod Records

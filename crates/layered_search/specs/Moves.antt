@@ -40,13 +40,10 @@ module _ {State : Type 0} (m : Moves State) where
   AreBusy v [] = Unit {0}
   AreBusy v (i ∷ is) = (m.is_busy v i ≡ true) × AreBusy (m.turn v i) is
 
-  abbrev pub is_within_last : State → Option ℕ → Bool
-  is_within_last v None = false
-  is_within_last v (Some i) = m.is_within v i
-
   -- A turn right after one of the last actor cuts a call: it is another's, and the last one's call is under way.
   abbrev pub is_cut : State → Option ℕ → ℕ → Bool
-  is_cut v last j = is_another last j && is_within_last v last
+  is_cut v None j = false
+  is_cut v (Some i) j = not (i == j) && m.is_within v i
 
   -- how many turns of the list cut a call, the last turn before being that actor's
   abbrev pub cuts_after : State → Option ℕ → List ℕ → ℕ

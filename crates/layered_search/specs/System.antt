@@ -78,7 +78,6 @@ module _ {State Memory Key : Type 0} (s : System State) (k : Keys State Memory K
     pub same_key : (memory : Memory) (n : ℕ) (v : State) (key other : Key) → k.IsKey memory n v key
         → k.AreSame key other → k.IsKey memory n v other
     pub same_itself : (key : Key) → k.AreSame key key
-    pub same_back : (key other : Key) → k.AreSame key other → k.AreSame other key
     pub same_counts : (key other : Key) → k.AreSame key other → k.CountAsOne key other
     pub one_itself : (key : Key) → k.CountAsOne key key
     pub one_back : (key other : Key) → k.CountAsOne key other → k.CountAsOne other key

@@ -1,15 +1,11 @@
--- What is the same but for the numbers of handles: steps, answers and seats by pairs of handles. And the world after
--- some turns.
+-- What is the same but for the numbers of handles: steps, answers and seats by pairs of handles.
 use Rattle.std.specs.Prelude.{◌≡◌, ℕ, List, Bool, true}
 use Rattle.tree_model.specs.declared.answer.Answer.{Answer}
 use Rattle.tree_model.specs.StepWith.{StepWith}
-pub use Rattle.race_core.specs.OneReport.{full}
 use Rattle.race_core.specs.declared.seat.Seat.{Seat}
-use Rattle.layered_search.specs.Moves.{Moves, after}
-use Rattle.race_core.specs.Worlds.{WorldView, turn, is_busy_at, is_within_at}
 use Rattle.race_core.specs.Renamed.{step_by, answer_by, seat_by}
 
--- ---- handles that configuration for one another
+-- ---- handles that stand for one another
 
 -- whether the handle of the one number, in the one world, is that of the other number in the other
 abbrev pub Pairs : Type 0
@@ -29,17 +25,3 @@ SameAnswers pairs s t = (f g : ℕ → ℕ) → Agree pairs f g → answer_by f 
 
 abbrev pub SameSeats : Pairs → Seat → Seat → Type 0
 SameSeats pairs s t = (f g : ℕ → ℕ) → Agree pairs f g → seat_by f s ≡ seat_by g t
-
--- ---- runs
-
--- a world's actors take turns, with memory for all
-abbrev pub world_moves : Moves WorldView
-world_moves = record {
-  turn = turn full;
-  is_busy = λ w i. is_busy_at w.seats i;
-  is_within = λ w i. is_within_at w.seats i;
-}
-
--- the world after these actors' turns
-abbrev pub after_turns : WorldView → List ℕ → WorldView
-after_turns w is = after world_moves w is

@@ -15,7 +15,7 @@ use Rattle.race_core.specs.declared.seat.Seat.{Seat}
 use Rattle.race_core.specs.Book.{BookedHistory}
 use Rattle.race_core.specs.Turns.{Luck, turned}
 use Rattle.race_core.specs.Worlds.{WorldView, ledgers_in, replies_in, AllOver, Runs}
-use Rattle.local_states.specs.Alike.{full, after_turns}
+use Rattle.local_states.specs.Worlds.{full, after_turns}
 
 abbrev pub is_out_of_memory : Errno → Bool
 is_out_of_memory NoMemory = true

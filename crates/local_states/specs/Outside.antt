@@ -8,10 +8,10 @@ use Rattle.tree_model.specs.declared.step.StepOf.TheVariants as steps
 use Rattle.tree_model.specs.History.{after_event}
 use Rattle.tree_model.specs.State.{State, is_within}
 use Rattle.tree_model.specs.Steps.{held}
+pub use Rattle.layered_search.specs.Lists.{plus}
 use Rattle.race_core.specs.declared.seat.Seat.{Seat}
 use Rattle.race_core.specs.Book.{BookedHistory, is_done}
 use Rattle.race_core.specs.Worlds.{WorldView}
-pub use Rattle.bulk_ops.specs.RemoveAllTells.{one_more_if as plus}
 
 -- ---- a step
 
@@ -23,19 +23,12 @@ changed_by (steps.MakeLink h n text) = h ∷ []
 changed_by (steps.RemoveFile h n) = h ∷ []
 changed_by (steps.RemoveDir h n) = h ∷ []
 changed_by (steps.Rename h n k m mode) = h ∷ k ∷ []
-changed_by (steps.Open h n) = []
-changed_by (steps.Dup h) = []
-changed_by (steps.Parent h) = []
-changed_by (steps.ReadLink h) = []
-changed_by (steps.NameBelow r h) = []
-changed_by (steps.List h) = []
-changed_by (steps.Close h) = []
+changed_by step = []
 
 -- a directory is neither the root nor below it
 abbrev pub is_outside : List Inode → Option ℕ → Option ℕ → Bool
-is_outside nodes None d = false
-is_outside nodes (Some root) None = false
 is_outside nodes (Some root) (Some d) = not (is_within nodes root d)
+is_outside nodes root d = false
 
 -- one of the actor's handles is on such a directory
 abbrev pub any_outside : State → Option ℕ → ℕ → List ℕ → Bool

@@ -1,19 +1,31 @@
--- A world as a system of actors who take turns: which worlds are alike, what they come to, and which of these are the
--- same.
+-- A world after some turns; and as a system of actors who take turns: which worlds are alike, what they come to, and
+-- which of these are the same.
 use Rattle.std.specs.Prelude.{◌≡◌, ◌<◌, ℕ, List, Bool, length}
 use Rattle.tree_model.specs.declared.answer.Event.{Event}
 use Rattle.tree_model.specs.State.{State}
 use Rattle.tree_model.specs.Steps.{held_count}
 use Rattle.handles.specs.Objects.{StandingObject}
+use Rattle.layered_search.specs.Moves.{Moves, after}
 use Rattle.layered_search.specs.System.{System, Outcomes}
+pub use Rattle.race_core.specs.OneReport.{full}
 use Rattle.race_core.specs.declared.report.Outcome.{Outcome}
 use Rattle.race_core.specs.Book.{tree_now}
 use Rattle.race_core.specs.Renamed.{replies_by}
 use Rattle.race_core.specs.Worlds.{WorldView, turn, is_busy_at, is_within_at, ledgers_in, replies_in, Reports}
-use Rattle.local_states.specs.Alike.{full}
 use Rattle.local_states.specs.Local.{SameParts}
 use Rattle.local_states.specs.Outside.{outside_of}
 use Rattle.local_states.specs.Same.{IsSame}
+
+-- ---- turns
+
+-- a world's actors take turns, with memory for all
+abbrev pub world_moves : Moves WorldView
+world_moves =
+    record { turn = turn full; is_busy = λ w i. is_busy_at w.seats i; is_within = λ w i. is_within_at w.seats i }
+
+-- the world after these actors' turns
+abbrev pub after_turns : WorldView → List ℕ → WorldView
+after_turns w is = after world_moves w is
 
 -- ---- worlds
 
@@ -22,8 +34,7 @@ pub data IsLike (told : Bool) : WorldView → WorldView → Type 0 where
   same : (w : WorldView) → IsLike told w w
   onward : (w u v : WorldView) → IsSame told w u → IsLike told u v → IsLike told w v
 
--- The same outcome: the replies but for the numbers of handles, the nodes of the tree, how many handles each actor
--- has open, and, where that is told, how many changes it has made outside of its root.
+-- the same outcome: whatever numbers handles have, and what was changed outside of roots only where that is told
 pub record TellAlike (told : Bool) (w v : WorldView) : Type 0 where
   pub replies : replies_by (λ h. 0) (replies_in (ledgers_in w.seats))
       ≡ replies_by (λ h. 0) (replies_in (ledgers_in v.seats))

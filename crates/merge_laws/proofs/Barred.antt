@@ -3,11 +3,10 @@ use Rattle.std.specs.Prelude.{◌≡◌, ◌≤◌, ◌++◌, ℕ, zero, suc, mi
 use Rattle.std.proofs.Common.{◌∙◌, inl, sym, subst, ⊎_elim, arith}
 use Rattle.std.proofs.lemmas.Bool.{true≢false}
 use Rattle.std.proofs.lemmas.Option.{same_Some, none-some}
-use Rattle.explore.specs.declared.limits.Limits.{Limits}
-use Rattle.explore.specs.declared.limits.Scope.{Scope}
-use Rattle.local_states.specs.Alike.{full, after_turns}
-use Rattle.explore.specs.Explored.{IsWithin}
-use Rattle.explore.specs.Lists.{is_cut, cuts, cuts_after}
+use Rattle.local_states.specs.declared.limits.Limits.{Limits}
+use Rattle.local_states.specs.declared.limits.Scope.{Scope}
+use Rattle.local_states.specs.Worlds.{full, after_turns}
+use Rattle.explore.specs.Explored.{IsWithin, is_cut, cuts, cuts_after}
 use Rattle.explore.specs.Search.{IsFull}
 use Rattle.explore_command.specs.Part.{IsBarred}
 use Rattle.race_core.specs.Worlds.{WorldView, turn, is_busy_at}

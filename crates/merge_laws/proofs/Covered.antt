@@ -3,13 +3,13 @@ use Rattle.std.specs.Prelude.{◌≡◌, ◌<◌, ◌++◌, ℕ, zero, suc, true
 use Rattle.std.proofs.Common.{◌∙◌, sym, ap, subst, ⊎_elim, arith, drop}
 use Rattle.std.proofs.lemmas.Bool.{true≢false, false≢true}
 use Rattle.std.proofs.lemmas.List.{append-nil, append_assoc, take-append-drop}
-use Rattle.explore.specs.declared.limits.Limits.{Limits}
-use Rattle.local_states.specs.Alike.{full, after_turns}
-use Rattle.explore.specs.Explored.{BeginsWith, IsAsked}
+use Rattle.local_states.specs.declared.limits.Limits.{Limits}
+use Rattle.local_states.specs.Worlds.{full, after_turns}
+use Rattle.explore.specs.Explored.{IsAsked}
 use Rattle.explore.specs.Search.{IsFull}
 use Rattle.explore.specs.Opened.{opened_world}
 use Rattle.local_states.proofs.Lists.Runs.{actors_stay}
-use Rattle.explore_command.specs.declared.search.Asked.{Asked}
+use Rattle.explore_parts.specs.declared.asked.Asked.{Asked}
 use Rattle.explore_command.specs.Part.{IsBarred, HasLists}
 use Rattle.race_core.specs.declared.plan.ActorPlan.{ActorPlan}
 use Rattle.race_core.specs.declared.seat.Seat.{Seat}
@@ -22,7 +22,6 @@ use Rattle.further_world_laws.specs.Parts.{Begins, BeginsWithOne}
 use Rattle.merge_laws.specs.Merged.{IsPartOf, AreOfOneQuestion, IsSeated, PartsWithoutGapsAreAll, begins_in}
 use Rattle.merge_laws.proofs.Barred.{busy_there, none_begins}
 use Rattle.merge_laws.proofs.NoGaps.{MightHave, begins_with_one, each_once, found}
-use Rattle.further_world_laws.proofs.SearchedPart.{begins_to}
 use Rattle.further_world_laws.proofs.Beginnings.{ends_there}
 use Rattle.explore_command.proofs.Replayed.{busy_within}
 use Rattle.tree_model.proofs.Places.{slice_get-last}
@@ -76,7 +75,7 @@ module _ (asked : Asked) (tree : State) (plans : List ActorPlan) (lines : ℕ) (
     one : (js : List ℕ) × (IsAsked world own.limits.scope js × Begins part.begin.items js)
     one =
         let at = has.explored.longest.reached in
-        (at.0, (at.1.0, subst (λ (begin : List ℕ). Begins begin at.0) (sym is.1.1.begin) (begins_to own.limits.scope.begin.items at.0 at.1.0.begins)))
+        (at.0, (at.1.0, subst (λ (begin : List ℕ). Begins begin at.0) (sym is.1.1.begin) at.1.0.begins))
 
     -- who might have had a turn is told of each turn
     far : length part.might.items ≡ length part.begin.items

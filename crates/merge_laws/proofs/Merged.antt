@@ -2,9 +2,9 @@
 use Rattle.std.specs.Prelude.{◌≡◌, ℕ, Bool, min, List, [], ◌∷◌, map, length, None, refl}
 use Rattle.std.proofs.Common.{◌∙◌, inl, sym, ap, subst, ⊎_elim}
 use Rattle.std.proofs.lemmas.List.{append-nil}
-use Rattle.explore.specs.declared.limits.Scope.{Scope}
+use Rattle.local_states.specs.declared.limits.Scope.{Scope}
 use Rattle.explore.specs.Opened.{opened_world}
-use Rattle.explore_command.specs.declared.search.Asked.{Asked}
+use Rattle.explore_parts.specs.declared.asked.Asked.{Asked}
 use Rattle.explore_command.specs.Surveyed.{IsSurvey}
 use Rattle.race_core.specs.declared.plan.ActorPlan.{ActorPlan}
 use Rattle.race_core.specs.Worlds.{WorldView}

@@ -11,17 +11,17 @@ use Rattle.explore.specs.Opened.{opened_world}
 use Rattle.explore.specs.Promise as promise
 use Rattle.serde_json.specs.Data.{Data}
 use Rattle.serde_json.specs.Read.{read}
-use Rattle.explore_command.specs.declared.search.Asked.{Asked}
+use Rattle.explore_parts.specs.declared.asked.Asked.{Asked}
 use Rattle.explore_command.specs.Classes.{IsTold, AreTold}
-use Rattle.explore_command.specs.Merging.{FirstAsks, LinesSay, is_line, lines_in}
+use Rattle.explore_parts.specs.Merging.{FirstAsks, LinesSay, is_line, lines_in}
 use Rattle.explore_command.specs.Part.{AreWhoMight, AreFarEnough, HasLists, IsNone, IsPart}
-use Rattle.explore_command.specs.PartRead.{SaysPart, SaysProperties, LineSays}
-use Rattle.explore_command.specs.PartText.{part_words, part_line}
-use Rattle.explore_command.specs.ReadBack.{AreSameTold, AreSame, AreScheduled}
-use Rattle.explore_command.specs.Seal.{sum_of, sealed}
-use Rattle.explore_command.proofs.OneLine.{first_line}
-use Rattle.explore_command.proofs.OnePart.{values_say_one_part, values_say_one_question, zip_length}
-use Rattle.explore_command.proofs.PartSaid.{line_read, line_says, line_asks, line_is_one}
+use Rattle.explore_parts.specs.PartRead.{SaysPart, SaysProperties, LineSays}
+use Rattle.explore_parts.specs.PartText.{part_words, part_line}
+use Rattle.explore_parts.specs.ReadBack.{AreSameTold, AreSame, AreScheduled}
+use Rattle.explore_parts.specs.Seal.{sum_of, sealed}
+use Rattle.explore_parts.proofs.OneLine.{first_line}
+use Rattle.explore_parts.proofs.OnePart.{values_say_one_part, values_say_one_question, zip_length}
+use Rattle.explore_parts.proofs.PartSaid.{line_read, line_says, line_asks, line_is_one}
 use Rattle.race_core.specs.declared.plan.ActorPlan.{ActorPlan}
 use Rattle.outcome_text.specs.declared.part.Part.{Part}
 use Rattle.outcome_text.specs.declared.property.Property.{Property}

@@ -24,7 +24,7 @@ use Rattle.race_core.specs.Opening.{Grants, before, onward_from, granted, root_i
 use Rattle.race_core.specs.Renamed.{answer_by, outcome_by, outcomes_by, replies_by}
 use Rattle.race_core.specs.Turns.{Luck, stepped_by, opened_ledger, outcome_of, comes, begins, begins_next, begun, goes_on, turned, request_of, left_by}
 use Rattle.race_core.specs.Worlds.{WorldView, turn_of, turn, ledgers_in, replies_in}
-use Rattle.local_states.specs.Alike.{full, after_turns}
+use Rattle.local_states.specs.Worlds.{full, after_turns}
 use Rattle.explore.specs.Opened.{world_over, opened_world}
 use Rattle.merge_laws.specs.Merged.{RepliesSayNoHandles}
 use Rattle.merge_laws.proofs.CallsSayNoHandles.{SaysNone, TellsNone, WillTellNone, ComesToNone, stepped_so, taken_so, starts_so}

@@ -3,10 +3,10 @@ use Rattle.std.specs.Prelude.{◌≡◌, ◌+◌, ℕ, max, List, [], ◌∷◌,
 use Rattle.std.proofs.Common.{◌∙◌, inl, inr, sym, ap, subst, ⊎_elim}
 use Rattle.std.proofs.lemmas.List.{map-append}
 use Rattle.std.proofs.lemmas.List.Sums.{sum_by-cons}
-use Rattle.explore.specs.declared.limits.Scope.{Scope}
+use Rattle.local_states.specs.declared.limits.Scope.{Scope}
 use Rattle.explore.specs.Explored.{ClassView, IsEnding}
 use Rattle.explore.specs.Opened.{opened_world}
-use Rattle.explore_command.specs.declared.search.Asked.{Asked}
+use Rattle.explore_parts.specs.declared.asked.Asked.{Asked}
 use Rattle.explore_command.specs.Classes.{AreTold}
 use Rattle.explore_command.specs.Part as of_scene
 use Rattle.race_core.specs.declared.plan.ActorPlan.{ActorPlan}

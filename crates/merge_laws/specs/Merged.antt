@@ -1,11 +1,11 @@
 -- What parts of all schedules come to, merged, and what the one search of all tells: statements of laws.
 use Rattle.std.specs.Prelude.{◌≡◌, ℕ, List, [], Bool, true, length, map, Some, None, Ok}
-use Rattle.explore.specs.declared.limits.Scope.{Scope}
-use Rattle.local_states.specs.Alike.{after_turns}
+use Rattle.local_states.specs.declared.limits.Scope.{Scope}
+use Rattle.local_states.specs.Worlds.{after_turns}
 use Rattle.explore.specs.Explored.{IsAsked, AgreeIn, ClassView, IsEnding}
 use Rattle.explore.specs.Opened.{opened_world}
 use Rattle.race_core.specs.Renamed.{replies_by}
-use Rattle.explore_command.specs.declared.search.Asked.{Asked}
+use Rattle.explore_parts.specs.declared.asked.Asked.{Asked}
 use Rattle.explore_command.specs.Classes.{IsTold}
 use Rattle.explore_command.specs.Explore.{IsSurveyOf}
 use Rattle.explore_command.specs.Part.{IsPart}

@@ -1,13 +1,13 @@
 -- Lines that searches of parts printed, and what is merged of them: statements of laws.
 use Rattle.std.specs.Prelude.{◌≡◌, ℕ, List, Bool, Ok}
 use Rattle.std.specs.List.{flat_map, AllByRecursion}
-use Rattle.explore_command.specs.declared.search.Asked.{Asked}
+use Rattle.explore_parts.specs.declared.asked.Asked.{Asked}
 use Rattle.explore_command.specs.Explore.{IsSurveyOf}
-use Rattle.explore_command.specs.Merging.{IsMerged}
+use Rattle.explore_parts.specs.Merging.{IsMerged}
 use Rattle.explore_command.specs.Part.{IsPart}
-use Rattle.explore_command.specs.PartText.{part_line}
-use Rattle.explore_command.specs.Printed.{AskedFits, PartFits}
-use Rattle.explore_command.specs.Seal.{sum_of}
+use Rattle.explore_parts.specs.PartText.{part_line}
+use Rattle.explore_parts.specs.Printed.{AskedFits, PartFits}
+use Rattle.explore_parts.specs.Seal.{sum_of}
 use Rattle.race_core.specs.declared.plan.ActorPlan.{ActorPlan}
 use Rattle.outcome_text.specs.declared.part.Part.{Part}
 use Rattle.scripts.specs.declared.turns.TurnOrder.{TurnOrder}

@@ -278,7 +278,7 @@ module _ (plan : List Planned) (book : BookedHistory) (ledger : LedgerView) (cal
   spares : IsOwn plan ledger → Spares (spared_in ledger) step
   spares own = on (is_close step) refl
     where
-      by : (k : ℕ) → step ≡ steps.Close k → (IsUnmade doing BadHandle × FreedIn plan book ledger k) ⊎ HeldIn plan book ledger k → Spares (spared_in ledger) step
+      by : (k : ℕ) → step ≡ steps.Close k → (IsUnmade below doing BadHandle × FreedIn plan book ledger k) ⊎ HeldIn plan book ledger k → Spares (spared_in ledger) step
       by k is (inl freed) = another_close k is (freed.1 own).1
       by k is (inr holds) = another_close k is (holds.1 own)
 
@@ -342,7 +342,7 @@ module _ (plan : List Planned) (book : BookedHistory) (ledger : LedgerView) (cal
   made_by true = made_line true (answered step (answer_now book a step)) refl (refl, refl)
   made_by false = made_line false (no_room step (answer_now book a step)) refl (refl, refl)
 
-  left_out : (error : Errno) → IsUnmade doing error → (IsOwn plan ledger → (h : ℕ) → doing ≡ releasing h → ⊥) → IsComing plan book ledger calls below (take below room doing (Refused error))
+  left_out : (error : Errno) → IsUnmade below doing error → (IsOwn plan ledger → (h : ℕ) → doing ≡ releasing h → ⊥) → IsComing plan book ledger calls below (take below room doing (Refused error))
   left_out error why never = record {
     next = c.next;
     request = c.request;
@@ -382,14 +382,14 @@ module _ (plan : List Planned) (book : BookedHistory) (ledger : LedgerView) (cal
   closes_what_is_open h nothing is open_here = false≢true (sym (ap not open_here) ∙ sym (ap (closes_nothing (tree_now book) a) is) ∙ nothing)
 
   shut_why : closes_nothing (tree_now book) a step ≡ true → (h : ℕ) → step ≡ steps.Close h
-      → (IsUnmade doing BadHandle × FreedIn plan book ledger h) ⊎ HeldIn plan book ledger h → IsUnmade doing BadHandle
+      → (IsUnmade below doing BadHandle × FreedIn plan book ledger h) ⊎ HeldIn plan book ledger h → IsUnmade below doing BadHandle
   shut_why nothing h is (inl why) = why.0
   shut_why nothing h is (inr holds) = absurd (closes_what_is_open h nothing is holds.0)
 
   by_effect : (s : Stepped) → StepEffect book a step s → Comes s
   by_effect s (was_made is) = subst Comes (sym is) (made_by room)
   by_effect s (was_not error want none is) =
-      subst Comes (sym is) (left_out error (unmade below doing error want (is_no_close step none)) (λ own h e. is_no_close step none h (ap (due below) e)))
+      subst Comes (sym is) (left_out error (unmade below doing error want none) (λ own h e. is_no_close step none h (ap (due below) e)))
   by_effect s (was_shut nothing is) =
       let shuts = closes_open (HeldIn plan book ledger) (FreedIn plan book ledger) below doing (closes_some step nothing) c.holds in
       subst Comes (sym is)

@@ -402,7 +402,7 @@ module _ (Open : ℕ → Type 0) where
 
   -- a Close that is due is of a handle that is open, or of one that may be closed, which a Release closes
   pub closes_open : (Freed : ℕ → Type 0) (below : Below) (doing : Doing) → is_close (due below doing) ≡ true → CallHolds Open Freed doing
-      → (h : ℕ) × ((due below doing ≡ steps.Close h) × ((IsUnmade doing BadHandle × Freed h) ⊎ Open h))
+      → (h : ℕ) × ((due below doing ≡ steps.Close h) × ((IsUnmade below doing BadHandle × Freed h) ⊎ Open h))
   closes_open Freed below (walking w aim) e all = let c = walk_closes (way_of below aim) w (held_by aim) e all in (c.0, (c.1.0, inr c.1.1))
   closes_open Freed below (acting wanted step hs) e all = absurd (false≢true (sym all.0 ∙ e))
   closes_open Freed below (checking old new renaming) e all = absurd (false≢true e)

@@ -11,6 +11,7 @@ use Rattle.tree_model.specs.History.{after_events, IsLegal}
 use Rattle.tree_model.specs.State.{State}
 use Rattle.tree_model.specs.StepLaws.{open_count}
 use Rattle.tree_model.specs.Steps.{outcome, held}
+pub use Rattle.step_machine.specs.Told.{is_close}
 use Rattle.race_core.specs.declared.book.TheConstants.{LINES_MAX}
 
 pub record BookedHistory : Type 0 where
@@ -41,21 +42,6 @@ lines_needed (MakeLink h n text) = 1
 lines_needed (RemoveFile h n) = 1
 lines_needed (RemoveDir h n) = 1
 lines_needed (Rename h n k m mode) = 1
-
-abbrev pub is_close : StepWith ℕ → Bool
-is_close (Close h) = true
-is_close (Open h n) = false
-is_close (Dup h) = false
-is_close (Parent h) = false
-is_close (ReadLink h) = false
-is_close (NameBelow r h) = false
-is_close (ListNames h) = false
-is_close (MakeDir h n) = false
-is_close (MakeFile h n) = false
-is_close (MakeLink h n text) = false
-is_close (RemoveFile h n) = false
-is_close (RemoveDir h n) = false
-is_close (Rename h n k m mode) = false
 
 -- the step is the Close of a handle that isn't open, or not the actor's (close(2), EBADF)
 abbrev pub closes_nothing : State → ℕ → StepWith ℕ → Bool

@@ -21,15 +21,17 @@ use Rattle.root_ops.specs.declared.aim.Wanted.{Wanted}
 use Rattle.root_ops.specs.declared.aim.Wanted.TheVariants as wants
 use Rattle.root_ops.specs.Order.{After, gives, closes, Doing, walking, acting, closing, releasing, CallTurn, more, ends, Reply, kept, reply_to, same_owner, releases, walked, due, take, calls, steps_left, way_of, IsUnmade}
 use Rattle.root_ops.specs.TurnView.{StartsTo, TakesTo}
-use Rattle.root_ops.specs.Driver.{IsAnswer, Drives, Runs, steps_in}
+use Rattle.step_machine.specs.OnTree.{IsAnswer}
+use Rattle.root_ops.specs.Driver.{Drives, Runs, steps_in}
 use Rattle.root_ops.proofs.Refusals.{refusal_needs_no_room, unmade}
+use Rattle.step_machine.proofs.Closes.{takes_memory}
 use Rattle.step_machine.proofs.Runs.{leads_on}
 use Rattle.root_ops.proofs.Steps.{IsFewer, take_fewer, a_step_left}
 
 -- ---- what isn't made for want of memory is no Close
 
-want_unmade : (below : Below) (doing : Doing) → takes_no_memory (due below doing) ≡ false → IsUnmade doing NoMemory
-want_unmade below doing e = unmade below doing NoMemory (inl refl) (λ h is. let f : true ≡ false = sym (ap takes_no_memory is) ∙ e in cc (f))
+want_unmade : (below : Below) (doing : Doing) → takes_no_memory (due below doing) ≡ false → IsUnmade below doing NoMemory
+want_unmade below doing e = unmade below doing NoMemory (inl refl) (takes_memory (due below doing) e)
 
 -- ---- step by step
 

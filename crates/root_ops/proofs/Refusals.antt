@@ -2,8 +2,7 @@
 use Rattle.std.proofs.Common.{◌≡◌, ℕ, List, Bool, true, false, refl, ap, ◌∙◌}
 use Rattle.path_text.specs.declared.errno.Errno.{Errno}
 use Rattle.tree_model.specs.declared.answer.Answer.TheVariants.{Refused}
-use Rattle.tree_model.specs.declared.step.StepOf.TheVariants.{Close}
-use Rattle.step_resolver.specs.Order.{Way, Walking, opening, reading, rising, judging, duping, ending, closing, Turn, more, found, partial, failed, take, IsWant}
+use Rattle.step_resolver.specs.Order.{Way, Walking, opening, reading, rising, judging, duping, ending, closing, Turn, more, found, partial, failed, take, IsWant, is_close}
 use Rattle.step_resolver.specs.Order as walk
 use Rattle.bulk_ops.specs.MakeAllOrder as make
 use Rattle.bulk_ops.specs.RemoveAllOrder as remove
@@ -78,39 +77,12 @@ refusal_needs_no_room below room (call.releasing h) error = refl
 
 -- ---- a step that may be left out
 
-walk_closes_none : (way : Way) (w : Walking) → ((h : ℕ) → walk.due way w ≡ Close h → ⊥) → walk.is_closing w ≡ false
-walk_closes_none way (opening position own follow n rest) not_close = refl
-walk_closes_none way (reading position link rest) not_close = refl
-walk_closes_none way (rising handle names rest) not_close = refl
-walk_closes_none way (judging handle names rest) not_close = refl
-walk_closes_none way (duping rest) not_close = refl
-walk_closes_none way (ending handle names rest) not_close = refl
-walk_closes_none way (closing h hs after) not_close = absurd (not_close h refl)
-
-make_closes_none : (way : Way) (making : make.Making) → ((h : ℕ) → make.due way making ≡ Close h → ⊥) → make.is_closing making ≡ false
-make_closes_none way (make.walking w) not_close = walk_closes_none way w not_close
-make_closes_none way (make.making held names n left) not_close = refl
-make_closes_none way (make.opening held names n left) not_close = refl
-make_closes_none way (make.leaving old new names left) not_close = absurd (not_close old refl)
-make_closes_none way (make.ending held names) not_close = refl
-make_closes_none way (make.closing h hs why) not_close = absurd (not_close h refl)
-
-removal_closes_none : (removing : remove.Removing) → ((h : ℕ) → remove.due removing ≡ Close h → ⊥) → remove.is_closing removing ≡ false
-removal_closes_none (remove.walking way target w) not_close = walk_closes_none way w not_close
-removal_closes_none (remove.clearing remove.removes_file level above count left) not_close = refl
-removal_closes_none (remove.clearing remove.opens level above count left) not_close = refl
-removal_closes_none (remove.clearing (remove.lists h) level above count left) not_close = refl
-removal_closes_none (remove.clearing (remove.shuts h) level above count left) not_close = absurd (not_close h refl)
-removal_closes_none (remove.clearing (remove.leaves h) level above count left) not_close = absurd (not_close h refl)
-removal_closes_none (remove.clearing remove.removes_dir level above count left) not_close = refl
-removal_closes_none (remove.closing h hs end) not_close = absurd (not_close h refl)
-
 -- any step but a Close may be left out for a want
-pub unmade : (below : Below) (doing : call.Doing) (error : Errno) → IsWant error → ((h : ℕ) → call.due below doing ≡ Close h → ⊥) → call.IsUnmade doing error
-unmade below (call.walking w aim) error want not_close = (want, walk_closes_none (way_of below aim) w not_close)
-unmade below (call.acting wanted step hs) error want not_close = want
-unmade below (call.checking old new renaming) error want not_close = want
-unmade below (call.closing h hs after) error want not_close = absurd (not_close h refl)
-unmade below (call.making m) error want not_close = (want, make_closes_none (make_way below) m not_close)
-unmade below (call.removing r) error want not_close = (want, removal_closes_none r not_close)
-unmade below (call.releasing h) error want not_close = absurd (not_close h refl)
+pub unmade : (below : Below) (doing : call.Doing) (error : Errno) → IsWant error → is_close (call.due below doing) ≡ false → call.IsUnmade below doing error
+unmade below (call.walking w aim) error want stays = (want, stays)
+unmade below (call.acting wanted step hs) error want stays = (want, stays)
+unmade below (call.checking old new renaming) error want stays = (want, stays)
+unmade below (call.closing h hs after) error want stays = (want, stays)
+unmade below (call.making m) error want stays = (want, stays)
+unmade below (call.removing r) error want stays = (want, stays)
+unmade below (call.releasing h) error want stays = cc (stays)

@@ -1,22 +1,11 @@
 -- A call that is driven to its reply on a tree, where nobody else acts meanwhile.
-use Rattle.std.specs.Prelude.{◌≡◌, ℕ, ◌⊎◌, List, Bool, false}
-use Rattle.path_text.specs.declared.errno.Errno.TheVariants.{NoMemory}
-use Rattle.tree_model.specs.declared.answer.Answer.{Answer}
-use Rattle.tree_model.specs.declared.answer.Answer.TheVariants.{Refused}
+use Rattle.std.specs.Prelude.{◌≡◌, ℕ, List, Bool}
 use Rattle.tree_model.specs.State.{State}
-use Rattle.tree_model.specs.StepWith.{StepWith}
-use Rattle.tree_model.specs.Steps.{outcome, takes_no_memory}
 use Rattle.tree_model.specs.History.{IsLegal, after_events}
 use Rattle.step_resolver.specs.Order.{Line, events_of}
 use Rattle.root_ops.specs.declared.below.Below.{Below}
 use Rattle.root_ops.specs.declared.op.Op.{Op}
 use Rattle.root_ops.specs.Order.{Reply, CallTurn, more, ends, starts, steps_left, LeadsTo}
-
--- the step was made, or there was no memory to make it
-abbrev pub IsAnswer : StepWith ℕ → ℕ → State → State → Answer → Type 0
-IsAnswer step a s t answer =
-    ((answer ≡ (outcome s a step).answer) × (t ≡ (outcome s a step).after))
-    ⊎ ((takes_no_memory step ≡ false) × (answer ≡ Refused NoMemory) × (t ≡ s))
 
 -- how many steps are left at most; none at an end
 abbrev pub steps_in : Below → CallTurn → ℕ

@@ -24,7 +24,7 @@ use Rattle.handles.specs.declared.owner.Owner.{Owner}
 use Rattle.handles.specs.Objects.{StandingObject}
 use Rattle.walk_plan.specs.declared.goal.Goal.{Goal}
 use Rattle.walk_plan.specs.declared.goal.Goal.TheVariants.{Follow, NoFollow, Deepest}
-use Rattle.step_resolver.specs.Order.{Way, Handle, Walking, Turn, found, partial, failed, is_dir_kind, refusal_of, Line, IsWant}
+use Rattle.step_resolver.specs.Order.{Way, Handle, Walking, Turn, found, partial, failed, is_dir_kind, refusal_of, Line}
 use Rattle.step_resolver.specs.Order as walk
 use Rattle.step_resolver.specs.View.{way_from}
 use Rattle.bulk_ops.specs.MakeAllOrder as make
@@ -331,27 +331,13 @@ due below (making call) = make.due (make_way below) call
 due below (removing call) = remove.due call
 due below (releasing h) = steps.Close h
 
-abbrev pub is_closing : Doing → Bool
-is_closing (walking walking' aim) = walk.is_closing walking'
-is_closing (acting wanted step hs) = false
-is_closing (checking old new renaming) = false
-is_closing (closing h hs after) = true
-is_closing (making call) = make.is_closing call
-is_closing (removing call) = remove.is_closing call
-is_closing (releasing h) = true
-
 -- ---- a call's lines
 
 -- Why a step wasn't made: for want of memory or of room in the book, but no Close for that. A book makes no Close of
 -- a handle that isn't open, so that the Close of a Release may be refused BadHandle without an event.
-abbrev pub IsUnmade : Doing → Errno → Type 0
-IsUnmade (walking walking' aim) error = walk.IsUnmade walking' error
-IsUnmade (acting wanted step hs) error = IsWant error
-IsUnmade (checking old new renaming) error = IsWant error
-IsUnmade (closing h hs after) error = ⊥
-IsUnmade (making call) error = make.IsUnmade call error
-IsUnmade (removing call) error = remove.IsUnmade call error
-IsUnmade (releasing h) error = error ≡ BadHandle
+abbrev pub IsUnmade : Below → Doing → Errno → Type 0
+IsUnmade below (releasing h) error = error ≡ BadHandle
+IsUnmade below doing error = walk.IsUnmade (due below doing) error
 
 -- the call that goes on, where it does
 abbrev pub under_way : CallTurn → Option Doing
@@ -360,7 +346,8 @@ under_way (ends reply) = None
 
 -- calls below this root, step by step
 abbrev pub calls : Below → Machine CallTurn Doing
-calls below = record { more = more; under_way = under_way; due = due below; IsUnmade = IsUnmade; take = take below }
+calls below =
+    record { more = more; under_way = under_way; due = due below; IsUnmade = IsUnmade below; take = take below }
 
 -- These lines, one by one, lead from one turn to another.
 abbrev pub LeadsTo : Below → CallTurn → List Line → CallTurn → Type 0

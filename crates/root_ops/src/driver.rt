@@ -8,7 +8,8 @@ ghost use Rattle.root_ops.specs.Order.{Reply as Told, more, ends, walking, actin
 ghost use Rattle.root_ops.specs.declared.aim.Wanted.TheVariants.{Any};
 ghost use Rattle.root_ops.specs.TurnView.{below_of};
 ghost use Rattle.root_ops.specs.View.{doing_view, list_of, next_view, reply_view, IsNext, IsOurs, IsOurWalk, IsOwned};
-ghost use Rattle.root_ops.specs.Driver.{IsAnswer, Drives, Runs, steps_in};
+ghost use Rattle.step_machine.specs.OnTree.{IsAnswer};
+ghost use Rattle.root_ops.specs.Driver.{Drives, Runs, steps_in};
 
 use crate::aim::{Aim, Wanted};
 use crate::answers::reply_to;
@@ -19,26 +20,16 @@ use crate::first::{First, first_of};
 use crate::op::Request;
 use crate::reply::Reply;
 use handles::Standing;
-use path_text::Errno;
 use std::alloc::Global;
+use step_machine::answer_to;
 use step_resolver::{Root, Turn, Walk};
-use tree_model::{Actor, Answer, HandleNo, LentStep, Step, StepOf, Tree, legal_histories_join};
-
-// The answer to a step: the tree's, or that it had no memory to make it.
-fn answer<T: Tree>(alloc: Global, tree: &mut T, actor: Actor, step: &LentStep<'_>) -> Answer
-    ensures { IsAnswer step.now actor (T.state tree.old) (T.state tree.new) result }
-{
-    match tree.step(alloc, actor, step) {
-        Ok(answer) => answer,
-        Err(_) => Answer::Refused(Errno::NoMemory),
-    }
-}
+use tree_model::{Actor, Answer, HandleNo, Step, StepOf, Tree, legal_histories_join};
 
 // Closes a handle. A Close is made without memory.
 fn close<T: Tree>(alloc: Global, tree: &mut T, actor: Actor, handle: HandleNo)
     ensures { (told : Answer) × IsAnswer (Close handle) actor (T.state tree.old) (T.state tree.new) told }
 {
-    let _ = answer(alloc, tree, actor, &StepOf::Close(handle));
+    let _ = answer_to(alloc, tree, actor, &StepOf::Close(handle));
 }
 
 // Makes the step that is due in a walk, and lets the walk take its answer in place, or gives it back.
@@ -51,7 +42,7 @@ fn pass_due<T: Tree>(alloc: Global, tree: &mut T, actor: Actor, walk: &mut Walk)
     ensures left { IfSome result (λ answer. (walk.new ≡ walk.old)
         × IsAnswer (walk_due walk.old.way walk.old.walking) actor (T.state tree.old) (T.state tree.new) answer) }
 {
-    let answer = answer(alloc, tree, actor, &walk.due());
+    let answer = answer_to(alloc, tree, actor, &walk.due());
     if walk.pass(&answer) {
         return None;
     }
@@ -119,7 +110,7 @@ fn finish<T: Tree>(
 {
     // that the steps make one history
     legal_histories_join();
-    let answer = answer(alloc, tree, below.owner().actor, &step.lend());
+    let answer = answer_to(alloc, tree, below.owner().actor, &step.lend());
     close_all(alloc, tree, below, held);
     reply_to(wanted, answer)
 }
@@ -132,7 +123,7 @@ fn act<T: Tree>(alloc: Global, tree: &mut T, below: &Below, doing: Doing) -> Nex
     ensures kept { IsNext below.now result }
     ensures fewer { steps_in below.now (next_view result) < steps_left below.now (doing_view doing) }
 {
-    let answer = answer(alloc, tree, below.owner().actor, &doing.due());
+    let answer = answer_to(alloc, tree, below.owner().actor, &doing.due());
     below.taken(alloc, doing, answer)
 }
 
@@ -164,7 +155,7 @@ fn single<T: Tree>(alloc: Global, tree: &mut T, below: Below, step: Step) -> Rep
         (T.state tree.new) (ends (reply_view result)) }
     ensures owned { IsOwned below.root.owner result }
 {
-    let answer = answer(alloc, tree, below.owner().actor, &step.lend());
+    let answer = answer_to(alloc, tree, below.owner().actor, &step.lend());
     reply_to(Wanted::Any, answer)
 }
 
@@ -178,7 +169,7 @@ fn release<T: Tree>(alloc: Global, tree: &mut T, below: Below, standing: Standin
         return Reply::Kept(standing);
     }
     let step = StepOf::Close(standing.handle());
-    let answer = answer(alloc, tree, below.owner().actor, &step);
+    let answer = answer_to(alloc, tree, below.owner().actor, &step);
     reply_to(Wanted::Done, answer)
 }
 

@@ -1,5 +1,5 @@
 //! What is asked by the texts of options. Which texts are none are command lines of `explore`.
-use explore_command::read_asked;
+use explore_parts::read_asked;
 use outcome_text::{OptionFault, Options, Rule, replies_have_heads};
 use std::alloc::Global;
 use std::test::Fail;

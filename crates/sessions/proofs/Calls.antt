@@ -31,7 +31,7 @@ module _ (below : Below) (old new : SessionView) (doing : Doing) (answer : Answe
   made true taken logged = record { lines = answered (due below doing) answer ∷ []; leads = (refl, sym taken); logged = logged }
   made false taken logged = record { lines = no_room (due below doing) answer ∷ []; leads = (refl, sym taken); logged = logged }
 
-  left_out : (room : Bool) (error : Errno) → to ≡ take below room doing answer → IsUnmade doing error → answer ≡ Refused error → new ≡ logs old []
+  left_out : (room : Bool) (error : Errno) → to ≡ take below room doing answer → IsUnmade below doing error → answer ≡ Refused error → new ≡ logs old []
       → Leads below old (more doing) new to
   left_out room error taken why is_refused logged = record {
     lines = not_made error ∷ [];

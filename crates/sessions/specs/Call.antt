@@ -40,7 +40,7 @@ root_of session = record { owner = session.owner; handle = session.root }
 abbrev pub IsAnswer : Below → Doing → SessionView → SessionView → Answer → Type 0
 IsAnswer below doing old new answer =
     (new ≡ logs_step old (due below doing) answer)
-    ⊎ ((error : Errno) × (IsUnmade doing error × ((answer ≡ Refused error) × (new ≡ old))))
+    ⊎ ((error : Errno) × (IsUnmade below doing error × ((answer ≡ Refused error) × (new ≡ old))))
 
 -- lines lead from one turn to the other, and their events were logged
 pub record Leads (below : Below) (old : SessionView) (from : CallTurn) (new : SessionView)

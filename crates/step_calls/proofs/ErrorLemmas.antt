@@ -3,9 +3,9 @@ use Rattle.std.proofs.Common.{◌≡◌, ◌⊎◌, inl, inr, ℕ, List, [], ◌
 use Rattle.std.specs.Prelude.{◌==◌, bit_and}
 use Rattle.std.specs.List.{AllByRecursion}
 use Rattle.std.proofs.lemmas.Bool.{eqb-true, false≢true}
-use Rattle.step_calls.specs.History.{after_exchange, asked, asks, came_to, ends_by, fails, gone, has_magic, is_magic, knows, next_after, not_read, opened, stayed, there, unasked, waits, Exchange, opens_directory, opens_any, spares, asks_mount, asks_kind, asks_holder, asks_magic, asks_links, asks_layers, opens_to_read, reads, closes_read, asks_follow, reads_link, changes, closes, EEXIST, EINTR, ELOOP, ENOENT, ENOTDIR, EXDEV, NOSYMFOLLOW, OVERLAYFS, IsHistory, Next}
+use Rattle.step_calls.specs.History.{after_exchange, asked, asks, came_to, ends_by, fails, gone, has_followed, has_magic, is_ordinary, knows, next_after, not_ordinary, not_read, opened, stayed, there, unasked, waits, Exchange, opens_directory, opens_any, spares, asks_mount, asks_kind, asks_holder, asks_magic, asks_links, asks_layers, opens_to_read, reads, closes_read, asks_follow, reads_link, changes, closes, EEXIST, EINTR, ELOOP, ENOENT, ENOTDIR, EXDEV, NOSYMFOLLOW, OVERLAYFS, IsHistory, Next}
 use Rattle.step_calls.specs.Promises.{is_no_error, is_none_left, NoError}
-use Rattle.step_calls.specs.declared.course.TheConstants.{OPEN_DIRECTORY, OPEN_ANY, MAGIC, LAYERS, OPEN_TO_READ, READ, CLOSE_READ, READ_LINK, CLOSE, OPENED, TEXT, REFUSED, UNMADE, DONE}
+use Rattle.step_calls.specs.declared.course.TheConstants.{OPEN_DIRECTORY, OPEN_ANY, MAGIC, LAYERS, OPEN_TO_READ, READ, CLOSE_READ, NO_FOLLOW, READ_LINK, CLOSE, OPENED, TEXT, REFUSED, UNMADE, DONE}
 use Rattle.step_calls.specs.declared.facts.Facts.{Facts}
 use Rattle.step_calls.specs.declared.facts.TheConstants.{OPEN, DIRECTORY}
 use Rattle.step_calls.proofs.Ends.{came_all, ends_all, gone_all, opened_all, stayed_all, there_all, unasked_all, unopened_all}
@@ -22,11 +22,11 @@ Well f e due n = goes_well n.next n.error ≡ true → (is_no_error f e ≡ true
 no_way : {A : Type 0} → false ≡ true → A
 no_way h = absurd (false≢true h)
 
-first_is : (a b : Bool) → a ≡ true → (a || b) ≡ true
+pub first_is : (a b : Bool) → a ≡ true → (a || b) ≡ true
 first_is true b h = refl
 first_is false b h = absurd (false≢true h)
 
-second_is : (a b : Bool) → b ≡ true → (a || b) ≡ true
+pub second_is : (a b : Bool) → b ≡ true → (a || b) ≡ true
 second_is true b h = refl
 second_is false b h = h
 
@@ -81,9 +81,9 @@ well f (asks_holder error type) due =
 well f (asks_magic error) due =
     let P = Well f (asks_magic error) due in
     if_elim P (error == EINTR) (knows MAGIC due.kind) _
-    (λ b h. (ap (λ (n : ℕ). not (is_magic n)) (eqb-true error EINTR b), refl))
-    (λ b. if_elim P (is_magic error) (waits CLOSE UNMADE ELOOP) (knows OPENED due.kind) (λ c. no_way)
-    (λ c h. (opposite (is_magic error) c, refl)))
+    (λ b h. (first_is (error == EINTR) (is_ordinary error) b, refl))
+    (λ b. if_elim P (is_ordinary error) (knows OPENED due.kind) (waits CLOSE UNMADE (not_ordinary error))
+    (λ c h. (second_is (error == EINTR) (is_ordinary error) c, refl)) (λ c. no_way))
 well f (asks_links error links) due =
     let P = Well f (asks_links error links) due in
     if_elim P (error == 0) (if links == 0 then gone f else asks LAYERS) (unasked f error)
@@ -116,9 +116,12 @@ well f closes_read due =
     (λ b. gone_all P f (λ x. no_way) (λ x. no_way))
 well f (asks_follow error flags) due =
     let P = Well f (asks_follow error flags) due in
-    if_elim P ((error == 0) && (bit_and flags NOSYMFOLLOW == NOSYMFOLLOW)) (fails UNMADE ELOOP)
-    (if f.was_read then asks TEXT else asks READ_LINK) (λ b. no_way)
-    (λ b. if_elim P f.was_read (asks TEXT) (asks READ_LINK) (λ c h. (refl, refl)) (λ c h. (refl, refl)))
+    if_elim P (error == EINTR) (asks NO_FOLLOW) _
+    (λ b h. (first_is (error == EINTR) ((error == 0) && has_followed flags) b, refl))
+    (λ b. if_elim P ((error == 0) && has_followed flags) (if f.was_read then asks TEXT else asks READ_LINK)
+    (fails UNMADE (if error == 0 then ELOOP else error))
+    (λ c. let ok = second_is (error == EINTR) _ c in
+    if_elim P f.was_read (asks TEXT) (asks READ_LINK) (λ d h. (ok, refl)) (λ d h. (ok, refl))) (λ c. no_way))
 well f (reads_link error) due =
     let P = Well f (reads_link error) due in
     if_elim P (error == 0) (asks TEXT) _ (λ b h. (first_is (error == 0) (error == EINTR) b, refl))

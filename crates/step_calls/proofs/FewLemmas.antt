@@ -1,7 +1,7 @@
 -- A step comes to an end.
 use Rattle.std.proofs.Common.{◌≡◌, ◌≤◌, ◌+◌, ℕ, suc, List, [], ◌∷◌, Bool, true, if◌then◌else◌, ◌&&◌, not, length, ap, arith}
 use Rattle.std.specs.Prelude.{◌==◌, bit_and}
-use Rattle.step_calls.specs.History.{after_exchange, asked, asks, came_to, ends_by, fails, first, gone, has_magic, is_magic, knows, next_after, not_read, opened, stayed, there, unasked, waits, Exchange, opens_directory, opens_any, spares, asks_mount, asks_kind, asks_holder, asks_magic, asks_links, asks_layers, opens_to_read, reads, closes_read, asks_follow, reads_link, changes, closes, EEXIST, EINTR, ELOOP, ENOENT, ENOTDIR, EXDEV, NOSYMFOLLOW, OVERLAYFS, IsHistory, Next}
+use Rattle.step_calls.specs.History.{after_exchange, asked, asks, came_to, ends_by, fails, first, gone, has_followed, has_magic, is_ordinary, knows, next_after, not_ordinary, not_read, opened, stayed, there, unasked, waits, Exchange, opens_directory, opens_any, spares, asks_mount, asks_kind, asks_holder, asks_magic, asks_links, asks_layers, opens_to_read, reads, closes_read, asks_follow, reads_link, changes, closes, EEXIST, EINTR, ELOOP, ENOENT, ENOTDIR, EXDEV, NOSYMFOLLOW, OVERLAYFS, IsHistory, Next}
 use Rattle.step_calls.specs.Promises.{cost_of, costs}
 use Rattle.step_calls.specs.declared.course.TheConstants.{OPEN_DIRECTORY, OPEN_ANY, SPARE, MOUNT, KIND, MAY_HOLD_MAGIC, MAGIC, LINKS, LAYERS, OPEN_TO_READ, READ, CLOSE_READ, NO_FOLLOW, READ_LINK, CHANGE, CLOSE, OPENED, TEXT, REFUSED, UNMADE, DONE}
 use Rattle.step_calls.specs.declared.facts.Facts.{Facts}
@@ -70,7 +70,7 @@ falls f (asks_holder error type) due =
 falls f (asks_magic error) due =
     let P = Falls (asks_magic error) in
     if_elim P (error == EINTR) (knows MAGIC due.kind) _ (λ b. omega (arith, one error b))
-    (λ b. if_elim P (is_magic error) (waits CLOSE UNMADE ELOOP) (knows OPENED due.kind) (λ c. omega arith) (λ c. omega arith))
+    (λ b. if_elim P (is_ordinary error) (knows OPENED due.kind) (waits CLOSE UNMADE (not_ordinary error)) (λ c. omega arith) (λ c. omega arith))
 falls f (asks_links error links) due =
     let P = Falls (asks_links error links) in
     if_elim P (error == 0) (if links == 0 then gone f else asks LAYERS) (unasked f error)
@@ -97,9 +97,10 @@ falls f closes_read due =
     (λ b. there_all P f (λ x. omega arith) (λ x. omega arith)) (λ b. gone_all P f (λ x. omega arith) (λ x. omega arith))
 falls f (asks_follow error flags) due =
     let P = Falls (asks_follow error flags) in
-    if_elim P ((error == 0) && (bit_and flags NOSYMFOLLOW == NOSYMFOLLOW)) (fails UNMADE ELOOP)
-    (if f.was_read then asks TEXT else asks READ_LINK) (λ b. omega arith)
-    (λ b. if_elim P f.was_read (asks TEXT) (asks READ_LINK) (λ c. omega arith) (λ c. omega arith))
+    if_elim P (error == EINTR) (asks NO_FOLLOW) _ (λ b. omega (arith, one error b))
+    (λ b. if_elim P ((error == 0) && has_followed flags) (if f.was_read then asks TEXT else asks READ_LINK)
+    (fails UNMADE (if error == 0 then ELOOP else error))
+    (λ c. if_elim P f.was_read (asks TEXT) (asks READ_LINK) (λ d. omega arith) (λ d. omega arith)) (λ c. omega arith))
 falls f (reads_link error) due =
     let P = Falls (reads_link error) in
     if_elim P (error == 0) (asks TEXT) _ (λ b. omega arith)

@@ -2,7 +2,7 @@
 use Rattle.std.proofs.Common.{◌≡◌, ℕ, List, [], ◌∷◌, Bool, true, false, if◌then◌else◌, ◌&&◌, not, refl, sym, ap, subst, ◌∙◌}
 use Rattle.std.specs.Prelude.{◌==◌, bit_and}
 use Rattle.std.proofs.lemmas.Bool.{eqb-true, false≢true}
-use Rattle.step_calls.specs.History.{after_exchange, asked, asks, came_to, ends_by, fails, first, gone, has_magic, is_magic, knows, next_after, not_read, opened, stayed, there, unasked, waits, Exchange, opens_directory, opens_any, spares, asks_mount, asks_kind, asks_holder, asks_magic, asks_links, asks_layers, opens_to_read, reads, closes_read, asks_follow, reads_link, changes, closes, EEXIST, EINTR, ELOOP, ENOENT, ENOTDIR, EXDEV, NOSYMFOLLOW, OVERLAYFS, IsHistory, Next}
+use Rattle.step_calls.specs.History.{after_exchange, asked, asks, came_to, ends_by, fails, first, gone, has_followed, has_magic, is_ordinary, knows, next_after, not_ordinary, not_read, opened, stayed, there, unasked, waits, Exchange, opens_directory, opens_any, spares, asks_mount, asks_kind, asks_holder, asks_magic, asks_links, asks_layers, opens_to_read, reads, closes_read, asks_follow, reads_link, changes, closes, EEXIST, EINTR, ELOOP, ENOENT, ENOTDIR, EXDEV, NOSYMFOLLOW, OVERLAYFS, IsHistory, Next}
 use Rattle.step_calls.specs.Promises.{holds_after, holds_by, needs_opened, needs_read, reads_after, reads_by}
 use Rattle.step_calls.specs.declared.course.TheConstants.{OPEN_DIRECTORY, OPEN_ANY, READ, CLOSE_READ, NO_FOLLOW, LINKS, LAYERS, OPEN_TO_READ, READ_LINK, MAGIC, CHANGE, CLOSE, OPENED, TEXT, DONE, REFUSED, UNMADE}
 use Rattle.step_calls.specs.declared.facts.Facts.{Facts}
@@ -23,6 +23,7 @@ record Each (P : Next → Type 0) (f : Facts) (e : Exchange) (due : Next) : Type
   to_read : P (asks OPEN_TO_READ)
   read : P (asks READ)
   close_read : (error : ℕ) → P (fails CLOSE_READ error)
+  no_follow : P (asks NO_FOLLOW)
   read_link : P (asks READ_LINK)
   close : (behind error : ℕ) → P (waits CLOSE behind error)
   spare : (how error : ℕ) → P (waits 3 how error)
@@ -62,8 +63,8 @@ each P f (asks_holder error type) due c =
     (λ b. c.is_open due.kind) (λ b. c.magic due.kind)
 each P f (asks_magic error) due c =
     if_elim P (error == EINTR) (knows MAGIC due.kind) _ (λ b. c.magic due.kind)
-    (λ b. if_elim P (is_magic error) (waits CLOSE UNMADE ELOOP) (knows OPENED due.kind) (λ d. c.close UNMADE ELOOP)
-    (λ d. c.is_open due.kind))
+    (λ b. if_elim P (is_ordinary error) (knows OPENED due.kind) (waits CLOSE UNMADE (not_ordinary error)) (λ d. c.is_open due.kind)
+    (λ d. c.close UNMADE (not_ordinary error)))
 each P f (asks_links error links) due c =
     if_elim P (error == 0) (if links == 0 then gone f else asks LAYERS) (unasked f error)
     (λ b. if_elim P (links == 0) (gone f) (asks LAYERS)
@@ -87,9 +88,11 @@ each P f closes_read due c =
     (λ g. there_all P f (λ x. c.is_open DIRECTORY) (λ x. c.done))
     (λ g. gone_all P f (λ x. c.close REFUSED ENOENT) (λ x. c.refused ENOENT))
 each P f (asks_follow error flags) due c =
-    if_elim P ((error == 0) && (bit_and flags NOSYMFOLLOW == NOSYMFOLLOW)) (fails UNMADE ELOOP)
-    (if f.was_read then asks TEXT else asks READ_LINK) (λ b. c.unmade ELOOP)
-    (λ b. if_elim P f.was_read (asks TEXT) (asks READ_LINK) (λ d. c.text) (λ d. c.read_link))
+    if_elim P (error == EINTR) (asks NO_FOLLOW) _ (λ b. c.no_follow)
+    (λ b. if_elim P ((error == 0) && has_followed flags) (if f.was_read then asks TEXT else asks READ_LINK)
+    (fails UNMADE (if error == 0 then ELOOP else error))
+    (λ d. if_elim P f.was_read (asks TEXT) (asks READ_LINK) (λ g. c.text) (λ g. c.read_link))
+    (λ d. c.unmade (if error == 0 then ELOOP else error)))
 each P f (reads_link error) due c =
     if_elim P (error == 0) (asks TEXT) _ (λ b. c.text)
     (λ b. if_elim P (error == EINTR) (asks READ_LINK) _ (λ d. c.read_link)
@@ -118,6 +121,7 @@ no_change f e due =
       to_read = refl;
       read = refl;
       close_read = λ n. refl;
+      no_follow = refl;
       read_link = refl;
       close = λ m n. refl;
       spare = λ m n. refl;
@@ -205,7 +209,7 @@ holds_step f (asks_holder error type) due was is =
 holds_step f (asks_magic error) due was is =
     let P = λ (n : Next). was ≡ needs_opened f n.next in
     if_elim P (error == EINTR) (knows MAGIC due.kind) _ (λ b. is)
-    (λ b. if_elim P (is_magic error) (waits CLOSE UNMADE ELOOP) (knows OPENED due.kind) (λ c. is) (λ c. is))
+    (λ b. if_elim P (is_ordinary error) (knows OPENED due.kind) (waits CLOSE UNMADE (not_ordinary error)) (λ c. is) (λ c. is))
 holds_step f (asks_links error links) due was is =
     let P = λ (n : Next). was ≡ needs_opened f n.next in
     if_elim P (error == 0) (if links == 0 then gone f else asks LAYERS) (unasked f error)
@@ -228,9 +232,10 @@ holds_step f closes_read due was is =
     (λ b. there_holds f was is) (λ b. gone_holds f was is)
 holds_step f (asks_follow error flags) due was is =
     let P = λ (n : Next). was ≡ needs_opened f n.next in
-    if_elim P ((error == 0) && (bit_and flags NOSYMFOLLOW == NOSYMFOLLOW)) (fails UNMADE ELOOP)
-    (if f.was_read then asks TEXT else asks READ_LINK) (λ b. is)
-    (λ b. if_elim P f.was_read (asks TEXT) (asks READ_LINK) (λ c. is) (λ c. is))
+    if_elim P (error == EINTR) (asks NO_FOLLOW) _ (λ b. is)
+    (λ b. if_elim P ((error == 0) && has_followed flags) (if f.was_read then asks TEXT else asks READ_LINK)
+    (fails UNMADE (if error == 0 then ELOOP else error))
+    (λ c. if_elim P f.was_read (asks TEXT) (asks READ_LINK) (λ d. is) (λ d. is)) (λ c. is))
 holds_step f (reads_link error) due was is =
     let P = λ (n : Next). was ≡ needs_opened f n.next in
     if_elim P (error == 0) (asks TEXT) _ (λ b. is)
@@ -330,7 +335,7 @@ reads_step f (asks_holder error type) due was is =
 reads_step f (asks_magic error) due was is =
     let P = λ (n : Next). was ≡ needs_read n.next in
     if_elim P (error == EINTR) (knows MAGIC due.kind) _ (λ b. is)
-    (λ b. if_elim P (is_magic error) (waits CLOSE UNMADE ELOOP) (knows OPENED due.kind) (λ c. is) (λ c. is))
+    (λ b. if_elim P (is_ordinary error) (knows OPENED due.kind) (waits CLOSE UNMADE (not_ordinary error)) (λ c. is) (λ c. is))
 reads_step f (asks_links error links) due was is =
     let P = λ (n : Next). was ≡ needs_read n.next in
     if_elim P (error == 0) (if links == 0 then gone f else asks LAYERS) (unasked f error)
@@ -342,9 +347,10 @@ reads_step f (asks_layers error type) due was is =
     (λ b. is) (λ b. there_all P f (λ x. is) (λ x. is))
 reads_step f (asks_follow error flags) due was is =
     let P = λ (n : Next). was ≡ needs_read n.next in
-    if_elim P ((error == 0) && (bit_and flags NOSYMFOLLOW == NOSYMFOLLOW)) (fails UNMADE ELOOP)
-    (if f.was_read then asks TEXT else asks READ_LINK) (λ b. is)
-    (λ b. if_elim P f.was_read (asks TEXT) (asks READ_LINK) (λ c. is) (λ c. is))
+    if_elim P (error == EINTR) (asks NO_FOLLOW) _ (λ b. is)
+    (λ b. if_elim P ((error == 0) && has_followed flags) (if f.was_read then asks TEXT else asks READ_LINK)
+    (fails UNMADE (if error == 0 then ELOOP else error))
+    (λ c. if_elim P f.was_read (asks TEXT) (asks READ_LINK) (λ d. is) (λ d. is)) (λ c. is))
 reads_step f (reads_link error) due was is =
     let P = λ (n : Next). was ≡ needs_read n.next in
     if_elim P (error == 0) (asks TEXT) _ (λ b. is)

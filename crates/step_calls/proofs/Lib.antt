@@ -2,9 +2,11 @@ pub mod Ends
 pub mod ErrorLemmas
 pub mod FewLemmas
 pub mod HistoryLemmas
+pub mod LeaveLemmas
 pub mod LinkLemmas
 pub mod MomentLemmas
 pub mod OpenLemmas
 pub mod ParentLemmas
 pub mod RefusalLemmas
 pub mod ChangeLemmas
+pub mod RenameLemmas

@@ -9,7 +9,7 @@ use Rattle.tree_model.specs.declared.inode.Object.TheVariants as object
 use Rattle.tree_model.specs.declared.step.StepOf.TheVariants.{ReadLink}
 use Rattle.tree_model.specs.State.{State, object_at}
 use Rattle.tree_model.specs.Steps.{held, outcome, reads as reads_node}
-use Rattle.step_calls.specs.History.{after_exchange, asks, asked, ends_by, fails, first, next_after, not_read, Exchange, opens_directory, opens_any, spares, asks_mount, asks_kind, asks_holder, asks_magic, asks_links, asks_layers, opens_to_read, reads, closes_read, asks_follow, reads_link, changes, closes, EINTR, ELOOP, NOSYMFOLLOW, IsHistory, Next}
+use Rattle.step_calls.specs.History.{after_exchange, asks, asked, ends_by, fails, first, has_followed, next_after, not_read, Exchange, opens_directory, opens_any, spares, asks_mount, asks_kind, asks_holder, asks_magic, asks_links, asks_layers, opens_to_read, reads, closes_read, asks_follow, reads_link, changes, closes, EINTR, ELOOP, NOSYMFOLLOW, IsHistory, Next}
 use Rattle.step_calls.specs.Moments.{moment, AreAnswers, IsNoLink, LinkSays, LinksWereRead, World}
 use Rattle.step_calls.specs.declared.course.TheConstants.{NO_FOLLOW, READ_LINK, TEXT, REFUSED, UNMADE}
 use Rattle.step_calls.specs.declared.facts.Facts.{Facts}
@@ -39,10 +39,11 @@ step : (w : World) (f : Facts) (now : ℕ) (e : Exchange) (due : Next) → f.wha
     → (f.was_read ≡ true → object_at (w.states 0).nodes w.node ≡ Some (object.Link w.text))
     → (f.link ≡ false → IsNoLink w) → LinkSays w now e → Says w now (asked e) → Stood w (suc now) (after_exchange f e due)
 step w f now (asks_follow error flags) due links read none says was =
-    if_elim (Stood w (suc now)) ((error == 0) && (bit_and flags NOSYMFOLLOW == NOSYMFOLLOW)) (fails UNMADE ELOOP) (if f.was_read then asks TEXT else asks READ_LINK)
-    (λ b. tt)
-    (λ b. if_elim (Stood w (suc now)) f.was_read (asks TEXT) (asks READ_LINK)
-    (λ c. (0, omega arith, read c)) (λ c. tt))
+    if_elim (Stood w (suc now)) (error == EINTR) (asks NO_FOLLOW) _ (λ b. tt)
+    (λ b. if_elim (Stood w (suc now)) ((error == 0) && has_followed flags) (if f.was_read then asks TEXT else asks READ_LINK)
+    (fails UNMADE (if error == 0 then ELOOP else error))
+    (λ c. if_elim (Stood w (suc now)) f.was_read (asks TEXT) (asks READ_LINK)
+    (λ d. (0, omega arith, read d)) (λ d. tt)) (λ c. tt))
 step w f now (reads_link error) due links read none says was =
     if_elim (Stood w (suc now)) (error == 0) (asks TEXT) _ (λ b. (suc now, omega arith, says (eqb-true error 0 b)))
     (λ b. if_elim (Stood w (suc now)) (error == EINTR) (asks READ_LINK) _ (λ c. tt)

@@ -10,7 +10,7 @@ use Rattle.tree_model.specs.declared.inode.Object.TheVariants as object
 use Rattle.tree_model.specs.declared.step.StepOf.TheVariants.{Open}
 use Rattle.tree_model.specs.State.{State, child, is_dir, object_at}
 use Rattle.tree_model.specs.Steps.{held, is_full, kind_of, outcome}
-use Rattle.step_calls.specs.History.{after_close, after_exchange, asks, came_to, ends_by, fails, first, has_magic, is_magic, knows, next_after, not_opened, opened, stayed, waits, Exchange, opens_directory, opens_any, spares, asks_mount, asks_kind, asks_holder, asks_magic, asks_links, asks_layers, opens_to_read, reads, closes_read, asks_follow, reads_link, changes, closes, asked, EINTR, ENOENT, ENOTDIR, EMFILE, ENFILE, EXDEV, IsHistory, Next}
+use Rattle.step_calls.specs.History.{after_close, after_exchange, asks, came_to, ends_by, fails, first, has_magic, is_ordinary, knows, next_after, not_opened, not_ordinary, opened, stayed, waits, Exchange, opens_directory, opens_any, spares, asks_mount, asks_kind, asks_holder, asks_magic, asks_links, asks_layers, opens_to_read, reads, closes_read, asks_follow, reads_link, changes, closes, asked, EINTR, ENOENT, ENOTDIR, EMFILE, ENFILE, EXDEV, IsHistory, Next}
 use Rattle.step_calls.specs.Moments.{has_kind, moment, AreAnswers, HasNoEntry, IsWorld, OpenSays, OpensName, OpensStood, Stays, World}
 use Rattle.step_calls.specs.declared.course.TheConstants.{OPEN_DIRECTORY, OPEN_ANY, SPARE, MOUNT, KIND, MAY_HOLD_MAGIC, MAGIC, LINKS, CHANGE, CLOSE, OPENED, REFUSED, UNMADE}
 use Rattle.step_calls.specs.declared.facts.Facts.{Facts}
@@ -192,9 +192,9 @@ step w f now (asks_magic error) due at_open world at says was =
     let kind = k.sure (ap tells_kind (sym at)) in
     if_elim (Stood w (suc now)) (error == EINTR) (knows MAGIC due.kind) _
     (λ b. known w (suc now) MAGIC due.kind k.what found (λ s. kind) (λ s. kind) refl refl refl)
-    (λ b. if_elim (Stood w (suc now)) (is_magic error) (waits CLOSE UNMADE 40) (knows OPENED due.kind)
-    (λ b. closes_it w (suc now) 40)
-    (λ b. known w (suc now) OPENED due.kind k.what found (λ s. kind) (λ s. kind) refl refl refl))
+    (λ b. if_elim (Stood w (suc now)) (is_ordinary error) (knows OPENED due.kind) (waits CLOSE UNMADE (not_ordinary error))
+    (λ b. known w (suc now) OPENED due.kind k.what found (λ s. kind) (λ s. kind) refl refl refl)
+    (λ b. closes_it w (suc now) (not_ordinary error)))
 step w f now closes due at_open world at says was =
     subst (λ (n : ℕ). Stood w (suc now) (after_close (record due { behind = n }))) (sym (was.behind (sym at)))
     (plain w (suc now) (fails UNMADE due.error) refl)

@@ -2,7 +2,7 @@
 use Rattle.std.proofs.Common.{◌≡◌, ◌≢◌, ℕ, List, [], ◌∷◌, true, if◌then◌else◌, ◌&&◌, ◌||◌, not, refl, sym, subst, arith}
 use Rattle.std.specs.Prelude.{◌==◌, bit_and, MatchBool}
 use Rattle.std.proofs.lemmas.Bool.{eqb-true}
-use Rattle.step_calls.specs.History.{after_exchange, asked, asks, came_to, ends_by, fails, first, gone, has_magic, is_magic, knows, next_after, not_opened, not_read, opened, stayed, there, unasked, waits, Exchange, opens_directory, opens_any, spares, asks_mount, asks_kind, asks_holder, asks_magic, asks_links, asks_layers, opens_to_read, reads, closes_read, asks_follow, reads_link, changes, closes, EEXIST, EINTR, ELOOP, EMFILE, ENFILE, ENOENT, ENOTDIR, EXDEV, NOSYMFOLLOW, OVERLAYFS, IsHistory, Next}
+use Rattle.step_calls.specs.History.{after_exchange, asked, asks, came_to, ends_by, fails, first, gone, has_followed, has_magic, is_ordinary, knows, next_after, not_opened, not_ordinary, not_read, opened, stayed, there, unasked, waits, Exchange, opens_directory, opens_any, spares, asks_mount, asks_kind, asks_holder, asks_magic, asks_links, asks_layers, opens_to_read, reads, closes_read, asks_follow, reads_link, changes, closes, EEXIST, EINTR, ELOOP, EMFILE, ENFILE, ENOENT, ENOTDIR, EXDEV, NOSYMFOLLOW, OVERLAYFS, IsHistory, Next}
 use Rattle.step_calls.specs.Promises.{is_about_child, RefusalsAreOwn}
 use Rattle.step_calls.specs.Refusals.{is_refusal}
 use Rattle.step_calls.specs.declared.course.TheConstants.{OPEN_DIRECTORY, OPEN_ANY, SPARE, MOUNT, KIND, MAY_HOLD_MAGIC, MAGIC, LINKS, LAYERS, OPEN_TO_READ, READ, CLOSE_READ, READ_LINK, NO_FOLLOW, CHANGE, CLOSE, OPENED, TEXT, DONE, REFUSED, UNMADE}
@@ -79,7 +79,8 @@ module _ (f : Facts) where
       if_elim (Stood f) ((error == 0) && not (has_magic type)) (knows OPENED due.kind) (knows MAGIC due.kind) (λ b. tt) (λ b. tt)
   step (asks_magic error) due was =
       if_elim (Stood f) (error == EINTR) (knows MAGIC due.kind) _ (λ b. tt)
-      (λ b. if_elim (Stood f) (is_magic error) (waits CLOSE UNMADE ELOOP) (knows OPENED due.kind) (λ c. closes_it ELOOP) (λ c. tt))
+      (λ b. if_elim (Stood f) (is_ordinary error) (knows OPENED due.kind) (waits CLOSE UNMADE (not_ordinary error)) (λ c. tt)
+      (λ c. closes_it (not_ordinary error)))
   step (asks_links error links) due was =
       if_elim (Stood f) (error == 0) (if links == 0 then gone f else asks LAYERS) (unasked f error)
       (λ b. if_elim (Stood f) (links == 0) (gone f) (asks LAYERS) (λ c. is_gone was) (λ c. was))
@@ -96,8 +97,10 @@ module _ (f : Facts) where
   step closes_read due was =
       if_elim (Stood f) (due.error == 0) (there f) (gone f) (λ b. is_there) (λ b. is_gone was)
   step (asks_follow error flags) due was =
-      if_elim (Stood f) ((error == 0) && (bit_and flags NOSYMFOLLOW == NOSYMFOLLOW)) (fails UNMADE ELOOP) (if f.was_read then asks TEXT else asks READ_LINK)
-      (λ b. tt) (λ b. if_elim (Stood f) f.was_read (asks TEXT) (asks READ_LINK) (λ c. tt) (λ c. tt))
+      if_elim (Stood f) (error == EINTR) (asks NO_FOLLOW) _ (λ b. tt)
+      (λ b. if_elim (Stood f) ((error == 0) && has_followed flags) (if f.was_read then asks TEXT else asks READ_LINK)
+      (fails UNMADE (if error == 0 then ELOOP else error))
+      (λ c. if_elim (Stood f) f.was_read (asks TEXT) (asks READ_LINK) (λ d. tt) (λ d. tt)) (λ c. tt))
   step (reads_link error) due was =
       if_elim (Stood f) (error == 0) (asks TEXT) _ (λ b. tt)
       (λ b. if_elim (Stood f) (error == EINTR) (asks READ_LINK) _ (λ c. tt)

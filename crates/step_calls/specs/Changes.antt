@@ -62,14 +62,16 @@ DirectoryRemovalSays w n e = Unit {0}
 
 -- ---- what it comes to
 
+-- the step table refuses the step at that moment by the error of this number
+abbrev pub WasRefused : World → ℕ → StepWith ℕ → ℕ → Type 0
+WasRefused w n step number = (error : Errno) × (number_of error ≡ number) × (table w n step ≡ Refused error)
+
 -- where the change is made, the step table makes it at the moment of the call; and where the step is refused, the step
 -- table refuses it there by that error
 abbrev pub ChangeStood : World → Facts → List Exchange → StepWith ℕ → Type 0
 ChangeStood w f history step =
-    ((next_after f history).next ≡ DONE → (n : ℕ) × (n ≤ moment history) × (table w n step ≡ Done))
-    × ((next_after f history).next ≡ REFUSED
-    → (n : ℕ) × (n ≤ moment history) × (error : Errno) × (number_of error ≡ (next_after f history).error)
-    × (table w n step ≡ Refused error))
+    ((next_after f history).next ≡ DONE → table w (moment history) step ≡ Done)
+    × ((next_after f history).next ≡ REFUSED → WasRefused w (moment history) step (next_after f history).error)
 
 -- what is made gets a new node: there are never 2^48 (the model's limit); a link's text is one of a path
 abbrev pub MakesStood : Type 0

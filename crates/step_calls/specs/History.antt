@@ -34,6 +34,9 @@ ENFILE = 23
 abbrev pub EMFILE : ℕ
 EMFILE = 24
 
+abbrev pub ENAMETOOLONG : ℕ
+ENAMETOOLONG = 36
+
 abbrev pub ENOSYS : ℕ
 ENOSYS = 38
 
@@ -189,14 +192,19 @@ has_magic type = (type == PROC) || ((type == SECURITYFS) || (type == AAFS))
 abbrev pub after_holder : ℕ → ℕ → ℕ → Next
 after_holder error type kind = if (error == 0) && not (has_magic type) then knows OPENED kind else knows MAGIC kind
 
--- the kernel refuses to follow it; or can't be asked
-abbrev pub is_magic : ℕ → Bool
-is_magic error = (error == ELOOP) || ((error == ENOSYS) || (error == EPERM))
+-- openat2(2): a magic link is refused before the kernel looks where it leads. So the link is none where it was
+-- followed; or led out of the directory, through what is no directory, or along too long a path.
+abbrev pub is_ordinary : ℕ → Bool
+is_ordinary error = (error == 0) || ((error == EXDEV) || ((error == ENOTDIR) || (error == ENAMETOOLONG)))
+
+-- a link of which the kernel can't be asked counts as a magic one
+abbrev pub not_ordinary : ℕ → ℕ
+not_ordinary error = if (error == ENOSYS) || (error == EPERM) then ELOOP else error
 
 abbrev pub after_magic : ℕ → ℕ → Next
 after_magic error kind =
     if error == EINTR then knows MAGIC kind
-    else (if is_magic error then waits CLOSE UNMADE ELOOP else knows OPENED kind)
+    else (if is_ordinary error then knows OPENED kind else waits CLOSE UNMADE (not_ordinary error))
 
 -- ---- whether a directory is there still
 
@@ -232,11 +240,16 @@ after_close_read f why = if why == 0 then there f else gone f
 
 -- ---- links' texts
 
--- on a mount that follows no link (mount(8), nosymfollow) readlinkat(2) works still
+-- the mount has its links followed (mount(8), nosymfollow)
+abbrev pub has_followed : ℕ → Bool
+has_followed flags = not (bit_and flags NOSYMFOLLOW == NOSYMFOLLOW)
+
+-- on a mount that follows no link readlinkat(2) works still; of one that could not be asked nobody knows
 abbrev pub after_follow : Facts → ℕ → ℕ → Next
 after_follow f error flags =
-    if (error == 0) && (bit_and flags NOSYMFOLLOW == NOSYMFOLLOW) then fails UNMADE ELOOP
-    else (if f.was_read then asks TEXT else asks READ_LINK)
+    if error == EINTR then asks NO_FOLLOW
+    else (if (error == 0) && has_followed flags then (if f.was_read then asks TEXT else asks READ_LINK)
+    else fails UNMADE (if error == 0 then ELOOP else error))
 
 -- readlinkat(2) of no link, with an empty path, gives ENOENT, which is the table's EINVAL; of a link it gives neither
 -- for a reason of the tree

@@ -1,6 +1,6 @@
 -- What holds of every history.
 use Rattle.std.specs.Prelude.{◌≡◌, ◌≢◌, ℕ, ◌+◌, List, [], ◌∷◌, ◌==◌, Bool, true, false, ◌&&◌, ◌||◌, not, if◌then◌else◌}
-use Rattle.step_calls.specs.History.{is_magic, next_after, Exchange, opens_directory, opens_any, spares, asks_mount, asks_kind, asks_holder, asks_magic, asks_links, asks_layers, opens_to_read, reads, closes_read, asks_follow, reads_link, changes, closes, EINTR, EMFILE, ENFILE, ENOENT, ENOTDIR, IsHistory}
+use Rattle.step_calls.specs.History.{has_followed, is_ordinary, next_after, Exchange, opens_directory, opens_any, spares, asks_mount, asks_kind, asks_holder, asks_magic, asks_links, asks_layers, opens_to_read, reads, closes_read, asks_follow, reads_link, changes, closes, EINTR, EMFILE, ENFILE, ENOENT, ENOTDIR, IsHistory}
 use Rattle.step_calls.specs.Refusals.{is_refusal}
 use Rattle.step_calls.specs.declared.course.TheConstants.{MOUNT, KIND, MAY_HOLD_MAGIC, MAGIC, LINKS, LAYERS, OPEN_TO_READ, READ, CLOSE_READ, CLOSE, OPENED, REFUSED}
 use Rattle.step_calls.specs.declared.facts.Facts.{Facts}
@@ -53,7 +53,8 @@ abbrev pub is_none_left : ℕ → Bool
 is_none_left error = (error == EMFILE) || (error == ENFILE)
 
 -- What isn't the step's error: none; a signal; a descriptor that is to be let go; ENOTDIR of a name that is opened as
--- what it is then; a file system, or a directory of overlayfs, that can't be asked; and an answer about a magic link.
+-- what it is then; a file system, or a directory of overlayfs, that can't be asked; and an answer that a link is none
+-- of the kernel's own.
 abbrev pub is_no_error : Facts → Exchange → Bool
 is_no_error f (opens_directory error) =
     (error == 0) || ((error == EINTR) || (is_none_left error || ((f.what == OPEN) && (error == ENOTDIR))))
@@ -62,13 +63,13 @@ is_no_error f (spares error) = error == 0
 is_no_error f (asks_mount error) = error == 0
 is_no_error f (asks_kind error kind) = error == 0
 is_no_error f (asks_holder error type) = true
-is_no_error f (asks_magic error) = not (is_magic error)
+is_no_error f (asks_magic error) = (error == EINTR) || is_ordinary error
 is_no_error f (asks_links error links) = (error == 0) && not (links == 0)
 is_no_error f (asks_layers error type) = true
 is_no_error f (opens_to_read error) = not (error == ENOENT)
 is_no_error f (reads error) = not (error == ENOENT)
 is_no_error f closes_read = true
-is_no_error f (asks_follow error flags) = true
+is_no_error f (asks_follow error flags) = (error == EINTR) || ((error == 0) && has_followed flags)
 is_no_error f (reads_link error) = (error == 0) || (error == EINTR)
 is_no_error f (changes error) = error == 0
 is_no_error f closes = false
@@ -92,6 +93,7 @@ cost_of (spares error) = if error == 0 then 3 else 0
 cost_of (asks_magic error) = if error == EINTR then 1 else 0
 cost_of (opens_to_read error) = if error == EINTR then 1 else 0
 cost_of (reads error) = if error == EINTR then 1 else 0
+cost_of (asks_follow error flags) = if error == EINTR then 1 else 0
 cost_of (reads_link error) = if error == EINTR then 1 else 0
 cost_of _ = 0
 

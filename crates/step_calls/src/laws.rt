@@ -3,7 +3,9 @@ ghost use Rattle.std.specs.Prelude.{◌≡◌, ◌≤◌, ◌+◌, ◌⊎◌, tr
 ghost use Rattle.std.specs.List.{AllByRecursion};
 ghost use Rattle.step_calls.specs.Changes.{MakesStood, RemovalsStood};
 ghost use Rattle.step_calls.specs.History.{next_after, Exchange, IsHistory};
+ghost use Rattle.step_calls.specs.Leave.{NoMagicIsOpened, TextsAreFollowed};
 ghost use Rattle.step_calls.specs.Moments.{LinksWereRead, OpensStood, ParentsStood};
+ghost use Rattle.step_calls.specs.Renames.{RenamesStood};
 ghost use Rattle.step_calls.specs.Promises.{costs, holds_after, needs_opened, needs_read, reads_after, NoError, RefusalsAreOwn};
 ghost use Rattle.step_calls.specs.declared.course.TheConstants.{CHANGE, OPENED, TEXT, DONE};
 ghost use Rattle.step_calls.specs.declared.facts.Facts.{Facts};
@@ -36,6 +38,12 @@ pub fn changes_stood()
     ensures removals { RemovalsStood }
 {}
 
+/// The same of an entry that is renamed (renameat2(2)), in each mode. One case is left: what is no directory is renamed
+/// onto a directory with entries that is above it. Linux refuses that by ENOTEMPTY, and the step table by EISDIR.
+pub fn renames_stood()
+    ensures { RenamesStood }
+{}
+
 /// The step's own descriptor is open where it is looked at or closed, and where the step ends with it; and a directory
 /// that is open to be read is read or closed. Nothing else is asked for then, and in the end nothing else is open: so
 /// each descriptor that isn't the answer is closed once.
@@ -48,12 +56,21 @@ pub fn each_descriptor_is_closed_once()
 
 /// Where a step is made, nothing met an error but: a signal; that no descriptor was left, after which one was let go;
 /// ENOTDIR of a name that was then opened as what it is; a file system, or a directory of overlayfs, that could not be
-/// asked; and what isn't refused as a magic link.
+/// asked; and an answer that a link is no magic one (proc(5)).
 pub fn no_error_is_passed_over()
     ensures { (f : Facts) (history : List Exchange) → IsHistory f history
         → ((next_after f history).next ≡ OPENED)
         ⊎ (((next_after f history).next ≡ TEXT) ⊎ ((next_after f history).next ≡ DONE))
         → AllByRecursion (NoError f) history }
+{}
+
+/// Where no magic link may be opened, a link is opened only if an answer says that it's none: its file system has none
+/// (statfs(2)), or the kernel looked where it leads (openat2(2), RESOLVE_NO_MAGICLINKS). And a text that is to be
+/// followed is given only if an answer says that its mount has links followed (statfs(2); mount(8), nosymfollow). No
+/// other error passes for such an answer.
+pub fn links_are_followed_by_leave()
+    ensures magic { NoMagicIsOpened }
+    ensures mounts { TextsAreFollowed }
 {}
 
 /// A step that is refused is refused by an error that the step table may refuse it by (`is_refusal`), whatever the

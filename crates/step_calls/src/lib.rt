@@ -19,8 +19,8 @@ pub use course::{
 pub use facts::{Answer, DIRECTORY, DUP, Facts, IS_THERE, LINK, OPEN, PARENT, READ_TEXT};
 pub use laws::{
     a_change_is_made_once, calls_are_few, changes_stood, each_descriptor_is_closed_once,
-    links_were_read, no_error_is_passed_over, opens_stood, parents_stood,
-    refusals_are_the_steps_own,
+    links_are_followed_by_leave, links_were_read, no_error_is_passed_over, opens_stood,
+    parents_stood, refusals_are_the_steps_own, renames_stood,
 };
 pub use refusals::is_refusal;
 pub use turns::{begin, next};

@@ -1,11 +1,11 @@
 //! What comes after the system calls that look at what is open: whether a directory is there still; a link's text.
 ghost use Rattle.std.specs.Prelude.{◌≡◌};
 ghost use Rattle.step_calls.specs.Course.{due_of};
-ghost use Rattle.step_calls.specs.History.{after_change, after_close, after_close_read, after_follow, after_layers, after_links, after_open_to_read, after_read, after_read_link, gone, not_read, there, unasked};
+ghost use Rattle.step_calls.specs.History.{after_change, after_close, after_close_read, after_follow, after_layers, after_links, after_open_to_read, after_read, after_read_link, gone, has_followed, not_read, there, unasked};
 
 use crate::course::{
-    CLOSE, CLOSE_READ, Course, DONE, LAYERS, OPEN_TO_READ, OPENED, READ, READ_LINK, REFUSED, TEXT,
-    UNMADE, asks, ends_by, fails, knows, waits,
+    CLOSE, CLOSE_READ, Course, DONE, LAYERS, NO_FOLLOW, OPEN_TO_READ, OPENED, READ, READ_LINK,
+    REFUSED, TEXT, UNMADE, asks, ends_by, fails, knows, waits,
 };
 use crate::facts::{DIRECTORY, Facts, PARENT};
 
@@ -109,15 +109,25 @@ pub(crate) fn after_close_read(facts: &Facts, why: u32) -> Course
     if why == 0 { there(facts) } else { gone(facts) }
 }
 
+fn has_followed(flags: u64) -> bool
+    ensures { result ≡ has_followed flags }
+{
+    flags & NOSYMFOLLOW != NOSYMFOLLOW
+}
+
 pub(crate) fn after_follow(facts: &Facts, error: u32, flags: u64) -> Course
     ensures { due_of result ≡ after_follow facts.now error flags }
 {
-    if error == 0 && flags & NOSYMFOLLOW == NOSYMFOLLOW {
-        fails(UNMADE, ELOOP)
-    } else if facts.was_read {
-        asks(TEXT)
+    if error == EINTR {
+        asks(NO_FOLLOW)
+    } else if error == 0 && has_followed(flags) {
+        if facts.was_read {
+            asks(TEXT)
+        } else {
+            asks(READ_LINK)
+        }
     } else {
-        asks(READ_LINK)
+        fails(UNMADE, if error == 0 { ELOOP } else { error })
     }
 }
 

@@ -1,7 +1,7 @@
 //! What comes after the system calls by which an object is opened, and looked at.
 ghost use Rattle.std.specs.Prelude.{◌≡◌};
 ghost use Rattle.step_calls.specs.Course.{due_of};
-ghost use Rattle.step_calls.specs.History.{after_any, after_directory, after_holder, after_kind, after_magic, after_mount, after_spare, came_to, has_magic, is_magic, not_opened, opened, stayed};
+ghost use Rattle.step_calls.specs.History.{after_any, after_directory, after_holder, after_kind, after_magic, after_mount, after_spare, came_to, has_magic, is_ordinary, not_opened, not_ordinary, opened, stayed};
 
 use crate::course::{
     CLOSE, Course, KIND, LINKS, MAGIC, MAY_HOLD_MAGIC, MOUNT, OPEN_ANY, OPEN_DIRECTORY, OPENED,
@@ -20,6 +20,8 @@ const ENOTDIR: u32 = 20;
 const ENFILE: u32 = 23;
 
 const EMFILE: u32 = 24;
+
+const ENAMETOOLONG: u32 = 36;
 
 const ENOSYS: u32 = 38;
 
@@ -151,10 +153,20 @@ pub(crate) fn after_holder(error: u32, file_system: u64, kind: u8) -> Course
     }
 }
 
-fn is_magic(error: u32) -> bool
-    ensures { result ≡ is_magic error }
+fn is_ordinary(error: u32) -> bool
+    ensures { result ≡ is_ordinary error }
 {
-    error == ELOOP || (error == ENOSYS || error == EPERM)
+    error == 0 || (error == EXDEV || (error == ENOTDIR || error == ENAMETOOLONG))
+}
+
+fn not_ordinary(error: u32) -> u32
+    ensures { result ≡ not_ordinary error }
+{
+    if error == ENOSYS || error == EPERM {
+        ELOOP
+    } else {
+        error
+    }
 }
 
 pub(crate) fn after_magic(error: u32, kind: u8) -> Course
@@ -162,9 +174,9 @@ pub(crate) fn after_magic(error: u32, kind: u8) -> Course
 {
     if error == EINTR {
         knows(MAGIC, kind)
-    } else if is_magic(error) {
-        waits(CLOSE, UNMADE, ELOOP)
-    } else {
+    } else if is_ordinary(error) {
         knows(OPENED, kind)
+    } else {
+        waits(CLOSE, UNMADE, not_ordinary(error))
     }
 }

@@ -87,7 +87,8 @@ fn after(facts: &Facts, course: Course, answer: &Answer) -> Course
 ///
 /// Errors: the step is refused by an error that `is_refusal` has for it: of openat(2), of readlinkat(2), where ENOENT
 /// (2) of what is no link is EINVAL (22), of the change; and by ENOENT where a directory was removed. Any other ends it
-/// as not made, and EXDEV (18) of another mount, ELOOP (40) of a magic link or of a mount that follows no link.
+/// as not made, and EXDEV (18) of another mount, ELOOP (40) of a magic link, of one of which the kernel can't be asked,
+/// or of a mount that follows no link.
 pub fn next(facts: &Facts, course: Course, answer: &Answer) -> Course
     ensures goes { (history : List Exchange) → IsAt facts.now history course → is_question course.next ≡ true
         → IsAt facts.now (exchange_of course.next answer.now ∷ history) result }

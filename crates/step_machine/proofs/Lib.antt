@@ -1,3 +1,4 @@
+pub mod Closes
 pub mod Machines
 pub mod Runs
 pub mod Split

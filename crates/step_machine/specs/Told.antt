@@ -6,6 +6,7 @@ use Rattle.tree_model.specs.declared.answer.Answer.{Answer}
 use Rattle.tree_model.specs.declared.answer.Answer.TheVariants.{Refused}
 use Rattle.tree_model.specs.declared.answer.Event.{Event}
 use Rattle.tree_model.specs.StepWith.{StepWith}
+use Rattle.tree_model.specs.declared.step.StepOf.TheVariants.{Close}
 
 -- A line is a step with its answer; a step with its answer, whose use found no memory; or a step that wasn't made, for
 -- want of memory or of room in the book.
@@ -24,6 +25,14 @@ events_of a (not_made error ∷ lines) = events_of a lines
 -- why a step can't be made at all
 abbrev pub IsWant : Errno → Type 0
 IsWant error = (error ≡ NoMemory) ⊎ (error ≡ BookFull)
+
+abbrev pub is_close : StepWith ℕ → Bool
+is_close (Close h) = true
+is_close step = false
+
+-- why this step wasn't made: for want of memory or of room in the book, but no Close for that
+abbrev pub IsUnmade : StepWith ℕ → Errno → Type 0
+IsUnmade step error = IsWant error × (is_close step ≡ false)
 
 -- whether what a line brought found room, and the answer that it hands in: a want is handed in as the step's refusal
 abbrev pub has_room : Line → Bool

@@ -7,7 +7,7 @@ use Rattle.tree_model.specs.declared.answer.Answer.TheVariants.{Opened, Done, Re
 use Rattle.tree_model.specs.declared.step.Kind.TheVariants.{File}
 use Rattle.tree_model.specs.StepWith.{StepWith}
 use Rattle.tree_model.specs.declared.step.StepOf.TheVariants.{Open, Close}
-use Rattle.step_machine.specs.Told.{Line, answered, no_room, not_made, IsWant}
+use Rattle.step_machine.specs.Told.{Line, answered, no_room, not_made, IsUnmade}
 use Rattle.step_machine.specs.Machine.{Machine, LeadsTo}
 
 -- the step that is due: Open of the name, or Close of what was opened, and then this is its end
@@ -29,11 +29,6 @@ abbrev pub due : LookUp → StepWith ℕ
 due opens = Open 7 (codes "name")
 due (shuts h room) = Close h
 
--- a Close is always made
-abbrev pub IsUnmade : LookUp → Errno → Type 0
-IsUnmade opens error = IsWant error
-IsUnmade (shuts h room) error = ⊥
-
 abbrev pub ended : Bool → LookUpTurn
 ended true = is_there
 ended false = failed NoMemory
@@ -45,7 +40,7 @@ take room opens answer = failed BadHandle
 take room (shuts h had_room) answer = ended had_room
 
 abbrev pub look_up : Machine LookUpTurn LookUp
-look_up = record { more = more; under_way = under_way; due = due; IsUnmade = IsUnmade; take = take }
+look_up = record { more = more; under_way = under_way; due = due; IsUnmade = λ l. IsUnmade (due l); take = take }
 
 -- ---- lines
 

@@ -12,6 +12,7 @@ use Rattle.path_text.specs.Reading.{Reading}
 use Rattle.tree_model.specs.declared.answer.Answer.{Answer}
 use Rattle.tree_model.specs.declared.answer.Event.{Event}
 use Rattle.tree_model.specs.declared.tree.TheConstants.{HANDLES_MAX, NUMBERS_MAX}
+use Rattle.tree_model.specs.StepWith.{StepWith}
 use Rattle.tree_model.specs.State.{State, object_at, Stands}
 use Rattle.tree_model.specs.Steps.{held, outcome, held_count}
 use Rattle.tree_model.specs.Trees.{IsState}
@@ -38,7 +39,9 @@ use Rattle.step_resolver.specs.declared.walk.Turn.{Turn as Outcome}
 use Rattle.step_resolver.specs.declared.walk.Turn.TheVariants as turn
 use Rattle.step_resolver.specs.declared.driver.Resolved.{Resolved}
 use Rattle.step_resolver.specs.declared.driver.Resolved.TheVariants.{Found, Partial}
-use Rattle.step_resolver.specs.Driver.{IsReady, IsAnswer, IsWithoutBook, Drives, IsObject, Resolves, ResolvesDeep, ResolvesFor, standing_of, LeavesOwn, LeavesHandles, opened_count, LeavesRoom, IsOwned}
+use Rattle.step_machine.specs.OnTree.{IsAnswer}
+use Rattle.step_machine.proofs.Closes.{takes_memory}
+use Rattle.step_resolver.specs.Driver.{IsReady, IsWithoutBook, Drives, IsObject, Resolves, ResolvesDeep, ResolvesFor, standing_of, LeavesOwn, LeavesHandles, opened_count, LeavesRoom, IsOwned}
 use Rattle.step_resolver.proofs.Underway.HandleCount.{same_count, one_more}
 use Rattle.step_resolver.proofs.FirstTurns.{first_lines_lead}
 use Rattle.step_machine.proofs.Runs.{leads_on}
@@ -79,23 +82,24 @@ module _ (leave : NodesAreLeft) (way : Way) (a : ℕ) (s t : State) (walking : W
   }
 
   -- what the answer to a due step makes of the walk is driven by one step
-  pub advanced : IsAnswer way walking a s t answer → TakesTo way walking answer to → Drives way a s (more walking) t to
+  pub advanced : IsAnswer (due way walking) a s t answer → TakesTo way walking answer to → Drives way a s (more walking) t to
   advanced (inl is) taken = made taken.0 taken.1 is.0 is.1
   advanced (inr is) taken = record {
     lines = not_made NoMemory ∷ [];
-    leads = line_leads way taken.0 walking answer to (not_made NoMemory) taken.1 ((inl refl, is.2), is.0);
+    leads = line_leads way taken.0 walking answer to (not_made NoMemory) taken.1 ((inl refl, takes_memory (due way walking) is.0), is.1);
     legal = tt;
-    after = sym is.1;
-    nodes = ap (λ (u : State). u.nodes) is.1;
+    after = sym is.2;
+    nodes = ap (λ (u : State). u.nodes) is.2;
     without_book = (refl, tt);
     fewer = omega (arith, fewer);
   }
 
 pub advanced_to : NodesAreLeft → (way : Way) (a : ℕ) (s t : State) (walking : Walking) (answer : Answer) (goal : Goal) (outcome : Outcome)
-    → steps_to_come outcome < steps_left_at (more walking) → IsAnswer way walking a s t answer → TakesTo way walking answer (turn_view goal outcome)
+    → steps_to_come outcome < steps_left_at (more walking) → (step : StepWith ℕ) → step ≡ due way walking → IsAnswer step a s t answer → TakesTo way walking answer (turn_view goal outcome)
     → Drives way a s (more walking) t (turn_view goal outcome)
-advanced_to leave way a s t walking answer goal outcome fewer is taken =
-    advanced leave way a s t walking answer (turn_view goal outcome) (subst (λ n. n < steps_left_at (more walking)) (sym (seen_steps goal outcome)) fewer) is taken
+advanced_to leave way a s t walking answer goal outcome fewer step is_due is taken =
+    advanced leave way a s t walking answer (turn_view goal outcome) (subst (λ n. n < steps_left_at (more walking)) (sym (seen_steps goal outcome)) fewer)
+    (subst (λ x. IsAnswer x a s t answer) is_due is) taken
 
 -- ---- one after another
 

@@ -8,7 +8,7 @@ use Rattle.tree_model.specs.declared.answer.Answer.TheVariants.{Refused}
 use Rattle.walk_plan.specs.Plan.{PlanState, leads_out}
 use Rattle.step_resolver.specs.Asked.{AskedPart, Cur, Up, Named, asked, follows}
 use Rattle.step_resolver.specs.Meaning.{LINKS_MAX, is_too_long}
-use Rattle.step_resolver.specs.Order.{Way, root_itself, holds, Todo, todo, Walking, opening, reading, rising, judging, duping, ending, closing, Turn, more, found, partial, failed, in_directory, on_own, on_parts, goes_on, begins, for_walk, starts, take, is_closing, LeadsTo}
+use Rattle.step_resolver.specs.Order.{Way, root_itself, holds, Todo, todo, Walking, opening, reading, rising, judging, duping, ending, closing, Turn, more, found, partial, failed, in_directory, on_own, on_parts, goes_on, begins, for_walk, starts, take, due, is_close, LeadsTo}
 use Rattle.handles.specs.Objects.{ReachedObject}
 use Rattle.step_resolver.specs.View.{walking_of, HoldsNothing, IsPending}
 use Rattle.step_resolver.specs.TurnsTell.{first_lines}
@@ -59,7 +59,7 @@ module _ (way : Way) where
   fails_for_want room (ending handle names rest) first = absurd first
   fails_for_want room (closing h hs after) first = absurd first
 
-  no_closing : (walk : Walking) → IsFirstWalk walk → is_closing walk ≡ false
+  no_closing : (walk : Walking) → IsFirstWalk walk → is_close (due way walk) ≡ false
   no_closing (opening position own follow n rest) first = refl
   no_closing (reading position link rest) first = refl
   no_closing (rising handle names rest) first = refl

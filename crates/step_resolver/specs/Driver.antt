@@ -4,13 +4,11 @@ use Rattle.path_text.specs.declared.errno.Errno.{Errno}
 use Rattle.path_text.specs.declared.errno.Errno.TheVariants.{NoMemory}
 use Rattle.path_text.specs.declared.flags.Flags.{Flags}
 use Rattle.path_text.specs.Reading.{Reading}
-use Rattle.tree_model.specs.declared.answer.Answer.{Answer}
-use Rattle.tree_model.specs.declared.answer.Answer.TheVariants.{Refused}
 use Rattle.tree_model.specs.declared.inode.Inode.{Inode}
 use Rattle.tree_model.specs.declared.inode.Object.{Object}
 use Rattle.tree_model.specs.declared.tree.TheConstants.{HANDLES_MAX, NUMBERS_MAX}
 use Rattle.tree_model.specs.State.{State, TOP, Stands, object_at, is_dir}
-use Rattle.tree_model.specs.Steps.{outcome, held, held_count, kind_of}
+use Rattle.tree_model.specs.Steps.{held, held_count, kind_of}
 use Rattle.tree_model.specs.Trees.{IsState}
 use Rattle.tree_model.specs.History.{IsLegal, after_events}
 use Rattle.handles.specs.declared.owner.Owner.{Owner}
@@ -20,7 +18,7 @@ use Rattle.step_resolver.specs.Asked.{asked, follows, is_deepest}
 use Rattle.step_resolver.specs.Meaning.{Ground, Meant, object, fails, reading_means}
 use Rattle.step_resolver.specs.Deepest.{Deep, whole, up_to, none, reading_deepest}
 use Rattle.step_resolver.specs.TurnView.{STEPS_MAX}
-use Rattle.step_resolver.specs.Order.{Way, Walking, Turn, due, is_closing, Line, answered, no_room, not_made, events_of, LeadsTo, steps_left_at}
+use Rattle.step_resolver.specs.Order.{Way, Turn, Line, answered, no_room, not_made, events_of, LeadsTo, steps_left_at}
 use Rattle.step_resolver.specs.declared.driver.Resolved.{Resolved}
 use Rattle.step_resolver.specs.declared.driver.Resolved.TheVariants.{Found, Partial}
 
@@ -40,12 +38,6 @@ pub record IsReady (s : State) (a h r : ℕ) : Type 0 where
   pub numbers : length s.handles + STEPS_MAX < NUMBERS_MAX
 
 -- ---- on the way
-
--- the step that was due was made, or there was no memory to make it
-abbrev pub IsAnswer : Way → Walking → ℕ → State → State → Answer → Type 0
-IsAnswer way walking a s t answer =
-    ((answer ≡ (outcome s a (due way walking)).answer) × (t ≡ (outcome s a (due way walking)).after))
-    ⊎ ((answer ≡ Refused NoMemory) × (t ≡ s) × (is_closing walking ≡ false))
 
 -- no step was left out but for want of memory
 abbrev pub IsWithoutBook : List Line → Type 0

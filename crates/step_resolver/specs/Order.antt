@@ -17,7 +17,7 @@ use Rattle.tree_model.specs.StepWith.{StepWith}
 use Rattle.tree_model.specs.declared.step.StepOf.TheVariants.{Open, Dup, Parent, ReadLink, NameBelow, Close}
 use Rattle.step_machine.specs.Machine.{Machine}
 use Rattle.step_machine.specs.Machine as machine
-pub use Rattle.step_machine.specs.Told.{Line, answered, no_room, not_made, has_room, answer_of, events_of, IsWant}
+pub use Rattle.step_machine.specs.Told.{Line, answered, no_room, not_made, has_room, answer_of, events_of, IsWant, is_close, IsUnmade}
 use Rattle.walk_plan.specs.declared.goal.Goal.{Goal}
 use Rattle.walk_plan.specs.Plan.{leads_out}
 use Rattle.step_resolver.specs.Asked.{AskedPart, Cur, Up, Named, asked, followed, follows, is_deepest}
@@ -284,15 +284,6 @@ due way (duping rest) = Dup way.root
 due way (ending handle names rest) = NameBelow way.root handle.number
 due way (closing h hs after) = Close h
 
-abbrev pub is_closing : Walking → Bool
-is_closing (opening position own follow n rest) = false
-is_closing (reading position link rest) = false
-is_closing (rising handle names rest) = false
-is_closing (judging handle names rest) = false
-is_closing (duping rest) = false
-is_closing (ending handle names rest) = false
-is_closing (closing h hs after) = true
-
 -- ---- a walk's lines
 
 -- the walk that goes on, where it does
@@ -302,13 +293,10 @@ under_way (found handle names) = None
 under_way (partial handle names rest) = None
 under_way (failed error) = None
 
--- why a step wasn't made: for want of memory or of room in the book, but no Close for that
-abbrev pub IsUnmade : Walking → Errno → Type 0
-IsUnmade walk error = IsWant error × (is_closing walk ≡ false)
-
 -- walks on this way, step by step
 abbrev pub walks : Way → Machine Turn Walking
-walks way = record { more = more; under_way = under_way; due = due way; IsUnmade = IsUnmade; take = take way }
+walks way =
+    record { more = more; under_way = under_way; due = due way; IsUnmade = λ w. IsUnmade (due way w); take = take way }
 
 -- These lines, one by one, lead from one turn to another.
 abbrev pub LeadsTo : Way → Turn → List Line → Turn → Type 0

@@ -2,7 +2,7 @@
 ghost use Rattle.std.specs.Prelude.{◌≡◌, ◌<◌};
 ghost use Rattle.step_resolver.specs.Order.{more, steps_left};
 ghost use Rattle.step_resolver.specs.TurnView.{turn_view, Keeps, steps_to_come};
-ghost use Rattle.step_resolver.specs.Driver.{node_of, IsReady, IsAnswer, Drives, ResolvesBelow, IsOwned, LeavesHandles, LeavesRoom};
+ghost use Rattle.step_resolver.specs.Driver.{node_of, IsReady, Drives, ResolvesBelow, IsOwned, LeavesHandles, LeavesRoom};
 
 use crate::footprint_laws::quiet_walks_mean;
 use crate::laws::walks_tell;
@@ -10,9 +10,8 @@ use crate::walk::{Root, Turn, Walk};
 use handles::Standing;
 use path_text::{Errno, Flags, PARTS_MAX, Parts, Path};
 use std::alloc::Global;
-use tree_model::{
-    Actor, Answer, Tree, histories_keep_trees, legal_histories_join, steps_leave_the_rest,
-};
+use step_machine::answer_to;
+use tree_model::{Actor, Tree, histories_keep_trees, legal_histories_join, steps_leave_the_rest};
 use walk_plan::Goal;
 
 /// What is at the end of a path: open, and with the names at which it stands below the root.
@@ -22,16 +21,6 @@ pub enum Resolved {
     Found(Standing),
     /// The deepest directory on the way, and the caller's own parts from the first missing name on.
     Partial(Standing, Parts),
-}
-
-/// The answer to the step that is due: the tree's, or that it had no memory to make it.
-fn answer_due<T: Tree>(alloc: Global, tree: &mut T, actor: Actor, walk: &Walk) -> Answer
-    ensures { IsAnswer walk.now.way walk.now.walking actor (T.state tree.old) (T.state tree.new) result }
-{
-    match tree.step(alloc, actor, &walk.due()) {
-        Ok(answer) => answer,
-        Err(_) => Answer::Refused(Errno::NoMemory),
-    }
 }
 
 /// Makes the step that is due on the tree, as this actor, and takes its answer. A step for which there is no memory
@@ -44,7 +33,7 @@ pub fn advance<T: Tree>(alloc: Global, tree: &mut T, actor: Actor, walk: Walk) -
 {
     // that the step left the nodes
     steps_leave_the_rest();
-    let answer = answer_due(alloc, tree, actor, &walk);
+    let answer = answer_to(alloc, tree, actor, &walk.due());
     walk.take(answer)
 }
 

@@ -1,11 +1,8 @@
--- What a write of a node's place leaves, and one step up from a node.
-use Rattle.std.proofs.Common.{◌≡◌, ℕ, zero, suc, ◌+◌, ◌-◌, ◌<◌, ◌≤◌, List, [], ◌∷◌, ◌++◌, length, get_or, set, append_assoc, Option, Some, None, refl, ap, sym, ◌∙◌, arith}
-use Rattle.std.specs.Prelude.{is_some}
-use Rattle.std.specs.Option.{option_map}
-use Rattle.std.proofs.lemmas.Bool.{ne_eqb}
+-- What a write of a node's place leaves.
+use Rattle.std.proofs.Common.{◌≡◌, ℕ, zero, suc, ◌≤◌, List, [], ◌∷◌, length, get_or, set, Option, refl, ap, arith}
 use Rattle.tree_model.specs.declared.inode.Inode.{Inode}
 use Rattle.tree_model.specs.declared.inode.Place.{Place}
-use Rattle.tree_model.specs.State.{place_at, put_at, names_within}
+use Rattle.tree_model.specs.State.{put_at}
 
 -- a write of the place of the node at an index
 pub put_at_from_set : (nodes : List Inode) (i : ℕ) (d : Inode) (place : Option Place) → set nodes i (record { object = (get_or nodes i d).object; place = place }) ≡ put_at nodes i place
@@ -17,25 +14,3 @@ pub put_at_past : (nodes : List Inode) (i : ℕ) (place : Option Place) → leng
 put_at_past [] i place past = refl
 put_at_past (inode ∷ nodes) zero place past = absurd (omega arith)
 put_at_past (inode ∷ nodes) (suc i) place past = ap (λ rest. inode ∷ rest) (put_at_past nodes i place (omega arith))
-
-pub is_some-option_map : {A B : Type 0} (f : A → B) (o : Option A) → is_some (option_map f o) ≡ is_some o
-is_some-option_map f None = refl
-is_some-option_map f (Some x) = refl
-
--- one parent up
-pub names_within_up : (n k : ℕ) (nodes : List Inode) (r x : ℕ) (place : Place) → k < n → (x ≡ r → ⊥) → place_at nodes x ≡ Some place → names_within (n - k) nodes r x ≡ option_map (λ names. place.name ∷ names) (names_within (n - (k + 1)) nodes r place.parent)
-names_within_up n k nodes r x place more apart at =
-    let left : n - k ≡ suc (n - (k + 1)) = omega arith in rw (left, ne_eqb x r apart, at) refl
-
-pub is_within_up : (n k : ℕ) (nodes : List Inode) (r x : ℕ) (place : Place) → k < n → (x ≡ r → ⊥) → place_at nodes x ≡ Some place → is_some (names_within (n - k) nodes r x) ≡ is_some (names_within (n - (k + 1)) nodes r place.parent)
-is_within_up n k nodes r x place more apart at =
-    ap is_some (names_within_up n k nodes r x place more apart at) ∙ is_some-option_map (λ names. place.name ∷ names) (names_within (n - (k + 1)) nodes r place.parent)
-
-appended : (names : List (List ℕ)) (n : List ℕ) (o : Option (List (List ℕ))) → option_map (λ rest. names ++ rest) (option_map (λ rest. n ∷ rest) o) ≡ option_map (λ rest. (names ++ n ∷ []) ++ rest) o
-appended names n None = refl
-appended names n (Some rest) = ap Some (sym (append_assoc names (n ∷ []) rest))
-
--- one parent up, with the names passed so far
-pub names_within_more : (n k : ℕ) (nodes : List Inode) (r x : ℕ) (place : Place) (names : List (List ℕ)) → k < n → (x ≡ r → ⊥) → place_at nodes x ≡ Some place → option_map (λ rest. names ++ rest) (names_within (n - k) nodes r x) ≡ option_map (λ rest. (names ++ place.name ∷ []) ++ rest) (names_within (n - (k + 1)) nodes r place.parent)
-names_within_more n k nodes r x place names more apart at =
-    ap (option_map (λ rest. names ++ rest)) (names_within_up n k nodes r x place more apart at) ∙ appended names place.name (names_within (n - (k + 1)) nodes r place.parent)

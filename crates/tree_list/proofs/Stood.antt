@@ -9,7 +9,7 @@ use Rattle.tree_model.specs.declared.tree.TheConstants.{NUMBERS_MAX}
 use Rattle.tree_model.specs.State.{State, TOP, object_at, child, is_dir, is_gone, Stands}
 use Rattle.tree_model.specs.Entries.{makes}
 use Rattle.tree_model.specs.Trees.{IsTree}
-use Rattle.tree_model.proofs.Places.{place_at-append, object_at-append, place_at-last, object_at-within}
+use Rattle.tree_model.proofs.Places.{object_at-append, place_at-last, object_at-within}
 use Rattle.tree_model.proofs.Children.{place_at-child}
 use Rattle.tree_model.proofs.Refusals.{refuse_if-both, with_some-both, refuse_by-both}
 use Rattle.tree_model.proofs.Changed.{IfDone}

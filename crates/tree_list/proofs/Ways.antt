@@ -1,28 +1,11 @@
--- The way down from the top by names.
-use Rattle.std.proofs.Common.{◌≡◌, ◌≢◌, ℕ, zero, suc, ◌+◌, ◌<◌, List, [], ◌∷◌, ◌++◌, drop, take, true, false, Some, None, Err, refl, sym, ap, ◌∙◌, arith}
+-- The way down from the top to an entry's parent, by names.
+use Rattle.std.proofs.Common.{◌≡◌, ◌≢◌, ℕ, zero, suc, ◌+◌, ◌<◌, List, [], ◌∷◌, ◌++◌, drop, take, Some, None, refl, sym, ap, ◌∙◌, arith}
 use Rattle.std.proofs.lemmas.Option.{same_Some}
 use Rattle.std.specs.Prelude.{slice_get}
-use Rattle.path_text.specs.declared.errno.Errno.TheVariants.{NotFound, NotDir}
 use Rattle.tree_model.specs.declared.inode.Inode.{Inode}
-use Rattle.tree_model.specs.State.{child, is_dir}
-use Rattle.tree_model.specs.Steps.{directory_at}
+use Rattle.tree_model.specs.State.{child}
+use Rattle.tree_steps.proofs.Ways.{drop_from_get}
 use Rattle.tree_list.specs.Build.{node_at}
-
-pub drop_from_get : {A : Type 0} (xs : List A) (i : ℕ) (x : A) → slice_get xs i ≡ Some x → drop i xs ≡ x ∷ drop (i + 1) xs
-drop_from_get [] i x is = cc
-drop_from_get (y ∷ xs) zero x is = let same : y ≡ x = cc in ap (λ z. z ∷ xs) same
-drop_from_get (y ∷ xs) (suc i) x is =
-    let next : suc i + 1 ≡ suc (i + 1) = omega arith in rw next (drop_from_get xs i x is)
-
-pub directory_at_no_directory : (nodes : List Inode) (x : ℕ) (names : List (List ℕ)) → is_dir nodes x ≡ false → directory_at nodes x names ≡ Err NotDir
-directory_at_no_directory nodes x [] none = rw none refl
-directory_at_no_directory nodes x (n ∷ names) none = rw none refl
-
-pub directory_at_missing : (nodes : List Inode) (x : ℕ) (names : List (List ℕ)) (i : ℕ) (n : List ℕ) → slice_get names i ≡ Some n → is_dir nodes x ≡ true → child nodes x n ≡ None → directory_at nodes x (drop i names) ≡ Err NotFound
-directory_at_missing nodes x names i n is dir none = rw (drop_from_get names i n is, dir, none) refl
-
-pub directory_at_enters : (nodes : List Inode) (x c : ℕ) (names : List (List ℕ)) (i : ℕ) (n : List ℕ) → slice_get names i ≡ Some n → is_dir nodes x ≡ true → child nodes x n ≡ Some c → directory_at nodes x (drop i names) ≡ directory_at nodes c (drop (i + 1) names)
-directory_at_enters nodes x c names i n is dir found = rw (drop_from_get names i n is, dir, found) refl
 
 pub node_at_missing : (nodes : List Inode) (x : ℕ) (names : List (List ℕ)) (i : ℕ) (n : List ℕ) → slice_get names i ≡ Some n → child nodes x n ≡ None → node_at nodes x (drop i names) ≡ None
 node_at_missing nodes x names i n is none = rw (drop_from_get names i n is, none) refl
@@ -53,5 +36,3 @@ same_names_more names others i n m is there same before =
 pub ways_part : (names others : List (List ℕ)) (last i : ℕ) (n m : List ℕ) → slice_get names i ≡ Some n → slice_get others i ≡ Some m → i < last → n ≢ m → take last names ≢ take last others
 ways_part names others last i n m is there before apart same =
     apart (same_Some n m (sym is ∙ sym (slice_get-take last names i before) ∙ ap (λ way. slice_get way i) same ∙ slice_get-take last others i before ∙ there))
-
-pub ruleset ways = (directory_at_no_directory, directory_at_missing, directory_at_enters)

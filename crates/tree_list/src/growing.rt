@@ -4,7 +4,7 @@ ghost use Rattle.tree_model.specs.declared.inode.Inode.{Inode};
 ghost use Rattle.tree_model.specs.State.{child};
 ghost use Rattle.tree_model.specs.Entries.{makes};
 ghost use Rattle.tree_model.specs.Trees.{HasPathText};
-ghost use Rattle.tree_list.specs.Changes.{IsGrowth};
+ghost use Rattle.tree_steps.specs.Changes.{IsGrowth};
 
 use path_text::{Errno, LentName, NoMemory};
 use std::alloc::Global;

@@ -4,21 +4,19 @@ ghost use Rattle.tree_model.specs.Trees.{IsState};
 ghost use Rattle.tree_list.specs.Build.{with_nodes, top_alone, IsBuilt, IsFaultOf, IsTreeOf};
 
 use crate::build::{BuildFault, Entry, build};
+use crate::entries::ListNodes;
+use crate::handles::ListHandles;
 use crate::indexed::IndexedNodes;
-use crate::read::directory_at;
-use crate::step::held_count;
 use path_text::{Errno, Names, NoMemory};
 use std::alloc::Global;
 use std::marker::Model;
-use tree_model::{
-    Actor, Answer, HandleNo, Inode, LentStep, Object, OpenHandle, Snapshot, StepOf, Tree,
-};
+use tree_model::{Actor, Answer, HandleNo, Inode, LentStep, OpenHandle, Snapshot, Tree};
+use tree_steps::{HandleTable, NodeTable, TableTree, copy_nodes};
 
 /// A tree of two lists, the nodes and the handles by their numbers. Contracts see it as its state.
 #[derive(Debug, Drop)]
 pub struct ListTree {
-    pub(crate) nodes: Vec<Inode>,
-    pub(crate) handles: Vec<Option<OpenHandle>>,
+    tables: TableTree<ListNodes, ListHandles>,
 }
 
 impl Model for ListTree {
@@ -26,7 +24,7 @@ impl Model for ListTree {
 
     ghost Value = { State };
 
-    ghost view = { λ t. record { nodes = t.nodes.items; handles = t.handles.items } };
+    ghost view = { λ t. t.tables };
 }
 
 impl ListTree {
@@ -44,9 +42,18 @@ impl ListTree {
     pub fn from_nodes(alloc: Global, nodes: Vec<Inode>) -> ListTree
         ensures { result ≡ with_nodes nodes.items }
     {
+        ListTree::from_parts(nodes, Vec::new(alloc))
+    }
+
+    // The tree of these nodes and handles.
+    fn from_parts(inodes: Vec<Inode>, places: Vec<Option<OpenHandle>>) -> ListTree
+        ensures { result ≡ record { nodes = inodes.items; handles = places.items } }
+    {
         ListTree {
-            nodes,
-            handles: Vec::new(alloc),
+            tables: TableTree {
+                nodes: ListNodes { inodes },
+                handles: ListHandles { places },
+            },
         }
     }
 
@@ -70,17 +77,17 @@ impl ListTree {
     pub fn copy(&self, alloc: Global) -> Result<ListTree, NoMemory>
         ensures { IfOk result (λ copy. copy ≡ self.now) }
     {
-        let nodes = copy_nodes(alloc, &self.nodes)?;
-        let handles = Vec::from_slice(alloc, &self.handles)?;
-        Ok(ListTree { nodes, handles })
+        let nodes = copy_nodes(alloc, self.tables.nodes.as_slice())?;
+        let handles = Vec::from_slice(alloc, self.tables.handles.as_slice())?;
+        Ok(ListTree::from_parts(nodes, handles))
     }
 
     /// The nodes and the handles, each at its number.
     pub fn into_parts(self) -> (Vec<Inode>, Vec<Option<OpenHandle>>)
         ensures { self ≡ record { nodes = result.0.items; handles = result.1.items } }
     {
-        let ListTree { nodes, handles } = self;
-        (nodes, handles)
+        let TableTree { nodes, handles } = self.tables;
+        (nodes.inodes, handles.places)
     }
 }
 
@@ -93,50 +100,18 @@ impl Tree for ListTree {
         actor: Actor,
         step: &LentStep<'_>,
     ) -> Result<Answer, NoMemory> {
-        match step {
-            StepOf::Open(dir, name) => self.open(actor, *dir, name),
-            StepOf::Dup(handle) => self.dup(actor, *handle),
-            StepOf::Parent(handle) => self.open_parent(actor, *handle),
-            StepOf::ReadLink(handle) => self.read_link(alloc, actor, *handle),
-            StepOf::NameBelow(root, handle) => self.name_below(alloc, actor, *root, *handle),
-            StepOf::List(handle) => self.list(alloc, actor, *handle),
-            StepOf::Close(handle) => Ok(self.close(actor, *handle)),
-            StepOf::MakeDir(dir, name) => self.make(alloc, actor, *dir, name, Object::Dir),
-            StepOf::MakeFile(dir, name) => self.make(alloc, actor, *dir, name, Object::File),
-            StepOf::MakeLink(dir, name, text) => self.make_link(alloc, actor, *dir, name, text),
-            StepOf::RemoveFile(dir, name) => Ok(self.remove_file(actor, *dir, name)),
-            StepOf::RemoveDir(dir, name) => Ok(self.remove_dir(actor, *dir, name)),
-            StepOf::Rename(from, old, to, new, mode) => {
-                self.rename(alloc, actor, (*from, old), (*to, new), *mode)
-            }
-        }
+        self.tables.step(alloc, actor, step)
     }
 
     fn grant(&mut self, alloc: Global, actor: Actor, names: &Names) -> Result<HandleNo, Errno> {
-        let dir = directory_at(&self.nodes, names)?;
-        if self.is_full(actor) {
-            return Err(Errno::TooMany);
-        }
-        Ok(self.add_handle(actor, dir)?)
+        self.tables.grant(alloc, actor, names)
     }
 
     fn held(&self, actor: Actor) -> usize {
-        held_count(&self.handles, actor)
+        self.tables.held(actor)
     }
 
     fn snapshot(&self, alloc: Global) -> Result<Snapshot, NoMemory> {
-        let ListTree { nodes, handles } = self.copy(alloc)?;
-        Ok(Snapshot::new(nodes, handles))
+        self.tables.snapshot(alloc)
     }
-}
-
-/// Equal nodes. NoMemory where their room was refused.
-pub fn copy_nodes(alloc: Global, nodes: &[Inode]) -> Result<Vec<Inode>, NoMemory>
-    ensures { IfOk result (λ copies. copies.items ≡ nodes.now) }
-{
-    let mut copies = Vec::with_capacity(alloc, nodes.len())?;
-    for inode in nodes {
-        copies.push(inode.copy(alloc)?)?;
-    }
-    Ok(copies)
 }

@@ -10,4 +10,3 @@ pub mod Started
 pub mod Counts
 pub mod Remembered
 pub mod HeldCounts
-pub mod NamesDown

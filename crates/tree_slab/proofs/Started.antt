@@ -1,5 +1,5 @@
 -- An index is built node by node: first the maps, then the entries.
-use Rattle.std.proofs.Common.{◌≡◌, ℕ, zero, suc, ◌+◌, ◌<◌, ◌≤◌, Bool, true, false, if◌then◌else◌, ◌==◌, ◌&&◌, not, List, [], ◌∷◌, ◌++◌, get_or, length, take, Option, Some, None, is_some, refl, ap, sym, ◌∙◌, inl, inr, ⊎_elim, subst, eq-eqb, arith}
+use Rattle.std.proofs.Common.{◌≡◌, ℕ, zero, suc, ◌+◌, ◌<◌, ◌≤◌, Bool, true, if◌then◌else◌, ◌==◌, ◌&&◌, not, List, [], ◌∷◌, ◌++◌, get_or, length, take, Option, Some, None, is_some, refl, ap, sym, ◌∙◌, inl, inr, ⊎_elim, subst, eq-eqb, arith}
 use Rattle.std.specs.Prelude.{slice_get}
 use Rattle.std.specs.Option.{option_map}
 use Rattle.std.proofs.lemmas.Bool.{cases_eq, ne_eqb, cases_lt}
@@ -7,8 +7,8 @@ use Rattle.std.proofs.lemmas.List.{take_more, length-take, take_all}
 use Rattle.std.proofs.lemmas.Option.{none-some}
 use Rattle.tree_model.specs.declared.inode.Inode.{Inode}
 use Rattle.tree_model.specs.declared.inode.Place.{Place}
-use Rattle.tree_model.specs.State.{TOP, place_at, is_directory, is_gone}
-use Rattle.tree_model.specs.Trees.{Rooted, IsTree, top, below}
+use Rattle.tree_model.specs.State.{place_at, is_directory, is_gone}
+use Rattle.tree_model.specs.Trees.{IsTree}
 use Rattle.tree_model.proofs.Children.{entry}
 use Rattle.tree_model.proofs.Hanging.{Rooted-parent}
 use Rattle.tree_slab.specs.Directories.{entries_at, has_map, entry_in, with_entry, new_entries}

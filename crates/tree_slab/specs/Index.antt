@@ -1,22 +1,14 @@
 -- When the directories' maps are an index of a tree's nodes.
-use Rattle.std.specs.Prelude.{◌≡◌, ◌<◌, ℕ, ◌&&◌, not, List, Bool, true, false, length, Option, Some, None}
+use Rattle.std.specs.Prelude.{◌≡◌, ℕ, ◌&&◌, not, List, Bool, true, length, Option, Some, None}
 use Rattle.tree_model.specs.declared.inode.Inode.{Inode}
 use Rattle.tree_model.specs.declared.inode.Place.{Place}
-use Rattle.tree_model.specs.declared.tree.TheConstants.{NUMBERS_MAX}
-use Rattle.tree_model.specs.State.{place_at, child, is_dir, is_gone}
+use Rattle.tree_model.specs.State.{place_at, is_dir, is_gone}
 use Rattle.tree_model.specs.Trees.{IsTree}
 use Rattle.tree_slab.specs.Directories.{entry_in, has_map, SetsEntry}
 
 -- a directory that is the top or stands somewhere
 abbrev pub is_standing_dir : List Inode → ℕ → Bool
 is_standing_dir nodes x = is_dir nodes x && not (is_gone nodes x)
-
--- a new entry of that name can be made in a directory
-pub record CanMake (nodes : List Inode) (d : ℕ) (n : List ℕ) : Type 0 where
-  pub dir : is_dir nodes d ≡ true
-  pub stays : is_gone nodes d ≡ false
-  pub free : child nodes d n ≡ None
-  pub few : length nodes < NUMBERS_MAX
 
 -- a look-up leads to a node exactly where the node stands at that entry
 pub record Agrees (look : ℕ → List ℕ → Option ℕ) (nodes : List Inode) : Type 0 where

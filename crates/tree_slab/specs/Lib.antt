@@ -2,4 +2,3 @@ pub mod Directories
 pub mod Index
 pub mod Counts
 pub mod Cached
-pub mod Below

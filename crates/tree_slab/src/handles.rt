@@ -1,13 +1,13 @@
 //! The handles by their numbers, and how many each actor has open.
-ghost use Rattle.std.specs.Prelude.{◌≡◌, ◌<◌, ◌++◌, ◌∷◌, [], ◌||◌, ℕ, nat_le, nat_eq, count_by, length, slice_get, slice_set, Some, None, IfOk, OnOk, OnErr, IsSome};
-ghost use Rattle.tree_model.specs.Steps.{is_held_by, node_held};
+ghost use Rattle.std.specs.Prelude.{◌≡◌, ◌<◌, [], ℕ, IfOk, OnOk};
 ghost use Rattle.tree_slab.specs.Counts.{IsCounted, CountsPlace, count_in};
 
 use crate::held::HeldCounts;
 use path_text::NoMemory;
 use std::alloc::Global;
 use std::marker::Model;
-use tree_model::{Actor, HANDLES_MAX, HandleNo, NUMBERS_MAX, Node, OpenHandle};
+use tree_model::{Actor, HandleNo, Node, OpenHandle};
+use tree_steps::HandleTable;
 
 /// The handles of a tree, a closed one as None. Contracts see them as a list.
 #[derive(Debug, Drop)]
@@ -74,46 +74,20 @@ impl Handles {
             counts: HeldCounts::new(alloc),
         }
     }
+}
 
-    /// The handles by their numbers.
-    pub(crate) fn as_slice(&self) -> &[Option<OpenHandle>]
-        ensures { result.now ≡ self.now }
-    {
+impl HandleTable for Handles {
+    ghost places = { λ handles. handles };
+
+    fn as_slice(&self) -> &[Option<OpenHandle>] {
         self.places.as_slice()
     }
 
-    /// How many handles the actor has open.
-    pub(crate) fn held(&self, actor: Actor) -> usize
-        ensures { result ≡ count_by (is_held_by actor) self.now }
-    {
+    fn held(&self, actor: Actor) -> usize {
         self.counts.of(actor)
     }
 
-    /// The node of a handle that is open and the actor's.
-    pub(crate) fn node_held(&self, actor: Actor, handle: HandleNo) -> Option<Node>
-        ensures { result ≡ node_held actor (slice_get self.now handle) }
-    {
-        match self.places.get(handle.number() as usize) {
-            Some(Some(open)) if open.actor == actor => Some(open.node),
-            _ => None,
-        }
-    }
-
-    /// Whether the actor can open no more, or the numbers are used up.
-    pub(crate) fn is_full(&self, actor: Actor) -> bool
-        ensures { result
-            ≡ (nat_le HANDLES_MAX (count_by (is_held_by actor) self.now) || nat_le NUMBERS_MAX (length self.now)) }
-    {
-        self.held(actor) >= HANDLES_MAX || self.places.len() >= NUMBERS_MAX
-    }
-
-    /// One more handle on a node, of the next number. NoMemory where its room was refused.
-    pub(crate) fn open(&mut self, actor: Actor, node: Node) -> Result<HandleNo, NoMemory>
-        requires { length self.old < NUMBERS_MAX }
-        ensures ok { IfOk result (λ handle. (handle ≡ length self.old)
-            × (self.new ≡ self.old ++ Some (record { actor = actor; node = node }) ∷ [])) }
-        ensures err { OnErr result (self.new ≡ self.old) }
-    {
+    fn open(&mut self, actor: Actor, node: Node) -> Result<HandleNo, NoMemory> {
         let held = self.held(actor);
         self.places.reserve(1)?;
         self.counts.set(actor, held + 1)?;
@@ -122,11 +96,7 @@ impl Handles {
         Ok(handle)
     }
 
-    /// Closes a handle of the actor. Takes no memory.
-    pub(crate) fn close(&mut self, actor: Actor, handle: HandleNo)
-        requires { IsSome (node_held actor (slice_get self.old handle)) }
-        ensures { self.new ≡ slice_set self.old handle None }
-    {
+    fn close(&mut self, actor: Actor, handle: HandleNo) {
         self.counts.lower(actor);
         self.places[handle.number() as usize] = None;
     }

@@ -7,14 +7,12 @@
 //! entries.
 #![tactic(auto)]
 
-mod below;
 mod cached;
 mod directories;
 mod entry_map;
 mod handles;
 mod held;
 mod nodes;
-mod step;
 mod tree;
 
 pub use dentry_cache::CAP_MAX;

@@ -10,15 +10,15 @@ use dentry_cache::DentryCache;
 use path_text::{Errno, Names, NoMemory};
 use std::alloc::Global;
 use std::marker::Model;
-use tree_list::{BuildFault, Entry, ListTree, add_all, copy_nodes, directory_at};
-use tree_model::{Actor, Answer, HandleNo, Inode, LentStep, Object, Snapshot, StepOf, Tree};
+use tree_list::{BuildFault, Entry, ListTree, add_all};
+use tree_model::{Actor, Answer, HandleNo, Inode, LentStep, Snapshot, Tree};
+use tree_steps::{NodeTable, TableTree};
 
 /// A tree whose entries are found by an ordered map for each directory that stands, and whose handles are
 /// counted by their actors. Contracts see it as its state.
 #[derive(Debug, Drop)]
 pub struct SlabTree {
-    pub(crate) nodes: Nodes,
-    pub(crate) handles: Handles,
+    tables: TableTree<Nodes, Handles>,
 }
 
 impl Model for SlabTree {
@@ -26,7 +26,20 @@ impl Model for SlabTree {
 
     ghost Value = { State };
 
-    ghost view = { λ t. record { nodes = t.nodes; handles = t.handles } };
+    ghost view = { λ t. t.tables };
+}
+
+// Adds these entries to the table of nodes.
+fn add_to(
+    tables: &mut TableTree<Nodes, Handles>,
+    alloc: Global,
+    entries: &[Entry],
+) -> Result<(), BuildFault>
+    ensures ok { OnOk result (adds_all 0 tables.old.nodes entries.now ≡ Ok tables.new.nodes) }
+    ensures handles { tables.new.handles ≡ tables.old.handles }
+    ensures err { IfErr result (IsFaultFrom tables.old.nodes entries.now) }
+{
+    add_all(&mut tables.nodes, alloc, entries)
 }
 
 impl SlabTree {
@@ -40,9 +53,9 @@ impl SlabTree {
     {
         let cache = DentryCache::new(alloc, cap)?;
         let nodes = Nodes::new(alloc, cache)?;
+        let handles = Handles::new(alloc);
         Ok(SlabTree {
-            nodes,
-            handles: Handles::new(alloc),
+            tables: TableTree { nodes, handles },
         })
     }
 
@@ -58,9 +71,10 @@ impl SlabTree {
     {
         let cache = DentryCache::new(alloc, cap)?;
         let (nodes, handles) = list.copy(alloc)?.into_parts();
+        let nodes = Nodes::from_vec(alloc, nodes, cache)?;
+        let handles = Handles::from_vec(alloc, handles)?;
         Ok(SlabTree {
-            nodes: Nodes::from_vec(alloc, nodes, cache)?,
-            handles: Handles::from_vec(alloc, handles)?,
+            tables: TableTree { nodes, handles },
         })
     }
 
@@ -75,14 +89,14 @@ impl SlabTree {
         ensures handles { self.new.handles ≡ self.old.handles }
         ensures err { IfErr result (IsFaultFrom self.old.nodes entries.now) }
     {
-        add_all(&mut self.nodes, alloc, entries)
+        add_to(&mut self.tables, alloc, entries)
     }
 
     /// The nodes by their numbers.
     pub fn nodes(&self) -> &[Inode]
         ensures { result.now ≡ self.now.nodes }
     {
-        self.nodes.as_slice()
+        self.tables.nodes.as_slice()
     }
 }
 
@@ -95,40 +109,18 @@ impl Tree for SlabTree {
         actor: Actor,
         step: &LentStep<'_>,
     ) -> Result<Answer, NoMemory> {
-        match step {
-            StepOf::Open(dir, name) => self.open(actor, *dir, name),
-            StepOf::Dup(handle) => self.dup(actor, *handle),
-            StepOf::Parent(handle) => self.open_parent(actor, *handle),
-            StepOf::ReadLink(handle) => self.read_link(alloc, actor, *handle),
-            StepOf::NameBelow(root, handle) => self.name_below(alloc, actor, *root, *handle),
-            StepOf::List(handle) => self.list(alloc, actor, *handle),
-            StepOf::Close(handle) => Ok(self.close(actor, *handle)),
-            StepOf::MakeDir(dir, name) => self.make(alloc, actor, *dir, name, Object::Dir),
-            StepOf::MakeFile(dir, name) => self.make(alloc, actor, *dir, name, Object::File),
-            StepOf::MakeLink(dir, name, text) => self.make_link(alloc, actor, *dir, name, text),
-            StepOf::RemoveFile(dir, name) => Ok(self.remove_file(actor, *dir, name)),
-            StepOf::RemoveDir(dir, name) => Ok(self.remove_dir(actor, *dir, name)),
-            StepOf::Rename(from, old, to, new, mode) => {
-                self.rename(alloc, actor, (*from, old), (*to, new), *mode)
-            }
-        }
+        self.tables.step(alloc, actor, step)
     }
 
     fn grant(&mut self, alloc: Global, actor: Actor, names: &Names) -> Result<HandleNo, Errno> {
-        let dir = directory_at(self.nodes.as_slice(), names)?;
-        if self.is_full(actor) {
-            return Err(Errno::TooMany);
-        }
-        Ok(self.add_handle(actor, dir)?)
+        self.tables.grant(alloc, actor, names)
     }
 
     fn held(&self, actor: Actor) -> usize {
-        self.handles.held(actor)
+        self.tables.held(actor)
     }
 
     fn snapshot(&self, alloc: Global) -> Result<Snapshot, NoMemory> {
-        let nodes = copy_nodes(alloc, self.nodes.as_slice())?;
-        let handles = Vec::from_slice(alloc, self.handles.as_slice())?;
-        Ok(Snapshot::new(nodes, handles))
+        self.tables.snapshot(alloc)
     }
 }

@@ -21,10 +21,10 @@ use Rattle.tree_model.proofs.StepLaws.{nodes_are_left}
 use Rattle.tree_model.proofs.Standing.{names_below-Stands, Stands-append}
 use Rattle.tree_model.proofs.PlaceLaws.{below_is}
 use Rattle.handles.proofs.SameNames.{same_where_equal}
-use Rattle.step_resolver.specs.Order.{Way, Handle, Line, answered, no_room, not_made, IsWant, events_of}
+use Rattle.step_resolver.specs.Order.{Way, Handle, Line, answered, no_room, not_made, IsWant, is_close, events_of}
 use Rattle.step_resolver.specs.Footprint.{is_want}
 use Rattle.step_resolver.proofs.Underway.StepOutcomes.{IsMore, with_handle-is_more, IsLess, Close-is_less, Opening, too_many, no_object, is_opened, opening_of, OpenCase, no_dir, no_child, at_child, open_case}
-use Rattle.bulk_ops.specs.MakeAllOrder.{Making, walking, making, opening, leaving, ending, closing, MakeTurn, more, made, failed, gives_up, goes_down, take, due, is_closing, LeadsTo}
+use Rattle.bulk_ops.specs.MakeAllOrder.{Making, walking, making, opening, leaving, ending, closing, MakeTurn, more, made, failed, gives_up, goes_down, take, due, LeadsTo}
 use Rattle.bulk_ops.specs.MakeAllQuiet.{chain_of, last_of, MakeMeant, refuses, gives, rest_means, IsMeantEnd, IsPartOf, MakingComesTo, IsOver}
 use Rattle.bulk_ops.proofs.MakingAlone.NewDirectories.{length-one_more, dir_stays, with_new, new_inode, new_is_dir, new_not_gone, new_is_found, new_is_empty, new_stands, NewCase, dir_gone, no_number, is_new, new_case}
 
@@ -126,7 +126,7 @@ module _ (a : ℕ) (way : Way) (r : ℕ) (base : List Inode) (meant : MakeMeant)
   fresh_part s held names c left ready fresh =
       part_left base s.nodes ready.new (chain_of (length s.nodes) c left) (last_of (length s.nodes) c left) meant ready.grown fresh.goal
 
-  part_so_far : (s : State) (call : Making) → is_closing call ≡ false → GoodCall s call → IsPartOf base s.nodes meant
+  part_so_far : (s : State) (call : Making) → is_close (due way call) ≡ false → GoodCall s call → IsPartOf base s.nodes meant
   part_so_far s (walking walker) e good = absurd good
   part_so_far s (making held names n left) e good = lacks_part s held names n left good.0 good.1
   part_so_far s (opening held names n left) e good = fresh_part s held names good.1.0 left good.0 good.1.1.fresh
@@ -290,7 +290,7 @@ module _ (a : ℕ) (way : Way) (r : ℕ) (base : List Inode) (meant : MakeMeant)
       (subst (λ st. GoodTurn (outcome s a st).after (take way room call (outcome s a st).answer)) (sym e) (take_good s room call good))
 
   -- a step that isn't made is a want
-  unmade_memory : (s : State) (call : Making) → is_closing call ≡ false → GoodCall s call → GoodTurn s (take way true call (Refused NoMemory))
+  unmade_memory : (s : State) (call : Making) → is_close (due way call) ≡ false → GoodCall s call → GoodTurn s (take way true call (Refused NoMemory))
   unmade_memory s (walking walker) e good = absurd good
   unmade_memory s (making held names n left) e good = inl (refl, part_so_far s (making held names n left) e good)
   unmade_memory s (opening held names n left) e good = inl (refl, part_so_far s (opening held names n left) e good)
@@ -298,7 +298,7 @@ module _ (a : ℕ) (way : Way) (r : ℕ) (base : List Inode) (meant : MakeMeant)
   unmade_memory s (ending held names) e good = inl (refl, part_so_far s (ending held names) e good)
   unmade_memory s (closing h hs error) e good = absurd (true≢false e)
 
-  unmade_book : (s : State) (call : Making) → is_closing call ≡ false → GoodCall s call → GoodTurn s (take way true call (Refused BookFull))
+  unmade_book : (s : State) (call : Making) → is_close (due way call) ≡ false → GoodCall s call → GoodTurn s (take way true call (Refused BookFull))
   unmade_book s (walking walker) e good = absurd good
   unmade_book s (making held names n left) e good = inl (refl, part_so_far s (making held names n left) e good)
   unmade_book s (opening held names n left) e good = inl (refl, part_so_far s (opening held names n left) e good)
@@ -306,7 +306,7 @@ module _ (a : ℕ) (way : Way) (r : ℕ) (base : List Inode) (meant : MakeMeant)
   unmade_book s (ending held names) e good = inl (refl, part_so_far s (ending held names) e good)
   unmade_book s (closing h hs error) e good = absurd (true≢false e)
 
-  unmade_good : (s : State) (error : Errno) → IsWant error → (call : Making) → is_closing call ≡ false → GoodCall s call → GoodTurn s (take way true call (Refused error))
+  unmade_good : (s : State) (error : Errno) → IsWant error → (call : Making) → is_close (due way call) ≡ false → GoodCall s call → GoodTurn s (take way true call (Refused error))
   unmade_good s error (inl e) call open_step good = subst (λ x. GoodTurn s (take way true call (Refused x))) (sym e) (unmade_memory s call open_step good)
   unmade_good s error (inr e) call open_step good = subst (λ x. GoodTurn s (take way true call (Refused x))) (sym e) (unmade_book s call open_step good)
 

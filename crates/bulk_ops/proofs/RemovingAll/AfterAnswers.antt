@@ -15,14 +15,14 @@ use Rattle.tree_model.specs.State.{child, object_at, is_dir, is_directory, put_a
 use Rattle.tree_model.specs.Steps.{Outcome, outcome, refused, node_held, opens, kind_of}
 use Rattle.tree_model.proofs.StepLaws.{nodes_are_left}
 use Rattle.tree_model.proofs.PlaceLaws.{lookups_lead_to_nodes}
-use Rattle.step_resolver.specs.Order.{Line, not_made, IsWant}
+use Rattle.step_resolver.specs.Order.{Line, not_made, IsWant, is_close}
 use Rattle.step_resolver.specs.WalkHistory.{WalkInHistory, state_at, timeline}
 use Rattle.step_resolver.specs.Failures.{TellsWant}
 use Rattle.step_resolver.proofs.Underway.StepOutcomes.{IsMore, IsLess, Close-is_less, OpenCase, open_case, Opening, too_many, no_object, is_opened, opening_of}
 use Rattle.step_resolver.proofs.Underway.StepOutcomes as step_is
 use Rattle.step_resolver.proofs.Underway.WalkInvariant.{Lived, StepAt, held_at, IsNotIn, dir_at}
 use Rattle.step_resolver.proofs.Underway.HandlesHeld.{kept_on, more_on}
-use Rattle.bulk_ops.specs.RemoveAllOrder.{Level, Stage, removes_file, lists, shuts, leaves, removes_dir, End, fails, removes, Removing, walking, clearing, closing, Turn, more, removed, failed, dirs, before, closes, closes_at, is_due, gives_up, next_entry, finished, enters, file_removed, opened, listed, dir_removed, take, is_closing}
+use Rattle.bulk_ops.specs.RemoveAllOrder.{Level, Stage, removes_file, lists, shuts, leaves, removes_dir, End, fails, removes, Removing, walking, clearing, closing, Turn, more, removed, failed, dirs, before, closes, is_due, gives_up, next_entry, finished, enters, file_removed, opened, listed, dir_removed, take, due_at}
 use Rattle.bulk_ops.specs.RemoveAllOrder as order
 use Rattle.bulk_ops.specs.RemoveAllTells.{under, removals, one_more_if, is_removal, TakesAway, LeavesEntries, IsOn, ClosesAt, AllClose, TellsFault}
 use Rattle.bulk_ops.proofs.Happening.{AloneAt, not_below}
@@ -380,7 +380,7 @@ module _ {c : WalkInHistory} (lived : Lived c) (dir : ℕ) (target : List ℕ) (
       on (removes count) f = record { counted = f.counted ∙ ap (λ n. count + n) e; holds = holds_less (holds_kept at.made.kept f.holds) less; took = took f.took; last = last f.last }
 
   -- a step that isn't made
-  pub not_made_good : (now : ℕ) (lines : List Line) (error : Errno) → IsWant error → (stage : Stage) (level : Level) (above : List Level) (count left : ℕ) → closes_at stage ≡ false
+  pub not_made_good : (now : ℕ) (lines : List Line) (error : Errno) → IsWant error → (stage : Stage) (level : Level) (above : List Level) (count left : ℕ) → is_close (due_at stage level) ≡ false
       → Clears c dir target b now (not_made error ∷ lines) stage level above count (suc left)
       → Good c dir target b now lines (take true (clearing stage level above count left) (Refused error))
   not_made_good now lines error want stage level above count left unclosed g =
@@ -394,7 +394,7 @@ module _ {c : WalkInHistory} (lived : Lived c) (dir : ℕ) (target : List ℕ) (
       fails_with cause q k to_fault holds = closes_good c dir target b now lines (before k (dirs (level ∷ above))) (fails cause)
           (record { cause = λ close. to_fault (subst (λ x. TellsWant x c.lines) q wanted); holds = holds; took = g.tally.took })
 
-      memory : (k : Stage) → closes_at k ≡ false → error ≡ NoMemory → Holds c b now (before k (dirs (level ∷ above)))
+      memory : (k : Stage) → is_close (due_at k level) ≡ false → error ≡ NoMemory → Holds c b now (before k (dirs (level ∷ above)))
           → Good c dir target b now lines (take true (clearing k level above count left) (Refused NoMemory))
       memory removes_file o q holds = fails_with NoMemory q removes_file (λ w. w) holds
       memory order.opens o q holds = fails_with NoMemory q order.opens (λ w. w) holds
@@ -403,7 +403,7 @@ module _ {c : WalkInHistory} (lived : Lived c) (dir : ℕ) (target : List ℕ) (
       memory (leaves h) o q holds = cc (o)
       memory removes_dir o q holds = fails_with NoMemory q removes_dir (λ w. w) holds
 
-      room : (k : Stage) → closes_at k ≡ false → error ≡ BookFull → Holds c b now (before k (dirs (level ∷ above)))
+      room : (k : Stage) → is_close (due_at k level) ≡ false → error ≡ BookFull → Holds c b now (before k (dirs (level ∷ above)))
           → Good c dir target b now lines (take true (clearing k level above count left) (Refused BookFull))
       room removes_file o q holds = fails_with BookFull q removes_file (λ w. w) holds
       room order.opens o q holds = fails_with BookFull q order.opens (λ w. w) holds
@@ -412,7 +412,7 @@ module _ {c : WalkInHistory} (lived : Lived c) (dir : ℕ) (target : List ℕ) (
       room (leaves h) o q holds = cc (o)
       room removes_dir o q holds = fails_with BookFull q removes_dir (λ w. w) holds
 
-      on : IsWant error → (k : Stage) → closes_at k ≡ false → Holds c b now (before k (dirs (level ∷ above)))
+      on : IsWant error → (k : Stage) → is_close (due_at k level) ≡ false → Holds c b now (before k (dirs (level ∷ above)))
           → Good c dir target b now lines (take true (clearing k level above count left) (Refused error))
       on (inl q) k o holds = subst (λ x. Good c dir target b now lines (take true (clearing k level above count left) (Refused x))) (sym q) (memory k o q holds)
       on (inr q) k o holds = subst (λ x. Good c dir target b now lines (take true (clearing k level above count left) (Refused x))) (sym q) (room k o q holds)

@@ -10,7 +10,7 @@ use Rattle.tree_model.specs.declared.step.StepOf.TheVariants.{Close}
 use Rattle.tree_model.specs.Steps.{held}
 use Rattle.tree_model.specs.History.{after_events}
 use Rattle.tree_model.proofs.HistoryLaws.{after_events-append}
-use Rattle.step_resolver.specs.Order.{Handle, Line, answered, no_room, not_made, IsWant}
+use Rattle.step_resolver.specs.Order.{Handle, Line, answered, no_room, not_made, IsWant, is_close}
 use Rattle.step_resolver.specs.Order as walk
 use Rattle.step_resolver.specs.Asked.{is_deepest}
 use Rattle.step_resolver.specs.WalkHistory.{WalkInHistory, IsWalkInHistory, begin_of, end_of, timeline}
@@ -21,7 +21,7 @@ use Rattle.step_resolver.proofs.Underway.WalkInvariant.{Lived}
 use Rattle.step_resolver.proofs.Underway.OwnSteps.{own_events_leave_nodes}
 use Rattle.step_resolver.proofs.Ends.EveryWalk.{tree_laws, walks_tell}
 use Rattle.bulk_ops.specs.declared.remove_all.clearing.TheConstants.{CLEARING_STEPS_MAX}
-use Rattle.bulk_ops.specs.RemoveAllOrder.{Level, Stage, removes_file, lists, shuts, leaves, removes_dir, fails, removes, Removing, walking, clearing, closing, Turn, more, removed, failed, begins, walked, take, due, is_closing, LeadsTo}
+use Rattle.bulk_ops.specs.RemoveAllOrder.{Level, Stage, removes_file, lists, shuts, leaves, removes_dir, fails, removes, Removing, walking, clearing, closing, Turn, more, removed, failed, begins, walked, take, due, LeadsTo}
 use Rattle.bulk_ops.specs.RemoveAllOrder as order
 use Rattle.bulk_ops.specs.WalkFirst.{LeavesEntries, walk_part, WalkedTo, after_walk}
 use Rattle.bulk_ops.specs.RemoveAllTells.{removals, one_more_if, is_removal, TakesAway, OnlyTakesAway, IsLastOnTarget, IsClose, IsBounded, Parts, Tells, RemoveAllTells}
@@ -59,7 +59,7 @@ module _ {c : WalkInHistory} (alive : Lived c) (dir : ℕ) (target : List ℕ) (
   take_good room now t line lines want (closing h hs end) good answer is e close =
       closing_good alive dir target b now t line lines h hs end answer good is e (λ all. (close h refl, all))
 
-  unmade_good : (now : ℕ) (lines : List Line) (error : Errno) → IsWant error → (call : Removing) → is_closing call ≡ false
+  unmade_good : (now : ℕ) (lines : List Line) (error : Errno) → IsWant error → (call : Removing) → is_close (due call) ≡ false
       → Good c dir target b now (not_made error ∷ lines) (more call) → Good c dir target b now lines (take true call (Refused error))
   unmade_good now lines error want (walking way name w) unclosed good = absurd good
   unmade_good now lines error want (clearing stage level above count left) unclosed good =

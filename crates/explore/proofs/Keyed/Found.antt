@@ -22,7 +22,7 @@ use Rattle.local_states.specs.declared.keys.Own.{Own}
 use Rattle.explore.specs.declared.turns.memo.MemoKey.{MemoKey}
 use Rattle.explore.specs.declared.turns.memo.Entry.{Entry}
 use Rattle.explore.specs.declared.turns.world_counts.Counts.{Counts}
-use Rattle.local_states.specs.Alike.{full, after_turns}
+use Rattle.local_states.specs.Worlds.{full, after_turns}
 use Rattle.explore.specs.Replayed.{ReplayedView}
 use Rattle.explore.specs.Effects.{AreCountsIn, AreCompared, IsEffectFrom, IsMemoKeyOf, IsRemembered, KnownView, IsSound}
 use Rattle.local_states.specs.Keys.{ComponentsView, Grows, IsPartAt, IsKey, IsKeyAfter, AreSameKeysButParts, AreFew, outside_in, own_after}

@@ -5,7 +5,7 @@ use Rattle.race_core.specs.Worlds.{WorldView, turn}
 use Rattle.local_states.specs.declared.keys.Effect.{Effect}
 use Rattle.explore.specs.declared.turns.memo.MemoKey.{MemoKey}
 use Rattle.explore.specs.declared.turns.memo.Entry.{Entry}
-use Rattle.local_states.specs.Alike.{full}
+use Rattle.local_states.specs.Worlds.{full}
 use Rattle.explore.specs.Effects.{HasGrown, IsEffectFrom, IsMemoKeyOf, IsRemembered, KnownView, IsSound}
 use Rattle.local_states.specs.Keys.{ComponentsView, Grows}
 use Rattle.local_states.specs.Outside.{roots_of}

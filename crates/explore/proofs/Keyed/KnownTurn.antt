@@ -15,7 +15,7 @@ use Rattle.local_states.specs.declared.keys.Key.{Key}
 use Rattle.local_states.specs.declared.keys.Own.{Own}
 use Rattle.explore.specs.declared.turns.memo.MemoKey.{MemoKey}
 use Rattle.explore.specs.declared.turns.world_counts.Start.{Start}
-use Rattle.local_states.specs.Alike.{full}
+use Rattle.local_states.specs.Worlds.{full}
 use Rattle.local_states.specs.Counting.{bumped}
 use Rattle.explore.specs.Effects.{HasGrown, IsEffectFrom, IsMemoKeyOf, IsRemembered, IsStart}
 use Rattle.local_states.specs.Keys.{ComponentsView, AreRows, Grows, IsPartAt, IsKey, IsKeyAfter, AreSameKeysButParts, outside_in, own_after}

@@ -9,10 +9,9 @@ use Rattle.handles.specs.Objects.{StandingObject}
 use Rattle.race_core.specs.declared.report.Outcome.{Outcome}
 use Rattle.race_core.specs.Turns.{Luck}
 use Rattle.race_core.specs.Worlds.{WorldView, turn, Runs, RunsTo, Reports, ledgers_in}
-use Rattle.local_states.specs.Alike.{full, after_turns}
+use Rattle.local_states.specs.Worlds.{full, after_turns, EndView, IsEndOf}
 use Rattle.local_states.specs.Outside.{outside_of}
 use Rattle.local_states.specs.OutOfMemory.{EndsWell, replies_out_of_memory}
-use Rattle.local_states.specs.Worlds.{EndView, IsEndOf}
 use Rattle.local_states.proofs.Lists.Runs.{replies_of_seats, actors_stay, turn_stays}
 use Rattle.local_states.proofs.OutOfMemory.OutOfMemoryWorlds.{ap_at, join}
 use Rattle.explore.specs.Search.{IsOver, IsFull}

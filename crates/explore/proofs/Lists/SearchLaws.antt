@@ -8,10 +8,9 @@ use Rattle.handles.specs.Objects.{StandingObject}
 use Rattle.race_core.specs.Book.{tree_now}
 use Rattle.race_core.specs.Worlds.{WorldView, turn, is_busy_at, ledgers_in, replies_in, RunsTo, numbers_below}
 use Rattle.race_core.proofs.OneEnd.{idle_turn_by}
-use Rattle.local_states.specs.Alike.{full, after_turns}
+use Rattle.local_states.specs.Worlds.{full, after_turns, worlds, TellAlike}
 use Rattle.local_states.specs.OutOfMemory.{replies_out_of_memory}
 use Rattle.layered_search.proofs.Lists.SearchLaws as search
-use Rattle.local_states.specs.Worlds.{worlds, TellAlike}
 use Rattle.local_states.proofs.Worlds.System.{worlds_are_system}
 use Rattle.explore.specs.Search.{IsOver, IsFull, ChosenListsStandForAll, ReportsAreOfFullLists, FullListsAreReported}
 use Rattle.local_states.proofs.OutOfMemory.OutOfMemoryWorlds.{runs_are_full, ap_at, join}

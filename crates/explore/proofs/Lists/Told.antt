@@ -1,9 +1,9 @@
 -- When two lists lead to the same outcome.
 use Rattle.std.specs.Prelude.{ℕ, List}
 use Rattle.race_core.specs.Worlds.{WorldView}
-use Rattle.local_states.specs.Alike.{after_turns}
+use Rattle.local_states.specs.Worlds.{after_turns}
 use Rattle.local_states.proofs.Worlds.Ends.{tell_same, tell_turned, tell_on}
-use Rattle.explore.specs.declared.limits.Scope.{Scope}
+use Rattle.local_states.specs.declared.limits.Scope.{Scope}
 use Rattle.explore.specs.Explored.{AgreeIn}
 
 pub agree_same : (w : WorldView) (scope : Scope) (is : List ℕ) → AgreeIn w scope is is

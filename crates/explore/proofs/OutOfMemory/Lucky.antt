@@ -2,7 +2,7 @@
 use Rattle.std.specs.Prelude.{◌≡◌, ℕ, List, [], ◌∷◌, ◌++◌}
 use Rattle.race_core.specs.Turns.{Luck}
 use Rattle.race_core.specs.Worlds.{WorldView, turn, Runs}
-use Rattle.local_states.specs.Alike.{full, after_turns}
+use Rattle.local_states.specs.Worlds.{full, after_turns}
 use Rattle.local_states.specs.OutOfMemory.{EndsWell}
 use Rattle.local_states.proofs.OutOfMemory.OutOfMemoryWorlds.{ap_at, join}
 use Rattle.local_states.proofs.Lists.Runs.{runs_append}

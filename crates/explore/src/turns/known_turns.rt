@@ -6,7 +6,7 @@ ghost use Rattle.race_core.specs.Turns.{Luck};
 ghost use Rattle.race_core.specs.Worlds.{WorldView, turn};
 ghost use Rattle.local_states.specs.declared.keys.Own.{Own};
 ghost use Rattle.explore.specs.declared.turns.memo.MemoKey.{MemoKey};
-ghost use Rattle.local_states.specs.Alike.{full, after_turns};
+ghost use Rattle.local_states.specs.Worlds.{full, after_turns};
 ghost use Rattle.local_states.specs.Counting.{IsTally};
 ghost use Rattle.explore.specs.Effects.{AreCompared, IsEffectFrom, IsStart, IsMemoKeyOf, IsRemembered, IsSound};
 ghost use Rattle.local_states.specs.Keys.{AreFew, AreInterned, AreRows, Grows, IsKey, IsPartAt};

@@ -1,10 +1,10 @@
 -- Lists that begin with some turns.
-use Rattle.std.specs.Prelude.{ℕ, zero, suc, List, [], ◌∷◌, ◌++◌, length, take, drop, slice_get, refl}
+use Rattle.std.specs.Prelude.{ℕ, zero, suc, List, [], ◌∷◌, ◌++◌, ◌≡◌, length, take, drop, slice_get, refl}
 use Rattle.std.proofs.Common.{sym, ◌∙◌, subst}
 use Rattle.std.proofs.lemmas.Bool.{true≢false}
 use Rattle.layered_search.specs.System.{System}
 use Rattle.layered_search.specs.Lists.{IsFull, AreBusy}
-use Rattle.layered_search.specs.Asked.{BeginsWith, GoAlong, IsOnly}
+use Rattle.layered_search.specs.Asked.{GoAlong, IsOnly}
 
 -- ---- as far as a list goes
 
@@ -18,10 +18,25 @@ along_push [] turns i so only = tt
 along_push (j ∷ js) [] i so only = (only, along_none js)
 along_push (j ∷ js) (t ∷ ts) i so only = (so.0, along_push js ts i so.1 only)
 
-pub along_take : (begin : List ℕ) (k : ℕ) → GoAlong begin (take k begin)
-along_take [] k = tt
-along_take (j ∷ js) zero = tt
-along_take (j ∷ js) (suc k) = (refl, along_take js k)
+-- ---- all of them
+
+-- the list begins with these turns, turn by turn
+abbrev pub BeginsWith : List ℕ → List ℕ → Type 0
+BeginsWith [] is = Unit {0}
+BeginsWith (j ∷ js) [] = ⊥
+BeginsWith (j ∷ js) (i ∷ is) = (i ≡ j) × BeginsWith js is
+
+pub begins_to : (begin is : List ℕ) → BeginsWith begin is → (rest : List ℕ) × (is ≡ begin ++ rest)
+begins_to [] is h = (is, refl)
+begins_to (j ∷ js) [] h = absurd h
+begins_to (j ∷ js) (i ∷ is) h = let rest = begins_to js is h.1 in (rest.0, (λ k. h.0 k ∷ rest.1 k))
+
+begins_own : (begin rest : List ℕ) → BeginsWith begin (begin ++ rest)
+begins_own [] rest = tt
+begins_own (j ∷ js) rest = (refl, begins_own js rest)
+
+pub begins_from : (begin is : List ℕ) → (rest : List ℕ) × (is ≡ begin ++ rest) → BeginsWith begin is
+begins_from begin is h = subst (λ (js : List ℕ). BeginsWith begin js) (sym h.1) (begins_own begin h.0)
 
 -- a full list doesn't end before them, where their turns are of actors who have something left to do
 pub begins_full : {State : Type 0} (s : System State) (v : State) (begin is : List ℕ) → AreBusy s v begin

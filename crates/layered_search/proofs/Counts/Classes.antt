@@ -1,7 +1,7 @@
 -- The classes are put together, one after another.
 use Rattle.std.specs.Prelude.{◌≡◌, ◌≤◌, ◌<◌, ◌⊎◌, ℕ, suc, List, [], ◌∷◌, ◌++◌, length, drop, Some, slice_get, refl}
 use Rattle.std.proofs.Common.{◌∙◌, sym, ap, subst, ⊎_elim, arith}
-use Rattle.std.proofs.lemmas.Option.{same_Some, none-some, slice_get_within}
+use Rattle.std.proofs.lemmas.Option.{same_Some, slice_get_within}
 use Rattle.std.specs.Global.{Vec}
 use Rattle.schedule_graph.specs.declared.count.Count.{Count}
 use Rattle.schedule_graph.specs.Words.{Rank}
@@ -26,15 +26,6 @@ pub record AreClassesTo {Outcome : Type 0} (found left : List (Found Outcome)) (
       → slice_get counts m ≡ Some count → slice_get classes m ≡ Some class → IsClassOf one count class
 
 module _ {Outcome : Type 0} (found : List (Found Outcome)) (counts : List Count) where
-  pub classes_none : (left : List (Found Outcome)) (others : List Count) (classes : List (Class Outcome)) → classes ≡ []
-      → left ≡ found → others ≡ counts → AreClassesTo found left counts others classes
-  classes_none left others classes none e f = subst (AreClassesTo found left counts others) (sym none) (record {
-    fits = omega arith;
-    left_are = e;
-    others_are = f;
-    each = λ m one count class here there is. absurd (none-some class is);
-  })
-
   module _ (left : List (Found Outcome)) (others : List Count) (classes : List (Class Outcome))
       (so : AreClassesTo found left counts others classes) where
     pub next_short : AreShort counts → (count : Count) (others' : List Count) → others ≡ count ∷ others'

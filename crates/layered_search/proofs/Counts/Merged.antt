@@ -14,13 +14,13 @@ use Rattle.schedule_graph.specs.Words.{node_at, edges_from, edge_of, IsWord, IsW
 use Rattle.schedule_graph.specs.Words as words
 use Rattle.layered_search.specs.System.{System, IsSystem, after_turns, state_after}
 use Rattle.layered_search.specs.Lists.{is_another, is_cut, plus, cuts_after, changes_after, IsFull}
-use Rattle.layered_search.specs.Asked.{IsWithin, IsAsked, BeginsWith, GoAlong, bounds_at}
+use Rattle.layered_search.specs.Asked.{IsWithin, IsAsked, GoAlong, bounds_at}
 use Rattle.layered_search.specs.Merged.{Place, Places, bounded_cuts, cuts_with, MayFollow, IsEdge, IsFit, IsListOf, WordsAreLists}
-use Rattle.layered_search.proofs.Counts.Begun.{along_none, along_more, begin_first, begins_full}
+use Rattle.layered_search.proofs.Counts.Begun.{BeginsWith, begins_to, begins_from, along_none, along_more, begin_first, begins_full}
 
 -- ---- bounds on cuts
 
-within_zero : (most : Option ℕ) → IsWithin most 0
+pub within_zero : (most : Option ℕ) → IsWithin most 0
 within_zero None = tt
 within_zero (Some n) = omega arith
 
@@ -184,7 +184,7 @@ module _ {State : Type 0} (s : System State) (laws : IsSystem s) where
     list_word is asked =
         listed 0 0 fit.graph_node s.begin fit.there begin_alike is asked.whole
         (subst (λ (p : Place State). IsWithin scope.cuts (p.cuts + cuts_after s s.begin p.last is)) (sym fit.start)
-        (subst (λ n. IsWithin scope.cuts n) (omega arith) asked.few_cuts)) asked.begins
+        (subst (λ n. IsWithin scope.cuts n) (omega arith) asked.few_cuts)) (begins_from scope.begin is asked.begins)
 
     pub word_list : (is : List ℕ) (class : ℕ) → IsWordOf layers class is → IsListOf s scope layers classes class is
     word_list is class word =
@@ -195,7 +195,8 @@ module _ {State : Type 0} (s : System State) (laws : IsSystem s) where
           asked = record {
             whole = rest.whole;
             few_cuts = subst (λ n. IsWithin scope.cuts n) (omega arith) few;
-            begins = begins_full s s.begin scope.begin is fit.can_begin rest.along_it rest.whole;
+            begins = begins_to scope.begin is
+                (begins_full s s.begin scope.begin is fit.can_begin rest.along_it rest.whole);
           };
           found = rest.found;
           there = rest.there;

@@ -63,12 +63,10 @@ module _ {State : Type 0} (s : System State) (laws : IsSystem s) (scope : ScopeV
     pub begins_long : (turns : ℕ) → at ≤ length begin → turns < at → (js : List ℕ) × IsTooLong s scope turns js
     begins_long turns le lt = (
       is,
-      record {
-        busy = so.busy;
-        few_cuts = list_few s scope is cost so;
-        begins = so.along_it;
-        more = subst (λ n. turns < n) (sym (ap length first ∙ first_many begin at le)) lt;
-      },
+      (
+        record { busy = so.busy; few_cuts = list_few s scope is cost so; begins = so.along_it },
+        subst (λ n. turns < n) (sym (ap length first ∙ first_many begin at le)) lt,
+      ),
     )
 
     module _ (actor : ℕ) (there : slice_get begin at ≡ Some actor) where

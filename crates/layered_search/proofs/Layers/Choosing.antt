@@ -1,18 +1,17 @@
 -- The transitions from a layer, and who may have the next turn from its configurations.
-use Rattle.std.specs.Prelude.{◌≡◌, ◌<◌, ◌≤◌, ◌+◌, ◌^◌, ◌⊎◌, ◌++◌, ℕ, zero, suc, List, [], ◌∷◌, length, true, Some, slice_get, slice_set, refl}
+use Rattle.std.specs.Prelude.{◌≡◌, ◌<◌, ◌≤◌, ◌+◌, ◌⊎◌, ◌++◌, ℕ, zero, suc, List, [], ◌∷◌, length, true, Some, slice_get, slice_set, refl}
 use Rattle.smallvec.specs.SmallVec.{SmallVec}
 use Rattle.std.proofs.Common.{inl, inr, ⊎_elim, sym, ap, ◌∙◌, subst, arith}
 use Rattle.std.proofs.lemmas.Option.{same_Some, none-some}
 use Rattle.layered_search.specs.declared.limits.Bounds.{Bounds}
 use Rattle.layered_search.specs.declared.frontier.layer.Configuration.{Configuration}
-use Rattle.layered_search.specs.declared.cost.Cost.{Cost}
 use Rattle.layered_search.specs.declared.frontier.transitions.Transition.{Transition}
 use Rattle.layered_search.specs.declared.frontier.transitions.Choice.{Choice}
 use Rattle.layered_search.specs.System.{System, IsSystem, state_after}
 use Rattle.layered_search.specs.Layers.{LayerView, point_at}
 use Rattle.layered_search.specs.Distinct.{Keeps}
 use Rattle.layered_search.specs.Transitions.{IsOf, IsOneOf, IsChoice, IsChosen, AreChoices, AreFirstChoices, IsTransitionFrom, AreTransitions}
-use Rattle.layered_search.specs.Points.{Point, AreWithin, MayGo}
+use Rattle.layered_search.specs.Points.{Point, MayGo}
 use Rattle.layered_search.proofs.Places.{at_or_below, get_push, get_last, get_set, length_set}
 use Rattle.layered_search.proofs.Layers.EdgesGrown.{keeps_push}
 
@@ -21,12 +20,6 @@ use Rattle.layered_search.proofs.Layers.EdgesGrown.{keeps_push}
 pub of_on : (transitions new : List Transition) (i at : ℕ) → Keeps transitions new → IsOf transitions i at
     → IsOf new i at
 of_on transitions new i at keeps is = (is.0, (keeps at is.0 is.1.0, is.1.1))
-
-pub few_up : (cost : Cost) (n : ℕ) → n + 1 < 2 ^ 40 → AreWithin cost n → AreWithin cost (2 ^ 40)
-few_up cost n lt within =
-    let a : cost.cuts ≤ n = within.cuts in
-    let b : cost.changes ≤ n = within.changes in
-    record { cuts = omega (arith, a, lt); changes = omega (arith, b, lt) }
 
 set_there : {A : Type 0} (xs : List A) (i : ℕ) (x y : A) → slice_get xs i ≡ Some y
     → slice_get (slice_set xs i x) i ≡ Some x
@@ -55,15 +48,6 @@ module _ {State : Type 0} (s : System State) where
   }
 
   module _ (bounds : Bounds) (p : Point State) where
-    -- nobody was asked
-    pub choices_none : (transitions : List Transition) → AreChoicesBelow bounds p transitions 0 []
-    choices_none transitions = record {
-      all = λ i lt. absurd (omega (arith, lt));
-      each = λ k choice there. absurd (none-some choice there);
-      below = λ k choice there. absurd (none-some choice there);
-      apart = λ k l choice other there. absurd (none-some choice there);
-    }
-
     -- whom a configuration may have next, when its state's transitions have grown
     pub choices_on : (transitions new : List Transition) (choices : List Choice) → Keeps transitions new
         → AreChoices s bounds p transitions choices → AreChoices s bounds p new choices
@@ -141,11 +125,6 @@ module _ {State : Type 0} (s : System State) where
   }
 
   -- ---- one configuration after another
-
-  pub no_first_choices : (bounds : Bounds) (layer : LayerView) (transitions : List (SmallVec Transition))
-      → AreFirstChoices s bounds layer transitions []
-  no_first_choices bounds layer transitions t configuration is those choices here on there none =
-      absurd (none-some choices none)
 
   module _ (bounds : Bounds) (layer : LayerView) (transitions new : List (SmallVec Transition)) (m : ℕ)
       (row grown : SmallVec Transition) (was : slice_get transitions m ≡ Some row)

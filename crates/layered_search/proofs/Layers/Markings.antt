@@ -4,7 +4,7 @@ use Rattle.std.proofs.Common.{inl, inr, sym, ap, ◌∙◌, subst, ⊎_elim, con
 use Rattle.std.specs.List.{count_by}
 use Rattle.std.proofs.lemmas.List.{map_push, at_drop_more}
 use Rattle.std.proofs.lemmas.List.Recursion.{is_count_by}
-use Rattle.std.proofs.lemmas.Option.{same_Some, none-some, slice_get_read, slice_get_within}
+use Rattle.std.proofs.lemmas.Option.{same_Some, slice_get_read, slice_get_within}
 use Rattle.layered_search.specs.declared.frontier.layer.Visited.{Visited}
 use Rattle.layered_search.specs.System.{System, Keys, AreKeys}
 use Rattle.layered_search.specs.Distinct.{Keeps}
@@ -148,17 +148,6 @@ module _ {State Memory Key : Type 0} (k : Keys State Memory Key) where
         merged = merged_more all_visited visited up.merged none;
         markings = marked_more all_visited visited up.markings marked;
       })
-
-  -- no state, and nothing in the table
-  pub none_looked : (all_visited : List (Visited Key)) (table : List ℕ) → all_visited ≡ [] → table ≡ []
-      → AreLookedUp k all_visited table
-  none_looked all_visited table none nothing =
-      subst (λ (xs : List (Visited Key)). AreLookedUp k xs table) (sym none)
-      (subst (λ (ts : List ℕ). AreLookedUp k [] ts) (sym nothing) (record {
-        prints = refl;
-        merged = λ m at visited there. absurd (none-some visited there);
-        markings = λ m visited there. absurd (none-some visited there);
-      }))
 
 -- ---- whoever has the key has its number
 

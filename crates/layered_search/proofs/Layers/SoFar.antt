@@ -1,6 +1,6 @@
 -- The layers of a search so far: the lists of their configurations, and those that lead to their states.
 use Rattle.layered_search.specs.Limits.{ScopeView}
-use Rattle.std.specs.Prelude.{◌≡◌, ◌<◌, ◌≤◌, ℕ, zero, suc, List, [], ◌∷◌, ◌++◌, length, slice_get, Option, Some, None, refl}
+use Rattle.std.specs.Prelude.{◌≡◌, ◌<◌, ◌≤◌, ℕ, zero, suc, List, [], ◌∷◌, ◌++◌, length, slice_get, Some, refl}
 use Rattle.std.specs.Global.{Vec}
 use Rattle.std.proofs.Common.{sym, ap, ◌∙◌, subst, arith}
 use Rattle.std.proofs.lemmas.Option.{same_Some, none-some}
@@ -15,12 +15,8 @@ use Rattle.layered_search.specs.States.{IsSoFar}
 use Rattle.layered_search.specs.Layers.{LayerView, point_at, IsFirst, IsOnward, IsTransition, IsSuccessorList, IsSuccessorConfiguration, IsFoundIn, IsSearched}
 use Rattle.layered_search.proofs.Places.{within_some, ap_at}
 use Rattle.layered_search.proofs.Lists.Along.{after_append, along_append, along_state, cuts_along}
-use Rattle.layered_search.proofs.Counts.Begun.{along_none, along_push, begins_full}
-use Rattle.layered_search.proofs.Counts.Merged.{alike_cut}
-
-within_none : (most : Option ℕ) → IsWithin most 0
-within_none None = tt
-within_none (Some n) = omega arith
+use Rattle.layered_search.proofs.Counts.Begun.{begins_to, along_none, along_push, begins_full}
+use Rattle.layered_search.proofs.Counts.Merged.{within_zero, alike_cut}
 
 -- the only one of a list
 pub only : {A : Type 0} (x y : A) (xs : List A) (k : ℕ) → xs ≡ x ∷ [] → slice_get xs k ≡ Some y → x ≡ y
@@ -49,7 +45,7 @@ module _ {State : Type 0} (s : System State) where
   none_so_far scope = record {
     busy = tt;
     cost_are = refl;
-    few = within_none scope.cuts;
+    few = within_zero scope.cuts;
     along_it = along_none scope.begin;
   }
 
@@ -64,7 +60,7 @@ module _ {State : Type 0} (s : System State) where
         let whole : IsFull s s.begin is = busy_full s.begin is so.busy over in record {
           whole = whole;
           few_cuts = list_few;
-          begins = begins_full s s.begin scope.begin is busy so.along_it whole;
+          begins = begins_to scope.begin is (begins_full s s.begin scope.begin is busy so.along_it whole);
         }
 
   -- ---- transitions

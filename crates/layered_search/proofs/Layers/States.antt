@@ -243,12 +243,14 @@ module _ {State : Type 0} (s : System State) (scope : ScopeView) where
     left_long n states turns layer configuration there on counted more =
         let so = counted.on_way.each 0 configuration there in (
           configuration.turns.items,
-          record {
-            busy = so.busy;
-            few_cuts = list_few s scope configuration.turns.items configuration.cost so;
-            begins = so.along_it;
-            more = subst (λ m. turns < m) (sym (on 0 configuration there).long) more;
-          },
+          (
+            record {
+              busy = so.busy;
+              few_cuts = list_few s scope configuration.turns.items configuration.cost so;
+              begins = so.along_it;
+            },
+            subst (λ m. turns < m) (sym (on 0 configuration there).long) more,
+          ),
         )
 
     -- where the last layer has no configuration no list is longer

@@ -1,8 +1,8 @@
--- What counts along a list of turns, and where it leads.
+-- How many cuts there are along a list of turns, and where it leads.
 use Rattle.std.specs.Prelude.{◌≡◌, ℕ, ◌+◌, List, [], ◌∷◌, ◌++◌, Bool, true, false, Some, refl}
 use Rattle.std.proofs.Common.{◌∙◌, arith}
 use Rattle.layered_search.specs.System.{System, after_turns}
-use Rattle.layered_search.specs.Lists.{plus, is_cut, is_another, cuts_after, changes_after}
+use Rattle.layered_search.specs.Lists.{plus, is_cut, cuts_after}
 use Rattle.layered_search.specs.Points.{Point, onward, along}
 
 plus_moved : (b : Bool) (m n : ℕ) → plus b m + n ≡ m + plus b n
@@ -24,7 +24,7 @@ module _ {State : Type 0} (s : System State) where
   along_state p [] = refl
   along_state p (i ∷ is) = along_state (onward s p i) is
 
-  -- ---- cuts and changes on the way
+  -- ---- cuts on the way
 
   pub cuts_along : (p : Point State) (is : List ℕ)
       → (along s p is).cost.cuts ≡ p.cost.cuts + cuts_after s p.state p.cost.last is
@@ -32,10 +32,3 @@ module _ {State : Type 0} (s : System State) where
   cuts_along p (i ∷ is) =
       cuts_along (onward s p i) is
       ∙ plus_moved (is_cut s p.state p.cost.last i) p.cost.cuts (cuts_after s (s.turn p.state i) (Some i) is)
-
-  pub changes_along : (p : Point State) (is : List ℕ)
-      → (along s p is).cost.changes ≡ p.cost.changes + changes_after p.cost.last is
-  changes_along p [] = omega arith
-  changes_along p (i ∷ is) =
-      changes_along (onward s p i) is
-      ∙ plus_moved (is_another p.cost.last i) p.cost.changes (changes_after (Some i) is)

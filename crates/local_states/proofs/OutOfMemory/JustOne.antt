@@ -8,7 +8,7 @@ use Rattle.race_core.specs.declared.report.Outcome.{Outcome}
 use Rattle.race_core.specs.Worlds.{WorldView, turn, ledgers_in, replies_in, Runs, again, AllGoToEnd, numbers_below, RunsTo}
 use Rattle.race_core.proofs.OneEnd.{plays, AllPlayed, OutPlayed, out_played, reports_of_one}
 use Rattle.local_states.specs.JustOne.{ReportsWithoutOutOfMemoryAreOne, ReportsWithoutOutOfMemoryHadMemory}
-use Rattle.local_states.specs.Alike.{full}
+use Rattle.local_states.specs.Worlds.{full}
 use Rattle.local_states.specs.OutOfMemory.{EndsWell, replies_out_of_memory}
 use Rattle.local_states.proofs.OutOfMemory.Lucky.{full_turn}
 use Rattle.local_states.proofs.Lists.Runs.{runs_append, ends_run}

@@ -4,7 +4,7 @@ use Rattle.std.proofs.Common.{sym, ◌∙◌, ⊎_elim}
 use Rattle.std.proofs.lemmas.Bool.{true≢false}
 use Rattle.race_core.specs.Turns.{Luck}
 use Rattle.race_core.specs.Worlds.{WorldView, turn}
-use Rattle.local_states.specs.Alike.{full}
+use Rattle.local_states.specs.Worlds.{full}
 use Rattle.local_states.specs.OutOfMemory.{EndsWell, seats_out_of_memory}
 use Rattle.local_states.proofs.OutOfMemory.OutOfMemoryWorlds.{turn_tells, run_stays, told_at_end}
 

@@ -18,7 +18,7 @@ use Rattle.race_core.specs.Book.{BookedHistory, is_close, refusal}
 use Rattle.race_core.specs.Ledgers.{LedgerView}
 use Rattle.race_core.specs.Turns.{Luck, Stepped, unless_refused, outcome_of, comes, begins, begins_next, begun, Turned, goes_on, turned, request_of, left_by}
 use Rattle.race_core.specs.Worlds.{WorldView, turn_of, turn, ledgers_in, replies_in, AllOver, Runs}
-use Rattle.local_states.specs.Alike.{full, after_turns}
+use Rattle.local_states.specs.Worlds.{full, after_turns}
 use Rattle.local_states.specs.OutOfMemory.{doing_out_of_memory, reply_out_of_memory, turn_out_of_memory, outcome_out_of_memory, any_out_of_memory, call_out_of_memory, seat_out_of_memory, seats_out_of_memory, replies_out_of_memory, OutOfMemoryIsTold, OutOfMemoryStays, RunsWithoutOutOfMemoryAreFull}
 use Rattle.local_states.proofs.OutOfMemory.OutOfMemoryCalls.{stays, room_tells, refused_tells, start_tells}
 

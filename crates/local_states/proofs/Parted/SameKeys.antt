@@ -9,7 +9,7 @@ use Rattle.race_core.specs.Book.{tree_now}
 use Rattle.race_core.specs.Worlds.{WorldView, turn}
 use Rattle.local_states.specs.declared.keys.Key.{Key}
 use Rattle.local_states.specs.declared.keys.Own.{Own}
-use Rattle.local_states.specs.Alike.{full}
+use Rattle.local_states.specs.Worlds.{full}
 use Rattle.local_states.specs.HandleTables.{PartView, IsPartOf}
 use Rattle.local_states.specs.Keys.{PartsView, IsPartIn, ComponentsView, AreRows, AreInterned, IsPartAt, IsKey, AreSameKeys, AreSameKeysButOutside, outside_in}
 use Rattle.local_states.specs.Local.{actor_of, SamePart, SamePartAt, AreGiven, AreAllGiven, AreNumbered, SameParts}
@@ -60,10 +60,6 @@ part_of_same c u v i at actors rows same part =
     }
 
 -- ---- whole worlds
-
--- what is as many more is as many
-less_again : (m n k l : ℕ) → m ≡ k + l → n ≡ k + l → m ≡ n
-less_again m n k l e e' = omega arith
 
 pub same_keys : (c : ComponentsView) (w u v : WorldView) (key : Key) → IsKey c w u key → IsKey c w v key → AreRows c.parts (length w.seats) → IsSame c.told u v
 same_keys c w u v key here there rows = record {

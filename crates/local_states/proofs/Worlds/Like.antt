@@ -2,10 +2,9 @@
 use Rattle.std.specs.Prelude.{◌≡◌, ◌<◌, ℕ, Bool, length, refl}
 use Rattle.std.proofs.Common.{◌∙◌, subst}
 use Rattle.race_core.specs.Worlds.{WorldView, turn, is_busy_at, is_within_at}
-use Rattle.local_states.specs.Alike.{full}
+use Rattle.local_states.specs.Worlds.{full, IsLike, same, onward, TellAlike}
 use Rattle.local_states.specs.Local as local
 use Rattle.local_states.specs.Outside.{outside_of}
-use Rattle.local_states.specs.Worlds.{IsLike, same, onward, TellAlike}
 use Rattle.local_states.proofs.Local.OutsideSame.{same_worlds_act}
 use Rattle.local_states.proofs.Local.Wholes.{busy_alike, tell_alike}
 use Rattle.local_states.proofs.OutOfMemory.OutOfMemoryWorlds.{join}
@@ -25,10 +24,6 @@ pub like_busy : {told : Bool} {w v : WorldView} (i : ℕ) → IsLike told w v �
 like_busy i (same u) = refl
 like_busy i (onward w u v is like) =
     join (is_busy_at w.seats i) (is_busy_at u.seats i) (is_busy_at v.seats i) (busy_alike w u i is.parts).0 (like_busy {w = u} {v = v} i like)
-
-pub like_actors : {told : Bool} {w v : WorldView} → IsLike told w v → length w.seats ≡ length v.seats
-like_actors (same u) = refl
-like_actors (onward w u v is like) = is.parts.seats ∙ like_actors {w = u} {v = v} like
 
 pub like_tells : {told : Bool} {w v : WorldView} → IsLike told w v → local.TellAlike w v
 like_tells (same u) = record { replies = refl; nodes = refl; held = λ a lt. refl }

@@ -5,8 +5,7 @@ use Rattle.layered_search.specs.System.{IsSystem, AreOutcomes}
 use Rattle.race_core.specs.declared.seat.Seat.{Seat}
 use Rattle.race_core.specs.TurnView.{are_some}
 use Rattle.race_core.specs.Worlds.{WorldView, is_busy_in, is_busy_at, is_within_in}
-use Rattle.local_states.specs.Alike.{after_turns}
-use Rattle.local_states.specs.Worlds.{worlds, world_outcomes, same}
+use Rattle.local_states.specs.Worlds.{after_turns, worlds, world_outcomes, same}
 use Rattle.local_states.proofs.Lists.Runs.{actors_stay}
 use Rattle.local_states.proofs.Worlds.Ends.{tell_same, tell_turned, tell_on, worlds_tell, worlds_same}
 use Rattle.local_states.proofs.Worlds.Like.{like_turns, like_trans, like_busy, like_within, like_agree}

@@ -98,7 +98,7 @@ module _ (w : WalkInHistory) where
         shut_one m happens.0 step answer told happens.1.0 (ap is_on_entries leads.0) (shut lines hs told (suc happens.0) happens.1.1 leads.1)
     shut (no_room step answer ∷ lines) (h ∷ hs) told m happens leads =
         shut_one m happens.0 step answer told happens.1.0 (ap is_on_entries leads.0) (shut lines hs told (suc happens.0) happens.1.1 leads.1)
-    shut (not_made error ∷ lines) (h ∷ hs) told m happens leads = absurd leads.0
+    shut (not_made error ∷ lines) (h ∷ hs) told m happens leads = cc (leads.0.1)
 
     -- ---- the step
 
@@ -122,7 +122,7 @@ module _ (w : WalkInHistory) where
         made_so m happens.0 wanted step made answer lines (no_room made answer ∷ lines) hs happens.1.0 leads.0 happens.1.1 leads.1
     acted (not_made error ∷ lines) m wanted step hs happens leads =
         let over = shut lines hs (reply_to wanted (Refused error)) m happens leads.1 in
-        step_unmade error (sym (refused_reply wanted error) ∙ over.same) leads.0 (inl refl) over.leaves
+        step_unmade error (sym (refused_reply wanted error) ∙ over.same) leads.0.0 (inl refl) over.leaves
 
   -- ---- a change of an entry
 

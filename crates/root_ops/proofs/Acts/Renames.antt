@@ -193,7 +193,7 @@ module _ (w : WalkInHistory) (trees : (t : ℕ) → IsState (state_at w t)) (bel
           closed_at happens.0 made a (answered made a) lines_then rest happens.1.0 leads.0 happens.1.1 leads.1
       by_close (no_room made a ∷ lines_then) rest happens leads =
           closed_at happens.0 made a (no_room made a) lines_then rest happens.1.0 leads.0 happens.1.1 leads.1
-      by_close (not_made error ∷ lines_then) rest happens leads = absurd leads.0
+      by_close (not_made error ∷ lines_then) rest happens leads = cc (leads.0.1)
 
     module _ (room : Bool) (happens : HappensAlone w (suc t) lines) where
       abbrev Onward : Answer → Type 0
@@ -248,7 +248,7 @@ module _ (w : WalkInHistory) (trees : (t : ℕ) → IsState (state_at w t)) (bel
       opened_at slash false (no_room made answer) lines all happens.0 made answer happens.1.0 leads.0 happens.1.1 leads.1
   by_check (not_made error ∷ lines) slash all happens leads =
       let over = shut w below reply lines (new.number ∷ old.number ∷ []) (fault error) 0 happens leads.1 in
-      subst Told over.same (rename_in_want leads.0 (subst (TellsWant error) (sym all) (inl refl)), all_leave w over.leaves)
+      subst Told over.same (rename_in_want leads.0.0 (subst (TellsWant error) (sym all) (inl refl)), all_leave w over.leaves)
 
   by_slash : (slash : Bool) → ren.slash ≡ slash → HappensAlone w 0 w.lines
       → LeadsTo below (if slash then more (checking old.number new.number ren) else renaming_turn) w.lines (ends reply) → Told reply

@@ -128,10 +128,10 @@ module _ (below : Below) (a : ℕ) (old : State) where
   step_tail room now (removing call) answer is told = absurd is
   step_tail room now (releasing h) answer is told = absurd is
 
-  unmade_tail : (now : State) (doing : Doing) (error : Errno) → IsTail now doing → IsUnmade doing error → IsTailTurn now (take below true doing (Refused error))
+  unmade_tail : (now : State) (doing : Doing) (error : Errno) → IsTail now doing → IsUnmade below doing error → IsTailTurn now (take below true doing (Refused error))
   unmade_tail now (acting wanted step hs) error is why = closes_tail now hs (gives (reply_to wanted (Refused error))) (plain_reply wanted (Refused error)) is.1
   unmade_tail now (checking d e renaming) error is why = (tt, is)
-  unmade_tail now (closing h hs after) error is why = absurd why
+  unmade_tail now (closing h hs after) error is why = cc (why.1)
   unmade_tail now (walking walk aim) error is why = absurd is
   unmade_tail now (making call) error is why = absurd is
   unmade_tail now (removing call) error is why = absurd is

@@ -16,7 +16,7 @@ use Rattle.bulk_ops.specs.MakeAllOrder as make
 use Rattle.bulk_ops.specs.RemoveAllOrder as remove
 use Rattle.root_ops.specs.OwnHandles.{Fits, times, opened_by, closed_by}
 use Rattle.root_ops.specs.Renamed.{walking_handles, making_handles}
-use Rattle.root_ops.proofs.OwnHandles.OfWalks.{walk_holds, begins_holds, walk_keeps, walk_closes_none}
+use Rattle.root_ops.proofs.OwnHandles.OfWalks.{walk_holds, begins_holds, walk_keeps}
 
 -- ---- MkdirAll
 
@@ -89,14 +89,6 @@ module _ (h : ℕ) where
   make_keeps way room (make.ending held names) answer fits = refl
   make_keeps way room (make.closing k hs error) (Opened j x kind) fits = cc (fits)
   make_keeps way room (make.closing k hs error) answer fits = let held = make_given_up hs error in omega (arith, held)
-
-  pub make_closes_none : (way : Way) (call : make.Making) → make.is_closing call ≡ false → closed_by (make.due way call) ≡ []
-  make_closes_none way (make.walking w) e = walk_closes_none h way w e
-  make_closes_none way (make.making held names n left) e = refl
-  make_closes_none way (make.opening held names n left) e = refl
-  make_closes_none way (make.leaving old new names left) e = cc (e)
-  make_closes_none way (make.ending held names) e = refl
-  make_closes_none way (make.closing k hs error) e = cc (e)
 
 -- ---- RemoveAll
 
@@ -204,16 +196,3 @@ module _ (h : ℕ) where
       let held = remove_given_up remove.removes_dir level above (refusal_of answer) in omega (arith, held)
   remove_keeps room (remove.closing k hs end) (Opened j x kind) fits = cc (fits)
   remove_keeps room (remove.closing k hs end) answer fits = let held = remove_closes_holds hs end in omega (arith, held)
-
-  clears_none : (stage : remove.Stage) (level : remove.Level) → remove.closes_at stage ≡ false → closed_by (remove.due_at stage level) ≡ []
-  clears_none remove.removes_file level e = refl
-  clears_none remove.opens level e = refl
-  clears_none (remove.lists k) level e = refl
-  clears_none (remove.shuts k) level e = cc (e)
-  clears_none (remove.leaves k) level e = cc (e)
-  clears_none remove.removes_dir level e = refl
-
-  pub remove_closes_none : (call : remove.Removing) → remove.is_closing call ≡ false → closed_by (remove.due call) ≡ []
-  remove_closes_none (remove.walking way target w) e = walk_closes_none h way w e
-  remove_closes_none (remove.clearing stage level above count left) e = clears_none stage level e
-  remove_closes_none (remove.closing k hs end) e = cc (e)

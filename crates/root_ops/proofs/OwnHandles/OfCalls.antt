@@ -15,7 +15,7 @@ use Rattle.tree_model.specs.declared.step.Mode.{Mode}
 use Rattle.tree_model.specs.StepWith.{StepWith}
 use Rattle.tree_model.specs.declared.step.StepOf.TheVariants as steps
 use Rattle.walk_plan.specs.declared.goal.Goal.TheVariants.{Follow, NoFollow}
-use Rattle.step_resolver.specs.Order.{Handle, Line, answered, no_room, not_made, is_dir_kind, refusal_of}
+use Rattle.step_resolver.specs.Order.{Handle, Line, answered, no_room, not_made, is_close, is_dir_kind, refusal_of}
 use Rattle.step_resolver.specs.Order as walk
 use Rattle.step_resolver.specs.View.{way_from}
 use Rattle.bulk_ops.specs.MakeAllOrder as make
@@ -33,8 +33,13 @@ use Rattle.root_ops.specs.declared.op.Op.TheVariants.{Resolve, ResolveNoFollow, 
 use Rattle.root_ops.specs.Order.{Reply, fault, After, gives, acts, Doing, walking, acting, checking, closing, making, removing, releasing, CallTurn, more, ends, change_step, rename_step, reply_to, comes, closes, gives_up, way_of, held_by, renames, walked_on, reached, walked, make_way, makes, removing_turn, walks, unless_fault, in_directory, on_entry, make_missing, clear_in, renaming_of, between, from_entry, is_single, single, lacks, starts, checked, take, due, IsUnmade, LeadsTo}
 use Rattle.root_ops.specs.OwnHandles.{opens_one, Fits, AllFit, times, opened_by, closed_by, times_opened, times_closed, is_release, left_by, OpenedAreClosed}
 use Rattle.root_ops.specs.Renamed.{walking_handles, making_handles}
-use Rattle.root_ops.proofs.OwnHandles.OfWalks.{walk_holds, times-append, starts_holds, walk_keeps, walk_closes_none}
-use Rattle.root_ops.proofs.OwnHandles.OfBulk.{make_holds, make_begins_holds, make_keeps, make_closes_none, removing_holds, remove_holds, remove_begins_holds, remove_keeps, remove_closes_none}
+use Rattle.root_ops.proofs.OwnHandles.OfWalks.{walk_holds, times-append, starts_holds, walk_keeps}
+use Rattle.root_ops.proofs.OwnHandles.OfBulk.{make_holds, make_begins_holds, make_keeps, removing_holds, remove_holds, remove_begins_holds, remove_keeps}
+
+-- a step that is no Close closes nothing
+pub none_closed : (step : StepWith ℕ) → is_close step ≡ false → closed_by step ≡ []
+none_closed (steps.Close h) stays = cc (stays)
+none_closed step stays = refl
 
 -- ---- what a call holds
 
@@ -281,15 +286,10 @@ module _ (h : ℕ) where
         kept_by (removing call) _ answer _ (removes_ok (remove.take room call answer)) kept
     keeps room (releasing k) answer plain fits = absurd plain
 
-    -- a step that wasn't made is no Close
-    unmade : (doing : Doing) (error : Errno) → PlainDoing doing → IsUnmade doing error → times h (closed_by (due below doing)) ≡ 0
-    unmade (walking w aim) error plain is = ap (times h) (walk_closes_none h (way_of below aim) w is.1)
-    unmade (acting wanted step hs) error plain is = ap (times h) plain.1
-    unmade (checking old new renaming) error plain is = refl
-    unmade (closing k hs after) error plain is = absurd is
-    unmade (making call) error plain is = ap (times h) (make_closes_none h (make_way below) call is.1)
-    unmade (removing call) error plain is = ap (times h) (remove_closes_none h call is.1)
+    -- a step that wasn't made closes nothing
+    unmade : (doing : Doing) (error : Errno) → PlainDoing doing → IsUnmade below doing error → times h (closed_by (due below doing)) ≡ 0
     unmade (releasing k) error plain is = absurd plain
+    unmade doing error plain is = ap (times h) (none_closed (due below doing) is.1)
 
     -- ---- line by line
 

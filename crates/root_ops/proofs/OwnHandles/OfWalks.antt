@@ -188,13 +188,3 @@ module _ (h : ℕ) where
         let held = closes_holds hs after in
         let both = times-append hs (walk_after_handles after) in
         omega (arith, held, both)
-
-    -- a step that may not be made is no Close
-    pub walk_closes_none : (w : Walking) → walk.is_closing w ≡ false → closed_by (due way w) ≡ []
-    walk_closes_none (opening position own follow n rest) e = refl
-    walk_closes_none (reading position link rest) e = refl
-    walk_closes_none (rising old names rest) e = refl
-    walk_closes_none (judging new names rest) e = refl
-    walk_closes_none (duping rest) e = refl
-    walk_closes_none (ending handle names rest) e = refl
-    walk_closes_none (closing k hs after) e = cc (e)

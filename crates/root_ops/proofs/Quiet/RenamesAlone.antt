@@ -156,7 +156,7 @@ module _ (c : Caller) (ren : Renaming) (d f : ℕ) (reply : Reply) where
         one_more (outcome opened c.actor step).after (answered step answer) lines (changes c result) (closed_then step lines leads.0 leads.1 legal.1)
     closes_then (no_room step answer ∷ lines) leads legal =
         one_more (outcome opened c.actor step).after (no_room step answer) lines (changes c result) (closed_then step lines leads.0 leads.1 legal.1)
-    closes_then (not_made error ∷ lines) leads legal = absurd leads.0
+    closes_then (not_made error ∷ lines) leads legal = cc (leads.0.1)
 
   module _ (t : State) (old new : ℕ) (holds : Holds t old new) where
     abbrev Comes : State → List Line → List Line → Option Errno → Type 0
@@ -212,7 +212,7 @@ module _ (c : Caller) (ren : Renaming) (d f : ℕ) (reply : Reply) where
     checks_alone (no_room step answer ∷ lines) leads legal =
         checked_by false step answer (no_room step answer) lines (λ e. inr (refl, e)) leads.0 legal.0 leads.1 legal.1
     checks_alone (not_made error ∷ lines) leads legal = inr (runs_short c t holds.nodes (new ∷ old ∷ []) error lines reply leads.1
-        true (not_made error ∷ lines) (inl (inl refl)) (is_a_want error leads.0))
+        true (not_made error ∷ lines) (inl (inl refl)) (is_a_want error leads.0.0))
 
     pub both_held : (slash : Bool) (lines : List Line)
         → LeadsTo c.below (if slash then more (checking old new ren) else more (acting wants.Done (rename_step ren old new) (new ∷ old ∷ []))) lines (ends reply)

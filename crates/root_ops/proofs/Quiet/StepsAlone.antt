@@ -39,7 +39,7 @@ closes_alone below a (h ∷ hs) told reply t (answered step answer ∷ lines) le
 closes_alone below a (h ∷ hs) told reply t (no_room step answer ∷ lines) leads =
     let rest = closes_alone below a hs told reply (outcome t a step).after lines leads.1 in
     (rest.0, rest.1 ∙ nodes_are_left t a step (ap is_on_entries leads.0))
-closes_alone below a (h ∷ hs) told reply t (not_made error ∷ lines) leads = absurd leads.0
+closes_alone below a (h ∷ hs) told reply t (not_made error ∷ lines) leads = cc (leads.0.1)
 
 -- after the closings the call fails, and no node is changed
 module _ (c : Caller) (t : State) (same : t.nodes ≡ c.tree.nodes) (hs : List ℕ) (error : Errno) (lines : List Line) (reply : Reply)
@@ -103,7 +103,7 @@ module _ (below : Below) (a : ℕ) (wanted : Wanted) (step : StepWith ℕ) (hs :
   acts_alone (no_room made answer ∷ lines) leads legal = step_made made answer lines (no_room made answer ∷ lines) leads.0 legal.0 leads.1
   acts_alone (not_made error ∷ lines) leads legal =
       let rest = closes_alone below a hs (reply_to wanted (Refused error)) reply t lines leads.1 in
-      inl (error, (rest.0 ∙ refused_reply wanted error, is_a_want error leads.0, rest.1, inl refl))
+      inl (error, (rest.0 ∙ refused_reply wanted error, is_a_want error leads.0.0, rest.1, inl refl))
 
 -- ---- changes of entries
 

@@ -12,7 +12,7 @@ use Rattle.tree_model.specs.State.{Stands}
 use Rattle.tree_model.specs.Steps.{opens}
 use Rattle.step_resolver.specs.Asked.{AskedPart}
 use Rattle.step_resolver.specs.Trail.{Spot, Trail}
-use Rattle.step_resolver.specs.Order.{Handle, root_itself, holds, todo, After, gives, onward, judges, Walking, opening, reading, rising, judging, duping, ending, closing, handles_of, take, is_closing, IsWant}
+use Rattle.step_resolver.specs.Order.{Handle, root_itself, holds, todo, After, gives, onward, judges, Walking, opening, reading, rising, judging, duping, ending, closing, handles_of, take, due, is_close, IsWant}
 use Rattle.step_resolver.specs.Order.{end_of as ends_with}
 use Rattle.step_resolver.specs.WalkHistory.{WalkInHistory, state_at, timeline, start}
 use Rattle.step_resolver.specs.Failures.{TellsError, MetRefusal}
@@ -140,7 +140,7 @@ module _ {w : WalkInHistory} (lived : Lived w) (now t : ℕ) (room : Bool) (h : 
 
 -- what it makes of a step that wasn't made
 module _ {w : WalkInHistory} (lived : Lived w) (now : ℕ) where
-  without_memory : TellsError w NoMemory → (walk : Walking) → is_closing walk ≡ false → GoodWalk w now walk
+  without_memory : TellsError w NoMemory → (walk : Walking) → is_close (due w.way walk) ≡ false → GoodWalk w now walk
       → Good w now (take w.way true walk (Refused NoMemory))
   without_memory told (opening position own follow n (todo inner rest b)) e good = gave_up lived (handles_of position) NoMemory told good.handles
   without_memory told (reading position link (todo inner rest b)) e good = gave_up lived (link.number ∷ handles_of position) NoMemory told good.handles
@@ -150,7 +150,7 @@ module _ {w : WalkInHistory} (lived : Lived w) (now : ℕ) where
   without_memory told (ending handle names rest) e good = gave_up lived (handle.number ∷ []) NoMemory told good.handles
   without_memory told (closing h hs after) e good = cc (e)
 
-  without_room : TellsError w BookFull → (walk : Walking) → is_closing walk ≡ false → GoodWalk w now walk
+  without_room : TellsError w BookFull → (walk : Walking) → is_close (due w.way walk) ≡ false → GoodWalk w now walk
       → Good w now (take w.way true walk (Refused BookFull))
   without_room told (opening position own follow n (todo inner rest b)) e good = gave_up lived (handles_of position) BookFull told good.handles
   without_room told (reading position link (todo inner rest b)) e good = gave_up lived (link.number ∷ handles_of position) BookFull told good.handles
@@ -160,7 +160,7 @@ module _ {w : WalkInHistory} (lived : Lived w) (now : ℕ) where
   without_room told (ending handle names rest) e good = gave_up lived (handle.number ∷ []) BookFull told good.handles
   without_room told (closing h hs after) e good = cc (e)
 
-  pub not_made_good : (error : Errno) → IsWant error → TellsError w error → (walk : Walking) → is_closing walk ≡ false → GoodWalk w now walk
+  pub not_made_good : (error : Errno) → IsWant error → TellsError w error → (walk : Walking) → is_close (due w.way walk) ≡ false → GoodWalk w now walk
       → Good w now (take w.way true walk (Refused error))
   not_made_good error (inl e) told walk open_step good =
       subst (λ x. Good w now (take w.way true walk (Refused x))) (sym e) (without_memory (subst (TellsError w) e told) walk open_step good)

@@ -20,8 +20,8 @@ pub loop-turn-preserved : goal.loop-turn-preserved
 loop-turn-preserved g c =
     let way : Way = way_from c.args.root c.args.goal c.args.flags in
     record {
-      led = led_further c.legal_histories_join.ensures.joined g.row.O.Denot (g.O.Others.acts c.args.root.owner.actor) c.args.root.owner way _ _ _ _ _ _ _ c.args.path _ _ c.in-More.walk c.answer_due-answer.result
-          c.in-More.is c.loop-turn.invariant.led c.act.ensures.others c.act.ensures.acted c.take-turn.ensures.kept c.answer_due-answer.ensures c.take-turn.ensures.turn;
+      led = led_further c.legal_histories_join.ensures.joined g.row.O.Denot (g.O.Others.acts c.args.root.owner.actor) c.args.root.owner way _ _ _ _ _ _ _ c.args.path _ _ c.in-More.walk c.answer_to-answer.result
+          c.in-More.is c.loop-turn.invariant.led c.act.ensures.others c.act.ensures.acted c.take-turn.ensures.kept _ c.due.ensures c.answer_to-answer.ensures c.take-turn.ensures.turn;
     }
 
 pub returns-in-Found : goal.returns-in-Found

@@ -1,7 +1,6 @@
 use Rattle.std.proofs.Common.{◌≡◌, ◌∙◌, sym, subst, refl}
 use Rattle.race_core.specs.Worlds.{WorldView, Runs}
-use Rattle.local_states.specs.Alike.{after_turns}
-use Rattle.local_states.specs.Worlds.{EndView, IsEndOf}
+use Rattle.local_states.specs.Worlds.{after_turns, EndView, IsEndOf}
 use Rattle.explore.specs.Explored.{IsAsked}
 use Rattle.explore.proofs.Lists.Replayed.{full_over, run_ends}
 use Rattle.explore.proofs.search.told_class.Goals as goal

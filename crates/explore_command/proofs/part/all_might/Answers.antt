@@ -16,7 +16,7 @@ loop-at-preserved c =
     let begin = limits.scope.begin.items in
     let all = c.loop-at.all.items in
     let might = c.in_ok-might.might in
-    let pushed : c.add.new.all.items ≡ all ++ might ∷ [] = c.in_ok-add.ensures in
+    let pushed : c.push.new.self.items ≡ all ++ might ∷ [] = c.in_ok-push.ensures.items in
     let turns : take c.loop-at.at c.as_slice-begin.result.now ≡ take (length all) begin =
     ap (take c.loop-at.at) c.as_slice-begin.ensures.value ∙ ap (λ (n : ℕ). take n begin) (sym c.loop-at.invariant.many) in
     record {

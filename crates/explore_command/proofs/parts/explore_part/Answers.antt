@@ -5,7 +5,7 @@ use Rattle.scripts.specs.declared.turns.TurnOrder.TheVariants.{OfScript}
 use Rattle.scripts.specs.Scenario.{said_by, said_for}
 use Rattle.scripts.specs.Writing.{tree_of}
 use Rattle.explore_command.specs.Part.{IsPart}
-use Rattle.explore_command.specs.Seal.{sum_of}
+use Rattle.explore_parts.specs.Seal.{sum_of}
 use Rattle.explore_command.proofs.PartWritten.{part_written}
 use Rattle.explore_command.proofs.parts.explore_part.Goals as goal
 

@@ -1,12 +1,27 @@
-use Rattle.std.proofs.Common.{◌≡◌, ◌≤◌, ◌++◌, ℕ, List, [], length, sym, ap, subst, ◌∙◌, arith}
+use Rattle.std.proofs.Common.{◌≡◌, ◌<◌, ◌≤◌, ◌++◌, ℕ, List, [], length, sym, ap, subst, ◌∙◌, arith}
 use Rattle.std.specs.Prelude.{All}
+use Rattle.std.proofs.lemmas.List.Elements.{All-nil}
+use Rattle.tree_model.specs.State.{State}
 use Rattle.explore_page_command.specs.Played.{AreTaken, ArePlayed, chosen}
 use Rattle.explore_page_command.proofs.Pages.{survey_taken, is_page}
 use Rattle.outcome_text.specs.declared.survey.Told.{Told}
 use Rattle.pages.specs.Page.{page_of}
-use Rattle.scripts.specs.Scenario.{said_by, said_on}
+use Rattle.scripts.specs.Scenario.{IsPlayable, said_by, said_on}
 use Rattle.scripts.specs.Writing.{tree_of}
 use Rattle.explore_page_command.proofs.page.explored.Goals as goal
+
+pub runs_of-requires-clause-playable : goal.runs_of-requires-clause-playable
+runs_of-requires-clause-playable g c =
+    let s = c.args.scenario in
+    let playable : IsPlayable (said_by s) = c.requires.playable in
+    subst (λ (t : State). IsPlayable (said_on t s.plans.items [] s.lines)) (sym c.requires.same)
+    (record {
+      some = playable.some;
+      few = playable.few;
+      roots = playable.roots;
+      turns = All-nil (λ (actor : ℕ). actor < length s.plans.items);
+      bounded = playable.bounded;
+    })
 
 pub runs_of-requires-clause-taken : goal.runs_of-requires-clause-taken
 runs_of-requires-clause-taken g c =

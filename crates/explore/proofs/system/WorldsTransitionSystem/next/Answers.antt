@@ -1,6 +1,6 @@
 use Rattle.std.proofs.Common.{◌∙◌, ℕ, ◌+◌, subst, arith}
 use Rattle.race_core.specs.Worlds.{WorldView, turn}
-use Rattle.local_states.specs.Alike.{full}
+use Rattle.local_states.specs.Worlds.{full}
 use Rattle.local_states.specs.Keys.{IsKey, AreFew}
 use Rattle.local_states.proofs.Parted.Growing.{rows_grow}
 use Rattle.explore.proofs.Keyed.Found.{ok_with}

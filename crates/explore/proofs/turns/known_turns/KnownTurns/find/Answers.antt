@@ -1,6 +1,6 @@
 use Rattle.std.proofs.Common.{◌≡◌, ◌∙◌, ◌+◌, ap, sym, subst, length, arith}
 use Rattle.race_core.specs.Worlds.{WorldView, turn, Runs}
-use Rattle.local_states.specs.Alike.{full, after_turns}
+use Rattle.local_states.specs.Worlds.{full, after_turns}
 use Rattle.explore.specs.Effects.{KnownView}
 use Rattle.local_states.specs.Keys.{AreRows, IsKey}
 use Rattle.local_states.specs.Local.{AreNumbered}

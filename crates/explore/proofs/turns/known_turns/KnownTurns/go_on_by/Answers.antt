@@ -1,7 +1,7 @@
 use Rattle.std.proofs.Common.{◌<◌, ℕ, sym, subst, length, arith}
 use Rattle.std.proofs.lemmas.Result.{IfOk-weaker}
 use Rattle.race_core.specs.Worlds.{turn}
-use Rattle.local_states.specs.Alike.{full}
+use Rattle.local_states.specs.Worlds.{full}
 use Rattle.local_states.specs.Keys.{IsKey, IsKeyAfter}
 use Rattle.explore.proofs.Keyed.Found.{few_after, length_after}
 use Rattle.explore.proofs.Keyed.KnownTurn.{known_turn}

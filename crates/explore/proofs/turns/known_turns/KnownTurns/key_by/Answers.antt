@@ -4,7 +4,7 @@ use Rattle.smallvec.proofs.SmallVecLemmas.{items-with_items}
 use Rattle.race_core.specs.Worlds.{WorldView, turn}
 use Rattle.local_states.specs.declared.keys.Key.{Key}
 use Rattle.local_states.specs.declared.keys.Own.{Own}
-use Rattle.local_states.specs.Alike.{full}
+use Rattle.local_states.specs.Worlds.{full}
 use Rattle.explore.specs.Effects.{KnownView, IsSound, IsEffectFrom, AreCountsIn}
 use Rattle.local_states.specs.Keys.{AreRows, AreFew, Grows, IsKey, IsPartAt}
 use Rattle.local_states.specs.Local.{AreNumbered}

@@ -1,7 +1,7 @@
 use Rattle.std.proofs.Common.{◌≡◌, ◌∙◌, ℕ, ◌+◌, sym, ap, subst, length, arith}
 use Rattle.race_core.specs.Worlds.{WorldView, turn}
 use Rattle.local_states.specs.declared.keys.Key.{Key}
-use Rattle.local_states.specs.Alike.{full}
+use Rattle.local_states.specs.Worlds.{full}
 use Rattle.local_states.specs.Keys.{AreRows, AreSameKeys, IsKey}
 use Rattle.local_states.specs.Local.{AreNumbered}
 use Rattle.local_states.specs.OutOfMemory.{EndsWell}

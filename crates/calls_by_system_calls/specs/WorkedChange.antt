@@ -1,0 +1,46 @@
+-- One race with a change, computed, as Linux might answer it: a directory is made at a/b/new below /c of the base tree.
+-- Its directory /c/a/b is below the root as its place is asked for. Another moves it to /secret/b before mkdirat(2).
+use Rattle.std.specs.Prelude.{◌≡◌, ℕ, List, [], ◌∷◌, ◌+◌, ◌<◌, ◌==◌, if◌then◌else◌, length, Some, None, codes}
+use Rattle.tree_model.specs.declared.answer.Answer.TheVariants.{Opened, Names, Done}
+use Rattle.tree_model.specs.declared.step.Kind.TheVariants as kind
+use Rattle.tree_model.specs.declared.step.StepOf.TheVariants.{Open, NameBelow, Close, MakeDir}
+use Rattle.tree_model.specs.State.{child, names_below}
+use Rattle.step_resolver.specs.Order.{Line, answered}
+use Rattle.calls_by_system_calls.specs.Linux.{Change, Linux, IsLinux, state_at}
+use Rattle.calls_by_system_calls.specs.Lines.{AllDiffer, AreMade, numbers_opened}
+use Rattle.calls_by_system_calls.specs.WorkedRace.{move, race_before, race_nodes, race_opening}
+
+-- mkdirat(2) in the directory 3
+abbrev pub mkdir : Change
+mkdir = record { directory = 3; second = 3; step = MakeDir 0 (codes "new") }
+
+-- it is the sixth system call, and b is moved away between the fifth and this one
+abbrev pub mkdir_race : Linux
+mkdir_race = record {
+  opening = race_opening;
+  own = λ n. if n == 6 then Some mkdir else None;
+  others = λ n. if n == 5 then move ∷ [] else [];
+}
+
+abbrev pub mkdir_lines : List Line
+mkdir_lines =
+    answered (Open 50 (codes "a")) (Opened 51 51 kind.Dir)
+    ∷ answered (Open 51 (codes "b")) (Opened 52 52 kind.Dir)
+    ∷ answered (Close 51) Done
+    ∷ answered (NameBelow 50 52) (Names (codes "a" ∷ codes "b" ∷ []))
+    ∷ answered (MakeDir 52 (codes "new")) Done
+    ∷ answered (Close 52) Done
+    ∷ []
+
+-- how many system calls each takes
+abbrev pub mkdir_counts : List ℕ
+mkdir_counts = 1 ∷ 1 ∷ 1 ∷ 2 ∷ 1 ∷ 1 ∷ []
+
+-- All that is supposed is met; and what is made is the node 11, which doesn't stand below the root.
+pub record MkdirIsMade : Type 0 where
+  pub linux : IsLinux mkdir_race 0
+  pub made : AreMade mkdir_race race_nodes 0 race_before mkdir_lines mkdir_counts
+  pub differ : AllDiffer (50 ∷ numbers_opened mkdir_lines)
+  pub few : (n : ℕ) → length (state_at mkdir_race n).handles + length mkdir_lines < 281474976710656
+  pub new : child (state_at mkdir_race 6).nodes 3 (codes "new") ≡ Some 11
+  pub outside : names_below (state_at mkdir_race 6).nodes 1 11 ≡ None

@@ -1,5 +1,0 @@
-use Rattle.explore_command.proofs.PartSaid.{lines_say_their_parts}
-use Rattle.explore_command.proofs.laws.lines_say_their_parts.Goals as goal
-
-pub returns : goal.returns
-returns c = lines_say_their_parts

@@ -1,5 +1,0 @@
-use Rattle.explore_command.proofs.OnePart.{values_say_one_part}
-use Rattle.explore_command.proofs.laws.values_say_one_part.Goals as goal
-
-pub returns : goal.returns
-returns c = values_say_one_part

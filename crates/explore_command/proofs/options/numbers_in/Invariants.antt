@@ -1,7 +1,0 @@
-use Rattle.std.proofs.Common.{drop}
-use Rattle.outcome_text.specs.Asked.{texts_in}
-use Rattle.explore_command.proofs.Numbers.{IsSaidSoFar}
-use Rattle.explore_command.proofs.options.numbers_in.Given as goal
-
-abbrev pub invariant-loop-text : goal.invariant-loop-text
-invariant-loop-text l = IsSaidSoFar (texts_in l.texts) (texts_in (drop l.text-index l.texts)) l.numbers.items

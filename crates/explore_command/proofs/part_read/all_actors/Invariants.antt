@@ -1,6 +1,0 @@
-use Rattle.explore_command.specs.PartRead.{SaysActor}
-use Rattle.explore_command.proofs.Reading.{AreReadSoFar}
-use Rattle.explore_command.proofs.part_read.all_actors.Given as goal
-
-abbrev pub invariant-loop-value : goal.invariant-loop-value
-invariant-loop-value l = AreReadSoFar SaysActor l.values l.value-index l.actors.items

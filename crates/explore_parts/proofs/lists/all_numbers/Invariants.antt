@@ -1,0 +1,8 @@
+use Rattle.std.proofs.Common.{◌≡◌, ◌++◌, drop}
+use Rattle.report_text.specs.Report.{numbered}
+use Rattle.explore_parts.specs.Lists.{number_words}
+use Rattle.explore_parts.proofs.lists.all_numbers.Given as goal
+
+-- what is written and what is left to write make the whole
+abbrev pub invariant-loop-at : goal.invariant-loop-at
+invariant-loop-at l = l.out ++ numbered number_words l.at (drop l.at l.all) ≡ l.fn.out ++ numbered number_words 0 l.all

@@ -1,0 +1,30 @@
+-- A link is followed only by leave: an answer says that it is none of the kernel's own, and that its mount follows
+-- links.
+use Rattle.std.specs.Prelude.{◌≡◌, List, ◌==◌, Bool, true, false, ◌&&◌, not}
+use Rattle.std.specs.List.{list_any}
+use Rattle.step_calls.specs.History.{has_followed, has_magic, is_ordinary, next_after, Exchange, asks_holder, asks_magic, asks_follow, IsHistory}
+use Rattle.step_calls.specs.declared.course.TheConstants.{OPENED, TEXT}
+use Rattle.step_calls.specs.declared.facts.Facts.{Facts}
+use Rattle.step_calls.specs.declared.facts.TheConstants.{LINK, OPEN, READ_TEXT}
+
+-- statfs(2), proc(5): the link's file system has no magic link; openat2(2), RESOLVE_NO_MAGICLINKS: the kernel, which
+-- may follow none, has looked where this one leads
+abbrev pub says_ordinary : Exchange → Bool
+says_ordinary (asks_holder error type) = (error == 0) && not (has_magic type)
+says_ordinary (asks_magic error) = is_ordinary error
+says_ordinary _ = false
+
+-- statfs(2), mount(8): its mount has links followed
+abbrev pub says_followed : Exchange → Bool
+says_followed (asks_follow error flags) = (error == 0) && has_followed flags
+says_followed _ = false
+
+-- where no magic link may be opened, an opened link isn't one by an answer
+abbrev pub NoMagicIsOpened : Type 0
+NoMagicIsOpened = (f : Facts) (history : List Exchange) → f.what ≡ OPEN → f.no_magic ≡ true → IsHistory f history
+    → (next_after f history).next ≡ OPENED → (next_after f history).kind ≡ LINK → list_any says_ordinary history ≡ true
+
+-- a text that is to be followed stood on a mount that has links followed, by an answer
+abbrev pub TextsAreFollowed : Type 0
+TextsAreFollowed = (f : Facts) (history : List Exchange) → f.what ≡ READ_TEXT → f.own_text ≡ false
+    → IsHistory f history → (next_after f history).next ≡ TEXT → list_any says_followed history ≡ true

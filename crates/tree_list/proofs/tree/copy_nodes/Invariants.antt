@@ -1,5 +1,0 @@
-use Rattle.std.proofs.Common.{◌≡◌, take}
-use Rattle.tree_list.proofs.tree.copy_nodes.Given as goal
-
-abbrev pub invariant-loop-inode : goal.invariant-loop-inode
-invariant-loop-inode l = l.copies.items ≡ take l.inode-index l.nodes

@@ -1,4 +1,0 @@
-use Rattle.tree_slab.proofs.below.+add_names.Given as goal
-
-abbrev pub decreases-add_names : goal.decreases-add_names
-decreases-add_names l = l.depth
