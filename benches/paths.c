@@ -4,6 +4,9 @@
  *
  *     paths ROOT MODE ROUNDS
  *
+ * ROUNDS is a number, or `-`: then each line of standard input asks for one round and is answered by one, so that
+ * several programs may take turns (benches/turns).
+ *
  * MODE: openat2 (RESOLVE_IN_ROOT); naive (single openat(2) calls, no check); text (lstat(2) and texts, as SecureJoin); least and
  * least-same (which links a path has is known, and no library decides: each link's text is read in its directory, what they lead to is
  * looked up from the root, and its link in /proc is read; and the same with the object compared by statx(2)); or libinroot:
@@ -344,9 +347,25 @@ static size_t round_of(void)
             close(fd);
         long took = now() - from;
         failed += fd < 0;
-        paths[at].best = took < paths[at].best ? took : paths[at].best;
+        /* A path with `..` that the kernel refuses, since others rename, takes less. */
+        paths[at].best = fd >= 0 && took < paths[at].best ? took : paths[at].best;
     }
     return failed;
+}
+
+static size_t make_rounds(const char *rounds)
+{
+    char line[8];
+    size_t missed = 0;
+    const bool by_turns = is_mode(rounds, "-");
+    for (int left = by_turns ? INT_MAX : atoi(rounds); left > 0; left--) {
+        if (by_turns && fgets(line, sizeof line, stdin) == NULL)
+            break;
+        missed = round_of();
+        if (by_turns && (puts("") < 0 || fflush(stdout) != 0))
+            break;
+    }
+    return missed;
 }
 
 /* ---- system calls: a child makes the calls, and getppid(2) before those of another kind and behind the last */
@@ -413,9 +432,7 @@ int main(int words, char **word)
         fprintf(stderr, "%s: %s\n", word[2], strerror(-failed));
         return 1;
     }
-    size_t missed = 0;
-    for (int turn = atoi(word[3]); turn > 0; turn--)
-        missed = round_of();
+    size_t missed = make_rounds(word[3]);
     long clock = clock_cost();
     for (int kind = 0; kind < KINDS; kind++) {
         double sum = 0, of = 0;

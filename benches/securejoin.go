@@ -3,6 +3,9 @@
 //
 //	securejoin ROOT ROUNDS [KIND]     KIND is plain, links or by: those paths alone, as for strace(1) -c -f
 //
+// ROUNDS is a number, or `-`: then each line of standard input asks for one round and is answered by one
+// (benches/turns).
+//
 // It needs filepath-securejoin and golang.org/x/sys, as Debian's golang-github-cyphar-filepath-securejoin-dev and
 // golang-golang-x-sys-dev have them:
 //
@@ -12,8 +15,10 @@
 package main
 
 import (
+	"bufio"
 	"fmt"
 	"io/fs"
+	"math"
 	"os"
 	"path/filepath"
 	"runtime"
@@ -100,7 +105,7 @@ func round(root string, paths []timed) int {
 	for at := range paths {
 		from := time.Now()
 		opened := open(root, paths[at].path)
-		if took := time.Since(from); took < paths[at].best {
+		if took := time.Since(from); opened && took < paths[at].best {
 			paths[at].best = took
 		}
 		if !opened {
@@ -129,7 +134,11 @@ func main() {
 		os.Exit(2)
 	}
 	root, err := filepath.EvalSymlinks(os.Args[1])
-	rounds, wrong := strconv.Atoi(os.Args[2])
+	rounds, wrong := math.MaxInt, error(nil)
+	byTurns := os.Args[2] == "-"
+	if !byTurns {
+		rounds, wrong = strconv.Atoi(os.Args[2])
+	}
 	if err != nil || wrong != nil {
 		fmt.Fprintln(os.Stderr, "securejoin:", err, wrong)
 		os.Exit(2)
@@ -139,20 +148,34 @@ func main() {
 		fmt.Fprintln(os.Stderr, "securejoin:", err)
 		os.Exit(1)
 	}
+	wanted := func(kind int) bool { return len(os.Args) <= 3 || strings.HasPrefix(kinds[kind], os.Args[3]) }
+	var failed [3]int
+	turns := bufio.NewReader(os.Stdin)
+	for turn := 0; turn < rounds; turn++ {
+		if byTurns {
+			if _, err := turns.ReadString('\n'); err != nil {
+				break
+			}
+		}
+		for kind := range kinds {
+			if wanted(kind) {
+				failed[kind] = round(root, paths[kind])
+			}
+		}
+		if byTurns {
+			fmt.Println()
+		}
+	}
 	clock := clockCost()
 	for kind, name := range kinds {
-		if len(os.Args) > 3 && !strings.HasPrefix(name, os.Args[3]) {
+		if !wanted(kind) {
 			continue
-		}
-		failed := 0
-		for turn := 0; turn < rounds; turn++ {
-			failed = round(root, paths[kind])
 		}
 		sum := time.Duration(0)
 		for _, one := range paths[kind] {
 			sum += one.best - clock
 		}
 		mean := float64(sum) / float64(len(paths[kind])) / 1000
-		fmt.Printf("securejoin %-9s %5d paths, %d failed  %6.2f us\n", name, len(paths[kind]), failed, mean)
+		fmt.Printf("securejoin %-9s %5d paths, %d failed  %6.2f us\n", name, len(paths[kind]), failed[kind], mean)
 	}
 }

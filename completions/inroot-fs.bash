@@ -16,14 +16,20 @@ _inroot_fs_options() {
     echo "--beneath --no-links --no-xdev --help $own"
 }
 
-# The names below ROOT that begin with the word. They are asked of inroot-fs itself, so that no link leads out of it.
+# The names below ROOT that begin with the word. They are asked of inroot-fs itself, so that no link leads out of it. Each is
+# quoted: who names files there would else choose what the shell runs. A word that was typed in quotes isn't completed.
 _inroot_fs_paths() {
     local root=$1 word=$2 above='' name
+    [[ ${word//\\?/} != *[\'\"]* ]] || return
+    word=${word//\\\\/$'\1'} word=${word//\\/} word=${word//$'\1'/\\}
     case $word in
     */*) above=${word%/*}/ ;;
     esac
     while IFS= read -r -d '' name; do
-        [[ $above$name != "$word"* ]] || printf '%s\n' "$above$name"
+        name=$above$name
+        [[ $name == "$word"* ]] || continue
+        [[ $name != -* ]] || name=./$name
+        printf '%q\n' "$name"
     done < <(inroot-fs "$root" ls --zero -- "${above:-.}" 2>/dev/null)
 }
 

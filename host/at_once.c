@@ -2,7 +2,7 @@
  * at_once.c: one openat2(2) opens a whole path, and the driver takes no turn. For plain names it asks for the object's place, and
  * the proved library says whether a call with these answers to its steps would reply so. Under INROOT_BELOW the kernel walks the
  * path through links and `..`, if the proved library says that one system call may. Otherwise links that are hinted at are read
- * (through.c). docs/HOST-WHY.md has the arguments.
+ * (through.c). The proved library says which of these ways comes next. docs/HOST-WHY.md has the arguments.
  */
 #define _GNU_SOURCE
 #include "driver.h"
@@ -90,43 +90,13 @@ static int open_names(struct inroot_driver *d, int root, const struct inroot_ask
     return fd;
 }
 
-/* ---- a path of names, and links that were some last */
-
-/* Whether the call reads links by their names, and follows each. */
-static bool reads_links(const struct inroot_driver *d)
-{
-    const int by_steps = INROOT_NO_LINKS | INROOT_NO_XDEV | INROOT_NO_MAGICLINKS;
-    return d->asked->op == INROOT_ASK_RESOLVE && !(d->asked->flags & by_steps) && !d->below && inroot_has_openat2();
-}
-
-static int open_path(struct inroot_driver *d, int root, const struct inroot_asked *numbers, char *text, int failed)
-{
-    struct inroot_coming path;
-    bool by_steps;
-    if (d->asked->flags & INROOT_ONE_BY_ONE || d->first_length >= INROOT_TEXT_MAX)
-        return INROOT_NONE;
-    const size_t used = as_place(d, path.text);
-    path.text[used] = 0;
-    path.ahead = (struct inroot_ahead_names){.used = used, .ends = true};
-    const size_t link = inroot_hints_in(d, path.text, 0, used, &by_steps);
-    if (link == INROOT_NO_HINT || !reads_links(d))
-        return open_names(d, root, numbers, &path, link, text, failed);
-    if (by_steps || inroot_hints_is_missed(d, path.text, used))
-        return INROOT_NONE;
-    int fd = inroot_through(d, root, numbers, path.text, used, link, text);
-    if (fd < 0)
-        inroot_hints_miss(d, path.text, as_place(d, path.text));
-    return fd;
-}
-
 /* ---- a path that the kernel walks, through links and `..` */
 
 /* For a path of slashes alone the kernel doesn't search the root, as the step does that opens the root's own handle. */
 static bool may_follow(const struct inroot_driver *d, const struct inroot_asked *numbers)
 {
     const char *path = d->asked->first;
-    return d->below && !(d->asked->flags & INROOT_ONE_BY_ONE) && path[strspn(path, "/")] != 0 &&
-           inroot_follows_at_once(numbers, (const unsigned char *)path, d->first_length);
+    return path[strspn(path, "/")] != 0 && inroot_follows_at_once(numbers, (const unsigned char *)path, d->first_length);
 }
 
 /* Tells the caller of what kind it is, where that is asked. Whether it could. */
@@ -137,15 +107,15 @@ static bool tell_kind(const struct inroot_driver *d, int fd)
         return true;
     if (fstat(fd, &about) != 0)
         return false;
-    *d->asked->opened = S_ISDIR(about.st_mode) ? INROOT_KIND_DIR : S_ISLNK(about.st_mode) ? INROOT_KIND_LINK : INROOT_KIND_FILE;
+    *d->asked->opened = (enum inroot_kind)inroot_kind_of(about.st_mode);
     return true;
 }
 
 /*
- * Opens what the kernel's walk comes to: the descriptor, or INROOT_NONE and why. It stays on the root's own mount: `..` would lead
- * the kernel to what is mounted over the root's directory, which isn't the root to the steps.
+ * Opens what the kernel's walk comes to: the descriptor or -errno. It stays on the root's own mount: `..` would lead the kernel to
+ * what is mounted over the root's directory, which isn't the root to the steps.
  */
-static int follow(struct inroot_driver *d, int root, int *failed)
+static int follow(struct inroot_driver *d, int root)
 {
     const struct inroot_request *asked = d->asked;
     const uint64_t resolve = asked->flags & INROOT_BENEATH ? RESOLVE_BENEATH : RESOLVE_IN_ROOT;
@@ -153,29 +123,94 @@ static int follow(struct inroot_driver *d, int root, int *failed)
     int fd = inroot_look_through(d, root, asked->first, end | (asked->directory ? O_DIRECTORY : 0), resolve | RESOLVE_NO_XDEV);
     if (fd >= 0 && tell_kind(d, fd))
         return fd;
-    *failed = errno;
+    int failed = -errno;
     if (fd >= 0)
         close(fd);
-    return INROOT_NONE;
+    return failed;
 }
 
-/* Whether without links, too, plain names can't be opened where the kernel's walk failed by this. */
-static bool is_missing(int error)
+/* ---- the ways: which comes next, the proved library says (crates/open_at_once) */
+
+/* A call, the path that it opens, which link in it comes first, and what a way has opened. */
+struct at_once {
+    struct inroot_driver *d;
+    int root, fd;
+    const struct inroot_asked *numbers;
+    char *text;
+    struct inroot_coming *path;
+    size_t link;
+    struct inroot_way_course way;
+};
+
+static struct inroot_way_facts facts_of(const struct inroot_driver *d)
 {
-    return error == ENOENT || error == ENOTDIR || error == ELOOP || error == EACCES || error == ENAMETOOLONG;
+    const int flags = d->asked->flags;
+    return (struct inroot_way_facts){
+        .one_by_one = flags & INROOT_ONE_BY_ONE, .below = d->below, .fits = d->first_length < INROOT_TEXT_MAX,
+        .resolves = d->asked->op == INROOT_ASK_RESOLVE, .keeps = flags & (INROOT_NO_LINKS | INROOT_NO_XDEV | INROOT_NO_MAGICLINKS),
+    };
+}
+
+/* Lays the path out, and asks what is known of its names. */
+static void ask_hints(struct at_once *a, struct inroot_way_answer *answer)
+{
+    const size_t used = as_place(a->d, a->path->text);
+    a->path->text[used] = 0;
+    a->path->ahead = (struct inroot_ahead_names){.used = used, .ends = true};
+    a->link = inroot_hints_in(a->d, a->path->text, 0, used, &answer->left);
+    answer->linked = a->link != INROOT_NO_HINT;
+}
+
+/* A path that fails so is known from now on. */
+static int go_through(struct at_once *a)
+{
+    char *path = a->path->text;
+    int fd = inroot_through(a->d, a->root, a->numbers, path, a->path->ahead.used, a->link, a->text);
+    if (fd < 0)
+        inroot_hints_miss(a->d, path, as_place(a->d, path));
+    return fd;
+}
+
+/* Asks, or tries, what comes next. */
+static struct inroot_way_answer turn(struct at_once *a)
+{
+    struct inroot_way_answer answer = {0};
+    switch (a->way.next) {
+    case INROOT_WAY_WHOLE: answer.yes = may_follow(a->d, a->numbers); break;
+    case INROOT_WAY_WALK:
+        a->fd = follow(a->d, a->root);
+        answer.error = a->fd < 0 ? (uint32_t)-a->fd : 0;
+        break;
+    case INROOT_WAY_HINTS: ask_hints(a, &answer); break;
+    case INROOT_WAY_FRESH:
+        answer.yes = inroot_has_openat2() && !inroot_hints_is_missed(a->d, a->path->text, a->path->ahead.used);
+        break;
+    case INROOT_WAY_NAMES:
+        a->fd = open_names(a->d, a->root, a->numbers, a->path, a->link, a->text, (int)a->way.failed);
+        answer.yes = a->fd >= 0;
+        break;
+    default:
+        a->fd = go_through(a);
+        answer.yes = a->fd >= 0;
+    }
+    return answer;
 }
 
 int inroot_at_once(struct inroot_driver *d, int root, const struct inroot_asked *numbers, char *text)
 {
-    int failed = 0;
-    int fd = may_follow(d, numbers) ? follow(d, root, &failed) : INROOT_NONE;
-    if (fd < 0)
-        fd = open_path(d, root, numbers, text, is_missing(failed) ? failed : 0);
-    if (fd < 0)
+    struct inroot_coming path;
+    const struct inroot_way_facts facts = facts_of(d);
+    struct at_once a = {.d = d, .root = root, .fd = INROOT_NONE, .numbers = numbers, .text = text, .path = &path};
+    inroot_way_begin(&facts, &a.way);
+    while (a.way.next < INROOT_WAY_OPENS) {
+        const struct inroot_way_answer answer = turn(&a);
+        inroot_way_next(&facts, &answer, &a.way);
+    }
+    if (a.way.next == INROOT_WAY_STEPS)
         return INROOT_NONE;
     /* The step to report if the way back to the root fails. */
     d->step = INROOT_STEP_NAME_BELOW;
     d->stands = -1;
     inroot_error_note_end(d);
-    return fd;
+    return a.fd;
 }

@@ -42,42 +42,13 @@ static uint32_t ask_file_system(int fd, struct inroot_step_answer *answer)
     return 0;
 }
 
-static int ask_mount(int fd, struct statfs *about)
-{
-    int failed;
-    do
-        failed = fstatfs(fd, about);
-    while (failed != 0 && errno == EINTR);
-    return failed != 0 ? errno : 0;
-}
-
-/*
- * Of a link that was read by its name, its directory says it. If a server refuses to tell, nobody knows whether the mount has links
- * followed: then the step isn't made.
- */
-static uint32_t ask_mount_flags(struct inroot_driver *d, struct inroot_work *w, struct inroot_step_answer *answer)
+/* Of a link that was read by its name, its directory says it. */
+static uint32_t ask_mount_flags(struct inroot_driver *d, const struct inroot_work *w, struct inroot_step_answer *answer)
 {
     struct statfs about = {0};
-    int error = w->facts.was_read ? inroot_followed_ask(d, &about) : ask_mount(w->looks, &about);
-    w->unknown = (uint32_t)error;
-    answer->number = error ? INROOT_NOSYMFOLLOW : (uint64_t)about.f_flags;
-    return 0;
-}
-
-/*
- * Whether the link is one of the kernel's own. An error that the kernel may give before it comes to that, as where no descriptor is
- * left or the object has just gone, says nothing of it: by that the step isn't made.
- */
-static uint32_t follow(struct inroot_driver *d, struct inroot_work *w)
-{
-    const uint32_t error = (uint32_t)inroot_magic_follow(d, w->held, w->plain);
-    switch (error) {
-    case 0: case EINTR: case ELOOP: case ENOSYS: case EPERM: case EXDEV: case ENOTDIR: case ENAMETOOLONG:
-        return error;
-    default:
-        w->unknown = error;
-        return ELOOP;
-    }
+    const uint32_t error = w->facts.was_read ? (uint32_t)inroot_followed_ask(d, &about) : error_of(fstatfs(w->looks, &about));
+    answer->number = (uint64_t)about.f_flags;
+    return error;
 }
 
 static uint32_t open_to_read(struct inroot_work *w)
@@ -118,7 +89,7 @@ static uint32_t turn(struct inroot_driver *d, struct inroot_work *w, struct inro
     case INROOT_CALL_MOUNT: return inroot_mount_has(d, w->fd) ? 0 : EXDEV;
     case INROOT_CALL_KIND: return ask_object(w->fd, answer);
     case INROOT_CALL_MAY_HOLD_MAGIC: return ask_file_system(w->fd, answer);
-    case INROOT_CALL_MAGIC: return follow(d, w);
+    case INROOT_CALL_MAGIC: return (uint32_t)inroot_magic_follow(d, w->held, w->plain);
     case INROOT_CALL_LINKS: return ask_object(w->looks, answer);
     case INROOT_CALL_LAYERS: return ask_file_system(w->looks, answer);
     case INROOT_CALL_OPEN_TO_READ: return open_to_read(w);

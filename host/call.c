@@ -279,11 +279,3 @@ int inroot_error_behind(int root, int error, const char *path)
     pthread_setcancelstate(state, NULL);
     return inroot_error_alone((int)-failed, inroot_step_name(d.step), path);
 }
-
-bool inroot_again(int tries, int flags, ssize_t result)
-{
-    struct inroot_next_try next;
-    inroot_next_try((uint32_t)tries, !(flags & INROOT_NO_RETRY), result < 0 ? (uint32_t)-result : 0, false, &next);
-    inroot_wait(next.pause);
-    return next.due;
-}

@@ -1,8 +1,8 @@
 /*
  * calls.h: the proved library's functions, and what passes between it and a driver. The numbers and bytes are those
  * of crates/c_protocol, step_calls, place_protocol, open_or_make, make_through_links, remove_by_calls, look_ups,
- * list_directory, call_course, ask_place, give_entry, open_partial, kernel_text and system_calls, whose contracts say
- * what they stand for. A program that makes calls includes inroot.h, and not this.
+ * list_directory, call_course, ask_place, give_entry, open_partial, open_at_once, enter_directory, kernel_text and system_calls,
+ * whose contracts say what they stand for. A program that makes calls includes inroot.h, and not this.
  */
 #ifndef INROOT_CALLS_H
 #define INROOT_CALLS_H
@@ -258,6 +258,19 @@ struct inroot_sorted {
 void inroot_sort_names(const unsigned char *text, size_t text_length, unsigned char *room, size_t size,
                        struct inroot_sorted *sorted);
 
+/* ---- what mountinfo says of the root directory (proc(5)). These take no memory. */
+
+/* What was read of it so far. A driver reads whether the line of a mount at the root directory was FOUND, and leaves the others alone. */
+struct inroot_mounts {
+    uint8_t fields, field;
+    bool found;
+};
+
+void inroot_mounts_begin(struct inroot_mounts *mounts);
+
+/* Reads the bytes that come next. */
+void inroot_mounts_read(const unsigned char *part, size_t length, struct inroot_mounts *mounts);
+
 /* ---- what is asked of Linux, and what its answers mean, by numbers alone. These take no memory, and need no call under way. */
 
 /* The flags of open(2) whose numbers differ between machines: O_DIRECTORY, O_NOFOLLOW, O_DIRECT, O_LARGEFILE. */
@@ -284,18 +297,6 @@ void inroot_opening_of(const struct inroot_machine_flags *machine, uint32_t flag
 
 /* The flags by which what is open is opened once more; or 0, where these are refused by EINVAL. */
 uint32_t inroot_reopen_flags(const struct inroot_machine_flags *machine, uint32_t flags);
-
-/* Another try is due, after a pause of so many nanoseconds. */
-struct inroot_next_try {
-    bool due;
-    uint32_t pause;
-};
-
-/*
- * Whether a call is begun again after so many tries, where it may be: the last one ended by EAGAIN, nothing that it made was lost,
- * and there were fewer tries than INROOT_TRIES.
- */
-void inroot_next_try(uint32_t tries, bool may_retry, uint32_t error, bool lost, struct inroot_next_try *next);
 
 /* The object that a system call describes. The mount is 0 if the call doesn't give it. */
 struct inroot_object {
@@ -674,6 +675,80 @@ void inroot_giving_begin(struct inroot_giving *giving);
 void inroot_giving_next(struct inroot_giving *giving, const struct inroot_giving_facts *facts,
                         const struct inroot_giving_answer *answer, const unsigned char *read, size_t read_length,
                         const unsigned char *text, size_t text_length);
+
+/* ---- by which way a path is opened. These take no memory. */
+
+/*
+ * A question: whether one system call may walk the path WHOLE (inroot_follows_at_once), which has more than slashes. The kernel's
+ * WALK: openat2(2) with RESOLVE_IN_ROOT or RESOLVE_BENEATH. A question: what is known of the path's names. Plain NAMES, by openat2(2)
+ * with RESOLVE_NO_SYMLINKS. A question: whether there is openat2(2), and the path is FRESH, which didn't fail so before. THROUGH links, which are read by their names. If it OPENS, the last way has opened what the call
+ * gives; else the STEPS decide.
+ */
+enum inroot_way_next {
+    INROOT_WAY_WHOLE = 1, INROOT_WAY_WALK, INROOT_WAY_HINTS, INROOT_WAY_NAMES, INROOT_WAY_FRESH, INROOT_WAY_THROUGH,
+    INROOT_WAY_OPENS, INROOT_WAY_STEPS,
+};
+
+/*
+ * What is known of a call: it goes name by name; takes the kernel's word that the object is below the root; its path FITS a room, with
+ * a slash before; it is a resolve that follows a link at the end; and it follows no link, or no magic one, or stays on a mount.
+ */
+struct inroot_way_facts {
+    bool one_by_one, below, fits, resolves, keeps;
+};
+
+/*
+ * The error of the kernel's walk, or 0. YES: one system call may walk the path; it is fresh; a way has opened what the call gives. Of
+ * the names: one was a link last; and that one is LEFT to the steps.
+ */
+struct inroot_way_answer {
+    uint32_t error;
+    bool yes, linked, left;
+};
+
+/* A driver reads what comes NEXT, and at NAMES the error by which they can't be opened, or 0. It leaves both alone. */
+struct inroot_way_course {
+    uint32_t failed;
+    uint8_t next;
+};
+
+void inroot_way_begin(const struct inroot_way_facts *facts, struct inroot_way_course *way);
+void inroot_way_next(const struct inroot_way_facts *facts, const struct inroot_way_answer *answer, struct inroot_way_course *way);
+
+/* ---- which call comes next, as a walk goes into a directory. These take no memory. */
+
+/*
+ * The name is opened in the directory above: openat(2) with O_PATH, O_DIRECTORY, O_NOFOLLOW and O_CLOEXEC. A call opens what the
+ * directory's path means, through no link at its end. Both are compared. `.` is opened in what was found: openat(2) with
+ * O_RDONLY and O_DIRECTORY. What was found is closed; so is what was opened by its name. A call opens what the path of
+ * the directory above means; that is compared with the one that is being listed, and closed. If it ENTERS, what was opened to be
+ * read is the directory. If it FAILS, there is an error; if it LOSES, the directory above isn't where it was found, either.
+ */
+enum inroot_entering_next {
+    INROOT_ENTERING_OPEN = 1, INROOT_ENTERING_FIND, INROOT_ENTERING_COMPARE, INROOT_ENTERING_OPEN_TO_READ,
+    INROOT_ENTERING_CLOSE_FOUND, INROOT_ENTERING_CLOSE, INROOT_ENTERING_FIND_ABOVE, INROOT_ENTERING_COMPARE_ABOVE,
+    INROOT_ENTERING_CLOSE_ABOVE, INROOT_ENTERING_ENTERS, INROOT_ENTERING_FAILS, INROOT_ENTERING_LOSES,
+};
+
+/* What a call gave: an error, or 0; of a comparison, whether both are one directory. */
+struct inroot_entering_answer {
+    uint32_t error;
+    bool same;
+};
+
+/*
+ * How far it has come. A driver reads what comes NEXT, how many nanoseconds it waits before (PAUSE), and the ERROR if it fails. It
+ * leaves all of it alone between two turns.
+ */
+struct inroot_entering {
+    uint32_t error, tries, pause;
+    uint8_t next;
+};
+
+void inroot_entering_begin(struct inroot_entering *entering);
+
+/* Takes what the last call gave. AGAIN: the caller lets it try again. */
+void inroot_entering_next(struct inroot_entering *entering, bool again, const struct inroot_entering_answer *answer);
 
 /* ---- how much of a path is tried next, as as much as is there is opened. These take no memory. */
 

@@ -114,6 +114,12 @@ struct inroot_from {
     uint64_t told;                 /* the handle that a witness has just found there, or zero */
 };
 
+/* So many bytes of a path, up to a name, have this key (hints.c). */
+struct inroot_keyed {
+    size_t at;
+    uint64_t key;
+};
+
 /* The slots that serve a call with few handles. */
 enum { INROOT_FEW = 8 };
 
@@ -143,6 +149,7 @@ struct inroot_driver {
     uint64_t passed_handle;        /* the handle at the names in `passed`, or zero, and how long they are */
     size_t passed_length;
     uint64_t keyed, key;           /* the handle whose names have this key (hints.c), or zero */
+    struct inroot_keyed hinted[2]; /* how far a path from the root was searched for hints, and the name before that */
     uint64_t lived;                /* the directory that had the entry which the last step but Close was about, or zero */
     uint64_t link, link_dir;       /* a link that was read by its name in that directory, or zero, and how long its text is */
     size_t link_length;
@@ -219,14 +226,17 @@ static const size_t INROOT_NO_HINT = SIZE_MAX;
 size_t inroot_hints_first(struct inroot_driver *d, uint64_t handle, const char *path, size_t length);
 /* Notes that a name in a handle's directory is a link, or isn't. */
 void inroot_hints_tell(struct inroot_driver *d, uint64_t handle, const char *name, size_t length, bool is_link);
-/* Where in a path from the root the first such name stands that begins at FROM or behind it; and whether it is left to the steps. */
-size_t inroot_hints_in(const struct inroot_driver *d, const char *path, size_t from, size_t length, bool *by_steps);
+/*
+ * Where in a path from the root the first such name stands that begins at FROM or behind it; and whether it is left to
+ * the steps. A path that is asked about again in the same call may have changed from FROM on, and no byte before.
+ */
+size_t inroot_hints_in(struct inroot_driver *d, const char *path, size_t from, size_t length, bool *by_steps);
 /* Notes that the last name of a path from the root is a link that is left to the steps, or is none. */
 void inroot_hints_leave(const struct inroot_driver *d, const char *path, size_t length, bool is_link);
 
 /*
- * Whether a path from the root, through links, opened nothing last without a conversation; notes that it did so; and that the call
- * which knew of such a note has opened something.
+ * Whether a path from the root, through links, opened nothing last without a conversation: a hint was found in it right
+ * before. Notes that it did so; and that the call which knew of such a note has opened something.
  */
 bool inroot_hints_is_missed(struct inroot_driver *d, const char *path, size_t length);
 void inroot_hints_miss(const struct inroot_driver *d, const char *path, size_t length);
@@ -397,8 +407,6 @@ void inroot_answer(struct inroot_driver *d, struct inroot_result result, const c
 /* A try: one proved call from its beginning to its reply, whose text then lies in the room. */
 ssize_t inroot_once(struct inroot_driver *d, int root, const struct inroot_request *asked, char *room);
 void inroot_wait(uint32_t nanoseconds);
-/* Whether another try is due after this many, the last of which gave this: -EAGAIN where others were in the way. It has waited then. */
-bool inroot_again(int tries, int flags, ssize_t result);
 /* A call by as many tries as are due. Gives 0, a descriptor, a text's length, or -errno. */
 ssize_t inroot_call(int root, const struct inroot_request *asked, char *room);
 
@@ -549,7 +557,6 @@ struct inroot_work {
     const char *name, *plain;      /* the name as a system call takes it, and as it is */
     int looks;                     /* what is looked at: the child, the link */
     int fd, reads;
-    uint32_t unknown;              /* by this error nobody knows whether a link may be followed: then the step isn't made */
     char *text;                    /* that of a link is read to here, and so long it is */
     size_t length;
 };

@@ -8,6 +8,7 @@
 
 #include <errno.h>
 #include <fcntl.h>
+#include <linux/magic.h>
 #include <stdlib.h>
 #include <string.h>
 #include <sys/stat.h>
@@ -76,6 +77,26 @@ bool inroot_handles_grow(struct inroot_driver *d)
 
 /* ---- directories whose descriptor is let go */
 
+/* Room for what a file system calls an object by (name_to_handle_at(2)). */
+enum { HANDLE_ROOM = 128 };
+
+/*
+ * Of a file system that keeps no births: what it calls the directory by has a number that counts how often the inode's was used.
+ * None where it can't be asked.
+ */
+static void identify_by_handle(int fd, struct inroot_birth *who)
+{
+    int mount;
+    _Alignas(struct file_handle) unsigned char room[sizeof(struct file_handle) + HANDLE_ROOM];
+    struct file_handle *handle = (void *)room;
+    handle->handle_bytes = HANDLE_ROOM;
+    if (name_to_handle_at(fd, "", handle, &mount, AT_EMPTY_PATH) != 0)
+        return;
+    who->seconds = 1;
+    for (unsigned at = 0; at < handle->handle_bytes; at++)
+        who->seconds = (who->seconds ^ handle->f_handle[at]) * 0x100000001b3u;
+}
+
 /* The birth tells a directory from a later one with the same number. If it can't be asked, the identity is empty. */
 static void identify(int fd, struct inroot_birth *who)
 {
@@ -88,8 +109,31 @@ static void identify(int fd, struct inroot_birth *who)
     if (statx(fd, "", AT_EMPTY_PATH, STATX_BTIME, &more) == 0 && more.stx_mask & STATX_BTIME) {
         who->seconds = (uint64_t)more.stx_btime.tv_sec;
         who->nanoseconds = more.stx_btime.tv_nsec;
+        return;
     }
 #endif
+    identify_by_handle(fd, who);
+}
+
+/*
+ * On overlayfs a directory gets another birth as it is copied up. So it is copied up before it is let go, by a change of no owner;
+ * where that fails, its birth says nothing.
+ */
+static void identify_for_later(int fd, struct inroot_birth *who)
+{
+    struct statfs about;
+    bool is_layered = fstatfs(fd, &about) == 0 && about.f_type == OVERLAYFS_SUPER_MAGIC;
+    bool is_settled = !is_layered || fchownat(fd, "", (uid_t)-1, (gid_t)-1, AT_EMPTY_PATH) == 0;
+    identify(fd, who);
+    if (!is_settled)
+        who->seconds = who->nanoseconds = 0;
+}
+
+/* The library lets births differ on overlayfs. Here they may only where the first one says nothing. */
+static bool is_born_alike(const struct inroot_birth *before, const struct inroot_birth *now)
+{
+    const bool is_told = before->seconds != 0 || before->nanoseconds != 0;
+    return !is_told || (before->seconds == now->seconds && before->nanoseconds == now->nanoseconds);
 }
 
 /* Lets one go of the directories above that have a descriptor, if they are more than so many. Whether it did. */
@@ -99,7 +143,7 @@ static bool let_one_go(struct inroot_driver *d, uint64_t handle, uint32_t most)
     if (at == INROOT_NO_SLOT)
         return false;
     struct inroot_slot *slot = &d->slots[at];
-    identify(slot->fd, &slot->who);
+    identify_for_later(slot->fd, &slot->who);
     close(slot->fd);
     slot->fd = INROOT_AWAY;
     return true;
@@ -140,8 +184,9 @@ static void come_back(struct inroot_driver *d, struct inroot_slot *slot, int32_t
         inroot_back_next(&back, &found);
     }
     drop_inner(d);
-    slot->lost = (int)back.error;
-    if (back.next == INROOT_BACK_IS_BACK)
+    bool is_back = back.next == INROOT_BACK_IS_BACK && is_born_alike(&slot->who, &found.who);
+    slot->lost = back.next == INROOT_BACK_IS_BACK && !is_back ? EAGAIN : (int)back.error;
+    if (is_back)
         slot->fd = up;
     else if (up >= 0)
         close(up);

@@ -17,6 +17,10 @@ enum { ROWS = 512, ROW = 8 };
 static _Alignas(ROW * sizeof(uint32_t)) _Atomic uint32_t hints[ROWS][ROW];
 static atomic_bool is_any;
 
+/* A bit is set for each key that was ever noted, so that of most names a row needn't be read. None is taken back. */
+enum { BITS = 8192, WORD = 64 };
+static _Atomic uint64_t noted[BITS / WORD];
+
 static uint64_t mix(uint64_t key, uint64_t bytes)
 {
     key = (key ^ bytes) * 0x9e3779b97f4a7c15u;
@@ -93,6 +97,21 @@ static uint32_t mark_of(uint64_t key)
     return ((uint32_t)(key >> 32) | IS_THERE) & ~(uint32_t)BY_STEPS;
 }
 
+static _Atomic uint64_t *word_of(uint64_t key)
+{
+    return &noted[key % BITS / WORD];
+}
+
+static uint64_t bit_of(uint64_t key)
+{
+    return UINT64_C(1) << key % WORD;
+}
+
+static bool may_be_noted(uint64_t key)
+{
+    return atomic_load_explicit(word_of(key), memory_order_relaxed) & bit_of(key);
+}
+
 /* Where a mark is in the key's row, or NULL. */
 static _Atomic uint32_t *find(uint64_t key, uint32_t mark)
 {
@@ -110,19 +129,34 @@ static void put(uint64_t key)
     if (at == NULL)
         at = &hints[key % ROWS][key / ROWS % ROW];
     atomic_store_explicit(at, mark_of(key), memory_order_relaxed);
+    atomic_fetch_or_explicit(word_of(key), bit_of(key), memory_order_relaxed);
     atomic_store_explicit(&is_any, true, memory_order_relaxed);
 }
 
-/* Where the first name from a place on that was a link last stands in a path, a slash before each name; its mark; or NULL. */
-static _Atomic uint32_t *first_in(uint64_t key, const char *path, size_t from, size_t length, size_t *where)
+/* A name at which the search has come: so many bytes of the path have this key. */
+static void come_to(struct inroot_keyed last[2], size_t at, uint64_t key)
 {
-    for (size_t at = 0; at < length;) {
+    if (last[1].at < at)
+        last[0] = last[1];
+    last[1] = (struct inroot_keyed){.at = at, .key = key};
+}
+
+/*
+ * The mark of the first name from a place on that was a link last, or NULL. The search begins at the LAST name, and
+ * notes how far it came: that name, or the place.
+ */
+static _Atomic uint32_t *first_in(struct inroot_keyed last[2], const char *path, size_t from, size_t length)
+{
+    uint64_t key = last[1].key;
+    for (size_t at = last[1].at; at < length;) {
         size_t name = name_length(path + at + 1, length - at - 1);
-        key = with_name(key, path + at + 1, name);
-        _Atomic uint32_t *mark = at >= from ? find(key, mark_of(key)) : NULL;
-        *where = at;
+        uint64_t next = with_name(key, path + at + 1, name);
+        _Atomic uint32_t *mark = at >= from && may_be_noted(next) ? find(next, mark_of(next)) : NULL;
+        if (at <= from || mark != NULL)
+            come_to(last, at, key);
         if (mark != NULL)
             return mark;
+        key = next;
         at += name + 1;
     }
     return NULL;
@@ -135,21 +169,30 @@ static bool has_any(void)
 
 size_t inroot_hints_first(struct inroot_driver *d, uint64_t handle, const char *path, size_t length)
 {
-    size_t where, count = 0;
+    size_t count = 0;
     uint64_t key = has_any() ? key_of(d, handle) : 0;
-    if (key == 0 || first_in(key, path, 0, length, &where) == NULL)
+    struct inroot_keyed last[2] = {{.at = 0}, {.key = key}};
+    if (key == 0 || first_in(last, path, 0, length) == NULL)
         return INROOT_NO_HINT;
-    for (size_t at = 0; at < where; at++)
+    for (size_t at = 0; at < last[1].at; at++)
         count += path[at] == '/';
     return count;
 }
 
-size_t inroot_hints_in(const struct inroot_driver *d, const char *path, size_t from, size_t length, bool *by_steps)
+/* The search goes on where the last one of this call came to, or at the name before, if these are as they were. */
+size_t inroot_hints_in(struct inroot_driver *d, const char *path, size_t from, size_t length, bool *by_steps)
 {
-    size_t where;
-    _Atomic uint32_t *mark = has_any() ? first_in(key_of_root(d), path, from, length, &where) : NULL;
+    struct inroot_keyed *last = d->hinted;
+    *by_steps = false;
+    if (!has_any())
+        return INROOT_NO_HINT;
+    if (last[1].at > from)
+        last[1] = last[0];
+    if (last[1].at > from || last[1].at == 0)
+        last[1] = (struct inroot_keyed){.key = key_of_root(d)};
+    _Atomic uint32_t *mark = first_in(last, path, from, length);
     *by_steps = mark != NULL && atomic_load_explicit(mark, memory_order_relaxed) & BY_STEPS;
-    return mark == NULL ? INROOT_NO_HINT : where;
+    return mark == NULL ? INROOT_NO_HINT : last[1].at;
 }
 
 /* Paths through links that opened nothing last. One by one they push another out. */
@@ -158,7 +201,8 @@ static _Atomic uint32_t missed[MISSED];
 
 bool inroot_hints_is_missed(struct inroot_driver *d, const char *path, size_t length)
 {
-    const uint64_t key = with_names(key_of_root(d), path, length);
+    const struct inroot_keyed *last = &d->hinted[1];
+    const uint64_t key = with_names(last->key, path + last->at, length - last->at);
     d->missed = &missed[key % MISSED];
     if (atomic_load_explicit(d->missed, memory_order_relaxed) == mark_of(key))
         return true;

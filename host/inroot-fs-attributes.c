@@ -40,7 +40,7 @@ static const char *read_number(const char *text, unsigned long *number)
 /* Reads UID, UID:GID or :GID. What isn't there is all ones, which changes nothing (chown(2)). */
 static bool read_owner(const char *text, uid_t *user, gid_t *group)
 {
-    unsigned long number;
+    unsigned long number = 0;
     const char *rest = text;
     *user = (uid_t)-1;
     *group = (gid_t)-1;

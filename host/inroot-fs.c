@@ -160,7 +160,9 @@ enum fs_status fs_invalid(const struct fs_call *call, const char *path, const ch
 
 enum fs_status fs_fault(const struct fs_call *call, const char *what, int error)
 {
-    fprintf(stderr, "inroot-fs: %s: %s: %s: %s\n", call->command, what, error_name(error), strerror(error));
+    fprintf(stderr, "inroot-fs: %s: ", call->command);
+    tell_text(what);
+    fprintf(stderr, ": %s: %s\n", error_name(error), strerror(error));
     return FS_FAULT;
 }
 

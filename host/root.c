@@ -41,10 +41,16 @@ static struct {
     atomic_int number;
 } roots[KEPT];
 
+/* What a program hands in as a root may be the highest number of all. */
+static size_t place_from(int fd, size_t place)
+{
+    return ((size_t)fd + place) % KEPT;
+}
+
 static void enter(struct inroot_root *root)
 {
-    for (int place = 0; place < PLACES; place++) {
-        int at = (root->fd + place) % KEPT;
+    for (size_t place = 0; place < PLACES; place++) {
+        size_t at = place_from(root->fd, place);
         struct inroot_root *none = NULL;
         if (atomic_compare_exchange_strong(&roots[at].root, &none, root)) {
             atomic_store(&roots[at].number, root->fd + 1);
@@ -55,8 +61,8 @@ static void enter(struct inroot_root *root)
 
 static void leave(struct inroot_root *root)
 {
-    for (int place = 0; place < PLACES; place++) {
-        int at = (root->fd + place) % KEPT;
+    for (size_t place = 0; place < PLACES; place++) {
+        size_t at = place_from(root->fd, place);
         if (atomic_load(&roots[at].root) != root)
             continue;
         atomic_store(&roots[at].number, 0);
@@ -66,9 +72,9 @@ static void leave(struct inroot_root *root)
 
 static struct inroot_root *find(int fd)
 {
-    for (int place = 0; fd >= 0 && place < PLACES; place++) {
-        int at = (fd + place) % KEPT;
-        if (atomic_load_explicit(&roots[at].number, memory_order_acquire) == fd + 1)
+    for (size_t place = 0; fd >= 0 && place < PLACES; place++) {
+        size_t at = place_from(fd, place);
+        if (atomic_load_explicit(&roots[at].number, memory_order_acquire) - 1 == fd)
             return atomic_load_explicit(&roots[at].root, memory_order_relaxed);
     }
     return NULL;

@@ -97,8 +97,6 @@ static struct inroot_work work_on(const struct inroot_driver *d, unsigned what, 
 static struct inroot_result open_by(struct inroot_driver *d, struct inroot_work *work, enum inroot_way way)
 {
     inroot_by_calls(d, work);
-    if (work->unknown)
-        return inroot_unmade(d, (int)work->unknown);
     if (work->course.next != INROOT_ENDS_OPENED)
         return ended(d, &work->course);
     const enum inroot_kind kind = work->course.kind;
@@ -306,8 +304,6 @@ static struct inroot_result read_link(struct inroot_driver *d, uint64_t handle, 
         work.facts.link = inroot_handles_slot(d, handle)->kind == INROOT_KIND_LINK;
     }
     inroot_by_calls(d, &work);
-    if (work.unknown)
-        return inroot_unmade(d, (int)work.unknown);
     if (work.course.next == INROOT_ENDS_TEXT) {
         *length = work.length;
         inroot_looks_fresh(&d->looks);

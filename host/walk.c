@@ -49,14 +49,19 @@ struct inroot_walk {
 
 static int open_by(int dir, const char *name, int how)
 {
-    int fd;
-    do
-        fd = openat(dir, name, how | O_DIRECTORY | O_NOFOLLOW | O_CLOEXEC);
-    while (fd < 0 && errno == EINTR);
+    int fd = openat(dir, name, how | O_DIRECTORY | O_NOFOLLOW | O_CLOEXEC);
     return fd < 0 ? -errno : fd;
 }
 
-/* ---- whether a directory is where it was found */
+/* ---- into a directory: which call comes next, the proved library says (crates/enter_directory) */
+
+/* The directory of that name in the one at the top: as the name led to it, as a call found it by the text, and to be read. */
+struct entering {
+    struct inroot_walk *walk;
+    const char *name;
+    int fd, found, reads;
+    struct inroot_entering course;
+};
 
 /* Opens what the text means, which then was below the root: its descriptor or -errno. */
 static int open_text(const struct inroot_walk *walk, int more)
@@ -68,59 +73,62 @@ static int open_text(const struct inroot_walk *walk, int more)
     return inroot_carry_out_alone(walk->root, &asked);
 }
 
-/* The same of this directory: -ESTALE where the text means something else. */
-static int open_same(const struct inroot_walk *walk, int fd, int more)
+/* Keeps what was opened. Gives 0 or an error's number. */
+static uint32_t keep(int *kept, int opened)
 {
-    enum inroot_kind kind;
-    int now = open_text(walk, more);
-    if (now < 0)
-        return now == -ENOENT || now == -ENOTDIR || now == -ELOOP ? -ESTALE : now;
-    if (inroot_is_entry(now, "", fd, &kind))
-        return now;
-    close(now);
-    return -ESTALE;
+    *kept = opened;
+    return opened < 0 ? (uint32_t)-opened : 0;
 }
 
 /* The text is cut off for the question, and then whole again. */
-static bool is_lost(struct inroot_walk *walk, const struct level *level)
+static uint32_t find_above(struct entering *e)
 {
-    char next = walk->text[level->length];
-    walk->text[level->length] = 0;
-    int now = open_same(walk, level->fd, level->above == NULL ? walk->first : INROOT_NOFOLLOW);
-    walk->text[level->length] = next;
-    if (now >= 0)
-        close(now);
-    return now < 0;
+    const struct level *above = e->walk->top;
+    char *end = e->walk->text + above->length;
+    const char next = *end;
+    *end = 0;
+    uint32_t error = keep(&e->found, open_text(e->walk, above->above == NULL ? e->walk->first : INROOT_NOFOLLOW));
+    *end = next;
+    return error;
 }
 
-/* Opens it for reading, by the descriptor that was found below the root: so no listing rests on the numbers that were compared. */
-static int open_found(const struct inroot_walk *walk, int fd)
+static uint32_t compare(const struct entering *e, int fd, struct inroot_entering_answer *answer)
 {
-    int now = open_same(walk, fd, INROOT_NOFOLLOW);
-    int found = now < 0 ? now : open_by(now, ".", O_RDONLY);
-    if (now >= 0)
-        close(now);
-    return found;
+    enum inroot_kind kind;
+    answer->same = inroot_is_entry(e->found, "", fd, &kind);
+    return 0;
+}
+
+/* Makes the call that comes next. Gives 0 or an error's number. */
+static uint32_t turn(struct entering *e, struct inroot_entering_answer *answer)
+{
+    const int top = e->walk->top->fd;
+    switch (e->course.next) {
+    case INROOT_ENTERING_OPEN: return keep(&e->fd, open_by(top, e->name, O_PATH));
+    case INROOT_ENTERING_FIND: return keep(&e->found, open_text(e->walk, INROOT_NOFOLLOW));
+    case INROOT_ENTERING_COMPARE: return compare(e, e->fd, answer);
+    case INROOT_ENTERING_OPEN_TO_READ: return keep(&e->reads, open_by(e->found, ".", O_RDONLY));
+    case INROOT_ENTERING_CLOSE: return close(e->fd) < 0 ? (uint32_t)errno : 0;
+    case INROOT_ENTERING_FIND_ABOVE: return find_above(e);
+    case INROOT_ENTERING_COMPARE_ABOVE: return compare(e, top, answer);
+    default: return close(e->found) < 0 ? (uint32_t)errno : 0;
+    }
 }
 
 /* Opens the directory that the text names: its descriptor or -errno. */
 static int open_next(struct inroot_walk *walk, const char *name)
 {
-    for (int tries = 1;; tries++) {
-        int fd = open_by(walk->top->fd, name, O_PATH);
-        int found = fd < 0 ? fd : open_found(walk, fd);
-        if (fd >= 0)
-            close(fd);
-        if (found >= 0)
-            return found;
-        if (found == -ESTALE && inroot_again(tries, walk->flags, -EAGAIN))
-            continue;
-        if (found != -ESTALE && found != -EAGAIN)
-            return found;
-        /* If it is the directory above that was moved, nothing more is gone into there. */
-        walk->top->is_lost = is_lost(walk, walk->top);
-        return -EAGAIN;
+    struct entering e = {.walk = walk, .name = name};
+    inroot_entering_begin(&e.course);
+    while (e.course.next < INROOT_ENTERING_ENTERS) {
+        struct inroot_entering_answer answer = {0};
+        inroot_wait(e.course.pause);
+        answer.error = turn(&e, &answer);
+        inroot_entering_next(&e.course, !(walk->flags & INROOT_NO_RETRY), &answer);
     }
+    if (e.course.next == INROOT_ENTERING_LOSES)
+        walk->top->is_lost = true;
+    return e.course.next == INROOT_ENTERING_ENTERS ? e.reads : -(int)e.course.error;
 }
 
 /* ---- levels */
@@ -200,11 +208,11 @@ static bool is_entry(const char *name)
     return strcmp(name, ".") != 0 && strcmp(name, "..") != 0;
 }
 
-/* The kind, which some file systems don't write beside the name; 0 of what is gone by now. */
+/* The kind, which some file systems don't write beside the name, and a server may write wrong; 0 of what is gone by now. */
 static mode_t kind_of(const struct level *level, const struct record *record)
 {
     struct stat about;
-    if (record->type != 0)
+    if (record->type > 0 && record->type <= S_IFMT >> 12)
         return (mode_t)record->type << 12;
     return fstatat(level->fd, record->name, &about, AT_SYMLINK_NOFOLLOW | AT_NO_AUTOMOUNT) == 0 ? about.st_mode & S_IFMT : 0;
 }
@@ -277,7 +285,10 @@ static int begin(struct inroot_walk *walk)
     int found = open_text(walk, walk->first);
     if (found < 0)
         return found;
-    int fd = open_by(found, ".", O_RDONLY);
+    int fd;
+    do
+        fd = open_by(found, ".", O_RDONLY);
+    while (fd == -EINTR);
     close(found);
     if (fd < 0)
         return inroot_error_alone(-fd, "List", walk->text);

@@ -30,8 +30,17 @@ func Chmod(handle *os.File, mode os.FileMode) error {
 	return err
 }
 
-// Chown sets its owner and its group; -1 leaves it. With OpenatInRootNoFollow it may be a link.
+// isOwner says whether a number is one of 32 bits, or -1. That of all ones would leave what is there.
+func isOwner(number int) bool {
+	return number >= -1 && int64(number) < 1<<32-1
+}
+
+// Chown sets its owner and its group; -1 leaves it. EINVAL of a number that has more than 32 bits. With
+// OpenatInRootNoFollow it may be a link.
 func Chown(handle *os.File, user, group int) error {
+	if !isOwner(user) || !isOwner(group) {
+		return &os.PathError{Op: "chown", Path: handle.Name(), Err: syscall.EINVAL}
+	}
 	_, err := onHandle("chown", handle, func(fd C.int) C.long {
 		return C.long(C.inroot_fchown(fd, C.uid_t(user), C.gid_t(group)))
 	})

@@ -17,6 +17,10 @@ func TestAttributes(t *testing.T) {
 	defer file.Close()
 	must(t, Chmod(file, 0o751|os.ModeSetuid))
 	must(t, Chown(file, os.Getuid(), -1))
+	for _, number := range []int{1 << 32, 1<<32 - 1, -2} {
+		fails(t, Chown(file, number, -1), syscall.EINVAL)
+		fails(t, Chown(file, -1, number), syscall.EINVAL)
+	}
 	accessed, modified := time.Unix(5, 6), time.Unix(-7, 8)
 	must(t, Chtimes(file, accessed, modified))
 	must(t, Chtimes(file, time.Time{}, time.Time{}))

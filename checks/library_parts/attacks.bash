@@ -37,6 +37,21 @@ for unpack in "${unpackers[@]}"; do
     first=$at
 done
 
+# An entry that is to replace a directory empties nothing that is mounted there; and no byte of a name comes to a terminal.
+if unshare -rm true 2>/dev/null && mkdir "$work/one" && echo new >"$work/one/m" && mkdir "$work/one/odd" &&
+    mkfifo "$work/one/odd/"$'n\e[2J\x9bm' && tar --format=pax -C "$work/one" -cf "$work/one.tar" m odd; then
+    for unpack in "${unpackers[@]}"; do
+        name=${unpack##*/}
+        mkdir -p "$work/over-$name/m" "$work/over-$name/odd/"$'n\e[2J\x9bm/m'
+        unshare -rm bash -c "mount --bind '$work/outside' '$work/over-$name/m' &&
+            mount --bind '$work/outside' '$work/over-$name/odd/'*/m && '$unpack' '$work/over-$name'" <"$work/one.tar" 2>"$work/err"
+        [ $? -eq 1 ] && [ "$(outside)" = "$before" ] && ! LC_ALL=C grep -q $'[\e\x9b]' "$work/err"
+        verdict $? "$name over what is mounted: $(cat -v "$work/err"), $(diff <(echo "$before") <(outside))"
+    done
+else
+    skip 'what is mounted where an archive has an entry' 'no right to unshare, or no tar that writes pax archives'
+fi
+
 # A tree of each kind is unpacked as tar(1) does: kind, mode, owner, times, links and contents.
 grown=$work/grown
 mkdir -p "$grown/tree/deep/er" "$grown/tree/shut" && (

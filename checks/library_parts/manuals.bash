@@ -78,6 +78,13 @@ completed() {
 [ "$(completed "$box" r)" = 'readlink realpath resolve rm rmdir' ] && [ "$(completed "$box" cat in/)" = 'in/f in/new' ] &&
     [ "$(completed "$box" cat abs/)" = '' ] && [ "$(completed "$box" rm --r)" = --recursive ]
 verdict $? "bash completes: $(completed "$box" r), $(completed "$box" cat in/), $(completed "$box" cat abs/)"
+# A name that the shell would run comes quoted, and one that is an option's comes as a path.
+touch "$box/q\$(run)\\" "$box/--q"
+[ "$(completed "$box" cat q)" = 'q\$\(run\)\\' ] && [ "$(completed "$box" cat 'q\$\(run\)\\')" = 'q\$\(run\)\\' ] &&
+    [ "$(completed "$box" cat 'q$(r')" = 'q\$\(run\)\\' ] && [ "$(completed "$box" cat "'q")" = '' ] &&
+    [[ " $(completed "$box" cat '') " == *' ./--q '* ]]
+verdict $? "bash completes names with signs of the shell's: $(completed "$box" cat q), $(completed "$box" cat '')"
+rm "$box/q\$(run)\\" "$box/--q"
 lacks zsh 'completions for zsh' ||
     has 'completions for zsh' zsh -n completions/_inroot completions/_inroot-fs
 lacks fish 'completions for fish' ||

@@ -135,6 +135,11 @@ touch "$box/"$'odd\n\e[2J\\name'
 expect 0 $'a\nabs\nfifo\nin\nodd\\x0a\\x1b[2J\\x5cname\nsecond' '' ls
 [ "$("$fs" "$box" ls --zero | tr '\0' '/')" = $'a/abs/fifo/in/odd\n\e[2J\\name/second/' ]
 verdict $? 'inroot-fs ls --zero'
+# A name whose file can't be read doesn't come to the terminal as it is either.
+ln -s /proc/self/mem "$work/"$'un\e[2Jread\x9b'
+"$watched_fs" / cat "$work/"$'un\e[2Jread\x9b' 2>"$work/err"
+[ $? -eq 4 ] && [[ $(cat "$work/err") == 'inroot-fs: cat: '*'/un\x1b[2Jread\x9b: EIO: '* ]]
+verdict $? "inroot-fs cat of what can't be read: $(cat -v "$work/err")"
 "$fs" "$box" ls >/dev/full 2>"$work/err"
 [ $? -eq 4 ] && [ "$(cat "$work/err")" = 'inroot-fs: write failed' ]
 verdict $? "inroot-fs to a full device: $(cat "$work/err")"

@@ -46,7 +46,7 @@ static void tell(const char *name, const char *what)
 {
     fputs("unpack: ", stderr);
     for (; *name != '\0'; name++)
-        fputc((unsigned char)*name < ' ' || *name == 0x7f ? '?' : *name, stderr);
+        fputc(*name < ' ' || *name > '~' ? '?' : *name, stderr);
     fprintf(stderr, ": %s\n", what);
 }
 
@@ -71,7 +71,7 @@ static bool is_same(int one, int other)
  */
 static void look_again(struct unpacking *u)
 {
-    int now = inroot_open(u->root, u->above_name, 0);
+    int now = inroot_openat(u->root, u->above_name, O_PATH | O_DIRECTORY, 0, INROOT_BELOW);
     if (now < 0 || !is_same(now, u->above)) {
         tell(u->above_name, "somebody moved or removed it while entries were made in it");
         u->failed = true;
@@ -114,12 +114,12 @@ static int open_above(struct unpacking *u, const char *name, const char **last)
     return failed;
 }
 
-/* Removes what is at the name, so that the entry is made anew. Gives 0 or -errno. */
+/* Removes what is at the name, so that the entry is made anew; nothing of what is mounted there. Gives 0 or -errno. */
 static int make_room(const struct unpacking *u, const char *last)
 {
     int failed = inroot_unlink(u->at, last, 0);
     if (failed == -EISDIR)
-        failed = inroot_remove_all(u->at, last, 0) < 0 ? -EBUSY : 0;
+        failed = inroot_remove_all(u->at, last, INROOT_NO_XDEV) < 0 ? -EBUSY : 0;
     return failed == -ENOENT ? 0 : failed;
 }
 
@@ -287,7 +287,7 @@ static void set_directories(struct unpacking *u)
     while (u->directories != NULL) {
         struct directory *one = u->directories;
         /* The archive may have put something else in its place: a link is not followed. */
-        int found = inroot_openat(u->root, one->name, O_PATH | O_DIRECTORY | O_NOFOLLOW, 0, 0);
+        int found = inroot_openat(u->root, one->name, O_PATH | O_DIRECTORY | O_NOFOLLOW, 0, INROOT_BELOW);
         int failed = found < 0 ? found : set_found(u, found, &one->status, false);
         if (failed < 0)
             fail(u, one->name, -failed);

@@ -1,7 +1,8 @@
 /*
  * births: a directory that was let go while a tree is removed comes back by its device, its inode and its birth. Another one that
- * has the same number, since it was made after the first was removed, has another birth: it is left alone. To be linked with
- * --wrap=statx and --wrap=openat.
+ * has the same number, since it was made after the first was removed, has another birth: it is left alone. Where there are no
+ * births, it has another handle (name_to_handle_at(2)). To be linked with --wrap=statx, --wrap=openat and
+ * --wrap=name_to_handle_at.
  *
  * usage: births DIR. Exits 0 where that holds.
  */
@@ -20,6 +21,8 @@ static int root;
 
 /* Whether directories are told as born later from here on: from when the call goes up for the first time, if it is wanted. */
 static bool is_wanted, has_turned;
+/* Whether there are births; if not, whether there are handles, which differ. */
+static bool has_births = true, has_handles = true;
 
 int __real_statx(int dir, const char *name, int flags, unsigned mask, struct statx *about);
 int __wrap_statx(int dir, const char *name, int flags, unsigned mask, struct statx *about);
@@ -27,12 +30,32 @@ int __wrap_statx(int dir, const char *name, int flags, unsigned mask, struct sta
 int __wrap_statx(int dir, const char *name, int flags, unsigned mask, struct statx *about)
 {
     int result = __real_statx(dir, name, flags, mask, about);
-    if (result == 0 && mask & STATX_BTIME) {
+    if (result == 0 && mask & STATX_BTIME && !has_births)
+        about->stx_mask &= ~(unsigned)STATX_BTIME;
+    else if (result == 0 && mask & STATX_BTIME) {
         about->stx_mask |= STATX_BTIME;
         about->stx_btime.tv_sec = has_turned ? 2 : 1;
         about->stx_btime.tv_nsec = 0;
     }
     return result;
+}
+
+int __wrap_name_to_handle_at(int dir, const char *name, struct file_handle *handle, int *mount, int flags);
+
+int __wrap_name_to_handle_at(int dir, const char *name, struct file_handle *handle, int *mount, int flags)
+{
+    (void)dir;
+    (void)name;
+    (void)flags;
+    if (!has_handles) {
+        errno = EOPNOTSUPP;
+        return -1;
+    }
+    *mount = 1;
+    handle->handle_bytes = 8;
+    memset(handle->f_handle, 0, 8);
+    handle->f_handle[7] = !has_births && has_turned;
+    return 0;
 }
 
 static int my_openat(int dir, const char *name, int flags, mode_t mode)
@@ -63,15 +86,22 @@ int main(int count, char **words)
         return 2;
     root = sure(open(words[1], O_PATH | O_DIRECTORY | O_CLOEXEC), words[1]);
     dig();
+    for (int turn = 0; turn < 2; turn++) {
+        has_births = turn == 0;
+        is_wanted = true;
+        ssize_t got = inroot_remove_all(root, "d", INROOT_NO_RETRY);
+        expect(has_turned, "no directory was let go");
+        gives(got, -EAGAIN, "directories that were born later, births %d", has_births);
+        gives(faccessat(root, "d/f", F_OK, 0), 0, "the topmost directory's file, which is to be there still");
+        is_wanted = has_turned = false;
+        dig();
+        got = inroot_remove_all(root, "d", INROOT_NO_RETRY);
+        gives(got, 2 * LEVELS, "the same directories, births %d", has_births);
+        dig();
+    }
+    has_handles = false;
     is_wanted = true;
-    ssize_t got = inroot_remove_all(root, "d", INROOT_NO_RETRY);
-    expect(has_turned, "no directory was let go");
-    gives(got, -EAGAIN, "directories that were born later");
-    gives(faccessat(root, "d/f", F_OK, 0), 0, "the topmost directory's file, which is to be there still");
-    is_wanted = has_turned = false;
-    dig();
-    got = inroot_remove_all(root, "d", INROOT_NO_RETRY);
-    gives(got, 2 * LEVELS, "the same directories");
+    gives((long)inroot_remove_all(root, "d", INROOT_NO_RETRY), 2 * LEVELS, "directories that are known by their numbers alone");
     printf("births: %d not as they are to be\n", wrong);
     return wrong != 0;
 }

@@ -12,7 +12,7 @@
 
 #include <errno.h>
 
-enum { OVERLAYFS = 0x794c7630, PROC = 0x9fa0, NOSYMFOLLOW = 0x2000 };
+enum { OVERLAYFS = 0x794c7630, PROC = 0x9fa0, SECURITYFS = 0x73636673, AAFS = 0x5a3c69f0, NOSYMFOLLOW = 0x2000 };
 
 /* What was seen of a step. */
 struct seen {
@@ -44,7 +44,8 @@ static struct inroot_step_facts some_facts(struct input *in)
 /* Behind the last byte each system call fails. */
 static struct inroot_step_answer some_answer(struct input *in)
 {
-    static const uint32_t errors[] = {0, 0, 0, 0, 0, 0, EINTR, ENOENT, EMFILE, ENFILE, ENOTDIR, EEXIST, EINVAL, EACCES, ELOOP, 300};
+    static const uint32_t errors[] = {0, 0, 0, 0, 0, 0, EINTR, ENOENT, EMFILE, ENFILE, ENOTDIR, EEXIST, EINVAL, EACCES, ELOOP, 300,
+                                      EXDEV, ENOSYS};
     static const uint64_t numbers[] = {0, 1, 2, OVERLAYFS, PROC, NOSYMFOLLOW, UINT64_MAX};
     struct inroot_step_answer answer = {.error = EIO};
     if (in->left > 0)
@@ -100,6 +101,19 @@ static void looks(const struct inroot_step_facts *facts, uint8_t next, const str
     }
 }
 
+static bool holds_magic(uint64_t file_system)
+{
+    return file_system == PROC || file_system == SECURITYFS || file_system == AAFS;
+}
+
+/* openat2(2) with RESOLVE_NO_MAGICLINKS: by these alone the kernel has looked where the link leads. */
+static void follows(uint32_t error, struct seen *seen)
+{
+    seen->is_magic = error != 0 && error != EXDEV && error != ENOTDIR && error != ENAMETOOLONG;
+    seen->why = !seen->is_magic || error == EINTR ? 0 : error == ENOSYS || error == EPERM ? ELOOP : error;
+    seen->costs += error == EINTR;
+}
+
 /* What was opened; a link; a change. */
 static void others(const struct inroot_step_facts *facts, uint8_t next, const struct inroot_step_answer *answer, struct seen *seen)
 {
@@ -118,14 +132,16 @@ static void others(const struct inroot_step_facts *facts, uint8_t next, const st
         break;
     case INROOT_CALL_MAY_HOLD_MAGIC: case INROOT_CALL_MAGIC:
         MUST(seen->is_open && facts->no_magic && seen->kind == INROOT_KIND_LINK);
-        seen->is_magic = next == INROOT_CALL_MAGIC && (error == ELOOP || error == ENOSYS || error == EPERM);
-        seen->why = seen->is_magic ? ELOOP : 0;
-        seen->costs += next == INROOT_CALL_MAGIC && error == EINTR;
+        if (next == INROOT_CALL_MAY_HOLD_MAGIC)
+            seen->is_magic = error != 0 || holds_magic(answer->number);
+        else
+            follows(error, seen);
         break;
     case INROOT_CALL_NO_FOLLOW:
         MUST(facts->what == INROOT_STEP_READLINK && !facts->own_text);
-        seen->is_kept = error == 0 && answer->number & NOSYMFOLLOW;
-        seen->why = seen->is_kept ? ELOOP : 0;
+        seen->is_kept = error != 0 || answer->number & NOSYMFOLLOW;
+        seen->why = error == EINTR ? 0 : error != 0 ? error : seen->is_kept ? ELOOP : 0;
+        seen->costs += error == EINTR;
         break;
     case INROOT_CALL_READ_LINK:
         MUST(facts->what == INROOT_STEP_READLINK && !seen->is_kept);

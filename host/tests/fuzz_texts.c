@@ -1,6 +1,6 @@
 /*
- * fuzz_texts: the proved library's functions over what the kernel writes, with any bytes: records of getdents64(2), and texts of
- * places; and which call comes next as all missing parts of a path are made, by any answers. Nothing outside of the bytes is read or
+ * fuzz_texts: the proved library's functions over what the kernel writes, with any bytes: records of getdents64(2), texts of
+ * places and mountinfo; and which call comes next as all missing parts of a path are made, by any answers. Nothing outside of the bytes is read or
  * written, each call ends, and what it tells is compared with plain C.
  *
  * For libFuzzer, or with fuzz_main.c for stored cases. A case is bytes: which function; the size of the room or of the texts
@@ -144,6 +144,39 @@ static void places(size_t size, const uint8_t *bytes, size_t length)
     free(path);
 }
 
+/* Whether a line has a slash alone for its fifth word, and something behind it. */
+static bool has_root(const unsigned char *text, size_t length)
+{
+    size_t words = 0, begin = 0;
+    for (size_t at = 0; at < length; at++) {
+        if (text[at] != ' ' && text[at] != '\n')
+            continue;
+        if (words == 4 && at == begin + 1 && text[begin] == '/')
+            return true;
+        words = text[at] == '\n' ? 0 : words + 1;
+        begin = at + 1;
+    }
+    return false;
+}
+
+/* Mountinfo, in two parts; few bytes, so that lines come about. */
+static void mounts(size_t size, const uint8_t *bytes, size_t length)
+{
+    struct inroot_mounts all, parts;
+    const size_t first = size < length ? size : length;
+    unsigned char *text = copy_of(bytes, length);
+    for (size_t at = 0; at < length; at++)
+        text[at] = (unsigned char)"/ \na / / "[bytes[at] % 9];
+    inroot_mounts_begin(&all);
+    inroot_mounts_begin(&parts);
+    inroot_mounts_read(text, length, &all);
+    inroot_mounts_read(text, first, &parts);
+    MUST(parts.found == has_root(text, first));
+    inroot_mounts_read(text + first, length - first, &parts);
+    MUST(all.found == has_root(text, length) && parts.found == all.found);
+    free(text);
+}
+
 /* ---- which call comes next. The answers are the bytes, over and over. */
 
 enum { MOST_CALLS = 360, MOST_LINKS = 40, PATH = 4095 };
@@ -238,9 +271,9 @@ static void makings(size_t asked, const uint8_t *bytes, size_t length)
 
 int LLVMFuzzerTestOneInput(const uint8_t *data, size_t size)
 {
-    static void (*const all[])(size_t size, const uint8_t *bytes, size_t length) = {records, places, makings};
+    static void (*const all[])(size_t size, const uint8_t *bytes, size_t length) = {records, places, makings, mounts};
     if (size < 2)
         return 0;
-    all[data[0] % 3](data[1], data + 2, size - 2);
+    all[data[0] % 4](data[1], data + 2, size - 2);
     return 0;
 }

@@ -10,6 +10,7 @@
 #include "support.h"
 #include "wraps.h"
 
+#include <limits.h>
 #include <pthread.h>
 #include <sched.h>
 #include <string.h>
@@ -215,16 +216,20 @@ static void after_close(void)
 static void each_kind(void)
 {
     const int both = INROOT_ROOT_STAYS | INROOT_TRUST_PROC;
-    /* The kernel's walk asks for no place. */
+    /* The kernel's walk asks for no place. While somebody renames anywhere on the machine, it refuses a path with `..`. */
     const int reads = both | INROOT_BELOW;
+    enum { TURNS = 20 };
     for (int kind = 0; kind < KINDS; kind++) {
         char what[64];
         int before = open_descriptors();
         struct inroot_root *kept = opened(kinds[kind]);
         snprintf(what, sizeof what, "a root kept by %d", kinds[kind]);
-        has_read_table = false;
-        compare_all(what, inroot_root_fd(kept), 0, false);
-        expect(has_read_table == ((kinds[kind] & reads) == both), "%s: the table is read: %d", what, has_read_table);
+        const bool due = (kinds[kind] & reads) == both;
+        for (int turn = 0; turn == 0 || (turn < TURNS && has_read_table != due); turn++) {
+            has_read_table = false;
+            compare_all(what, inroot_root_fd(kept), 0, false);
+        }
+        expect(has_read_table == due, "%s: the table is read: %d", what, has_read_table);
         moved(kept, what);
         forked = inroot_root_fd(kept);
         apart(in_child);
@@ -415,6 +420,13 @@ static void directory_in_between(void)
     close(c);
 }
 
+/* What is kept of a root is looked for by its number, which may be any. */
+static void highest_numbers(void)
+{
+    for (int less = 0; less < 16; less++)
+        gives(inroot_open(INT_MAX - less, "a", 0), -EBADF, "a root by the number INT_MAX - %d", less);
+}
+
 int main(int count, char **words)
 {
     if (count != 2 || realpath(words[1], where) == NULL)
@@ -427,6 +439,7 @@ int main(int count, char **words)
     box = sure(openat(base, "box", O_PATH | O_DIRECTORY | O_CLOEXEC), "box");
     open_proc();
     flags_of_roots();
+    highest_numbers();
     each_kind();
     apart(without_table);
     many();

@@ -1,9 +1,11 @@
 /*
  * layers: a tree on overlayfs that goes so deep that the call lets directories go and comes back to them. To remove
  * what is below one copies it from its lower layer, and it has another birth then. Nobody else acts, so one try is
- * enough. Not so where another directory has come to stand there: that one is left alone.
+ * enough. Not so where another directory has come to stand there: that one is left alone, also if it has the same number
+ * and was born later.
  *
- * usage: layers DIR. Exits 0 where that holds. 78: no right to mount here. To be linked with --wrap=openat.
+ * usage: layers DIR. Exits 0 where that holds. 78: no right to mount here. To be linked with --wrap=openat,
+ * --wrap=statx and --wrap=fchownat.
  */
 #define _GNU_SOURCE
 #include "support.h"
@@ -41,6 +43,39 @@ static int my_openat(int dir, const char *name, int flags, mode_t mode)
 }
 
 INSTEAD_OF_OPENAT(my_openat)
+
+/* Whether directories are told as born later from here on, as one is that has the number of another which was removed. */
+static bool is_reborn;
+
+static void bear_anew(void)
+{
+    is_reborn = true;
+}
+
+int __real_statx(int dir, const char *name, int flags, unsigned mask, struct statx *about);
+int __wrap_statx(int dir, const char *name, int flags, unsigned mask, struct statx *about);
+
+int __wrap_statx(int dir, const char *name, int flags, unsigned mask, struct statx *about)
+{
+    int result = __real_statx(dir, name, flags, mask, about);
+    if (result == 0 && is_reborn)
+        about->stx_btime.tv_sec++;
+    return result;
+}
+
+/* Whether the call may not copy a directory up before it lets it go. */
+static bool is_kept_below;
+
+int __real_fchownat(int dir, const char *name, uid_t user, gid_t group, int flags);
+int __wrap_fchownat(int dir, const char *name, uid_t user, gid_t group, int flags);
+
+int __wrap_fchownat(int dir, const char *name, uid_t user, gid_t group, int flags)
+{
+    if (!is_kept_below)
+        return __real_fchownat(dir, name, user, group, flags);
+    errno = EPERM;
+    return -1;
+}
 
 /* Directories within one another, each with a file, below one that is open; what it gives is open on the last. */
 static int dig(int top, int levels)
@@ -117,6 +152,25 @@ static void on_two(void)
     removed();
 }
 
+static void copied_up_later(void)
+{
+    go_apart();
+    mount_layers(4, "");
+    is_kept_below = true;
+    removed();
+}
+
+static void used_again(void)
+{
+    go_apart();
+    mount_layers(3, "");
+    act = bear_anew;
+    ssize_t got = inroot_remove_all(root, "d", INROOT_NO_RETRY);
+    expect(is_reborn, "no directory was let go");
+    gives(got, -EAGAIN, "directories that were copied up and then born later");
+    gives(faccessat(root, "d/f", F_OK, 0), 0, "the topmost directory's file, which is to be there still");
+}
+
 /* The directory below the topmost is moved into another, which isn't emptied. */
 static void move_away(void)
 {
@@ -162,8 +216,8 @@ static void moved_meanwhile(void)
 
 int main(int count, char **words)
 {
-    static const char *const dirs[] = {"lower", "upper1", "work1", "upper2", "work2", "merged"};
-    static void (*const parts[])(void) = {on_one_file_system, on_two, refused, moved_meanwhile};
+    static const char *const dirs[] = {"lower", "upper1", "work1", "upper2", "work2", "upper3", "work3", "upper4", "work4", "merged"};
+    static void (*const parts[])(void) = {on_one_file_system, on_two, copied_up_later, used_again, refused, moved_meanwhile};
     int skipped = 0;
     if (count != 2)
         return 2;

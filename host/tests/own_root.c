@@ -1,7 +1,8 @@
 /*
  * own_root: without openat2(2), as a filter has it, a root that is given by its descriptor is refused before any step in a thread
  * whose own root directory is no mount's: there /proc doesn't tell what is below it from what isn't. Elsewhere the calls go on,
- * and in a jail. Where the kernel doesn't tell whether a directory is a mount's, the mounts of the thread do. What was moved out of
+ * and in a jail. Where the kernel doesn't tell whether a directory is a mount's, the mounts of the thread do, but for one that covers
+ * the directory. What was moved out of
  * the mount on which the root is isn't taken for the root, with openat2(2) or without; and a root that was moved out itself has no
  * places.
  *
@@ -140,6 +141,33 @@ static void in_chroot(void)
     (no_openat2 ? is_refused : goes_on)("in a chroot", root);
 }
 
+/* What is mounted over the thread's own root directory has the path of that, and doesn't make it a mount's. */
+static void covered(const char *type, const char *what)
+{
+    if (unshare(CLONE_NEWNS) != 0 || mount(NULL, "/", NULL, MS_REC | MS_PRIVATE, NULL) != 0)
+        _exit(NO_RIGHT);
+    close(root);
+    root = sure(open(where, O_PATH | O_DIRECTORY | O_CLOEXEC), where);
+    if (fchdir(root) != 0 || chroot(".") != 0 || mount(what, "/", type, type == NULL ? MS_BIND : 0, NULL) != 0)
+        _exit(NO_RIGHT);
+    filter();
+    /* By the second witness `..` at the end of a path leads into the cover, which isn't the root. */
+    if (no_openat2)
+        is_refused("in a chroot that is covered", root);
+    else
+        opens_f(root, "a/b/f", 0, "in a chroot that is covered");
+}
+
+static void in_covered_chroot(void)
+{
+    covered("tmpfs", "cover");
+}
+
+static void in_chroot_over_itself(void)
+{
+    covered(NULL, "/");
+}
+
 static void *as_made(void *unused)
 {
     (no_openat2 ? is_refused : goes_on)("in a thread that a jailed one made", root);
@@ -263,6 +291,8 @@ static int each(void)
 {
     int skipped = apart(in_no_jail);
     skipped |= apart(in_chroot);
+    skipped |= apart(in_covered_chroot);
+    skipped |= apart(in_chroot_over_itself);
     skipped |= apart(in_jail);
     skipped |= apart(on_mount);
     return skipped | apart(in_jail_on_mount);

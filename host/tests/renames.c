@@ -1,6 +1,7 @@
 /*
  * renames: what inroot_rename() does by each of its modes to an entry that is there already, and to one that isn't. By /proc, in
- * a jail, and name by name. Which object an entry leads to is told by its inode, and a whiteout by its kind and device.
+ * a jail, and name by name. Which object an entry leads to is told by its inode, and a whiteout by its kind and device. And for
+ * which of several reasons the kernel refuses a rename, as renames_stood of crates/step_calls has it.
  *
  * usage: renames DIR. Exits 0 where each is as inroot.h says. 78: no right to change a root, or no whiteouts here, so that a part
  * is left out.
@@ -53,6 +54,52 @@ static const struct {
     {"a/f", "b/g", INROOT_EXCHANGE + 1, EINVAL, 1, 2},
     {"a/f", "b/g", INROOT_PLAIN - 1, EINVAL, 1, 2},
 };
+
+/* What renameat2(2) itself gives, where d is above the file d/s/f and the directory d/s/x, which has entries. */
+static const struct {
+    const char *from, *to;
+    unsigned int mode;
+    int error;
+} kernel_rows[] = {
+    {"d", "d/s/f", INROOT_PLAIN, EINVAL},
+    {"d", "d/s/x", INROOT_PLAIN, EINVAL},
+    {"d", "file", INROOT_PLAIN, ENOTDIR},
+    {"file", "d", INROOT_PLAIN, EISDIR},
+    {"d/s/f", "d", INROOT_PLAIN, ENOTEMPTY},
+    {"d/s/x", "d", INROOT_PLAIN, ENOTEMPTY},
+    {"d", "d", INROOT_PLAIN, 0},
+    {"none", "file", INROOT_PLAIN, ENOENT},
+    {"none", "file", INROOT_NOREPLACE, ENOENT},
+    {"d", "d/s/f", INROOT_NOREPLACE, EEXIST},
+    {"d", "none", INROOT_EXCHANGE, ENOENT},
+    {"none", "d", INROOT_EXCHANGE, ENOENT},
+    {"d", "d/s/x", INROOT_EXCHANGE, EINVAL},
+    {"d/s/x", "d", INROOT_EXCHANGE, EINVAL},
+};
+
+static int renamed(int from_dir, const char *from, int to_dir, const char *to, unsigned int mode)
+{
+    return syscall(SYS_renameat2, from_dir, from, to_dir, to, mode) == 0 ? 0 : -errno;
+}
+
+static void kernels_own(void)
+{
+    sure(mkdirat(root, "d", 0755), "d");
+    sure(mkdirat(root, "d/s", 0755), "d/s");
+    sure(mkdirat(root, "d/s/x", 0755), "d/s/x");
+    sure(mkdirat(root, "d/s/x/y", 0755), "d/s/x/y");
+    sure(mknodat(root, "d/s/f", S_IFREG | 0600, 0), "d/s/f");
+    sure(mknodat(root, "file", S_IFREG | 0600, 0), "file");
+    for (size_t row = 0; row < sizeof kernel_rows / sizeof *kernel_rows; row++)
+        gives(renamed(root, kernel_rows[row].from, root, kernel_rows[row].to, kernel_rows[row].mode), -kernel_rows[row].error,
+              "the kernel's own row %zu", row);
+    sure(mkdirat(root, "gone", 0755), "gone");
+    int gone = sure(openat(root, "gone", O_PATH | O_DIRECTORY | O_CLOEXEC), "gone");
+    sure(unlinkat(root, "gone", AT_REMOVEDIR), "gone");
+    for (unsigned int mode = INROOT_PLAIN; mode <= INROOT_EXCHANGE; mode++)
+        gives(renamed(root, "file", gone, "new", mode), -ENOENT, "into a removed directory, mode %u", mode);
+    close(gone);
+}
 
 static void one(size_t row, int at, int flags)
 {
@@ -108,6 +155,7 @@ int main(int count, char **words)
     sure(mkdirat(root, "b", 0755), "b");
     sure(symlinkat("b", root, "l"), "l");
     has_whiteouts = makes_whiteouts();
+    kernels_own();
     each(root);
     int skipped = apart(in_jail);
     printf("renames: %d not as they are to be\n", wrong);

@@ -1,12 +1,14 @@
 /*
  * walk: the entries below a directory, one after another: each one once and with its kind, to a depth; what can't be
  * gone into and why; and what is given after directories were moved, replaced and removed between two turns. By /proc,
- * in a jail and in one that trusts.
+ * in a jail and in one that trusts. Once what is no kind stands beside each name, as a server might have it. To be linked
+ * with --wrap=syscall.
  *
  * usage: walk DIR. Exits 0 where each case holds. 78: no right here to do what it takes, or a part of it.
  */
 #define _GNU_SOURCE
 #include "support.h"
+#include "wraps.h"
 
 #include <errno.h>
 #include <limits.h>
@@ -50,6 +52,23 @@ static void make_tree(void)
     sure(symlinkat("/a", root, "to"), "to");
     sure(mknodat(root, "a/fifo", S_IFIFO | 0600, 0), "fifo");
 }
+
+/* Whether the kind of each entry that is read has a bit that none has. */
+static bool has_odd_kinds;
+
+static long my_syscall(long number, const long with[6])
+{
+    long got = __real_syscall(number, with[0], with[1], with[2], with[3], with[4], with[5]);
+    /* A record's length and kind stand behind two numbers of 64 bits. */
+    for (long at = 0; has_odd_kinds && number == SYS_getdents64 && at < got;) {
+        unsigned char *record = (unsigned char *)with[1] + at;
+        record[18] |= 16;
+        at += record[16] | record[17] << 8;
+    }
+    return got;
+}
+
+INSTEAD_OF_SYSCALL(my_syscall)
 
 static void keep(const struct inroot_walk_entry *entry)
 {
@@ -384,6 +403,9 @@ static void all(int by)
 {
     place = by;
     whole();
+    has_odd_kinds = true;
+    whole();
+    has_odd_kinds = false;
     levels();
     errors();
     holds();

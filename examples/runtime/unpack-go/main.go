@@ -63,7 +63,7 @@ func (u *unpacking) fail(name string, what error) {
 func (u *unpacking) lookAgain() {
 	was, err := u.above.Stat()
 	if err == nil {
-		now, failed := inroot.StatInRoot(u.root, u.aboveName)
+		now, failed := inroot.StatInRoot(u.root, u.aboveName, inroot.Below)
 		if err = failed; err == nil && !os.SameFile(was, now) {
 			err = syscall.ESTALE
 		}
@@ -120,7 +120,7 @@ func (u *unpacking) openAbove(name string) (last string, err error) {
 func (u *unpacking) makeRoom(last string) error {
 	err := inroot.UnlinkInRoot(u.at, last)
 	if errors.Is(err, syscall.EISDIR) {
-		_, err = inroot.RemoveAllInRoot(u.at, last)
+		_, err = inroot.RemoveAllInRoot(u.at, last, inroot.NoXdev)
 	}
 	if errors.Is(err, syscall.ENOENT) {
 		return nil
@@ -277,7 +277,7 @@ func (u *unpacking) makeEntry(name string, header *tar.Header) error {
 func (u *unpacking) setDirectory(one directory) error {
 	const oPath = 0x200000
 	flags := oPath | syscall.O_DIRECTORY | syscall.O_NOFOLLOW
-	found, err := inroot.OpenFileInRoot(u.root, one.name, flags, 0)
+	found, err := inroot.OpenFileInRoot(u.root, one.name, flags, 0, inroot.Below)
 	if err != nil {
 		return err
 	}
