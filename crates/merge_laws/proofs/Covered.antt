@@ -11,7 +11,7 @@ use Rattle.explore.specs.Opened.{opened_world}
 use Rattle.local_states.proofs.Lists.Runs.{actors_stay}
 use Rattle.explore_parts.specs.declared.asked.Asked.{Asked}
 use Rattle.explore_command.specs.Part.{IsBarred, HasLists}
-use Rattle.race_core.specs.declared.plan.ActorPlan.{ActorPlan}
+use Rattle.call_plans.specs.declared.plan.ActorPlan.{ActorPlan}
 use Rattle.race_core.specs.declared.seat.Seat.{Seat}
 use Rattle.race_core.specs.Worlds.{WorldView, turn, is_busy_at}
 use Rattle.schedule_graph.specs.Counted.{IsAmong}

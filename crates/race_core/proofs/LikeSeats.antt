@@ -10,8 +10,8 @@ use Rattle.tree_model.specs.declared.step.StepOf.TheVariants as steps
 use Rattle.root_ops.specs.declared.op.Op.TheVariants as ops
 use Rattle.root_ops.specs.View.{CallView}
 use Rattle.step_resolver.specs.declared.walk.Root.{Root}
-use Rattle.race_core.specs.declared.plan.Planned.{Planned}
-use Rattle.race_core.specs.declared.plan.Planned.TheVariants as plans
+use Rattle.call_plans.specs.declared.plan.Planned.{Planned}
+use Rattle.call_plans.specs.declared.plan.Planned.TheVariants as plans
 use Rattle.race_core.specs.declared.report.Outcome.{Outcome}
 use Rattle.race_core.specs.declared.report.Outcome.TheVariants as outcomes
 use Rattle.race_core.specs.declared.seat.Seat.{Seat}

@@ -3,16 +3,16 @@ ghost use Rattle.std.specs.Prelude.{◌≡◌, [], IfOk};
 ghost use Rattle.race_core.specs.WithoutOutcomes.{without_outcomes};
 
 use crate::ledger::Ledger;
-use crate::plan::Planned;
 use crate::report::Outcomes;
 use crate::seat::Seat;
+use call_plans::Planned;
 use handles::Standing;
 use path_text::NoMemory;
 use root_ops::Call;
 use std::alloc::Global;
 use std::collections::VecDeque;
 
-mod calls;
+mod outcomes;
 
 impl Seat {
     /// An equal seat. NoMemory where room was refused.

@@ -4,8 +4,8 @@ ghost use Rattle.root_ops.specs.declared.reply.Reply.TheVariants.{Kept};
 ghost use Rattle.race_core.specs.Turns.{handle_at, step_at, request_of, standing_under, left_by, opened_ledger};
 ghost use Rattle.race_core.specs.TurnView.{Begins, IsStarted, are_some, taken_down};
 
-use crate::plan::{Planned, Ref};
 use crate::report::{Outcome, Outcomes};
+use call_plans::{Planned, Ref};
 use handles::Standing;
 use path_text::{Errno, Flags, NoMemory};
 use root_ops::{Call, CallTurn, Op, Reply, Request};

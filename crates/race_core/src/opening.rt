@@ -4,10 +4,10 @@ ghost use Rattle.race_core.specs.Opening.{GrantsOne, GrantsTo, Opens, seats_of, 
 
 use crate::book::Book;
 use crate::ledger::Ledger;
-use crate::plan::ActorPlan;
 use crate::report::WorldFault;
 use crate::seat::Seat;
 use crate::world::World;
+use call_plans::ActorPlan;
 use handles::Owner;
 use path_text::{Errno, NoMemory};
 use std::alloc::Global;

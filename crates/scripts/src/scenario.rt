@@ -15,7 +15,7 @@ use crate::schedule::schedule_for;
 use crate::script::version_of;
 use crate::tree::tree_of;
 use crate::turns::TurnOrder;
-use race_core::ActorPlan;
+use call_plans::ActorPlan;
 use serde_json::Value;
 use std::alloc::Global;
 use std::io::Read;

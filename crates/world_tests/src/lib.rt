@@ -13,6 +13,8 @@ mod like;
 #[cfg(test)]
 mod pictures;
 #[cfg(test)]
+mod planned;
+#[cfg(test)]
 mod plans;
 #[cfg(test)]
 mod quoted;

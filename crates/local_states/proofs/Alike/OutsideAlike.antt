@@ -15,7 +15,7 @@ use Rattle.root_ops.specs.declared.below.Below.{Below}
 use Rattle.root_ops.specs.declared.op.Request.{Request}
 use Rattle.root_ops.specs.Order.{CallTurn, more, ends, due}
 use Rattle.root_ops.specs.View.{CallView}
-use Rattle.race_core.specs.declared.plan.Planned.{Planned}
+use Rattle.call_plans.specs.declared.plan.Planned.{Planned}
 use Rattle.race_core.specs.declared.seat.Seat.{Seat}
 use Rattle.race_core.specs.Book.{BookedHistory, is_close, is_done, refusal, booked}
 use Rattle.race_core.specs.Ledgers.{LedgerView}

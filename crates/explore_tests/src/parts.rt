@@ -1,10 +1,12 @@
 //! Parts of searches: what each tells, and that parts which have all schedules make what the whole search writes.
-use crate::scenes::{CARRIED_OUT, MOVED_OUT, REMOVED, THREE_MAKE, TWO_MAKE, TWO_RESOLVE, scene_of};
 use explore::{Scene, explore};
 use explore_command::{Silent, explore_part, explore_script, part_of_scene, survey_scene};
 use explore_parts::{Asked, merge_parts, read_asked};
 use outcome_text::{Options, Part, Survey, merge};
 use race_core::ACTORS_MAX;
+use search_tests::scenes::{
+    CARRIED_OUT, MOVED_OUT, REMOVED, THREE_MAKE, TWO_MAKE, TWO_RESOLVE, scene_of,
+};
 use std::alloc::Global;
 use std::test::Fail;
 

@@ -36,7 +36,7 @@ pub struct Plans {
 
 impl Model for Plans {
     ghost use Rattle.std.specs.Prelude.{List};
-    ghost use Rattle.race_core.specs.declared.plan.Planned.{Planned};
+    ghost use Rattle.call_plans.specs.declared.plan.Planned.{Planned};
 
     ghost Value = { List Planned };
 
@@ -83,11 +83,9 @@ impl Plans {
         self.calls.push(call)?;
         Ok(())
     }
-}
 
-impl Plans {
-    /// The calls, one after another.
-    pub(crate) fn into_calls(self) -> VecDeque<Planned>
+    /// The calls, to be taken out one after another. Takes no memory.
+    pub fn into_calls(self) -> VecDeque<Planned>
         ensures { result.items ≡ self }
     {
         VecDeque::from(self.calls)

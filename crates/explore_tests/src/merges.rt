@@ -1,10 +1,10 @@
 //! What makes no part and no whole, and what can't be read or written.
 use crate::parts::{Question, add_part, all_within, asked_of, merged};
-use crate::scenes::{REMOVED, TWO_RESOLVE};
 use explore_command::{Silent, explore_part};
 use explore_parts::merge_parts;
 use outcome_text::{ExploreFault, MergeFault, Part, SearchFault, merge};
 use scripts::{RunFault, ScriptFault};
+use search_tests::scenes::{REMOVED, TWO_RESOLVE};
 use std::alloc::Global;
 use std::io::{self, ErrorKind, Read};
 

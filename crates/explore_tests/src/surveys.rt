@@ -1,8 +1,8 @@
 //! Outcomes told in their order, schedules as words, and properties that no report can have a line for.
-use crate::scenes::{MOVED_OUT, scene_of};
 use outcome_text::{Property, Rule, Told, first_untold, schedule_words, told_in_order};
 use path_text::{Bytes, NoMemory};
 use scripts::RunFault;
+use search_tests::scenes::{MOVED_OUT, scene_of};
 use std::alloc::Global;
 use std::test::Fail;
 use step_text::Output;

@@ -1,8 +1,8 @@
 //! Searches whose memory is limited, by gauges that say what a test wants, and what Linux says as text.
 use crate::parts::{all_within, asked_of};
-use crate::scenes::REMOVED;
 use explore_command::{Gauge, Silent, explore_part, explore_script, peak_in};
 use outcome_text::ExploreFault;
+use search_tests::scenes::REMOVED;
 use std::alloc::Global;
 use std::test::Fail;
 

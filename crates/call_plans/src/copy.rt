@@ -1,8 +1,7 @@
-//! Copies of planned calls, and of how calls ended.
+//! Copies of planned calls.
 ghost use Rattle.std.specs.Prelude.{◌≡◌, IfOk};
 
 use crate::plan::{Planned, Ref};
-use crate::report::Outcome;
 use path_text::NoMemory;
 use std::alloc::Global;
 use tree_model::StepOf;
@@ -16,26 +15,6 @@ impl Planned {
             Planned::Call(request) => Planned::Call(request.copy_whole(alloc)?),
             Planned::Single(step) => Planned::Single(copy_step(alloc, step)?),
             Planned::Release(call) => Planned::Release(*call),
-        })
-    }
-}
-
-impl Outcome {
-    /// An equal outcome. NoMemory where its room was refused.
-    pub fn copy(&self, alloc: Global) -> Result<Outcome, NoMemory>
-        ensures { IfOk result (λ copy. copy ≡ self.now) }
-    {
-        Ok(match self {
-            Outcome::Opened { node, kind, names } => Outcome::Opened {
-                node: *node,
-                kind: *kind,
-                names: names.copy(alloc)?,
-            },
-            Outcome::Text(text) => Outcome::Text(text.copy(alloc)?),
-            Outcome::Done => Outcome::Done,
-            Outcome::Count(count) => Outcome::Count(*count),
-            Outcome::Stepped(answer) => Outcome::Stepped(answer.copy(alloc)?),
-            Outcome::Fault(error) => Outcome::Fault(*error),
         })
     }
 }
