@@ -15,7 +15,8 @@ use Rattle.c_protocol.specs.Runs.{LiesAt, ComeNext, TakesPart, ends_in_dot, is_d
 use Rattle.c_protocol.specs.declared.runs.Ahead.{Ahead}
 use Rattle.c_protocol.specs.declared.runs.Spelled.{Spelled}
 use Rattle.root_ops.specs.Ahead.{doing_ahead}
-use Rattle.c_protocol.proofs.PassingWalks.{AtName, StandsIn, at_first, is_due, stands_behind, past_cur, at_next, goes_up, asks_for, part_left, none_left}
+use Rattle.bulk_ops.proofs.MakeAllNames.{part_at}
+use Rattle.c_protocol.proofs.PassingWalks.{AtName, StandsIn, at_first, is_due, stands_behind, past_cur, at_next, goes_up, asks_for, none_left}
 use Rattle.c_protocol.proofs.RunStates.{Looking, none_laid, one_laid, at_end}
 
 -- the call stands at its first name, of which nothing was told yet; or behind a name
@@ -91,7 +92,7 @@ found_cur call most number used names dot i old room was part_is =
         | inr h ↦ inr (
           h.0,
           past_cur was.at was.dir (drop (i + 1) (doing_ahead call.doing))
-              (subst (λ ps. StandsIn was.at was.dir ps) (part_left (doing_ahead call.doing) i part.Cur part_is) h.1),
+              (subst (λ ps. StandsIn was.at was.dir ps) (part_at (doing_ahead call.doing) i part.Cur part_is) h.1),
         )
       ];
       dotted = sym (dot_at (doing_ahead call.doing) i part.Cur part_is);
@@ -109,7 +110,7 @@ due_there call at dir names i n (inl h) part_is short =
     subst (λ c. AtName c dir n (drop (i + 1) ps)) (sym h.2) behind
 due_there call at dir names i n (inr h) part_is short =
     at_next at dir n (drop (i + 1) (doing_ahead call.doing))
-    (subst (λ ps. StandsIn at dir ps) (part_left (doing_ahead call.doing) i (part.Named n) part_is) h.1) short
+    (subst (λ ps. StandsIn at dir ps) (part_at (doing_ahead call.doing) i (part.Named n) part_is) h.1) short
 
 -- it is laid out, and passed
 pub found_name : (call : CallView) (most number used names : ℕ) (dot : Bool) (i end : ℕ) (n old room new : List ℕ)
@@ -141,7 +142,7 @@ found_up call most number used names dot i old room new ahead was part_is count 
           let first = at_first call was.dir h.3.0 part.Up h.3.1 (ap (slice_get (doing_ahead call.doing)) (sym h.1) ∙ part_is) in
           cc (first.1)
       | inr h ↦
-          let stands = subst (λ ps. StandsIn was.at was.dir ps) (part_left (doing_ahead call.doing) i part.Up part_is) h.1 in
+          let stands = subst (λ ps. StandsIn was.at was.dir ps) (part_at (doing_ahead call.doing) i part.Up part_is) h.1 in
           at_end call was.at most was.from number used was.dir was.next names ahead old room new was.looking (omega (arith, was.counted))
           (record {
             names = count;

@@ -197,7 +197,7 @@ printed_is : (names : List (List ℕ)) (b : ℕ) (bs : List ℕ) → after_slash
 printed_is [] b bs h = cc (h)
 printed_is (n ∷ names) b bs h = h
 
-same_text : (xs ys : List ℕ) → same_bytes xs ys ≡ true → xs ≡ ys
+pub same_text : (xs ys : List ℕ) → same_bytes xs ys ≡ true → xs ≡ ys
 same_text xs ys h = (bytes_decides xs ys).0 h
 
 -- with the slash at its beginning or without, the path has the same parts

@@ -8,6 +8,7 @@ mod PassingNames
 mod AtOnce
 mod StepsSeen
 mod ThroughTexts
+mod ThroughStands
 mod PassingThrough
 mod SplitLemmas
 mod GivingUp

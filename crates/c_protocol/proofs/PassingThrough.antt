@@ -1,15 +1,12 @@
 -- A resolve whose names and links are passed at once is led, line by line, to its reply.
-use Rattle.std.proofs.Common.{◌≡◌, ◌<◌, ℕ, zero, suc, ◌+◌, ◌-◌, Bool, true, false, not, ◌==◌, ◌&&◌, ◌||◌, nat_le, nat_lt, length, get_or, List, [], ◌∷◌, ◌++◌, map, reverse, take, drop, refl, sym, ap, ◌∙◌, subst, arith, length-append}
-use Rattle.std.specs.Prelude.{if◌then◌else◌, is_none, codes, Some, None}
+use Rattle.std.proofs.Common.{◌≡◌, ◌<◌, ℕ, zero, suc, ◌+◌, ◌-◌, Bool, true, false, not, ◌==◌, nat_le, nat_lt, length, get_or, List, [], ◌∷◌, ◌++◌, map, reverse, take, drop, refl, sym, ap, ◌∙◌, subst, arith, length-append}
+use Rattle.std.specs.Prelude.{if◌then◌else◌, is_none, Some, None}
 use Rattle.std.specs.List.{list_all}
-use Rattle.std.proofs.Math.Seq.{take-add}
-use Rattle.std.proofs.lemmas.Bool.{eqb-true, leb-true, ltb-true, not-true}
-use Rattle.std.proofs.lemmas.List.{append_assoc, append-nil, reverse-append, reverse-reverse, take-append-drop, take_at, drop_at, drop-drop, length-take-le, same_from_push}
-use Rattle.std.proofs.lemmas.List.Folds.{list_all-append}
+use Rattle.std.proofs.lemmas.Bool.{eqb-true, ltb-true, not-true}
+use Rattle.std.proofs.lemmas.List.{append_assoc, append-nil, reverse-append, reverse-reverse, take-append-drop}
 use Rattle.std.proofs.lemmas.List.Sums.{AllPass-from_list_all}
 use Rattle.path_text.specs.declared.errno.Errno.TheVariants.{NotDir, TooLong, CrossRoot, Raced, Loop}
 use Rattle.path_text.specs.declared.name.TheConstants.{SLASH}
-use Rattle.path_text.specs.declared.part.Part.{Part}
 use Rattle.path_text.specs.Name.{same_bytes, name_fault, is_name}
 use Rattle.path_text.specs.Names.{same_names}
 use Rattle.path_text.specs.Print.{after_slashes, names_read}
@@ -31,7 +28,6 @@ use Rattle.step_resolver.specs.Meaning.{LINKS_MAX, is_too_long}
 use Rattle.step_resolver.specs.Order.{Way, Handle, Position, root_itself, holds, names_of, handles_of, handle_at, is_dir_position, is_followed, Line, answered, Todo, todo, opening, reading, on_part, on_parts}
 use Rattle.step_resolver.specs.Order as walk
 use Rattle.step_resolver.specs.View.{way_from}
-use Rattle.step_resolver.proofs.Underway.LegalHistory.{same_head}
 use Rattle.root_ops.specs.declared.aim.Aim.TheVariants.{Opens}
 use Rattle.root_ops.specs.declared.below.Below.{Below}
 use Rattle.root_ops.specs.declared.op.Op.{Op}
@@ -43,219 +39,13 @@ use Rattle.c_protocol.specs.AtOnce.{Passed, opens_kind, opens, closes, lines_fro
 use Rattle.c_protocol.specs.Numbers.{op_of, kind_of, below_asked}
 use Rattle.c_protocol.specs.Outright.{call_in}
 use Rattle.c_protocol.specs.Through as through
-use Rattle.c_protocol.specs.Through.{is_step, are_steps, is_way, are_names_or_none, is_entry, is_behind, inner_text, is_joined, is_spliced, is_child, is_place, place_text, before_text, names_in, Stand, passes_to, may_follow, comes_up, rises_through, ends_through, Passage, link, above, IsWay, Spot, top, spot_at, spot_in, spot_after, enters, rises, lines_on, opened_at, OpensThroughTell}
+use Rattle.c_protocol.specs.Through.{are_steps, is_way, inner_text, is_spliced, place_text, before_text, Stand, passes_to, may_follow, ends_through, Passage, link, above, IsWay, Spot, top, spot_at, spot_in, spot_after, enters, rises, lines_on, opened_at, OpensThroughTell}
 use Rattle.c_protocol.specs.declared.numbers.Asked.{Asked}
-use Rattle.c_protocol.proofs.AtOnce.{placed, no_fault, short, handle, onto, onto_is, first_or, parts_either, reprinted}
-use Rattle.c_protocol.proofs.ThroughTexts.{same_text, joined_is, spliced_is, pieces_of, behind_is, names_are_steps, plain, pieces_back, same_pieces, names_are, entry_is, child_is, parts_slashed, parts_inner, way_is, IsNames, piece_split, names_split, same_some}
-
--- ---- the parts to come
-
--- a link at any of them is followed
-abbrev ask_piece : List ℕ → AskedPart
-ask_piece p = ask true (part_of p)
-
-abbrev rest_of : List AskedPart → List AskedPart
-rest_of [] = []
-rest_of (p ∷ ps) = ps
-
--- the first part to come, of a link's text or the caller's own, and those behind it
-record Head (inner own : List AskedPart) (p : AskedPart) (rest : List AskedPart) : Type 0 where
-  mine : Bool
-  texts : List AskedPart
-  path : List AskedPart
-  left : texts ++ path ≡ rest
-  turn : (way : Way) (pos : Position) (b : ℕ)
-      → on_parts way pos inner own b ≡ on_part way pos p mine (todo texts path b) (on_parts way pos texts path b)
-
-head : (inner own : List AskedPart) (p : AskedPart) (rest : List AskedPart) → inner ++ own ≡ p ∷ rest → Head inner own p rest
-head [] [] p rest h = cc (h)
-head [] (q ∷ own) p rest h = record {
-  mine = true;
-  texts = [];
-  path = own;
-  left = ap rest_of h;
-  turn = λ way pos b. ap (λ r. on_part way pos r true (todo [] own b) (walk.on_own way pos own b)) (same_head q p own rest h);
-}
-head (q ∷ inner) own p rest h = record {
-  mine = false;
-  texts = inner;
-  path = own;
-  left = ap rest_of h;
-  turn = λ way pos b. ap (λ r. on_part way pos r false (todo inner own b) (on_parts way pos inner own b)) (same_head q p (inner ++ own) rest h);
-}
-
-none_left : (inner own : List AskedPart) (way : Way) (pos : Position) (b : ℕ) → inner ++ own ≡ [] → on_parts way pos inner own b ≡ walk.at_end pos []
-none_left [] [] way pos b h = refl
-none_left [] (q ∷ own) way pos b h = cc (h)
-none_left (q ∷ inner) own way pos b h = cc (h)
-
-named_piece : (n : List ℕ) → is_name n ≡ true → ask_piece n ≡ Named true n
-named_piece n h = ap (ask true) (plain n h).part
-
--- ---- where a walk stands
-
--- The names passed are the path's up to there, and the parts to come are the rest of it.
-record Holds (s : Stand) (pos : Position) (inner own : List AskedPart) : Type 0 where
-  dir : is_dir_position pos ≡ true
-  passed : take s.at s.path ≡ after_slashes (reverse (names_of pos))
-  valid : list_all is_name (reverse (names_of pos)) ≡ true
-  pieces : List (List ℕ)
-  rest : drop s.at s.path ≡ after_slashes pieces
-  steps : list_all is_step pieces ≡ true
-  is : inner ++ own ≡ map ask_piece pieces
-
-all_of : (p : List ℕ → Bool) (xs ys : List (List ℕ)) → list_all p xs ≡ true → list_all p ys ≡ true → list_all p (xs ++ ys) ≡ true
-all_of p xs ys h k = list_all-append p xs ys ∙ ap (λ b. b && list_all p ys) h ∙ k
-
-both_of : (p : List ℕ → Bool) (xs ys : List (List ℕ)) → list_all p (xs ++ ys) ≡ true → (list_all p xs ≡ true) × (list_all p ys ≡ true)
-both_of p xs ys h = and_true (list_all p xs) (list_all p ys) (sym (list_all-append p xs ys) ∙ h)
-
-read_back : (pieces : List (List ℕ)) (text : List ℕ) → list_all is_step pieces ≡ true → text ≡ after_slashes pieces → pieces ≡ pieces_of text
-read_back pieces text h e = sym (pieces_back pieces h) ∙ ap pieces_of (sym e)
-
-asked_pieces : (ps qs : List (List ℕ)) → map (ask true) (map part_of ps) ++ map ask_piece qs ≡ map ask_piece (ps ++ qs)
-asked_pieces [] qs = refl
-asked_pieces (p ∷ ps) qs = ap (λ r. ask_piece p ∷ r) (asked_pieces ps qs)
-
-asked_all : (ps : List Part) → asked true ps ≡ map (ask true) ps
-asked_all [] = refl
-asked_all (p ∷ []) = refl
-asked_all (p ∷ q ∷ ps) = ap (λ r. ask true p ∷ r) (asked_all (q ∷ ps))
-
--- what the bytes say of names up to a link, and of the link
-record LinkSplit (s : Stand) (pieces : List (List ℕ)) (ps : List Passed) (l : Passed) (start end : ℕ) : Type 0 where
-  names : IsNames (take (start - s.at) (drop s.at s.path)) (through.names_of ps)
-  name : is_name l.name ≡ true
-  behind : is_behind (drop end s.path) ≡ true
-  before : take start s.path ≡ take s.at s.path ++ take (start - s.at) (drop s.at s.path)
-  size : length (take start s.path) ≡ start
-  pieces_are : pieces ≡ through.names_of ps ++ l.name ∷ pieces_of (drop end s.path)
-
-split_link : (s : Stand) (pieces : List (List ℕ)) (ps : List Passed) (l : Passed) (start end : ℕ) → passes_to s start end ≡ true
-    → names_in (take (start - s.at) (drop s.at s.path)) ≡ Some (through.names_of ps) → take (end - start) (drop start s.path) ≡ SLASH ∷ l.name
-    → drop s.at s.path ≡ after_slashes pieces → list_all is_step pieces ≡ true → LinkSplit s pieces ps l start end
-split_link s pieces ps l start end passes dirs_are entry_named rest steps =
-    let dirs = take (start - s.at) (drop s.at s.path) in
-    let entry = take (end - start) (drop start s.path) in
-    let behind = drop end s.path in
-    let a = and_true (nat_le s.at start) _ passes in
-    let b = and_true (nat_le start end) _ a.1 in
-    let c = and_true (nat_le end (length s.path)) _ b.1 in
-    let d = and_true (are_names_or_none dirs) _ c.1 in
-    let e = and_true (is_entry entry) (is_behind behind) d.1 in
-    let from = leb-true s.at start a.0 in
-    let to = leb-true start end b.0 in
-    let within = leb-true end (length s.path) c.0 in
-    let names = names_are dirs (through.names_of ps) d.0 dirs_are in
-    let name = entry_is entry l.name e.0 entry_named in
-    let second : drop start s.path ≡ (SLASH ∷ l.name) ++ behind =
-    sym (take-append-drop (end - start) (drop start s.path)) ∙ ap (λ x. x ++ drop (end - start) (drop start s.path)) entry_named
-    ∙ ap (λ y. (SLASH ∷ l.name) ++ y) (drop-drop (end - start) start s.path ∙ ap (λ n. drop n s.path) (omega (arith, to))) in
-    let first : drop s.at s.path ≡ after_slashes (through.names_of ps) ++ ((SLASH ∷ l.name) ++ behind) =
-    sym (take-append-drop (start - s.at) (drop s.at s.path)) ∙ ap (λ x. x ++ drop (start - s.at) (drop s.at s.path)) names.is
-    ∙ ap (λ y. after_slashes (through.names_of ps) ++ y) (drop-drop (start - s.at) s.at s.path ∙ ap (λ n. drop n s.path) (omega (arith, from)) ∙ second) in
-    record {
-      names = names;
-      name = name;
-      behind = e.1;
-      before = ap (λ n. take n s.path) (omega (arith, from)) ∙ take-add s.at (start - s.at) s.path;
-      size = length-take-le start s.path (omega (arith, to, within));
-      pieces_are = read_back pieces (drop s.at s.path) steps rest ∙ ap pieces_of first ∙ names_split (through.names_of ps) l.name behind names.valid name e.1;
-    }
-
--- ---- `..`
-
-place_by : (place : List ℕ) (told : List (List ℕ)) (d : Bool) → same_bytes place (SLASH ∷ []) ≡ d → (d || has_names (names_read place)) ≡ true
-    → names_read place ≡ Some told → IsNames (if d then [] else place) told
-place_by place told true e h read =
-    let none = same_some [] told (sym (ap names_read (same_text place (SLASH ∷ []) e)) ∙ read) in
-    record { is = ap after_slashes none; valid = ap (list_all is_name) (sym none) }
-place_by place told false e h read =
-    let p = placed place told h read in
-    record { is = p.is ∙ sym (reprinted (p.first ∷ p.text)) ∙ ap after_slashes p.pieces; valid = p.valid }
-
-place_names : (place : List ℕ) (told : List (List ℕ)) → is_place place ≡ true → names_read place ≡ Some told → IsNames (place_text place) told
-place_names place told h read = place_by place told (same_bytes place (SLASH ∷ [])) refl h read
-
-nothing_more : (xs : List ℕ) (y : ℕ) (ys : List ℕ) → [] ≡ xs ++ y ∷ ys → ⊥
-nothing_more [] y ys h = cc (h)
-nothing_more (x ∷ xs) y ys h = cc (h)
-
--- what the bytes say of `..`
-record UpSplit (s t : Stand) (pieces told : List (List ℕ)) (names : List (List ℕ)) : Type 0 where
-  told_is : told ≡ names
-  path : t.path ≡ after_slashes told ++ drop (s.at + 3) s.path
-  at : t.at ≡ length (after_slashes told)
-  behind : is_behind (drop (s.at + 3) s.path) ≡ true
-  pieces_are : pieces ≡ codes ".." ∷ pieces_of (drop (s.at + 3) s.path)
-
--- the names passed have one more than those of the place
-last_dropped : (passed upper : List ℕ) (told names : List (List ℕ)) (n : List ℕ) → is_child passed upper ≡ true → IsNames upper told
-    → passed ≡ after_slashes (names ++ n ∷ []) → list_all is_name (names ++ n ∷ []) ≡ true → told ≡ names
-last_dropped passed upper told names n child at_place is valid =
-    let last = child_is passed upper child in
-    let more : passed ≡ after_slashes (told ++ last.name ∷ []) =
-    last.is ∙ ap (λ x. x ++ after_slashes (last.name ∷ [])) at_place.is ∙ sym (slashes-append told (last.name ∷ [])) in
-    let told_valid = all_of is_name told (last.name ∷ []) at_place.valid (ap (λ b. b && true) last.valid) in
-    (same_from_push told names last.name n (same_pieces (told ++ last.name ∷ []) (names ++ n ∷ [])
-    (names_are_steps (told ++ last.name ∷ []) told_valid) (names_are_steps (names ++ n ∷ []) valid) (sym more ∙ is))).0
-
-no_child : (passed upper : List ℕ) → is_child passed upper ≡ true → passed ≡ [] → ⊥
-no_child passed upper child none =
-    let last = child_is passed upper child in
-    nothing_more upper SLASH (last.name ++ []) (sym none ∙ last.is)
-
-module _ (s t : Stand) (place : List ℕ) (told : List (List ℕ)) (h : rises_through s place t.path ≡ true) where
-  up_one : (comes_up s ≡ true) × (((is_place place && (is_child (take s.at s.path) (place_text place) && is_joined t.path (place_text place) (drop (s.at + 3) s.path)))) ≡ true)
-  up_one = and_true (comes_up s) _ h
-
-  up_two : (is_place place ≡ true) × ((is_child (take s.at s.path) (place_text place) && is_joined t.path (place_text place) (drop (s.at + 3) s.path)) ≡ true)
-  up_two = and_true (is_place place) _ up_one.1
-
-  up_three : (is_child (take s.at s.path) (place_text place) ≡ true) × (is_joined t.path (place_text place) (drop (s.at + 3) s.path) ≡ true)
-  up_three = and_true (is_child (take s.at s.path) (place_text place)) _ up_two.1
-
-  up_split : (pieces : List (List ℕ)) (names : List (List ℕ)) (n : List ℕ) → names_read place ≡ Some told → t.at ≡ length (place_text place)
-      → take s.at s.path ≡ after_slashes (names ++ n ∷ []) → list_all is_name (names ++ n ∷ []) ≡ true
-      → drop s.at s.path ≡ after_slashes pieces → list_all is_step pieces ≡ true → UpSplit s t pieces told names
-  up_split pieces names n read at_is passed valid rest steps =
-      let behind = drop (s.at + 3) s.path in
-      let comes = and_true (nat_le (s.at + 3) (length s.path)) _ up_one.0 in
-      let up = and_true (same_bytes (take 3 (drop s.at s.path)) (codes "/..")) (is_behind behind) comes.1 in
-      let at_place = place_names place told up_two.0 read in
-      let whole : drop s.at s.path ≡ (SLASH ∷ codes "..") ++ behind =
-      sym (take-append-drop 3 (drop s.at s.path)) ∙ ap (λ x. x ++ drop 3 (drop s.at s.path)) (same_text (take 3 (drop s.at s.path)) (codes "/..") up.0)
-      ∙ ap (λ y. (SLASH ∷ codes "..") ++ y) (drop-drop 3 s.at s.path) in
-      record {
-        told_is = last_dropped (take s.at s.path) (place_text place) told names n up_three.0 at_place passed valid;
-        path = joined_is t.path (place_text place) behind up_three.1 ∙ ap (λ x. x ++ behind) at_place.is;
-        at = at_is ∙ ap length at_place.is;
-        behind = up.1;
-        pieces_are = read_back pieces (drop s.at s.path) steps rest ∙ ap pieces_of whole ∙ piece_split (codes "..") behind refl up.1;
-      }
+use Rattle.c_protocol.proofs.AtOnce.{placed, no_fault, short, handle, onto, onto_is, first_or, parts_either, reprinted, same_text}
+use Rattle.c_protocol.proofs.ThroughTexts.{spliced_is, pieces_of, names_are_steps, pieces_back, parts_slashed, way_is, same_some}
+use Rattle.c_protocol.proofs.ThroughStands.{ask_piece, Head, head, none_left, named_piece, Holds, all_of, read_back, asked_pieces, asked_all, split_link, no_child, up_three, up_split, names_in_order, entered, entered_all, all_dirs, stands_by, stands_above}
 
 -- ---- from line to line
-
-abbrev names_in_order : List Passed → List (List ℕ)
-names_in_order ps = through.names_of ps
-
-abbrev entered : Position → Passed → Kind → Position
-entered pos p kind = holds (handle p kind) (p.name ∷ names_of pos)
-
-abbrev entered_all : Position → List Passed → Position
-entered_all pos [] = pos
-entered_all pos (p ∷ ps) = entered_all (entered pos p Dir) ps
-
-all_dirs : (ps : List Passed) (pos : Position) → is_dir_position pos ≡ true → is_dir_position (entered_all pos ps) ≡ true
-all_dirs [] pos dir = dir
-all_dirs (p ∷ ps) pos dir = all_dirs ps (entered pos p Dir) refl
-
-names_entered : (ps : List Passed) (pos : Position) → reverse (names_of (entered_all pos ps)) ≡ reverse (names_of pos) ++ names_in_order ps
-names_entered [] pos = sym (append-nil (reverse (names_of pos)))
-names_entered (p ∷ ps) pos =
-    names_entered ps (entered pos p Dir)
-    ∙ ap (λ ns. ns ++ names_in_order ps) (reverse-append (p.name ∷ []) (names_of pos))
-    ∙ append_assoc (reverse (names_of pos)) (p.name ∷ []) (names_in_order ps)
 
 abbrev way_asked : Asked → Way
 way_asked asked_for = way_from (below_asked asked_for).root Follow (below_asked asked_for).flags
@@ -267,8 +57,10 @@ some_names (p ∷ ps) last before = omega (arith, length-append before (p.name �
 module _
     (asked_for : Asked)
     (lift : walk.Turn → CallTurn)
-    (goes_on : (w : walk.Walking) (step : StepWith ℕ) (answer : Answer) (lines : List Line) (end : CallTurn) → step ≡ walk.due (way_asked asked_for) w
-    → LeadsTo (below_asked asked_for) (lift (walk.take (way_asked asked_for) true w answer)) lines end → LeadsTo (below_asked asked_for) (lift (walk.more w)) (answered step answer ∷ lines) end) where
+    (goes_on : (w : walk.Walking) (step : StepWith ℕ) (answer : Answer) (lines : List Line) (end : CallTurn)
+        → step ≡ walk.due (way_asked asked_for) w
+    → LeadsTo (below_asked asked_for) (lift (walk.take (way_asked asked_for) true w answer)) lines end
+    → LeadsTo (below_asked asked_for) (lift (walk.more w)) (answered step answer ∷ lines) end) where
   abbrev below : Below
   below = below_asked asked_for
 
@@ -282,43 +74,55 @@ module _
   spot_entered [] pos = refl
   spot_entered (p ∷ ps) pos = spot_entered ps (entered pos p Dir)
 
-  at_name : (pos : Position) (mine : Bool) (n : List ℕ) (rest : Todo) (turn : walk.Turn) → is_dir_position pos ≡ true → is_too_long n ≡ false
+  at_name : (pos : Position) (mine : Bool) (n : List ℕ) (rest : Todo) (turn : walk.Turn) → is_dir_position pos ≡ true
+      → is_too_long n ≡ false
       → on_part way pos (Named true n) mine rest turn ≡ walk.more (opening pos mine true n rest)
   at_name root_itself mine n rest turn dir is =
       ap (λ t. if t then walk.gives_up [] TooLong else walk.more (opening root_itself mine true n rest)) is
   at_name (holds h names) mine n rest turn dir is =
-      ap (λ t. if t then (if is_too_long n then walk.gives_up (h.number ∷ []) TooLong else walk.more (opening (holds h names) mine true n rest))
+      ap (λ t. if t then (if is_too_long n then walk.gives_up (h.number ∷ []) TooLong else walk.more
+          (opening (holds h names) mine true n rest))
       else walk.gives_up (h.number ∷ []) NotDir) dir
-      ∙ ap (λ t. if t then walk.gives_up (h.number ∷ []) TooLong else walk.more (opening (holds h names) mine true n rest)) is
+      ∙ ap (λ t. if t then walk.gives_up (h.number ∷ []) TooLong else walk.more
+          (opening (holds h names) mine true n rest)) is
 
   -- what was held is closed
   closed : (pos next : Position) (inner own : List AskedPart) (b : ℕ) (lines : List Line) (end : CallTurn)
       → LeadsTo below (lift (on_parts way next inner own b)) lines end
-      → LeadsTo below (lift (walk.closes way (handles_of pos) (walk.onward next (todo inner own b)))) (closes (handles_of pos) ++ lines) end
+      → LeadsTo below (lift (walk.closes way (handles_of pos) (walk.onward next (todo inner own b))))
+          (closes (handles_of pos) ++ lines) end
   closed root_itself next inner own b lines end led = led
   closed (holds held names) next inner own b lines end led =
-      goes_on (walk.closing held.number [] (walk.onward next (todo inner own b))) (Close held.number) Done lines end refl led
+      goes_on (walk.closing held.number [] (walk.onward next (todo inner own b)))
+          (Close held.number) Done lines end refl led
 
   -- a name is opened that is no link
-  one_opened : (pos : Position) (inner own : List AskedPart) (b : ℕ) (p : Passed) (kind : Kind) (rest : List AskedPart) (lines : List Line) (end : CallTurn)
+  one_opened : (pos : Position) (inner own : List AskedPart) (b : ℕ) (p : Passed) (kind : Kind) (rest : List AskedPart)
+      (lines : List Line) (end : CallTurn)
       → is_dir_position pos ≡ true → is_name p.name ≡ true → is_followed true kind ≡ false
       → (h : Head inner own (Named true p.name) rest)
       → LeadsTo below (lift (on_parts way (entered pos p kind) h.texts h.path b)) lines end
-      → LeadsTo below (lift (on_parts way pos inner own b)) (opens (handle_at way pos) p kind ∷ (closes (handles_of pos) ++ lines)) end
+      → LeadsTo below (lift (on_parts way pos inner own b))
+          (opens (handle_at way pos) p kind ∷ (closes (handles_of pos) ++ lines)) end
   one_opened pos inner own b p kind rest lines end dir is stays h led =
       let later = closes (handles_of pos) ++ lines in
       let to = todo h.texts h.path b in
       subst (λ turn. LeadsTo below (lift turn) (opens (handle_at way pos) p kind ∷ later) end)
       (sym (h.turn way pos b ∙ at_name pos h.mine p.name to (on_parts way pos h.texts h.path b) dir (short p.name is)))
-      (goes_on (opening pos h.mine true p.name to) (Open (handle_at way pos) p.name) (Opened p.number p.node kind) later end refl
+      (goes_on (opening pos h.mine true p.name to) (Open (handle_at way pos) p.name)
+          (Opened p.number p.node kind) later end refl
       (subst (λ t. LeadsTo below
-      (lift (if t then walk.follows_link way pos (handle p kind) to else walk.enters way true pos p.name (handle p kind) to)) later end) (sym stays)
+      (lift (if t then walk.follows_link way pos (handle p kind) to else walk.enters way true pos p.name
+          (handle p kind) to)) later end) (sym stays)
       (closed pos (entered pos p kind) h.texts h.path b lines end led)))
 
   -- directories are entered, one in another
-  dirs_entered : (ps : List Passed) (pos : Position) (inner own : List AskedPart) (b : ℕ) (rest : List (List ℕ)) (lines : List Line) (end : CallTurn)
-      → is_dir_position pos ≡ true → list_all is_name (names_in_order ps) ≡ true → inner ++ own ≡ map ask_piece (names_in_order ps ++ rest)
-      → ((texts path : List AskedPart) → texts ++ path ≡ map ask_piece rest → LeadsTo below (lift (on_parts way (entered_all pos ps) texts path b)) lines end)
+  dirs_entered : (ps : List Passed) (pos : Position) (inner own : List AskedPart) (b : ℕ) (rest : List (List ℕ))
+      (lines : List Line) (end : CallTurn)
+      → is_dir_position pos ≡ true → list_all is_name (names_in_order ps) ≡ true
+      → inner ++ own ≡ map ask_piece (names_in_order ps ++ rest)
+      → ((texts path : List AskedPart) → texts ++ path ≡ map ask_piece rest
+          → LeadsTo below (lift (on_parts way (entered_all pos ps) texts path b)) lines end)
       → LeadsTo below (lift (on_parts way pos inner own b)) (enters (spot pos) ps ++ lines) end
   dirs_entered [] pos inner own b rest lines end dir valid is led = led inner own is
   dirs_entered (p ∷ ps) pos inner own b rest lines end dir valid is led =
@@ -335,19 +139,25 @@ module _
   behind_text text pos = if begins_with_slash text then root_itself else pos
 
   -- a link's text comes before what is left
-  text_put : (t : Bool) (pos : Position) (l : Passed) (parts inner own : List AskedPart) (b : ℕ) (lines : List Line) (end : CallTurn)
+  text_put : (t : Bool) (pos : Position) (l : Passed) (parts inner own : List AskedPart) (b : ℕ) (lines : List Line)
+      (end : CallTurn)
       → LeadsTo below (lift (on_parts way (if t then root_itself else pos) (parts ++ inner) own b)) lines end
-      → LeadsTo below (lift (walk.from_link way true pos (handle l Link) t parts (todo inner own b))) (closes (l.number ∷ (if t then handles_of pos else [])) ++ lines) end
+      → LeadsTo below (lift (walk.from_link way true pos (handle l Link) t parts (todo inner own b)))
+          (closes (l.number ∷ (if t then handles_of pos else [])) ++ lines) end
   text_put true pos l parts inner own b lines end led =
-      goes_on (walk.closing l.number (handles_of pos) (walk.onward root_itself (todo (parts ++ inner) own b))) (Close l.number) Done (closes (handles_of pos) ++ lines) end refl
+      goes_on (walk.closing l.number (handles_of pos) (walk.onward root_itself (todo (parts ++ inner) own b)))
+          (Close l.number) Done (closes (handles_of pos) ++ lines) end refl
       (closed pos root_itself (parts ++ inner) own b lines end led)
   text_put false pos l parts inner own b lines end led =
-      goes_on (walk.closing l.number [] (walk.onward pos (todo (parts ++ inner) own b))) (Close l.number) Done lines end refl led
+      goes_on (walk.closing l.number [] (walk.onward pos (todo (parts ++ inner) own b)))
+          (Close l.number) Done lines end refl led
 
-  link_followed : (pos : Position) (inner own : List AskedPart) (b : ℕ) (l : Passed) (text : List ℕ) (rest : List AskedPart) (lines : List Line) (end : CallTurn)
+  link_followed : (pos : Position) (inner own : List AskedPart) (b : ℕ) (l : Passed) (text : List ℕ)
+      (rest : List AskedPart) (lines : List Line) (end : CallTurn)
       → is_dir_position pos ≡ true → is_name l.name ≡ true → below.flags.no_links ≡ false → text_fault text ≡ None
       → leads_out (begins_with_slash text) below.flags ≡ false → (h : Head inner own (Named true l.name) rest)
-      → LeadsTo below (lift (on_parts way (behind_text text pos) (followed (parts_of text) ++ h.texts) h.path b)) lines end
+      → LeadsTo below (lift (on_parts way (behind_text text pos) (followed (parts_of text) ++ h.texts) h.path b)) lines
+          end
       → LeadsTo below (lift (on_parts way pos inner own (suc b))) (through.follows (spot pos) l text ++ lines) end
   link_followed pos inner own b l text rest lines end dir is free whole inside h led =
       let to = todo h.texts h.path b in
@@ -355,20 +165,28 @@ module _
       let read = answered (ReadLink l.number) (Text text) ∷ at_last in
       let hs = l.number ∷ handles_of pos in
       subst (λ turn. LeadsTo below (lift turn) (opens (handle_at way pos) l Link ∷ read) end)
-      (sym (h.turn way pos (suc b) ∙ at_name pos h.mine l.name (todo h.texts h.path (suc b)) (on_parts way pos h.texts h.path (suc b)) dir (short l.name is)))
-      (goes_on (opening pos h.mine true l.name (todo h.texts h.path (suc b))) (Open (handle_at way pos) l.name) (Opened l.number l.node Link) read end refl
-      (subst (λ t. LeadsTo below (lift (if t then walk.gives_up hs Loop else walk.more (reading pos (handle l Link) to))) read end) (sym free)
+      (sym (h.turn way pos (suc b)
+          ∙ at_name pos h.mine l.name (todo h.texts h.path (suc b)) (on_parts way pos h.texts h.path (suc b)) dir
+              (short l.name is)))
+      (goes_on (opening pos h.mine true l.name (todo h.texts h.path (suc b))) (Open (handle_at way pos) l.name)
+          (Opened l.number l.node Link) read end refl
+      (subst (λ t. LeadsTo below
+          (lift (if t then walk.gives_up hs Loop else walk.more (reading pos (handle l Link) to))) read end) (sym free)
       (goes_on (reading pos (handle l Link) to) (ReadLink l.number) (Text text) at_last end refl
       (subst (λ f. LeadsTo below (lift (walk.read_text way true pos (handle l Link) to text f)) at_last end) (sym whole)
       (subst (λ t. LeadsTo below (lift (if t then walk.gives_up hs CrossRoot
-      else walk.from_link way true pos (handle l Link) (begins_with_slash text) (followed (parts_of text)) to)) at_last end) (sym inside)
+      else walk.from_link way true pos (handle l Link) (begins_with_slash text) (followed (parts_of text)) to)) at_last
+          end) (sym inside)
       (text_put (begins_with_slash text) pos l (followed (parts_of text)) h.texts h.path b lines end led))))))
 
   -- `..` of what is held
-  above_opened : (old : Handle) (n : List ℕ) (names : List (List ℕ)) (inner own : List AskedPart) (b : ℕ) (p : Passed) (told : List (List ℕ)) (rest : List AskedPart) (lines : List Line) (end : CallTurn)
-      → is_dir_position (holds old (n ∷ names)) ≡ true → same_names told (reverse names) ≡ true → (h : Head inner own Up rest)
+  above_opened : (old : Handle) (n : List ℕ) (names : List (List ℕ)) (inner own : List AskedPart) (b : ℕ) (p : Passed)
+      (told : List (List ℕ)) (rest : List AskedPart) (lines : List Line) (end : CallTurn)
+      → is_dir_position (holds old (n ∷ names)) ≡ true → same_names told (reverse names) ≡ true
+      → (h : Head inner own Up rest)
       → LeadsTo below (lift (on_parts way (holds (handle p Dir) names) h.texts h.path b)) lines end
-      → LeadsTo below (lift (on_parts way (holds old (n ∷ names)) inner own b)) (rises below.root.handle (spot (holds old (n ∷ names))) p told ++ lines) end
+      → LeadsTo below (lift (on_parts way (holds old (n ∷ names)) inner own b))
+          (rises below.root.handle (spot (holds old (n ∷ names))) p told ++ lines) end
   above_opened old n names inner own b p told rest lines end dir same h led =
       let pos = holds old (n ∷ names) in
       let to = todo h.texts h.path b in
@@ -376,31 +194,40 @@ module _
       let judged = answered (NameBelow below.root.handle p.number) (Names told) ∷ lines in
       let shut = answered (Close old.number) Done ∷ judged in
       subst (λ turn. LeadsTo below (lift turn) (answered (Parent old.number) (Opened p.number p.node Dir) ∷ shut) end)
-      (sym (h.turn way pos b ∙ ap (λ t. if t then walk.more (walk.rising old names to) else walk.gives_up (old.number ∷ []) NotDir) dir))
+      (sym (h.turn way pos b
+          ∙ ap (λ t. if t then walk.more (walk.rising old names to) else walk.gives_up (old.number ∷ []) NotDir) dir))
       (goes_on (walk.rising old names to) (Parent old.number) (Opened p.number p.node Dir) shut end refl
       (goes_on (walk.closing old.number [] (walk.judges new names to)) (Close old.number) Done judged end refl
       (goes_on (walk.judging new names to) (NameBelow below.root.handle p.number) (Names told) lines end refl
-      (subst (λ t. LeadsTo below (lift (if t then on_parts way (holds new names) h.texts h.path b else walk.gives_up (p.number ∷ []) Raced)) lines end) (sym same) led))))
+      (subst (λ t. LeadsTo below
+          (lift (if t then on_parts way (holds new names) h.texts h.path b else walk.gives_up (p.number ∷ []) Raced))
+              lines end) (sym same) led))))
 
   -- it stands where it was opened
   ended : (h : Handle) (names told : List (List ℕ)) → same_names told (reverse names) ≡ true
-      → LeadsTo below (lift (walk.more (walk.ending h names []))) (answered (NameBelow below.root.handle h.number) (Names told) ∷ []) (lift (walk.found h names))
+      → LeadsTo below (lift (walk.more (walk.ending h names [])))
+          (answered (NameBelow below.root.handle h.number) (Names told) ∷ []) (lift (walk.found h names))
   ended h names told same =
-      goes_on (walk.ending h names []) (NameBelow below.root.handle h.number) (Names told) [] (lift (walk.found h names)) refl
+      goes_on (walk.ending h names []) (NameBelow below.root.handle h.number) (Names told) []
+          (lift (walk.found h names)) refl
       (ap (λ t. lift (if t then walk.found h names else walk.gives_up (h.number ∷ []) Raced)) same)
 
-  passed_to_end : (ps : List Passed) (last : Passed) (kind : Kind) (told : List (List ℕ)) (pos : Position) (inner own : List AskedPart) (b : ℕ)
+  passed_to_end : (ps : List Passed) (last : Passed) (kind : Kind) (told : List (List ℕ)) (pos : Position)
+      (inner own : List AskedPart) (b : ℕ)
       → is_dir_position pos ≡ true → list_all is_name (names_passed ps last) ≡ true → is_followed true kind ≡ false
-      → inner ++ own ≡ map ask_piece (names_passed ps last) → same_names told (reverse (onto ps last (names_of pos))) ≡ true
+      → inner ++ own ≡ map ask_piece (names_passed ps last)
+      → same_names told (reverse (onto ps last (names_of pos))) ≡ true
       → LeadsTo below (lift (on_parts way pos inner own b))
-      (lines_from below.root.handle (handle_at way pos) (handles_of pos) ps last kind told) (lift (walk.found (handle last kind) (onto ps last (names_of pos))))
+      (lines_from below.root.handle (handle_at way pos) (handles_of pos) ps last kind told)
+          (lift (walk.found (handle last kind) (onto ps last (names_of pos))))
   passed_to_end [] last kind told pos inner own b dir valid stays is same =
       let named = (and_true (is_name last.name) true valid).0 in
       let names = last.name ∷ names_of pos in
       let h = head inner own (Named true last.name) [] (is ∙ ap (λ q. q ∷ []) (named_piece last.name named)) in
       let ask : List Line = answered (NameBelow below.root.handle last.number) (Names told) ∷ [] in
       one_opened pos inner own b last kind [] ask (lift (walk.found (handle last kind) names)) dir named stays h
-      (subst (λ turn. LeadsTo below (lift turn) ask (lift (walk.found (handle last kind) names))) (sym (none_left h.texts h.path way (entered pos last kind) b h.left))
+      (subst (λ turn. LeadsTo below (lift turn) ask (lift (walk.found (handle last kind) names)))
+          (sym (none_left h.texts h.path way (entered pos last kind) b h.left))
       (ended (handle last kind) names told same))
   passed_to_end (p ∷ ps) last kind told pos inner own b dir valid stays is same =
       let each = and_true (is_name p.name) (list_all is_name (names_passed ps last)) valid in
@@ -408,75 +235,9 @@ module _
       let h = head inner own (Named true p.name) behind (is ∙ ap (λ q. q ∷ behind) (named_piece p.name each.0)) in
       let new = entered pos p Dir in
       let end = lift (walk.found (handle last kind) (onto ps last (p.name ∷ names_of pos))) in
-      one_opened pos inner own b p Dir behind (lines_from below.root.handle p.number (p.number ∷ []) ps last kind told) end dir each.0 refl h
+      one_opened pos inner own b p Dir behind
+          (lines_from below.root.handle p.number (p.number ∷ []) ps last kind told) end dir each.0 refl h
       (passed_to_end ps last kind told new h.texts h.path b refl each.1 stays h.left same)
-
-  stands_at : (abs : Bool) (s t : Stand) (pos : Position) (ps : List Passed) (start : ℕ) (later : List ℕ) (new : List (List ℕ))
-      → is_dir_position pos ≡ true → take s.at s.path ≡ after_slashes (reverse (names_of pos)) → list_all is_name (reverse (names_of pos)) ≡ true
-      → take (start - s.at) (drop s.at s.path) ≡ after_slashes (names_in_order ps) → list_all is_name (names_in_order ps) ≡ true
-      → take start s.path ≡ take s.at s.path ++ take (start - s.at) (drop s.at s.path) → length (take start s.path) ≡ start
-      → t.path ≡ (if abs then [] else take start s.path) ++ later → t.at ≡ (if abs then 0 else start)
-      → later ≡ after_slashes new → list_all is_step new ≡ true
-      → (inner own : List AskedPart) → inner ++ own ≡ map ask_piece new
-      → Holds t (if abs then root_itself else entered_all pos ps) inner own
-  stands_at true s t pos ps start later new dir passed valid dirs names before size path at_is later_is steps inner own is = record {
-    dir = refl;
-    passed = ap (λ n. take n t.path) at_is;
-    valid = refl;
-    pieces = new;
-    rest = ap (λ n. drop n t.path) at_is ∙ path ∙ later_is;
-    steps = steps;
-    is = is;
-  }
-  stands_at false s t pos ps start later new dir passed valid dirs names before size path at_is later_is steps inner own is = record {
-    dir = all_dirs ps pos dir;
-    passed = ap (λ n. take n t.path) at_is ∙ ap (take start) path ∙ take_at (take start s.path) later start size ∙ before
-        ∙ ap (λ x. x ++ take (start - s.at) (drop s.at s.path)) passed ∙ ap (λ y. after_slashes (reverse (names_of pos)) ++ y) dirs
-        ∙ sym (slashes-append (reverse (names_of pos)) (names_in_order ps)) ∙ ap after_slashes (sym (names_entered ps pos));
-    valid = ap (list_all is_name) (names_entered ps pos) ∙ all_of is_name (reverse (names_of pos)) (names_in_order ps) valid names;
-    pieces = new;
-    rest = ap (λ n. drop n t.path) at_is ∙ ap (drop start) path ∙ drop_at (take start s.path) later start size ∙ later_is;
-    steps = steps;
-    is = is;
-  }
-
-  -- behind a link
-  stands_by : (abs : Bool) (s t : Stand) (pos : Position) (inner own : List AskedPart) (h : Holds s pos inner own) (ps : List Passed) (l : Passed) (start end : ℕ) (text : List ℕ) (texts path : List AskedPart)
-      → LinkSplit s h.pieces ps l start end → are_steps (inner_text text) ≡ true
-      → t.path ≡ (if abs then [] else take start s.path) ++ (SLASH ∷ inner_text text ++ drop end s.path) → t.at ≡ (if abs then 0 else start)
-      → texts ++ path ≡ map ask_piece (pieces_of (drop end s.path))
-      → Holds t (if abs then root_itself else entered_all pos ps) (followed (parts_of text) ++ texts) path
-  stands_by abs s t pos inner own h ps l start end text texts path split text_steps spliced at_is left =
-      let behind = drop end s.path in
-      let new = between_slashes (inner_text text) ++ pieces_of behind in
-      let later = SLASH ∷ inner_text text ++ behind in
-      let later_is : later ≡ after_slashes new =
-      ap (λ x. x ++ behind) (sym (reprinted (inner_text text))) ∙ ap (λ y. after_slashes (between_slashes (inner_text text)) ++ y) (behind_is behind split.behind)
-      ∙ sym (slashes-append (between_slashes (inner_text text)) (pieces_of behind)) in
-      let all = both_of is_step (through.names_of ps) (l.name ∷ pieces_of behind) (ap (list_all is_step) (sym split.pieces_are) ∙ h.steps) in
-      let steps = all_of is_step (between_slashes (inner_text text)) (pieces_of behind) text_steps (and_true (is_step l.name) (list_all is_step (pieces_of behind)) all.1).1 in
-      let is = append_assoc (followed (parts_of text)) texts path ∙ ap (λ q. followed (parts_of text) ++ q) left
-      ∙ ap (λ ps. map (ask true) ps ++ map ask_piece (pieces_of behind)) (parts_inner text text_steps) ∙ asked_pieces (between_slashes (inner_text text)) (pieces_of behind) in
-      stands_at abs s t pos ps start later new h.dir h.passed h.valid split.names.is split.names.valid split.before split.size spliced at_is later_is steps (followed (parts_of text) ++ texts) path is
-
-  -- behind `..`
-  stands_above : (s t : Stand) (old : Handle) (n : List ℕ) (names told : List (List ℕ)) (inner own : List AskedPart) (h : Holds s (holds old (n ∷ names)) inner own) (p : Passed) (texts path : List AskedPart)
-      → UpSplit s t h.pieces told (reverse names) → texts ++ path ≡ map ask_piece (pieces_of (drop (s.at + 3) s.path))
-      → Holds t (holds (handle p Dir) names) texts path
-  stands_above s t old n names told inner own h p texts path up left =
-      let behind = drop (s.at + 3) s.path in
-      let turned = reverse-append (n ∷ []) names in
-      record {
-        dir = refl;
-        passed = ap (λ k. take k t.path) up.at ∙ ap (take (length (after_slashes told))) up.path ∙ take_at (after_slashes told) behind (length (after_slashes told)) refl
-            ∙ ap after_slashes up.told_is;
-        valid = (both_of is_name (reverse names) (n ∷ []) (ap (list_all is_name) (sym turned) ∙ h.valid)).0;
-        pieces = pieces_of behind;
-        rest = ap (λ k. drop k t.path) up.at ∙ ap (drop (length (after_slashes told))) up.path ∙ drop_at (after_slashes told) behind (length (after_slashes told)) refl
-            ∙ behind_is behind up.behind;
-        steps = (and_true (is_step (codes "..")) (list_all is_step (pieces_of behind)) (ap (list_all is_step) (sym up.pieces_are) ∙ h.steps)).1;
-        is = left;
-      }
 
   -- ---- the end
 
@@ -486,9 +247,13 @@ module _
   stands_still : (kind : Kind) → opens_kind 1 kind ≡ true → is_followed true kind ≡ false
   stands_still kind h = not-true (is_followed true kind) (first_or (not (is_followed true kind)) h)
 
-  leads_to_end : (t : Stand) (pos : Position) (inner own : List AskedPart) (b kind : ℕ) (place : List ℕ) (ps : List Passed) (last : Passed) (told : List (List ℕ))
-      → Holds t pos inner own → ends_through t kind place ≡ true → names_read (drop t.at t.path) ≡ Some (names_passed ps last) → names_read place ≡ Some told
-      → LeadsTo below (lift (on_parts way pos inner own b)) (lines_from asked_for.root (handle_at way pos) (handles_of pos) ps last (kind_of kind) told) (reply_at last (kind_of kind) told)
+  leads_to_end : (t : Stand) (pos : Position) (inner own : List AskedPart) (b kind : ℕ) (place : List ℕ)
+      (ps : List Passed) (last : Passed) (told : List (List ℕ))
+      → Holds t pos inner own → ends_through t kind place ≡ true
+      → names_read (drop t.at t.path) ≡ Some (names_passed ps last) → names_read place ≡ Some told
+      → LeadsTo below (lift (on_parts way pos inner own b))
+          (lines_from asked_for.root (handle_at way pos) (handles_of pos) ps last (kind_of kind) told)
+              (reply_at last (kind_of kind) told)
   leads_to_end t pos inner own b kind place ps last told h end read place_read =
       let np = names_passed ps last in
       let rest = drop t.at t.path in
@@ -496,78 +261,119 @@ module _
       let k = and_true (opens_kind 1 (kind_of kind)) _ a.1 in
       let some = and_true (has_names (names_read rest)) (same_bytes t.path place) k.1 in
       let names = placed rest np some.0 read in
-      let rest_is : rest ≡ after_slashes np = names.is ∙ sym (reprinted (names.first ∷ names.text)) ∙ ap after_slashes names.pieces in
+      let rest_is : rest ≡ after_slashes np = names.is ∙ sym (reprinted (names.first ∷ names.text))
+          ∙ ap after_slashes names.pieces in
       let all = reverse (names_of pos) ++ np in
       let whole : t.path ≡ after_slashes all =
-      sym (take-append-drop t.at t.path) ∙ ap (λ x. x ++ rest) h.passed ∙ ap (λ y. after_slashes (reverse (names_of pos)) ++ y) rest_is
+      sym (take-append-drop t.at t.path) ∙ ap (λ x. x ++ rest) h.passed
+      ∙ ap (λ y. after_slashes (reverse (names_of pos)) ++ y) rest_is
       ∙ sym (slashes-append (reverse (names_of pos)) np) in
       let valid = all_of is_name (reverse (names_of pos)) np h.valid names.valid in
       let told_is : told ≡ all =
-      same_some told all (sym place_read ∙ ap names_read (sym (same_text t.path place some.1)) ∙ ap names_read (whole ∙ sym (printed_some all (some_names ps last (reverse (names_of pos)))))
-      ∙ printed_names_read all (λ k d l. no_fault (name_fault (get_or all k d)) (AllPass-from_list_all is_name all valid k d l))) in
+      same_some told all (sym place_read ∙ ap names_read (sym (same_text t.path place some.1))
+          ∙ ap names_read (whole ∙ sym (printed_some all (some_names ps last (reverse (names_of pos)))))
+      ∙ printed_names_read all
+          (λ k d l. no_fault (name_fault (get_or all k d)) (AllPass-from_list_all is_name all valid k d l))) in
       let turned : onto ps last (names_of pos) ≡ reverse np ++ names_of pos = onto_is ps last (names_of pos) in
       let back : reverse (onto ps last (names_of pos)) ≡ all =
-      ap reverse turned ∙ reverse-append (reverse np) (names_of pos) ∙ ap (λ ns. reverse (names_of pos) ++ ns) (reverse-reverse np) in
-      let reached : onto ps last (names_of pos) ≡ reverse told = sym (reverse-reverse (onto ps last (names_of pos))) ∙ ap reverse (back ∙ sym told_is) in
-      let pieces_are = read_back h.pieces rest h.steps h.rest ∙ ap pieces_of rest_is ∙ pieces_back np (names_are_steps np names.valid) in
-      subst (LeadsTo below (lift (on_parts way pos inner own b)) (lines_from asked_for.root (handle_at way pos) (handles_of pos) ps last (kind_of kind) told))
+      ap reverse turned ∙ reverse-append (reverse np) (names_of pos)
+      ∙ ap (λ ns. reverse (names_of pos) ++ ns) (reverse-reverse np) in
+      let reached : onto ps last (names_of pos) ≡ reverse told = sym (reverse-reverse (onto ps last (names_of pos)))
+          ∙ ap reverse (back ∙ sym told_is) in
+      let pieces_are = read_back h.pieces rest h.steps h.rest ∙ ap pieces_of rest_is
+          ∙ pieces_back np (names_are_steps np names.valid) in
+      subst (LeadsTo below (lift (on_parts way pos inner own b))
+          (lines_from asked_for.root (handle_at way pos) (handles_of pos) ps last (kind_of kind) told))
       (ap (λ ns. lift (walk.found (handle last (kind_of kind)) ns)) reached)
-      (passed_to_end ps last (kind_of kind) told pos inner own b h.dir names.valid (stands_still (kind_of kind) k.0) (h.is ∙ ap (map ask_piece) pieces_are)
+      (passed_to_end ps last (kind_of kind) told pos inner own b h.dir names.valid (stands_still (kind_of kind) k.0)
+          (h.is ∙ ap (map ask_piece) pieces_are)
       (same_where_equal told (reverse (onto ps last (names_of pos))) (told_is ∙ sym back)))
 
   -- ---- from the path to the reply
 
-  spot_by : (t : Bool) (pos : Position) → spot (if t then root_itself else pos) ≡ (if t then top asked_for.root else spot pos)
+  spot_by : (t : Bool) (pos : Position)
+      → spot (if t then root_itself else pos) ≡ (if t then top asked_for.root else spot pos)
   spot_by true pos = refl
   spot_by false pos = refl
 
-  leads_on : (passages : List Passage) (links b : ℕ) (s t : Stand) (pos : Position) (inner own : List AskedPart) (kind : ℕ) (place : List ℕ) (ps : List Passed) (last : Passed) (told : List (List ℕ))
+  leads_on : (passages : List Passage) (links b : ℕ) (s t : Stand) (pos : Position) (inner own : List AskedPart)
+      (kind : ℕ) (place : List ℕ) (ps : List Passed) (last : Passed) (told : List (List ℕ))
       → links + b ≡ LINKS_MAX → asked_for.no_links ≡ false → Holds s pos inner own → IsWay asked_for links s passages t
-      → ends_through t kind place ≡ true → names_read (drop t.at t.path) ≡ Some (names_passed ps last) → names_read place ≡ Some told
-      → LeadsTo below (lift (on_parts way pos inner own b)) (lines_on asked_for.root (spot pos) passages ps last (kind_of kind) told) (reply_at last (kind_of kind) told)
+      → ends_through t kind place ≡ true → names_read (drop t.at t.path) ≡ Some (names_passed ps last)
+      → names_read place ≡ Some told
+      → LeadsTo below (lift (on_parts way pos inner own b))
+          (lines_on asked_for.root (spot pos) passages ps last (kind_of kind) told) (reply_at last (kind_of kind) told)
   leads_on [] links b s t pos inner own kind place ps last told few free h same end read place_read =
-      leads_to_end t pos inner own b kind place ps last told (subst (λ u. Holds u pos inner own) same h) end read place_read
-  leads_on (link qs l text ∷ more) links zero s t pos inner own kind place ps last told few free h way_is end read place_read =
+      leads_to_end t pos inner own b kind place ps last told
+          (subst (λ u. Holds u pos inner own) same h) end read place_read
+  leads_on (link qs l text ∷ more) links zero s t pos inner own kind place ps last told few free h way_is end read
+      place_read =
       let is_link = way_is.1.0 in
       let goes = and_true (passes_to s is_link.start is_link.end) _ is_link.goes in
       let follow = and_true (may_follow asked_for links text) _ goes.1 in
       let some = and_true (nat_lt links LINKS_MAX) _ follow.0 in
       absurd (omega (arith, few, ltb-true links LINKS_MAX some.0))
-  leads_on (link qs l text ∷ more) links (suc b) s t pos inner own kind place ps last told few free h way_is end read place_read =
+  leads_on (link qs l text ∷ more) links
+      (suc b) s t pos inner own kind place ps last told few free h way_is end read place_read =
       let m = way_is.0 in
       let is_link = way_is.1.0 in
       let goes = and_true (passes_to s is_link.start is_link.end) _ is_link.goes in
-      let follow = and_true (may_follow asked_for links text) (is_spliced m.path (before_text text (take is_link.start s.path)) (inner_text text) (drop is_link.end s.path)) goes.1 in
+      let follow = and_true (may_follow asked_for links text)
+          (is_spliced m.path (before_text text (take is_link.start s.path)) (inner_text text) (drop is_link.end s.path))
+              goes.1 in
       let some = and_true (nat_lt links LINKS_MAX) _ follow.0 in
       let whole = and_true (is_none (text_fault text)) _ some.1 in
-      let inside = and_true (not (leads_out (begins_with_slash text) below.flags)) (are_steps (inner_text text)) whole.1 in
-      let split = split_link s h.pieces qs l is_link.start is_link.end goes.0 is_link.dirs is_link.name h.rest h.steps in
+      let inside = and_true (not (leads_out (begins_with_slash text) below.flags))
+          (are_steps (inner_text text)) whole.1 in
+      let split = split_link s h.pieces qs l is_link.start is_link.end goes.0 is_link.dirs is_link.name h.rest h.steps
+          in
       let behind = pieces_of (drop is_link.end s.path) in
       let dir = entered_all pos qs in
-      let later = lines_on asked_for.root (spot_after asked_for.root (spot pos) (link qs l text)) more ps last (kind_of kind) told in
+      let later = lines_on asked_for.root (spot_after asked_for.root (spot pos) (link qs l text)) more ps last
+          (kind_of kind) told in
       let reply = reply_at last (kind_of kind) told in
-      let new_spot : spot (if begins_with_slash text then root_itself else dir) ≡ spot_after asked_for.root (spot pos) (link qs l text) =
-      spot_by (begins_with_slash text) dir ∙ ap (λ sp. if begins_with_slash text then top asked_for.root else sp) (spot_entered qs pos) in
+      let new_spot : spot (if begins_with_slash text then root_itself else dir) ≡ spot_after asked_for.root (spot pos)
+          (link qs l text) =
+      spot_by (begins_with_slash text) dir
+      ∙ ap (λ sp. if begins_with_slash text then top asked_for.root else sp) (spot_entered qs pos) in
       let led : (texts path : List AskedPart) → texts ++ path ≡ map ask_piece (l.name ∷ behind)
       → LeadsTo below (lift (on_parts way dir texts path (suc b))) (through.follows (spot dir) l text ++ later) reply =
       λ texts path left.
-      let next = head texts path (Named true l.name) (map ask_piece behind) (left ∙ ap (λ q. q ∷ map ask_piece behind) (named_piece l.name split.name)) in
-      let stands = stands_by (begins_with_slash text) s m pos inner own h qs l is_link.start is_link.end text next.texts next.path split inside.1
-      (spliced_is m.path (before_text text (take is_link.start s.path)) (inner_text text) (drop is_link.end s.path) follow.1) is_link.at next.left in
-      link_followed dir texts path b l text (map ask_piece behind) later reply (all_dirs qs pos h.dir) split.name free (no_fault (text_fault text) whole.0)
+      let next = head texts path (Named true l.name) (map ask_piece behind)
+          (left ∙ ap (λ q. q ∷ map ask_piece behind) (named_piece l.name split.name)) in
+      let stands = stands_by
+          (begins_with_slash text) s m pos inner own h qs l is_link.start is_link.end text next.texts next.path split
+              inside.1
+      (spliced_is m.path (before_text text (take is_link.start s.path)) (inner_text text)
+          (drop is_link.end s.path) follow.1) is_link.at next.left in
+      link_followed dir texts path b l text (map ask_piece behind) later reply (all_dirs qs pos h.dir) split.name free
+          (no_fault (text_fault text) whole.0)
       (not-true (leads_out (begins_with_slash text) below.flags) inside.0) next
-      (subst (λ sp. LeadsTo below (lift (on_parts way (behind_text text dir) (followed (parts_of text) ++ next.texts) next.path b)) (lines_on asked_for.root sp more ps last (kind_of kind) told) reply) new_spot
-      (leads_on more (links + 1) b m t (behind_text text dir) (followed (parts_of text) ++ next.texts) next.path kind place ps last told (omega (arith, few)) free stands way_is.1.1 end read place_read)) in
-      subst (λ ls. LeadsTo below (lift (on_parts way pos inner own (suc b))) ls reply) (sym (append_assoc (enters (spot pos) qs) (through.follows (spot_in (spot pos) qs) l text) later))
-      (subst (λ sp. LeadsTo below (lift (on_parts way pos inner own (suc b))) (enters (spot pos) qs ++ (through.follows sp l text ++ later)) reply) (spot_entered qs pos)
-      (dirs_entered qs pos inner own (suc b) (l.name ∷ behind) (through.follows (spot dir) l text ++ later) reply h.dir split.names.valid (h.is ∙ ap (map ask_piece) split.pieces_are) led))
-  leads_on (above p tolds ∷ more) links b s t root_itself inner own kind place ps last told few free h way_is end read place_read =
+      (subst (λ sp. LeadsTo below
+          (lift (on_parts way (behind_text text dir) (followed (parts_of text) ++ next.texts) next.path b))
+              (lines_on asked_for.root sp more ps last (kind_of kind) told) reply) new_spot
+      (leads_on more (links + 1) b m t (behind_text text dir)
+          (followed (parts_of text) ++ next.texts) next.path kind place ps last told
+              (omega (arith, few)) free stands way_is.1.1 end read place_read)) in
+      subst (λ ls. LeadsTo below (lift (on_parts way pos inner own (suc b))) ls reply)
+          (sym (append_assoc (enters (spot pos) qs) (through.follows (spot_in (spot pos) qs) l text) later))
+      (subst (λ sp. LeadsTo below (lift (on_parts way pos inner own (suc b)))
+          (enters (spot pos) qs ++ (through.follows sp l text ++ later)) reply) (spot_entered qs pos)
+      (dirs_entered qs pos inner own (suc b) (l.name ∷ behind)
+          (through.follows (spot dir) l text ++ later) reply h.dir split.names.valid
+              (h.is ∙ ap (map ask_piece) split.pieces_are) led))
+  leads_on (above p tolds ∷ more) links b s t root_itself inner own kind place ps last told few free h way_is end read
+      place_read =
       let is_above = way_is.1.0 in
-      absurd (no_child (take s.at s.path) (place_text is_above.place) (up_three s way_is.0 is_above.place tolds is_above.rises).0 h.passed)
-  leads_on (above p tolds ∷ more) links b s t (holds old []) inner own kind place ps last told few free h way_is end read place_read =
+      absurd (no_child (take s.at s.path) (place_text is_above.place)
+          (up_three s way_is.0 is_above.place tolds is_above.rises).0 h.passed)
+  leads_on (above p tolds ∷ more) links b s t
+      (holds old []) inner own kind place ps last told few free h way_is end read place_read =
       let is_above = way_is.1.0 in
-      absurd (no_child (take s.at s.path) (place_text is_above.place) (up_three s way_is.0 is_above.place tolds is_above.rises).0 h.passed)
-  leads_on (above p tolds ∷ more) links b s t (holds old (n ∷ names)) inner own kind place ps last told few free h way_is end read place_read =
+      absurd (no_child (take s.at s.path) (place_text is_above.place)
+          (up_three s way_is.0 is_above.place tolds is_above.rises).0 h.passed)
+  leads_on (above p tolds ∷ more) links b s t
+      (holds old (n ∷ names)) inner own kind place ps last told few free h way_is end read place_read =
       let m = way_is.0 in
       let is_above = way_is.1.0 in
       let turned = reverse-append (n ∷ []) names in
@@ -576,23 +382,27 @@ module _
       let behind = pieces_of (drop (s.at + 3) s.path) in
       let next = head inner own Up (map ask_piece behind) (h.is ∙ ap (map ask_piece) up.pieces_are) in
       let later = lines_on asked_for.root (spot_at p) more ps last (kind_of kind) told in
-      above_opened old n names inner own b p tolds (map ask_piece behind) later (reply_at last (kind_of kind) told) h.dir (same_where_equal tolds (reverse names) up.told_is) next
+      above_opened old n names inner own b p tolds (map ask_piece behind) later
+          (reply_at last (kind_of kind) told) h.dir (same_where_equal tolds (reverse names) up.told_is) next
       (leads_on more links b m t (holds (handle p Dir) names) next.texts next.path kind place ps last told few free
-      (stands_above s m old n names tolds inner own h p next.texts next.path up next.left) way_is.1.1 end read place_read)
+      (stands_above s m old n names tolds inner own h p next.texts next.path up next.left) way_is.1.1 end read
+          place_read)
 
 -- ---- the call
 
 module _ (asked_for : Asked) (path second : List ℕ) (op : Op) where
   resolve : asked_for.op ≡ 1 → op_of asked_for path second ≡ Some op → Resolve path ≡ op
   resolve e named =
-      let is : Some (Resolve path) ≡ Some op = subst (λ n. op_of (record asked_for { op = n }) path second ≡ Some op) e named in
+      let is : Some (Resolve path) ≡ Some op =
+          subst (λ n. op_of (record asked_for { op = n }) path second ≡ Some op) e named in
       same_op (Resolve path) op is
     where
       same_op : (x y : Op) → Some x ≡ Some y → x ≡ y
       same_op x y h = cc (h)
 
 pub tells : EachCallTells → OpensThroughTell
-tells each asked_for path second place kind op s t passages ps last told named begun at_top is_way_on end read place_read =
+tells each asked_for path second place kind op s t passages ps last told named begun at_top is_way_on end read
+    place_read =
     let below = below_asked asked_for in
     let way = way_asked asked_for in
     let one = and_true (asked_for.op == 1) _ begun in
@@ -605,9 +415,11 @@ tells each asked_for path second place kind op s t passages ps last told named b
     let is = resolve asked_for path second op (eqb-true asked_for.op 1 one.0) named in
     let lift = walked below true (Opens Follow) in
     let parts : parts_of path ≡ map part_of (between_slashes text) =
-    parts_either path w.text w.first (same_bytes path (SLASH ∷ text)) refl (subst (λ p. spells_place path p ≡ true) w.is spells.1) ∙ parts_slashed text w.steps in
+    parts_either path w.text w.first (same_bytes path (SLASH ∷ text)) refl
+        (subst (λ p. spells_place path p ≡ true) w.is spells.1) ∙ parts_slashed text w.steps in
     let todo_is : asked true (parts_of path) ≡ map ask_piece (between_slashes text) =
-    asked_all (parts_of path) ∙ ap (map (ask true)) parts ∙ sym (append-nil (map (ask true) (map part_of (between_slashes text))))
+    asked_all (parts_of path) ∙ ap (map (ask true)) parts
+    ∙ sym (append-nil (map (ask true) (map part_of (between_slashes text))))
     ∙ asked_pieces (between_slashes text) [] ∙ ap (map ask_piece) (append-nil (between_slashes text)) in
     let stands : Holds s root_itself [] (asked true (parts_of path)) = record {
       dir = refl;
@@ -620,15 +432,19 @@ tells each asked_for path second place kind op s t passages ps last told named b
     } in
     let turn = lift (on_parts way root_itself [] (asked true (parts_of path)) LINKS_MAX) in
     let begins : starts below true op ≡ turn =
-    ap (starts below true) (sym is) ∙ ap (λ f. unless_fault f (lift (walk.begins way (reading_of path)))) (no_fault (text_fault path) whole.0)
-    ∙ ap (λ t. lift (if t then walk.failed CrossRoot else on_parts way root_itself [] (asked true (parts_of path)) LINKS_MAX)) (not-true (leads_out (begins_with_slash path) below.flags) inside.0) in
+    ap (starts below true) (sym is)
+    ∙ ap (λ f. unless_fault f (lift (walk.begins way (reading_of path)))) (no_fault (text_fault path) whole.0)
+    ∙ ap (λ t. lift (if t then walk.failed CrossRoot else on_parts way root_itself []
+        (asked true (parts_of path)) LINKS_MAX)) (not-true (leads_out (begins_with_slash path) below.flags) inside.0) in
     let lines = lines_on asked_for.root (top asked_for.root) passages ps last (kind_of kind) told in
     let reply = opened_at last (kind_of kind) told in
     let led : LeadsTo below (starts below true op) lines (ends (reply_view reply)) =
     subst (λ turn. LeadsTo below turn lines (ends (reply_view reply))) (sym begins)
-    (leads_on asked_for lift (λ w step answer lines end e led. (e, led)) passages 0 LINKS_MAX s t root_itself [] (asked true (parts_of path)) kind place ps last told refl
+    (leads_on asked_for lift (λ w step answer lines end e led. (e, led)) passages 0 LINKS_MAX s t root_itself []
+        (asked true (parts_of path)) kind place ps last told refl
     (not-true asked_for.no_links free.0) stands is_way_on end read place_read) in
     record {
       leads = led;
-      tells = λ opening before window node is. each (call_in asked_for op true lines opening before window node) reply is led;
+      tells = λ opening before window node is. each
+          (call_in asked_for op true lines opening before window node) reply is led;
     }

@@ -1,13 +1,13 @@
 -- A call whose walk passes directories, one in another: what it is due to do behind each of them.
-use Rattle.std.proofs.Common.{◌≡◌, ℕ, ◌+◌, Bool, true, false, List, [], ◌∷◌, refl, ap, sym, ◌∙◌, drop, inl, inr}
+use Rattle.std.proofs.Common.{◌≡◌, ℕ, Bool, true, false, List, [], ◌∷◌, refl, ap, sym, ◌∙◌, drop, inl, inr}
 use Rattle.std.specs.Prelude.{slice_get, Some, None}
-use Rattle.std.proofs.lemmas.List.{drop_more, drop_all}
-use Rattle.std.proofs.lemmas.Option.{slice_get_cases, slice_get_within, get_or_from_slice_get}
+use Rattle.std.proofs.lemmas.List.{drop_all}
+use Rattle.std.proofs.lemmas.Option.{slice_get_cases}
 use Rattle.path_text.specs.declared.part.Part.{Part}
 use Rattle.path_text.specs.declared.part.Part.TheVariants as part
 use Rattle.tree_model.specs.declared.answer.Answer.{Answer}
 use Rattle.tree_model.specs.declared.step.StepOf.TheVariants.{Open, Close}
-use Rattle.step_resolver.specs.Order.{Way, Position, root_itself, holds, Todo, todo, onward, handle_at, handles_of, names_of, goes_on}
+use Rattle.step_resolver.specs.Order.{Way, Position, root_itself, holds, Todo, todo, onward, handle_at, goes_on}
 use Rattle.step_resolver.specs.Order as walk
 use Rattle.step_resolver.specs.Meaning.{is_too_long}
 use Rattle.bulk_ops.specs.MakeAllOrder as make
@@ -281,9 +281,6 @@ asks_for at dir s =
     (s.way.root, ap (due at.below) (s.is ∙ ap s.step (sym same)) ∙ s.within.due_is due_then)
 
 -- ---- the parts of a list from one on
-
-pub part_left : (ps : List Part) (k : ℕ) (p : Part) → slice_get ps k ≡ Some p → drop k ps ≡ p ∷ drop (k + 1) ps
-part_left ps k p found = drop_more ps k p (slice_get_within ps k p found) ∙ ap (λ q. q ∷ drop (k + 1) ps) (get_or_from_slice_get ps k p p found)
 
 pub none_left : (ps : List Part) (k : ℕ) → slice_get ps k ≡ None → drop k ps ≡ []
 none_left ps k none =

@@ -1,5 +1,5 @@
 -- How far a call has come by names, in the midst of the loops that pass them and lay them out.
-use Rattle.std.proofs.Common.{◌≡◌, ℕ, ◌+◌, ◌-◌, ◌<◌, ◌≤◌, Bool, false, List, [], ◌∷◌, ◌++◌, length, get_or, take, drop, refl, ap, sym, ◌∙◌, subst, arith, length-append}
+use Rattle.std.proofs.Common.{◌≡◌, ℕ, ◌+◌, ◌-◌, ◌<◌, ◌≤◌, Bool, List, [], ◌∷◌, ◌++◌, length, get_or, take, drop, refl, ap, sym, ◌∙◌, subst, arith, length-append}
 use Rattle.std.specs.Prelude.{◌&&◌}
 use Rattle.std.proofs.lemmas.List.{take_more}
 use Rattle.path_text.specs.declared.name.TheConstants.{SLASH}
@@ -11,9 +11,8 @@ use Rattle.root_ops.specs.declared.call.CallTurn.TheVariants.{More}
 use Rattle.root_ops.specs.Ahead.{doing_ahead}
 use Rattle.root_ops.specs.Order.{due}
 use Rattle.root_ops.specs.View.{CallView}
-use Rattle.c_protocol.specs.Runs.{Makes, Entered, steps_of, dir_behind, is_shut, names_of, Enters, GoesUp, AsksFor, ends_in_dot, up_text, IsEnd, ComeNext, IsRun}
+use Rattle.c_protocol.specs.Runs.{Makes, Entered, steps_of, dir_behind, is_shut, names_of, Enters, GoesUp, AsksFor, ends_in_dot, up_text, IsEnd, ComeNext}
 use Rattle.c_protocol.specs.declared.runs.Ahead.{Ahead}
-use Rattle.c_protocol.specs.declared.runs.Ran.{Ran}
 use Rattle.c_protocol.proofs.RunTurns.{passes_one_more, one_dir_more, one_name_more, one_longer, counts_up, slashes_more, entered}
 use Rattle.path_text.proofs.Lists.{put}
 
@@ -27,10 +26,6 @@ pub record Passing (call : CallView) (text : List ℕ) (from number yielded dir 
   pub here : dir ≡ dir_behind from number so_far
   pub closed : shut ≡ is_shut so_far
   pub makes : Makes (steps_of from number so_far) (More call) turn
-
-pub none_passed : (call : CallView) (text : List ℕ) (from number : ℕ) → Passing call text from number 0 from number false (More call)
-none_passed call text from number =
-    record { so_far = []; names = refl; count = refl; counted = omega arith; here = refl; closed = refl; makes = refl }
 
 first_shut : (ns : List Entered) (n : Entered) (shut : Bool) → length ns ≡ 0 → shut ≡ n.shut → shut ≡ is_shut (ns ++ n ∷ [])
 first_shut [] n shut none is = is
@@ -72,20 +67,6 @@ module _ (call : CallView) (text : List ℕ) (from number yielded dir next : ℕ
       some : (ns : List Entered) → ns ≡ was.so_far → 0 < length ns
       some [] e = absurd (goes_on (was.counted ∙ ap (λ l. number + length l) (sym e) ∙ omega arith))
       some (m ∷ ms) e = omega arith
-
--- what was passed is the run
-pub is_run : (call : CallView) (text : List ℕ) (from number yielded dir next : ℕ) (shut : Bool) (turn : CallTurn) (ran : Ran)
-    → Passing call text from number yielded dir next shut turn → ran.dir ≡ from → ran.names ≡ next - number → ran.shut ≡ shut
-    → IsRun call text number ran turn
-is_run call text from number yielded dir next shut turn ran was same count closed =
-    let many : ran.names ≡ length was.so_far = omega (arith, count, was.counted) in
-    record {
-      entered = was.so_far;
-      names = was.names ∙ ap (λ k. take k (between_slashes text)) (sym was.count ∙ sym many);
-      count = sym many;
-      shut = closed ∙ was.closed;
-      makes = subst (λ d. Makes (steps_of d number was.so_far) (More call) turn) (sym same) was.makes;
-    }
 
 -- ---- names that are laid out
 

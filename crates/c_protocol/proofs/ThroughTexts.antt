@@ -2,7 +2,6 @@
 use Rattle.std.proofs.Common.{◌≡◌, ℕ, ◌+◌, ◌-◌, Bool, true, false, not, ◌==◌, ◌&&◌, ◌||◌, cond, nat_le, nat_lt, length, List, [], ◌∷◌, ◌++◌, map, take, drop, refl, sym, ap, ◌∙◌, subst}
 use Rattle.std.specs.Prelude.{if◌then◌else◌, is_none, codes, Some, None}
 use Rattle.std.specs.List.{list_all, list_any, filter, onto_first}
-use Rattle.std.specs.Cmp.Lexicographic.{bytes_decides}
 use Rattle.std.proofs.lemmas.Bool.{eqb-true, not-true}
 use Rattle.std.proofs.lemmas.List.{append_assoc, append-nil, take-append-drop}
 use Rattle.path_text.specs.declared.errno.Errno.TheVariants.{Invalid, TooLong}
@@ -12,13 +11,11 @@ use Rattle.path_text.specs.Name.{NUL, same_bytes, is_component, is_name}
 use Rattle.path_text.specs.Print.{after_slashes}
 use Rattle.path_text.specs.Text.{is_empty, between_slashes, ends_with_slash, has_final_slash, part_of, parts_of}
 use Rattle.path_text.proofs.TextLemmas.{and_true, or_false}
+use Rattle.step_calls.proofs.ErrorLemmas.{second_is}
 use Rattle.c_protocol.specs.Through.{is_step, are_steps, is_way, are_names_or_none, is_entry, is_behind, inner_text, is_joined, is_slashed, is_spliced, is_child, names_in}
-use Rattle.c_protocol.proofs.AtOnce.{reprinted, placed}
+use Rattle.c_protocol.proofs.AtOnce.{reprinted, placed, same_text}
 
 -- ---- two texts that are the same
-
-pub same_text : (xs ys : List ℕ) → same_bytes xs ys ≡ true → xs ≡ ys
-same_text xs ys h = (bytes_decides xs ys).0 h
 
 pub joined_is : (text first second : List ℕ) → is_joined text first second ≡ true → text ≡ first ++ second
 joined_is text first second h =
@@ -54,10 +51,6 @@ pub behind_is : (text : List ℕ) → is_behind text ≡ true → text ≡ after
 behind_is [] h = refl
 behind_is (b ∷ text) h = ap (λ c. c ∷ text) (eqb-true b SLASH h) ∙ sym (reprinted text)
 
-or_right : (a b : Bool) → b ≡ true → (a || b) ≡ true
-or_right true b h = refl
-or_right false b h = h
-
 and_false : (a b : Bool) → b ≡ false → (a && b) ≡ false
 and_false true b h = h
 and_false false b h = refl
@@ -66,7 +59,7 @@ pub names_are_steps : (ns : List (List ℕ)) → list_all is_name ns ≡ true �
 names_are_steps [] h = refl
 names_are_steps (n ∷ ns) h =
     let each = and_true (is_name n) (list_all is_name ns) h in
-    ap (λ b. b && list_all is_step ns) (or_right (same_bytes n (codes "..")) (is_name n) each.0) ∙ names_are_steps ns each.1
+    ap (λ b. b && list_all is_step ns) (second_is (same_bytes n (codes "..")) (is_name n) each.0) ∙ names_are_steps ns each.1
 
 component_if : (c long : Bool) → is_none (if not c then Some Invalid else (if long then Some TooLong else None)) ≡ true → c ≡ true
 component_if true long h = refl
@@ -192,10 +185,6 @@ child_is passed above h =
     (sym (take-append-drop n passed) ∙ ap (λ x. x ++ drop n passed) (same_text (take n passed) above two.0)) two.1
 
 -- ---- the parts of a text of steps
-
-some_byte : (p : List ℕ) → is_step p ≡ true → is_empty p ≡ false
-some_byte [] h = cc (h)
-some_byte (b ∷ p) h = refl
 
 none_dropped : (ps : List (List ℕ)) → list_all is_step ps ≡ true → filter (λ p. not (is_empty p)) ps ≡ ps
 none_dropped [] h = refl
