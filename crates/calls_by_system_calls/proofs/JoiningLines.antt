@@ -62,16 +62,6 @@ differ_later (Listed names) hs p = ((λ j y l e. absurd (cc (e))), p)
 differ_later Done hs p = ((λ j y l e. absurd (cc (e))), p)
 differ_later (Refused error) hs p = ((λ j y l e. absurd (cc (e))), p)
 
-same_answer : (f g nodes : ℕ → ℕ) (answer : Answer) → ((h y : ℕ) (k : Kind) → answer ≡ Opened h y k → f h ≡ g h)
-    → answer_by (numbering f nodes) answer ≡ answer_by (numbering g nodes) answer
-same_answer f g nodes (Opened h x k) same = ap (λ j. Opened j (nodes x) k) (same h x k refl)
-same_answer f g nodes (Text text) same = refl
-same_answer f g nodes (Names names) same = refl
-same_answer f g nodes NotBelow same = refl
-same_answer f g nodes (Listed names) same = refl
-same_answer f g nodes Done same = refl
-same_answer f g nodes (Refused error) same = refl
-
 -- what the table has after a line was there before, or was opened by it
 fresh_later : (nodes : ℕ → ℕ) (table : Descriptors) (step : StepWith ℕ) (answer : Answer) (hs : List ℕ)
     → ((h d : ℕ) → table.on h ≡ Some d → IsNoneOf h (number_opened answer hs)) → AllDiffer (number_opened answer hs)

@@ -65,8 +65,3 @@ by_any said schedule [] [] are = tt
 by_any said schedule (told ∷ some) (played ∷ runs) are = (are.0, by_any said schedule some runs are.1)
 by_any said schedule [] (played ∷ runs) are = absurd are
 by_any said schedule (told ∷ some) [] are = absurd are
-
-pub no_play_by_any : (said : Said) (schedule : List ℕ) (fault : DrawFault) → IsNoPlay (record said { schedule = schedule }) fault → IsNoPlay said fault
-no_play_by_any said schedule (Run fault) why = why
-no_play_by_any said schedule TooManyActors why = why
-no_play_by_any said schedule TooManyLines why = why

@@ -1,5 +1,5 @@
 -- The lines that were read so far say the parts so far.
-use Rattle.std.proofs.Common.{◌≡◌, ◌≢◌, Option, Some, None, ℕ, Bool, true, false, List, [], ◌∷◌, ◌++◌, map, refl, sym, ap, ◌∙◌, subst, append-nil, string_bytes}
+use Rattle.std.proofs.Common.{◌≡◌, ◌≢◌, Option, Some, None, ℕ, Bool, true, false, List, [], ◌∷◌, ◌++◌, map, refl, sym, ap, ◌∙◌, subst, string_bytes}
 use Rattle.std.specs.Prelude.{filter, if◌then◌else◌, IfSome, IsSomeAnd}
 use Rattle.std.specs.Global.{Vec}
 use Rattle.std.specs.Io.KnownBytes.{Appends}
@@ -56,9 +56,6 @@ filter_push (l ∷ ls) line = by (is_line l) (filter_push ls line)
 pub kept : (lines : List (List ℕ)) (line : List ℕ) → is_line line ≡ true → filter is_line (lines ++ line ∷ []) ≡ filter is_line lines ++ line ∷ []
 kept lines line e = filter_push lines line ∙ ap (λ (b : Bool). filter is_line lines ++ (if b then line ∷ [] else [])) e
 
-pub passed : (lines : List (List ℕ)) (line : List ℕ) → is_line line ≡ false → filter is_line (lines ++ line ∷ []) ≡ filter is_line lines
-passed lines line e = filter_push lines line ∙ (ap (λ (b : Bool). filter is_line lines ++ (if b then line ∷ [] else [])) e ∙ append-nil (filter is_line lines))
-
 -- the same of what a split yields
 abbrev pub lines_of : List (Bor (List ℕ)) → List (List ℕ)
 lines_of yielded = filter is_line (map (λ line. line.now) yielded)
@@ -74,10 +71,6 @@ one_more old new line yielded some adds say =
     let same : lines_of (yielded ++ line ∷ []) ≡ lines_of yielded ++ line.now ∷ [] =
     ap (λ (ls : List (List ℕ)). filter is_line ls) (mapped yielded line) ∙ kept (map (λ (l : Bor (List ℕ)). l.now) yielded) line.now some in
     subst (λ (ls : List (List ℕ)). LinesSay (string_bytes new.question) new.properties.items ls new.parts.items) (sym same) (more old new line.now (lines_of yielded) adds say)
-
-pub none_more : (line : Bor (List ℕ)) (yielded : List (Bor (List ℕ))) → is_line line.now ≡ false → lines_of (yielded ++ line ∷ []) ≡ lines_of yielded
-none_more line yielded none =
-    ap (λ (ls : List (List ℕ)). filter is_line ls) (mapped yielded line) ∙ passed (map (λ (l : Bor (List ℕ)). l.now) yielded) line.now none
 
 -- ---- a part more
 

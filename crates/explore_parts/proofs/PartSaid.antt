@@ -1,5 +1,5 @@
 -- What a part's line is read as says the part.
-use Rattle.std.proofs.Common.{◌≡◌, ℕ, ◌<◌, ◌≤◌, ◌^◌, true, List, [], ◌∷◌, ◌++◌, codes, Option, Some, None, refl, sym, ap, ◌∙◌, subst, arith}
+use Rattle.std.proofs.Common.{◌≡◌, ℕ, ◌<◌, ◌≤◌, ◌^◌, true, List, [], ◌∷◌, ◌++◌, Option, Some, None, refl, sym, ap, ◌∙◌, subst, arith}
 use Rattle.std.specs.Prelude.{not, ◌&&◌}
 use Rattle.std.specs.List.{All, AllByRecursion, list_all}
 use lib.Utf8.{low_scalar}
@@ -9,7 +9,6 @@ use Rattle.std.proofs.lemmas.Bool.{and_parts, leb-true}
 use Rattle.std.proofs.lemmas.List.Elements.{recursion_from_All}
 use Rattle.std.proofs.lemmas.Str.{chars-encodes, encode_ascii}
 use Rattle.serde_json.specs.Data.{Data, depth, items_depth}
-use Rattle.serde_json.specs.Find.{get}
 use Rattle.serde_json.specs.Read.{read, max_depth}
 use Rattle.serde_json.specs.Written.{compact_text}
 use Rattle.outcome_text.specs.declared.part.Part.{Part}
@@ -236,9 +235,6 @@ module _ (script : List ℕ) (asked : Asked) (part : Part) (asks : AskedFits ask
       says = line_says;
     },
   )
-
-  pub line_question : get (codes "part of") (settled written) ≡ Some (settled (question_data script asked))
-  line_question = refl
 
 pub lines_say_their_parts : LinesSayTheirParts
 lines_say_their_parts script asked part asks fits scheduled = said_line script asked part asks fits scheduled

@@ -13,9 +13,6 @@ module _ {A : Type 0} (Says : Data → A → Type 0) where
     pub joins : (ys : List A) → ItemsSay Says (items_view (drop k values)) ys → ItemsSay Says (items_view values) (xs ++ ys)
     pub leaves : (zs : List A) → ItemsSay Says (items_view values) zs → (ys : List A) × ItemsSay Says (items_view (drop k values)) ys
 
-  pub begins : (values : List Value) (xs : List A) → xs ≡ [] → AreReadSoFar values 0 xs
-  begins values xs none = subst (λ (ys : List A). AreReadSoFar values 0 ys) (sym none) (record { joins = λ ys h. h; leaves = λ zs h. (zs, h) })
-
   abbrev LeftSay : List Value → List A → Type 0
   LeftSay left ys = ItemsSay Says (items_view left) ys
 

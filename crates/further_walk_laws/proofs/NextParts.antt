@@ -26,11 +26,6 @@ rooted {w} {m} {b} position [] going none =
 rooted {w} {m} {b} position (p ∷ inner) going none =
     at_the_root (timeline w) (going.reaches (spot_at w position b m) (Some p) (before m (le_refl m))) (λ e. refl) none
 
-pub rooted_for : (w : WalkInHistory) (m b : ℕ) (own : Bool) (p : AskedPart) (position : Position) (inner rest : List AskedPart)
-    → GoesFor w m own p position (todo inner rest b) → IsRooted w position
-rooted_for w m b false p position inner rest going = rooted position (p ∷ inner) going
-rooted_for w m b true p position inner rest going = rooted position [] going.1
-
 -- before a part of the caller's own no parts of links' texts are left
 pub alone_for : (w : WalkInHistory) (m b : ℕ) (own : Bool) (p : AskedPart) (position : Position) (inner rest : List AskedPart)
     → GoesFor w m own p position (todo inner rest b) → own ≡ true → inner ≡ []

@@ -1,5 +1,5 @@
 -- The service for a script's jobs: it is opened but for its book's lines and memory.
-use Rattle.std.proofs.Common.{◌≡◌, ℕ, zero, suc, ◌+◌, ◌<◌, ◌≤◌, Bool, true, false, List, [], ◌∷◌, length, map, replicate, cond, Option, Some, None, ◌⊎◌, inl, inr, refl, sym, ap, ◌∙◌, subst, arith}
+use Rattle.std.proofs.Common.{◌≡◌, ℕ, zero, suc, ◌+◌, ◌<◌, ◌≤◌, Bool, true, false, List, [], ◌∷◌, length, replicate, cond, Option, Some, None, ◌⊎◌, inl, inr, refl, sym, ap, ◌∙◌, subst, arith}
 use Rattle.std.specs.Prelude.{Result, Ok, Err, All, IsOk, nat_lt, if◌then◌else◌, is_some}
 use Rattle.std.proofs.lemmas.Bool.{ltb-true, le-ltb}
 use Rattle.std.proofs.lemmas.List.{length_push, length-replicate}
@@ -9,7 +9,6 @@ use Rattle.path_text.specs.declared.errno.Errno.{Errno}
 use Rattle.path_text.specs.declared.errno.Errno.TheVariants.{TooMany}
 use Rattle.race_core.specs.declared.book.TheConstants.{LINES_MAX}
 use Rattle.call_plans.specs.declared.plan.ActorPlan.{ActorPlan}
-use Rattle.call_plans.specs.declared.plan.Planned.TheVariants.{Call}
 use Rattle.root_ops.specs.declared.op.Request.{Request}
 use Rattle.root_ops.specs.declared.reply.Reply.{Reply}
 use Rattle.sessions.specs.declared.close.CloseCause.{CloseCause}
@@ -17,7 +16,7 @@ use Rattle.sessions.specs.declared.close.CloseCause.TheVariants as close
 use Rattle.sessions.specs.declared.open.OpenCause.{OpenCause}
 use Rattle.sessions.specs.declared.open.OpenCause.TheVariants as opening
 use Rattle.sessions.specs.declared.open.TheConstants.{SESSIONS_MAX}
-use Rattle.sessions.specs.Open.{granted, after_grant, cause_after, opening_cause, IsOpened}
+use Rattle.sessions.specs.Open.{granted, after_grant, cause_after, opening_cause}
 use Rattle.sessions.specs.Service.{ServiceView}
 use Rattle.sessions.specs.Session.{SessionView}
 use Rattle.tree_model.specs.declared.inode.Inode.{Inode}
@@ -31,14 +30,11 @@ use Rattle.workers.specs.declared.serving.ServeCause.TheVariants as serve
 use Rattle.workers.specs.declared.serving.TheConstants.{WORKERS_MAX}
 use Rattle.workers.specs.declared.told.Numbered.{Numbered}
 use Rattle.workers.specs.Serve.{IsRefused}
-use Rattle.scripts.specs.declared.fault.RunFault.TheVariants.{Script, ReadFailed, WriteFailed, NoMemory, BookFull}
-use Rattle.run_command.specs.declared.jobs.JobsFault.{JobsFault}
-use Rattle.run_command.specs.declared.jobs.JobsFault.TheVariants.{Run, Service}
-use Rattle.run_command.specs.declared.jobs.ServiceFault.TheVariants as service_fault
-use Rattle.run_command.specs.declared.jobs.TheConstants.{TAG}
-use Rattle.run_command.specs.Jobs.{worker_roots, CanRefuse, CanUnserve, HasFewLines, IsBegun, AreDone, IsUnserved, RefusesToClose, IsServiceFault, IsNoService, told_of_opening, told_of_serving, told_of_closing}
+use Rattle.scripts.specs.declared.fault.RunFault.TheVariants.{NoMemory, BookFull}
+use Rattle.run_command.specs.declared.jobs.JobsFault.TheVariants.{Run}
+use Rattle.run_command.specs.Jobs.{worker_roots, CanRefuse, HasFewLines, AreDone, IsUnserved, RefusesToClose, IsServiceFault, IsNoService, told_of_opening, told_of_serving, told_of_closing}
 use Rattle.scripts.specs.Writing.{tree_of}
-use Rattle.scripts.specs.Scenario.{Said, IsPlayable, said_on, first_root, first_calls}
+use Rattle.scripts.specs.Scenario.{Said, IsPlayable, said_on, first_root}
 use Rattle.scripts.proofs.Roots.{has_room}
 
 -- the roots are granted, one open handle for each
@@ -92,15 +88,6 @@ open_cause workers said playable few =
 -- nobody has a handle yet, and the roots are the first actor's
 module _ (workers : ℕ) (tree : State) (plans : List ActorPlan) (schedule : List ℕ) (lines : ℕ) (roots : List (List (List ℕ)))
     (none : tree.handles ≡ []) (same : roots ≡ replicate workers (first_root plans)) where
-  pub begun : (service : ServiceView) (sessions : List SessionView) (jobs : List Request) → map Call jobs ≡ first_calls plans
-      → (opening_cause tree roots lines ≡ None) × IsOpened tree roots TAG lines service sessions
-      → IsBegun workers (said_on tree plans schedule lines) service sessions jobs
-  begun service sessions jobs calls opened =
-      let P : List (Option OpenHandle) → List (List (List ℕ)) → Type 0 =
-      λ hs rs. (opening_cause (record { nodes = tree.nodes; handles = hs }) rs lines ≡ None) × IsOpened (record { nodes = tree.nodes; handles = hs }) rs TAG lines service sessions in
-      let at : P [] (replicate workers (first_root plans)) = subst (λ rs. P [] rs) same (subst (λ hs. P hs roots) none opened) in
-      record { calls = calls; room = at.0; opened = at.1 }
-
   pub cause_is : (cause : OpenCause) → (opening_cause tree roots lines ≡ Some cause) ⊎ (cause ≡ opening.NoMemory)
       → (opening_cause (tree_of (said_on tree plans schedule lines)) (worker_roots workers (said_on tree plans schedule lines)) lines ≡ Some cause) ⊎ (cause ≡ opening.NoMemory)
   cause_is cause (inr memory) = inr memory
@@ -131,16 +118,6 @@ told_refused workers said cause (inr full) = subst (λ (c : OpenCause). IsNoServ
 
 -- ---- serving
 
-pub can_unserve : (service : ServiceView) (jobs : List Request) (before : List SessionView) (cause : ServeCause) (lists : List (List Numbered)) (after : List SessionView)
-    → 0 < length before → length before ≤ WORKERS_MAX → IsRefused service jobs before cause lists after → CanUnserve cause
-can_unserve service jobs before serve.NoWorkers lists after some few (inl why) = let none : length before ≡ 0 = ap length why.0 in absurd (omega (arith, some, none))
-can_unserve service jobs before serve.NoWorkers lists after some few (inr why) = absurd why.1
-can_unserve service jobs before serve.TooManyWorkers lists after some few (inl why) = let many : WORKERS_MAX < length before = why.0 in absurd (omega (arith, few, many))
-can_unserve service jobs before serve.TooManyWorkers lists after some few (inr why) = absurd why.1
-can_unserve service jobs before serve.NoMemory lists after some few why = tt
-can_unserve service jobs before (serve.Doubled job) lists after some few why = tt
-can_unserve service jobs before (serve.Lost job) lists after some few why = tt
-
 pub told_unserved : (service : ServiceView) (jobs : List Request) (before : List SessionView) (cause : ServeCause) (lists : List (List Numbered)) (after : List SessionView)
     → IsRefused service jobs before cause lists after → IsUnserved service jobs before (told_of_serving cause)
 told_unserved service jobs before serve.NoWorkers lists after why = tt
@@ -148,20 +125,6 @@ told_unserved service jobs before serve.TooManyWorkers lists after why = tt
 told_unserved service jobs before serve.NoMemory lists after why = tt
 told_unserved service jobs before (serve.Doubled job) lists after why = record { lists = lists; after = after; refused = why }
 told_unserved service jobs before (serve.Lost job) lists after why = record { lists = lists; after = after; refused = why }
-
-pub unserved : (workers : ℕ) (said : Said) (service : ServiceView) (sessions : List SessionView) (jobs : List Request) (fault : JobsFault)
-    → IsBegun workers said service sessions jobs → IsUnserved service jobs sessions fault → IsNoService workers said fault
-unserved workers said service sessions jobs (Service (service_fault.Doubled job)) begun is = record { service = service; at_first = sessions; jobs = jobs; begun = begun; refuses = is }
-unserved workers said service sessions jobs (Service (service_fault.Lost job)) begun is = record { service = service; at_first = sessions; jobs = jobs; begun = begun; refuses = is }
-unserved workers said service sessions jobs (Service (service_fault.Stranger place)) begun is = absurd is
-unserved workers said service sessions jobs (Service (service_fault.Missing number)) begun is = absurd is
-unserved workers said service sessions jobs (Service service_fault.Opening) begun is = absurd is
-unserved workers said service sessions jobs (Service (service_fault.Mismatch number)) begun is = absurd is
-unserved workers said service sessions jobs (Run (Script fault)) begun is = absurd is
-unserved workers said service sessions jobs (Run ReadFailed) begun is = absurd is
-unserved workers said service sessions jobs (Run WriteFailed) begun is = absurd is
-unserved workers said service sessions jobs (Run NoMemory) begun is = tt
-unserved workers said service sessions jobs (Run BookFull) begun is = absurd is
 
 -- ---- closing
 

@@ -43,13 +43,6 @@ module _ (below : Below) (old new : SessionView) (doing : Doing) (answer : Answe
   advanced (inl is) taken = made taken.0 taken.1 is
   advanced (inr is) taken = left_out taken.0 is.0 taken.1 is.1.0 is.1.1.0 (is.1.1.1 ∙ ap (λ (log : List Event). record { owner = old.owner; root = old.root; log = log; marked = old.marked }) (sym (append-nil old.log)))
 
-pub led_nowhere : (below : Below) (session : SessionView) (turn : CallTurn) → Leads below session turn session turn
-led_nowhere below session turn = record {
-  lines = [];
-  leads = refl;
-  logged = ap (λ (log : List Event). record { owner = session.owner; root = session.root; log = log; marked = session.marked }) (sym (append-nil session.log));
-}
-
 -- what was logged first, and then what was logged after it
 logged_on : (first second third : SessionView) (es fs : List Event) → second ≡ logs first es → third ≡ logs second fs → third ≡ logs first (es ++ fs)
 logged_on first second third es fs one two =
@@ -129,24 +122,6 @@ pub releases_handle : (op : Op) (standing : StandingObject) (h : ℕ) → op ≡
 releases_handle op standing h is_op is =
     let same : Some standing.handle ≡ Some h = subst (λ (o : Op). released_by o ≡ Some h) is_op is in
     cc (same)
-
-pub first_nowhere : (below : Below) (op : Op) (session : SessionView) (turn : CallTurn) → StartsTo below op turn → LeadsFirst below op session session turn
-first_nowhere below op session turn begun = record {
-  room = begun.0;
-  led = subst (λ t. Leads below session t session turn) begun.1 (led_nowhere below session turn);
-}
-
-pub first_released : (below v : Below) (op : Op) (old new : SessionView) (doing : Doing) (to : CallTurn) → v ≡ below → StartsTo below op (more doing)
-    → Leads v old (more doing) new to → LeadsFirst below op old new to
-first_released below v op old new doing to same begun led = record {
-  room = begun.0;
-  led = subst (λ t. Leads below old t new to) begun.1 (subst (λ (b : Below). Leads b old (more doing) new to) same led);
-}
-
--- the first turn was the last
-pub made_at_once : (request : RequestTo) (old new : SessionView) (reply : Told) → LeadsFirst (below_of (root_of old) request.flags) request.op old new (ends (reply_view reply))
-    → IsOwned old.owner reply → Made old request new reply
-made_at_once request old new reply first owned = record { room = first.room; lines = first.led.lines; leads = first.led.leads; logged = first.led.logged; owned = owned }
 
 pub made_on : (request : RequestTo) (v : Below) (old mid new : SessionView) (doing : Doing) (reply : Told) → v ≡ below_of (root_of old) request.flags
     → LeadsFirst (below_of (root_of old) request.flags) request.op old mid (more doing) → Leads v mid (more doing) new (ends (reply_view reply))

@@ -2,7 +2,7 @@
 use Rattle.std.proofs.Common.{◌≡◌, ℕ, zero, suc, ◌+◌, ◌==◌, ◌<◌, ◌≤◌, ◌||◌, Bool, true, false, not, nat_lt, cond, if◌then◌else◌, List, [], ◌∷◌, ◌++◌, take, length, slice_get, Option, Some, None, IfSome, IsTrue, ◌↔◌, refl, sym, ap, ◌∙◌, subst, append-nil, arith}
 use Rattle.std.specs.List.{list_any}
 use Rattle.std.proofs.lemmas.Bool.{false≢true, eqb-true, eqb-false, ltb-true, ltb-false, eq-eqb, ne_eqb, not-false}
-use Rattle.std.proofs.lemmas.List.{length-take-le, take_all}
+use Rattle.std.proofs.lemmas.List.{length-take-le}
 use Rattle.std.proofs.lemmas.List.Elements.{filter-append}
 use Rattle.std.proofs.lemmas.Option.{slice_get_past, slice_get_within}
 use Rattle.path_text.proofs.TextLemmas.{or_false}
@@ -139,15 +139,6 @@ module _ (a at next : ℕ) (es log : List Event) (within : at < length es) (shor
       ∙ ap (λ fs. own_events a (take at es) ++ fs) (own_one a e cut.0 (is_b.0 own)) ∙ ap (λ fs. fs ++ e ∷ own_events a cut.0) (sym same) in
       let size : length (take next log) ≡ next = length-take-le next log short in
       lost (ap (λ l. slice_get l next) (all ∙ whole) ∙ ap (slice_get (take next log ++ e ∷ own_events a cut.0)) (sym size) ∙ got_after (take next log) e (own_events a cut.0) ∙ sym at_e)
-
--- at the end of the events
-pub at_the_end : (a at next : ℕ) (es log : List Event) → length es ≤ at → next ≤ length log → take next log ≡ own_events a (take at es)
-    → ((next ≡ length log) → log ≡ own_events a es) × (log ≡ own_events a es → next ≡ length log)
-at_the_end a at next es log past short same =
-    let whole : take next log ≡ own_events a es = same ∙ ap (own_events a) (take_all at es past) in (
-      (λ e. let long : length log ≤ next = omega (arith, e) in sym (take_all next log long) ∙ whole),
-      (λ all. sym (length-take-le next log short) ∙ ap length (whole ∙ sym all)),
-    )
 
 -- ---- a closed service
 

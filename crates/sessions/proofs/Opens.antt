@@ -1,5 +1,5 @@
 -- What a granted handle changes, and what its Close takes back.
-use Rattle.std.proofs.Common.{◌≡◌, ◌≢◌, ℕ, zero, suc, ◌+◌, ◌==◌, ◌<◌, ◌≤◌, Bool, true, false, List, [], ◌∷◌, ◌++◌, length, slice_get, Some, None, Ok, Err, ◌⊎◌, inl, inr, refl, sym, ap, ◌∙◌, subst, le_refl, append_assoc, nat_lt, if◌then◌else◌, arith}
+use Rattle.std.proofs.Common.{◌≡◌, ◌≢◌, ℕ, zero, suc, ◌+◌, ◌==◌, ◌<◌, ◌≤◌, Bool, true, false, List, [], ◌∷◌, ◌++◌, length, slice_get, Some, None, Ok, Err, refl, sym, ap, ◌∙◌, subst, le_refl, append_assoc, nat_lt, if◌then◌else◌, arith}
 use Rattle.std.specs.Prelude.{Result, is_err, OnOk}
 use Rattle.std.proofs.lemmas.Bool.{eqb-true, eqb-false, ltb-true}
 use Rattle.std.proofs.lemmas.Option.{slice_get_past}
@@ -13,10 +13,9 @@ use Rattle.tree_model.specs.Steps.{outcome, held, node_held, is_full, with_handl
 use Rattle.tree_model.proofs.Places.{slice_get-last}
 use Rattle.tree_model.proofs.StepLaws.{nodes_are_left, others_handles_stay}
 use Rattle.step_resolver.proofs.Underway.StepOutcomes.{with_handle-is_more, Close-is_less, slice_get-other}
-use Rattle.sessions.specs.declared.open.OpenCause.{OpenCause}
-use Rattle.sessions.specs.declared.open.OpenCause.TheVariants.{TooManySessions, NoMemory}
+use Rattle.sessions.specs.declared.open.OpenCause.TheVariants.{TooManySessions}
 use Rattle.sessions.specs.declared.open.TheConstants.{SESSIONS_MAX}
-use Rattle.sessions.specs.Open.{granted, after_grant, book_cause, cause_after, opening_cause, root_cause, first_sessions, IsAsItWas, IsOpened}
+use Rattle.sessions.specs.Open.{granted, after_grant, book_cause, cause_after, opening_cause, first_sessions, IsAsItWas, IsOpened}
 use Rattle.sessions.specs.Service.{ServiceView}
 use Rattle.sessions.specs.Session.{SessionView, begun}
 
@@ -183,26 +182,12 @@ opened_whole s opening tag lines roots service sessions e all is =
 
 -- ---- as it is opened, root by root
 
--- the first root is refused here
-pub refused_here : (s t : State) (i lines : ℕ) (names : List (List ℕ)) (roots : List (List (List ℕ))) (error : Errno) → IsGrant s t (grants s i names) (Err error)
-    → ((cause_after (granted s i (names ∷ roots)) lines ≡ Some (root_cause i error)) ⊎ (root_cause i error ≡ NoMemory)) × (t ≡ s)
-refused_here s t i lines names roots error is = on (grants s i names) is
-  where
-    on : (found : Result State Errno) → IsGrant s t found (Err error)
-        → ((cause_after (after_grant (λ v. granted v (suc i) roots) i found) lines ≡ Some (root_cause i error)) ⊎ (root_cause i error ≡ NoMemory)) × (t ≡ s)
-    on (Err e) h = (inl (ap (λ x. Some (root_cause i x)) (cc (h.0))), h.1)
-    on (Ok v) h = (inr (ap (root_cause i) h.0), h.1)
-
 pub granted_here : (s t : State) (i h : ℕ) (names : List (List ℕ)) → IsGrant s t (grants s i names) (Ok h) → (grants s i names ≡ Ok t) × (h ≡ length s.handles)
 granted_here s t i h names is = on (grants s i names) refl is
   where
     on : (found : Result State Errno) → grants s i names ≡ found → IsGrant s t found (Ok h) → (grants s i names ≡ Ok t) × (h ≡ length s.handles)
     on (Err e) q k = cc (k.0)
     on (Ok v) q k = (q ∙ ap (λ (u : State). Ok u) (sym k.1), k.0)
-
--- what comes of the roots after it comes of all
-pub with_first : (s t : State) (i : ℕ) (names : List (List ℕ)) (roots : List (List (List ℕ))) → grants s i names ≡ Ok t → granted s i (names ∷ roots) ≡ granted t (suc i) roots
-with_first s t i names roots e = ap (after_grant (λ v. granted v (suc i) roots) i) e
 
 pub as_it_is : (s : State) → IsAsItWas s s
 as_it_is s = (refl, λ a h. refl)
@@ -228,14 +213,6 @@ module _ (s t : State) (i a h : ℕ) (names : List (List ℕ)) (others roots : L
       ∙ ap (λ z. old ++ begun (record { tag = tag; actor = i }) (length s.handles) ∷ first_sessions tag z (length t.handles) others) next
       ∙ ap (λ z. old ++ begun (record { tag = tag; actor = i }) (length s.handles) ∷ first_sessions tag (suc i) z others) longer
       ∙ ap (λ rs. old ++ first_sessions tag i (length s.handles) rs) (sym all)
-
-  pub cause_on : (lines : ℕ) (cause : OpenCause) → (cause_after (granted t (i + 1) others) lines ≡ Some cause) ⊎ (cause ≡ NoMemory)
-      → (cause_after (granted s i roots) lines ≡ Some cause) ⊎ (cause ≡ NoMemory)
-  cause_on lines cause (inr e) = inr e
-  cause_on lines cause (inl e) =
-      let next : suc i ≡ i + 1 = omega arith in
-      inl (ap (λ rs. cause_after (granted s i rs) lines) all ∙ ap (λ r. cause_after r lines) (with_first s t i names others here.0)
-      ∙ ap (λ z. cause_after (granted t z others) lines) next ∙ e)
 
   pub back_on : (u after : State) → IsAsItWas t u → after ≡ (outcome u a (Close h)).after → IsAsItWas s after
   back_on u after back after_is = grant_taken_back s t u after i h names here.0 here.1 back (subst (λ z. after ≡ (outcome u z (Close h)).after) same after_is)
