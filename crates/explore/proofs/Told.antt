@@ -3,14 +3,13 @@ use Rattle.std.specs.Prelude.{◌≡◌, ◌<◌, ◌++◌, ◌∷◌, [], ℕ, 
 use Rattle.std.specs.Option.{option_map}
 use Rattle.std.proofs.Common.{sym, ap, ◌∙◌, subst, ⊎_elim}
 use Rattle.std.proofs.lemmas.List.{length-map}
-use Rattle.std.proofs.lemmas.Option.{same_Some, slice_get-map}
+use Rattle.std.proofs.lemmas.Option.{same_Some, slice_get-map, slice_get_within}
 use Rattle.layered_search.specs.declared.found.Class.{Class}
 use Rattle.layered_search.specs.Found.{view_of, views_of, TellsOutcome, TellOutcomes}
 use Rattle.layered_search.specs.Promise as search
+use Rattle.layered_search.proofs.Places.{within_some, get_push}
 use Rattle.race_core.specs.Worlds.{WorldView}
 use Rattle.local_states.specs.Worlds.{EndView, worlds, world_outcomes}
-use Rattle.local_states.proofs.Alike.PairedLists.{there_is, there_was}
-use Rattle.local_states.proofs.Lists.Places.{get_push}
 use Rattle.local_states.specs.declared.limits.Scope.{Scope}
 use Rattle.explore.specs.Explored.{lists_in, IsAsked, AgreeIn, ClassView, HasClass, cuts, changes, rank, is_at_most}
 use Rattle.explore.specs.Promise.{IsMerged, IsMergedClass}
@@ -48,7 +47,7 @@ module _ (w : WorldView) (scope : Scope) (counted : List (Class EndView)) (class
 
   at : (k : ℕ) (class : ClassView) → slice_get classes k ≡ Some class → At k class
   at k class there =
-      let one = there_is counted k (subst (λ n. k < n) told.many (there_was classes k class there)) in
+      let one = within_some counted k (subst (λ n. k < n) told.many (slice_get_within classes k class there)) in
       let view = view_at k one.0 one.1 in
       record { one = one.0; view = view; told_is = told.each k one.0 class one.1 there (merged.each k (view_of one.0) view).asked; tells = tell k one.0 one.1 }
 
@@ -76,8 +75,8 @@ module _ (w : WorldView) (scope : Scope) (counted : List (Class EndView)) (class
   has_class is asked =
       let has = merged.told is asked in
       let within : has.at < length counted =
-      subst (λ n. has.at < n) (length-map counted (λ (class : Class EndView). view_of class)) (there_was (views_of counted) has.at has.class has.there) in
-      let class = there_is classes has.at (subst (λ n. has.at < n) (sym told.many) within) in
+      subst (λ n. has.at < n) (length-map counted (λ (class : Class EndView). view_of class)) (slice_get_within (views_of counted) has.at has.class has.there) in
+      let class = within_some classes has.at (subst (λ n. has.at < n) (sym told.many) within) in
       let known = at has.at class.0 class.1 in
       let same : has.class ≡ view_of known.one = same_Some has.class (view_of known.one) (sym has.there ∙ known.view) in
       record {

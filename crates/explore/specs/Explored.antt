@@ -15,9 +15,9 @@ use Rattle.layered_search.specs.Limits.{ScopeView, LimitsView}
 use Rattle.local_states.specs.declared.limits.Scope.{Scope}
 use Rattle.local_states.specs.declared.limits.Limits.{Limits}
 use Rattle.local_states.specs.Local.{SameParts}
+pub use Rattle.local_states.specs.Local.{TellAlike}
 use Rattle.local_states.specs.Outside.{outside_of}
 use Rattle.local_states.specs.Worlds.{after_turns, world_moves, worlds}
-pub use Rattle.local_states.specs.Worlds.{TellAlike}
 
 -- ---- which lists are asked for, and what they tell
 

@@ -33,7 +33,7 @@ abbrev pub ChosenListsStandForAll : Type 0
 ChosenListsStandForAll =
     (told : Bool) (w : WorldView) (chosen : List ℕ → Bool) → IsClosed told w chosen → (is : List ℕ) → IsFull w is
     → (js : List ℕ) × ((chosen js ≡ true)
-    × (IsOver (after_turns w js) × TellAlike (after_turns w is) (after_turns w js)))
+    × (IsOver (after_turns w js) × TellAlike told (after_turns w is) (after_turns w js)))
 
 -- The report on a run of any schedule, in which nobody lacked memory, is that of a full list.
 abbrev pub ReportsAreOfFullLists : Type 0

@@ -1,5 +1,5 @@
 -- A full list of turns without its longest tail that rises: a run of it goes on by that tail.
-use Rattle.std.specs.Prelude.{◌≡◌, ◌≢◌, ◌<◌, ◌≤◌, ◌==◌, ◌&&◌, ℕ, ◌+◌, zero, suc, List, [], ◌∷◌, ◌++◌, Bool, true, false, length, Option, Some, None, slice_get, nat_lt, nat_le, if◌then◌else◌, refl}
+use Rattle.std.specs.Prelude.{◌≡◌, ◌≢◌, ◌<◌, ◌≤◌, ◌==◌, ℕ, ◌+◌, zero, suc, List, [], ◌∷◌, ◌++◌, Bool, true, false, length, Option, Some, None, slice_get, nat_lt, nat_le, if◌then◌else◌, refl}
 use Rattle.std.proofs.Common.{sym, ap, ◌∙◌, subst, arith, eqb-true, eq-eqb}
 use Rattle.std.proofs.lemmas.Bool.{false≢true, leb-true, le-leb, and_parts, and_from}
 use Rattle.tree_model.proofs.StepLaws.{slice_get-set_other}
@@ -7,17 +7,14 @@ use Rattle.race_core.specs.declared.seat.Seat.{Seat}
 use Rattle.race_core.specs.Turns.{turned}
 use Rattle.race_core.specs.Worlds.{WorldView, turn, turn_of, is_busy_in, is_busy_at, Runs, AllGoToEnd, numbers_below, first_beyond}
 use Rattle.local_states.specs.Worlds.{full, after_turns}
-use Rattle.explore.specs.Search.{IsOver, IsFull}
+use Rattle.explore.specs.Search.{IsFull}
+use Rattle.explore.proofs.Lists.Replayed.{full_over}
 use Rattle.local_states.proofs.Lists.Runs.{all_over, actors_stay}
+use Rattle.local_states.proofs.Worlds.System.{busy_within}
 use Rattle.outcome_text.specs.Schedule.{rises, without_tail}
 use Rattle.explore_command.specs.Replayed.{WrittenSchedulesLeadThere}
 
 -- ---- who has something left to do is an actor, and another's turn leaves that
-
-pub busy_within : (seats : List Seat) (i : ℕ) → is_busy_at seats i ≡ true → i < length seats
-busy_within [] i busy = absurd (false≢true busy)
-busy_within (seat ∷ seats) zero busy = omega arith
-busy_within (seat ∷ seats) (suc i) busy = let rest = busy_within seats i busy in omega (arith, rest)
 
 others_stay : (w : WorldView) (i j : ℕ) → i ≢ j → is_busy_at (turn full w i).seats j ≡ is_busy_at w.seats j
 others_stay w i j apart = ap is_busy_in (by (slice_get w.seats i))
@@ -25,10 +22,6 @@ others_stay w i j apart = ap is_busy_in (by (slice_get w.seats i))
     by : (o : Option Seat) → slice_get (turn_of full w i o).seats j ≡ slice_get w.seats j
     by None = refl
     by (Some seat) = slice_get-set_other w.seats i (turned full w.book seat.ledger seat.doing).seat j (λ e. apart (sym e))
-
-full_over : (w : WorldView) (is : List ℕ) → IsFull w is → IsOver (after_turns w is)
-full_over w [] over = over
-full_over w (i ∷ is) rest = full_over (turn full w i) is rest.1
 
 full_runs : (w : WorldView) (is : List ℕ) → Runs w is (after_turns w is)
 full_runs w [] = refl

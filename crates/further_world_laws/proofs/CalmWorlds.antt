@@ -9,7 +9,7 @@ use Rattle.tree_model.specs.declared.answer.Answer.{Answer}
 use Rattle.tree_model.proofs.StepLaws.{slice_get-set_other}
 use Rattle.root_ops.specs.declared.below.Below.{Below}
 use Rattle.root_ops.specs.declared.op.Request.{Request}
-use Rattle.root_ops.specs.Order.{Reply, CallTurn, more, ends, starts, take, due}
+use Rattle.root_ops.specs.Order.{CallTurn, more, ends, starts, take, due}
 use Rattle.root_ops.specs.Order as call
 use Rattle.root_ops.specs.TurnView.{below_of}
 use Rattle.root_ops.specs.View.{CallView}
@@ -22,7 +22,8 @@ use Rattle.race_core.specs.OneReport.{full, HadMemory, AllHadMemory}
 use Rattle.race_core.specs.Turns.{Luck, stepped_by, outcome_of, comes, begins, begins_next, begun, goes_on, turned, request_of, left_by}
 use Rattle.race_core.specs.Worlds.{WorldView, turn_of, turn, Runs, again, AllGoToEnd, numbers_below, ledgers_in, replies_in}
 use Rattle.race_core.proofs.WorldSoFar.{placed_there}
-use Rattle.local_states.specs.OutOfMemory.{reply_out_of_memory, outcome_out_of_memory, any_out_of_memory, call_out_of_memory, seat_out_of_memory, seats_out_of_memory, replies_out_of_memory}
+use Rattle.local_states.specs.OutOfMemory.{outcome_out_of_memory, any_out_of_memory, call_out_of_memory, seat_out_of_memory, seats_out_of_memory, replies_out_of_memory}
+use Rattle.local_states.proofs.OutOfMemory.OutOfMemoryWorlds.{same_out_of_memory}
 use Rattle.further_world_laws.specs.WantCauses.{BringsNoWant, MemoryBringsNoWant, LackedMemory, WantHasATurn, ReportsWithMemoryTellNone}
 use Rattle.further_world_laws.proofs.CalmCalls.{TurnIsCalm, take_calm, starts_calm}
 use Rattle.further_world_laws.proofs.CalmSteps.{stepped_calm}
@@ -41,15 +42,6 @@ any_both (o ∷ before) after e f =
 
 -- ---- a turn
 
-same_want : (reply : Reply) → outcome_out_of_memory (outcome_of reply) ≡ reply_out_of_memory reply
-same_want (call.opened handle names) = refl
-same_want (call.link_text text) = refl
-same_want call.done = refl
-same_want (call.count n) = refl
-same_want (call.stepped answer) = refl
-same_want (call.kept standing) = refl
-same_want (call.fault error) = refl
-
 one_calm : (outcome : Outcome) → outcome_out_of_memory outcome ≡ false → any_out_of_memory (outcome ∷ []) ≡ false
 one_calm outcome e = neither (outcome_out_of_memory outcome) false e refl
 
@@ -62,7 +54,7 @@ comes_calm ledger below (more doing) calm = record { news = []; told = sym (appe
 comes_calm ledger below (ends reply) calm = record {
   news = outcome_of reply ∷ [];
   told = refl;
-  none = one_calm (outcome_of reply) (same_want reply ∙ calm);
+  none = one_calm (outcome_of reply) (same_out_of_memory reply ∙ calm);
   under_way = refl;
 }
 

@@ -18,6 +18,9 @@ join x y z e e' = e ∙ e'
 pub at_or_below : (i n : ℕ) → i < n + 1 → (i < n) ⊎ (i ≡ n)
 at_or_below i n lt = grind arith
 
+pub before_or_not : (m n : ℕ) → (m < n) ⊎ (n ≤ m)
+before_or_not m n = grind arith
+
 pub within_some : {A : Type 0} (xs : List A) (at : ℕ) → at < length xs → (x : A) × (slice_get xs at ≡ Some x)
 within_some [] at h = absurd (omega arith)
 within_some (x ∷ xs) at h = (get_or (x ∷ xs) at x, slice_get-get_or (x ∷ xs) at x h)

@@ -3,5 +3,4 @@ pub mod Steps
 pub mod Turns
 pub mod OutsideAlike
 pub mod HandlesRenamed
-pub mod PairedLists
 pub mod Paired

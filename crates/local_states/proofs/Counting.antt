@@ -18,6 +18,7 @@ use Rattle.tree_model.specs.StepLaws.{only_tells, is_on_entries}
 use Rattle.tree_model.specs.Steps.{Outcome, refused, held, changes, outcome}
 use Rattle.tree_model.proofs.HistoryLaws.{after_events-append}
 use Rattle.tree_model.proofs.StepLaws.{telling_changes_nothing, nodes_are_left, handles_are_left}
+use Rattle.layered_search.proofs.Places.{within_some, get_last}
 use Rattle.race_core.specs.declared.seat.Seat.{Seat}
 use Rattle.race_core.specs.Book.{BookedHistory, tree_now, is_done, answer_now, booked}
 use Rattle.local_states.specs.Outside.{plus, changed_by, any_outside, acts_outside, outside_after, outside_from, roots_from, roots_of, outside_of}
@@ -26,8 +27,6 @@ use Rattle.race_core.specs.Turns.{Luck}
 use Rattle.race_core.specs.Worlds.{WorldView, turn}
 use Rattle.local_states.specs.Counting.{TallyView, IsCounted, IsTally, bumped, IsLatest}
 use Rattle.local_states.proofs.Alike.OutsideAlike.{after_push, IsOneOn, as_it_was, one_more, turn_books, roots_stay}
-use Rattle.local_states.proofs.Alike.PairedLists.{there_is}
-use Rattle.local_states.proofs.Lists.Places.{get_last}
 
 -- ---- no more changes than events
 
@@ -331,7 +330,7 @@ pub roots_more : (w : WorldView) (opening : State) (n : ℕ) (old new : List (Op
     → n < length w.seats → new ≡ old ++ root ∷ [] → ((seat : Seat) → slice_get w.seats n ≡ Some seat → root ≡ held opening n seat.ledger.root.handle)
     → old ≡ roots_from w.book.opening 0 (take n w.seats) → new ≡ roots_from w.book.opening 0 (take (n + 1) w.seats)
 roots_more w opening n old new root opens none lt is own was =
-    let seat = there_is w.seats n lt in
+    let seat = within_some w.seats n lt in
     let tree : opening ≡ w.book.opening = opens ∙ ap (λ events. after_events w.book.opening events) none in
     is ∙ (λ i. was i ++ (own seat.0 seat.1 ∙ ap (λ s. held s n seat.0.ledger.root.handle) tree) i ∷ [])
     ∙ sym (roots_push w.book.opening 0 n (take n w.seats) seat.0 (let long = length-take-le n w.seats (omega (arith, lt)) in omega (arith, long)))

@@ -1,3 +1,2 @@
--- Places in lists, and turns one after another.
-pub mod Places
+-- Turns one after another.
 pub mod Runs

@@ -1,6 +1,6 @@
 -- A turn is local: it reads and changes the tree's nodes and its own actor's part alone. So what a turn of an actor
 -- comes to may be remembered by these two, whatever the others are about.
-use Rattle.std.specs.Prelude.{◌≡◌, ◌≢◌, ◌⊎◌, ◌≤◌, ◌<◌, ℕ, ◌+◌, List, length, nat_le, nat_lt, Option, Some, slice_get}
+use Rattle.std.specs.Prelude.{◌≡◌, ◌≢◌, ◌⊎◌, ◌≤◌, ◌<◌, ℕ, ◌+◌, List, length, nat_le, nat_lt, Bool, false, Option, Some, slice_get}
 use Rattle.tree_model.specs.declared.tree.TheConstants.{NUMBERS_MAX}
 use Rattle.tree_model.specs.State.{State}
 use Rattle.tree_model.specs.StepLaws.{open_count}
@@ -11,7 +11,7 @@ use Rattle.race_core.specs.Renamed.{replies_by, seat_handles, LikeSeats}
 use Rattle.race_core.specs.Turns.{Luck}
 use Rattle.race_core.specs.TurnView.{is_busy, is_within}
 use Rattle.race_core.specs.Worlds.{WorldView, turn, is_busy_at, is_within_at, ledgers_in, replies_in}
-use Rattle.local_states.specs.Outside.{outside_after}
+use Rattle.local_states.specs.Outside.{outside_after, outside_of}
 use Rattle.local_states.specs.Paired.{AreAt, IsApartBefore}
 
 -- ---- an actor's part
@@ -103,13 +103,14 @@ pub record SameParts (w v : WorldView) : Type 0 where
   pub numbered : AreNumbered w.seats
   pub parts : (i : ℕ) → i < length w.seats → SamePartAt w v i
 
--- what two worlds tell of their actors is the same: the replies but for numbers of handles, the nodes, and how many
--- handles each has open
-pub record TellAlike (w v : WorldView) : Type 0 where
+-- What two worlds tell is the same: the replies but for numbers of handles, the nodes, and how many handles each actor
+-- has open; and where it is told, what was changed outside of roots.
+pub record TellAlike (told : Bool) (w v : WorldView) : Type 0 where
   pub replies : replies_by (λ h. 0) (replies_in (ledgers_in w.seats))
       ≡ replies_by (λ h. 0) (replies_in (ledgers_in v.seats))
   pub nodes : (tree_now w.book).nodes ≡ (tree_now v.book).nodes
   pub held : (a : ℕ) → a < length w.seats → held_count (tree_now w.book) a ≡ held_count (tree_now v.book) a
+  pub outside : outside_of told w ≡ outside_of told v
 
 -- ---- the laws
 
@@ -157,6 +158,6 @@ abbrev pub SameWorldsAreBusyAlike : Type 0
 SameWorldsAreBusyAlike = (w v : WorldView) (i : ℕ) → SameParts w v
     → (is_busy_at w.seats i ≡ is_busy_at v.seats i) × (is_within_at w.seats i ≡ is_within_at v.seats i)
 
--- and they tell the same
+-- and they tell the same, but for what was changed outside of roots before
 abbrev pub SameWorldsTellTheSame : Type 0
-SameWorldsTellTheSame = (w v : WorldView) → SameParts w v → TellAlike w v
+SameWorldsTellTheSame = (w v : WorldView) → SameParts w v → TellAlike false w v

@@ -9,10 +9,9 @@ use Rattle.layered_search.specs.Moves.{Moves, after}
 use Rattle.layered_search.specs.System.{System, Outcomes}
 pub use Rattle.race_core.specs.OneReport.{full}
 use Rattle.race_core.specs.declared.report.Outcome.{Outcome}
-use Rattle.race_core.specs.Book.{tree_now}
 use Rattle.race_core.specs.Renamed.{replies_by}
-use Rattle.race_core.specs.Worlds.{WorldView, turn, is_busy_at, is_within_at, ledgers_in, replies_in, Reports}
-use Rattle.local_states.specs.Local.{SameParts}
+use Rattle.race_core.specs.Worlds.{WorldView, turn, is_busy_at, is_within_at, ledgers_in, Reports}
+use Rattle.local_states.specs.Local.{SameParts, TellAlike}
 use Rattle.local_states.specs.Outside.{outside_of}
 use Rattle.local_states.specs.Same.{IsSame}
 
@@ -33,14 +32,6 @@ after_turns w is = after world_moves w is
 pub data IsLike (told : Bool) : WorldView → WorldView → Type 0 where
   same : (w : WorldView) → IsLike told w w
   onward : (w u v : WorldView) → IsSame told w u → IsLike told u v → IsLike told w v
-
--- the same outcome: whatever numbers handles have, and what was changed outside of roots only where that is told
-pub record TellAlike (told : Bool) (w v : WorldView) : Type 0 where
-  pub replies : replies_by (λ h. 0) (replies_in (ledgers_in w.seats))
-      ≡ replies_by (λ h. 0) (replies_in (ledgers_in v.seats))
-  pub nodes : (tree_now w.book).nodes ≡ (tree_now v.book).nodes
-  pub held : (a : ℕ) → a < length w.seats → held_count (tree_now w.book) a ≡ held_count (tree_now v.book) a
-  pub outside : outside_of told w ≡ outside_of told v
 
 -- Of a world that begins so, the actors are its seats. Worlds in which each has the same part count as one state.
 abbrev pub worlds : Bool → WorldView → System WorldView

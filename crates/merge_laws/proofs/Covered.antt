@@ -1,19 +1,19 @@
 -- Parts of one question without a gap among them are all: each list that is asked for begins with just one.
-use Rattle.std.specs.Prelude.{◌≡◌, ◌<◌, ◌++◌, ℕ, zero, suc, true, List, [], ◌∷◌, length, take, slice_get, nat_lt, Some, refl}
+use Rattle.std.specs.Prelude.{◌≡◌, ◌<◌, ◌++◌, ℕ, true, List, [], ◌∷◌, length, take, nat_lt, refl}
 use Rattle.std.proofs.Common.{◌∙◌, sym, ap, subst, ⊎_elim, arith, drop}
-use Rattle.std.proofs.lemmas.Bool.{true≢false, false≢true}
+use Rattle.std.proofs.lemmas.Bool.{true≢false}
 use Rattle.std.proofs.lemmas.List.{append-nil, append_assoc, take-append-drop}
 use Rattle.local_states.specs.declared.limits.Limits.{Limits}
-use Rattle.local_states.specs.Worlds.{full, after_turns}
+use Rattle.local_states.specs.Worlds.{after_turns}
 use Rattle.explore.specs.Explored.{IsAsked}
 use Rattle.explore.specs.Search.{IsFull}
 use Rattle.explore.specs.Opened.{opened_world}
 use Rattle.local_states.proofs.Lists.Runs.{actors_stay}
+use Rattle.local_states.proofs.Worlds.System.{busy_within}
 use Rattle.explore_parts.specs.declared.asked.Asked.{Asked}
 use Rattle.explore_command.specs.Part.{IsBarred, HasLists}
 use Rattle.call_plans.specs.declared.plan.ActorPlan.{ActorPlan}
-use Rattle.race_core.specs.declared.seat.Seat.{Seat}
-use Rattle.race_core.specs.Worlds.{WorldView, turn, is_busy_at}
+use Rattle.race_core.specs.Worlds.{WorldView}
 use Rattle.schedule_graph.specs.Counted.{IsAmong}
 use Rattle.outcome_text.specs.declared.part.Part.{Part}
 use Rattle.outcome_text.specs.Merge.{are_apart, has_lists, AreAll}
@@ -23,7 +23,6 @@ use Rattle.merge_laws.specs.Merged.{IsPartOf, AreOfOneQuestion, IsSeated, PartsW
 use Rattle.merge_laws.proofs.Barred.{busy_there, none_begins}
 use Rattle.merge_laws.proofs.NoGaps.{MightHave, begins_with_one, each_once, found}
 use Rattle.further_world_laws.proofs.Beginnings.{ends_there}
-use Rattle.explore_command.proofs.Replayed.{busy_within}
 use Rattle.tree_model.proofs.Places.{slice_get-last}
 use Rattle.step_resolver.proofs.Meaning.PlainResolution.{slice_get-some}
 

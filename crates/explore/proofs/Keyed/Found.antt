@@ -9,9 +9,11 @@ use Rattle.std.proofs.lemmas.Bool.{cases_eq}
 use Rattle.std.proofs.Math.Seq.{map-set_same}
 use Rattle.std.proofs.lemmas.List.{length-map}
 use Rattle.std.proofs.lemmas.List.Elements.{All-head, All-tail}
-use Rattle.std.proofs.lemmas.Option.{same_Some, get_or_from_slice_get}
+use Rattle.std.proofs.lemmas.Option.{same_Some, get_or_from_slice_get, slice_get_within}
 use Rattle.tree_model.specs.State.{State}
 use Rattle.tree_model.specs.Steps.{held}
+use Rattle.tree_model.proofs.StepLaws.{slice_get-set_other}
+use Rattle.layered_search.proofs.Places.{within_some}
 use Rattle.race_core.specs.declared.seat.Seat.{Seat}
 use Rattle.race_core.specs.Book.{BookedHistory, tree_now}
 use Rattle.race_core.specs.Turns.{Luck}
@@ -29,8 +31,7 @@ use Rattle.local_states.specs.Keys.{ComponentsView, Grows, IsPartAt, IsKey, IsKe
 use Rattle.local_states.specs.Local.{AreNumbered}
 use Rattle.local_states.specs.Outside.{outside_after, outside_from, outside_of, roots_from}
 use Rattle.local_states.specs.OutOfMemory.{EndsWell}
-use Rattle.local_states.proofs.Alike.PairedLists.{there_is, there_was}
-use Rattle.local_states.proofs.Alike.Steps.{set_at, set_other}
+use Rattle.local_states.proofs.Alike.Steps.{set_at}
 use Rattle.explore.proofs.Keyed.Growing.{part_grows, effect_grows, sound_grows, grows_on}
 use Rattle.explore.proofs.Keyed.KnownTurn.{same_outside, found_turn, found_whole}
 use Rattle.explore.proofs.Keyed.OneTurn.{grown_by, numbered_stays}
@@ -63,7 +64,7 @@ no_own = record { part = 0; outside = 0 }
 
 pub zero_at : (own : List Own) → All (λ n. n ≡ 0) (map (λ (o : Own). o.outside) own) → (i : ℕ) (one : Own) → slice_get own i ≡ Some one → one.outside ≡ 0
 zero_at own none i one there =
-    let within : i < length (map (λ (o : Own). o.outside) own) = subst (λ n. i < n) (sym (length-map own (λ (o : Own). o.outside))) (there_was own i one there) in
+    let within : i < length (map (λ (o : Own). o.outside) own) = subst (λ n. i < n) (sym (length-map own (λ (o : Own). o.outside))) (slice_get_within own i one there) in
     ap (λ (o : Own). o.outside) (sym (get_or_from_slice_get own i one no_own there))
     ∙ (sym (get_or-map (λ (o : Own). o.outside) own i no_own) ∙ none i 0 within)
 
@@ -117,14 +118,14 @@ few_after n key next i effect lt few after = record {
 
     here : (j : ℕ) (own : Own) → j ≡ i → slice_get (slice_set key.own.items i new) j ≡ Some own → own.outside ≤ n + 1
     here j own same there =
-        let was = there_is key.own.items i lt in
+        let was = within_some key.own.items i lt in
         let is : own ≡ new = same_Some own new (sym there ∙ (ap (λ k. slice_get (slice_set key.own.items i new) k) same ∙ set_at key.own.items i new lt)) in
         let old : slice_index_or key.own.items i no_own ≡ was.0 = get_or_from_slice_get key.own.items i was.0 no_own was.1 in
         one_more n was.0.outside own.outside effect.outside (ap (λ (o : Own). o.outside) is ∙ ap (λ (o : Own). o.outside + from_bool effect.outside) old) (few.outside i was.0 was.1)
 
     elsewhere : (j : ℕ) (own : Own) → (j ≡ i → ⊥) → slice_get (slice_set key.own.items i new) j ≡ Some own → own.outside ≤ n + 1
     elsewhere j own ne there =
-        let few_still : own.outside ≤ n = few.outside j own (sym (set_other key.own.items i new j ne) ∙ there) in
+        let few_still : own.outside ≤ n = few.outside j own (sym (slice_get-set_other key.own.items i new j ne) ∙ there) in
         omega arith
 
 pub length_after : (key next : Key) (i : ℕ) (effect : Effect) → IsKeyAfter key i effect next
@@ -180,7 +181,7 @@ module _ (c d : ComponentsView) (w : WorldView) (own : List Own) (n at : ℕ) (g
           subst (λ k. IsPartAt d w k one.part) (sym same) (subst (λ k. IsPartAt d w n k) (ap (λ (o : Own). o.part) (sym is)) part)
 
       elsewhere : (i ≡ n → ⊥) → IsPartAt d w i one.part
-      elsewhere ne = part_grows grows (below i one (omega arith) (sym (set_other own n put i ne) ∙ there))
+      elsewhere ne = part_grows grows (below i one (omega arith) (sym (slice_get-set_other own n put i ne) ∙ there))
 
 -- one more is remembered
 pub remembered_more : (c : ComponentsView) (w v : WorldView) (memo_key : MemoKey) (effect : Effect) (old new : List Entry)

@@ -7,6 +7,8 @@ use Rattle.std.proofs.lemmas.Bool.{cases_eq}
 use Rattle.std.proofs.lemmas.Bool.Decides.{nat_tests}
 use Rattle.std.proofs.lemmas.Option.{none-some, same_Some, get_or_from_slice_get}
 use Rattle.tree_model.specs.declared.tree.TheConstants.{NUMBERS_MAX}
+use Rattle.tree_model.proofs.StepLaws.{slice_get-set_other}
+use Rattle.layered_search.proofs.Places.{within_some}
 use Rattle.race_core.specs.declared.seat.Seat.{Seat}
 use Rattle.race_core.specs.Book.{BookedHistory, tree_now, free_lines}
 use Rattle.race_core.specs.Worlds.{WorldView, turn}
@@ -22,8 +24,7 @@ use Rattle.local_states.specs.Keys.{ComponentsView, AreRows, Grows, IsPartAt, Is
 use Rattle.local_states.specs.Outside.{plus, outside_from, roots_of}
 use Rattle.local_states.specs.Local.{actor_of, SamePartAt, AreAllGiven, GrownAlike, SameGround, changes_outside}
 use Rattle.local_states.proofs.Alike.OutsideAlike.{roots_stay}
-use Rattle.local_states.proofs.Alike.PairedLists.{there_is}
-use Rattle.local_states.proofs.Alike.Steps.{set_at, set_other}
+use Rattle.local_states.proofs.Alike.Steps.{set_at}
 use Rattle.local_states.proofs.Counting.{bumped_none, bumped_first, bumped_next}
 use Rattle.explore.proofs.Keyed.Growing.{grows_same, rows_grow, key_grows}
 use Rattle.explore.proofs.Keyed.OneTurn.{lines_stay, numbered_stays}
@@ -106,7 +107,7 @@ others_part : (c : ComponentsView) (v : WorldView) (i j at actors : ℕ) → Are
     → ((k : ℕ) (x : Seat) → slice_get v.seats k ≡ Some x → actor_of x ≡ k) → AreAllGiven v → IsPartAt c v j at → IsPartAt c (turn full v i) j at
 others_part c v i j at actors rows ne lt numbered given part =
     let own : part.row.actor ≡ j = rows.own j part.row part.there in
-    let x = there_is v.seats i lt in
+    let x = within_some v.seats i lt in
     let old = part.is.same in
     let apart : i ≢ part.row.actor = (λ e. ne (e ∙ own)) in
     let differ : actor_of x.0 ≢ actor_of old.here = (λ e. apart (sym (numbered i x.0 x.1) ∙ (e ∙ numbered part.row.actor old.here old.is_here))) in
@@ -187,7 +188,7 @@ module _ (c d : ComponentsView) (w v : WorldView) (i : ℕ) (effect : Effect) (k
 
   other_there : (j : ℕ) (own : Own) → i ≢ j → slice_get mid.own.items j ≡ Some own → slice_get key.own.items j ≡ Some own
   other_there j own ne e =
-      sym (set_other key.own.items i (own_after (slice_index_or key.own.items i none) effect) j (λ q. ne (sym q)))
+      sym (slice_get-set_other key.own.items i (own_after (slice_index_or key.own.items i none) effect) j (λ q. ne (sym q)))
       ∙ (ap (λ items. slice_get items j) (sym after.own) ∙ e)
 
   mid_untold : d.told ≡ false → (j : ℕ) (own : Own) → slice_get mid.own.items j ≡ Some own → own.outside ≡ 0
@@ -195,7 +196,7 @@ module _ (c d : ComponentsView) (w v : WorldView) (i : ℕ) (effect : Effect) (k
     where
       here : i ≡ j → own.outside ≡ 0
       here q =
-          let was = there_is key.own.items i within in
+          let was = within_some key.own.items i within in
           let zero_was : was.0.outside ≡ 0 = old.untold untold i was.0 was.1 in
           let is_was : slice_index_or key.own.items i none ≡ was.0 = get_or_from_slice_get key.own.items i was.0 none was.1 in
           let not_outside : effect.outside ≡ false = found.grown.untold untold in

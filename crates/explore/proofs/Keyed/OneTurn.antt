@@ -13,6 +13,7 @@ use Rattle.tree_model.specs.Steps.{Outcome, outcome}
 use Rattle.tree_model.proofs.Counts.{handles_are_counted}
 use Rattle.tree_model.proofs.HistoryLaws.{after_events-append}
 use Rattle.tree_model.proofs.Outcomes.{Does, refuses, tells, opens_on, closes, changes_to, does}
+use Rattle.layered_search.proofs.Places.{within_some}
 use Rattle.race_core.specs.declared.seat.Seat.{Seat}
 use Rattle.race_core.specs.Book.{BookedHistory, tree_now, answer_now, booked}
 use Rattle.race_core.specs.Turns.{Luck, turned}
@@ -20,14 +21,14 @@ use Rattle.race_core.specs.Worlds.{WorldView, turn_of, turn}
 use Rattle.local_states.specs.declared.keys.Effect.{Effect}
 use Rattle.local_states.specs.Counting.{bumped}
 use Rattle.explore.specs.Effects.{HasGrown}
-use Rattle.local_states.specs.Local.{AreNumbered, SameParts}
+use Rattle.local_states.specs.Local.{AreNumbered}
 use Rattle.local_states.specs.Outside.{acts_outside, outside_from, outside_of, roots_from, roots_of}
 use Rattle.local_states.proofs.Alike.OutsideAlike.{IsOneOn, as_it_was, one_more, turn_books, roots_stay}
-use Rattle.local_states.proofs.Alike.PairedLists.{there_is}
 use Rattle.local_states.proofs.Counting.{bumped_none, bumped_next, counts_long, counted_more}
 use Rattle.local_states.proofs.Local.Parts as parts
-use Rattle.local_states.proofs.Local.Parts.{IsOneBy, part_itself, turned_books, turn_is}
+use Rattle.local_states.proofs.Local.Parts.{IsOneBy, turned_books, turn_is}
 use Rattle.local_states.proofs.Local.Wholes.{same_turns}
+use Rattle.local_states.proofs.Parted.SameKeys.{same_itself}
 
 -- ---- what stays
 
@@ -37,20 +38,6 @@ one_lines book after (one_more a step) = refl
 
 pub lines_stay : (luck : Luck) (w : WorldView) (i : ℕ) → (turn luck w i).book.lines ≡ w.book.lines
 lines_stay luck w i = one_lines w.book (turn luck w i).book (turn_books luck w i)
-
-pub same_itself : (w : WorldView) → AreNumbered w.seats → SameParts w w
-same_itself w numbered = record {
-  nodes = refl;
-  lines = refl;
-  events = refl;
-  numbers = refl;
-  open_handles = refl;
-  seats = refl;
-  numbered = numbered;
-  parts = λ i lt.
-      let x = there_is w.seats i lt in
-      record { here = x.0; there = x.0; is_here = x.1; is_there = x.1; part = part_itself (tree_now w.book) x.0 };
-}
 
 pub numbered_stays : (luck : Luck) (w : WorldView) (i : ℕ) → AreNumbered w.seats → AreNumbered (turn luck w i).seats
 numbered_stays luck w i numbered = (same_turns w w luck i (same_itself w numbered)).numbered
@@ -143,7 +130,7 @@ module _ (told : Bool) (luck : Luck) (v : WorldView) (i : ℕ) where
   -- the turn of one who is there
   pub turn_grows : AreNumbered v.seats → i < length v.seats → GrowsBy told i v (turn luck v i)
   turn_grows numbered lt =
-      let x = there_is v.seats i lt in
+      let x = within_some v.seats i lt in
       let is : turn luck v i ≡ turn_of luck v i (Some x.0) = turn_is luck v i x.0 x.1 in
       subst (λ u. GrowsBy told i v u) (sym is)
       (by_book (turned luck v.book x.0.ledger x.0.doing).book (turn_of luck v i (Some x.0)).seats

@@ -13,7 +13,7 @@ use Rattle.local_states.specs.Worlds.{full, after_turns, EndView, IsEndOf}
 use Rattle.local_states.specs.Outside.{outside_of}
 use Rattle.local_states.specs.OutOfMemory.{EndsWell, replies_out_of_memory}
 use Rattle.local_states.proofs.Lists.Runs.{replies_of_seats, actors_stay, turn_stays}
-use Rattle.local_states.proofs.OutOfMemory.OutOfMemoryWorlds.{ap_at, join}
+use Rattle.layered_search.proofs.Places.{ap_at, join}
 use Rattle.explore.specs.Search.{IsOver, IsFull}
 use Rattle.explore.proofs.OutOfMemory.Lucky.{runs_push, runs_full}
 use Rattle.explore.proofs.Lists.SearchLaws.{over_rests, reported}

@@ -8,21 +8,20 @@ use Rattle.handles.specs.Objects.{StandingObject}
 use Rattle.race_core.specs.Book.{tree_now}
 use Rattle.race_core.specs.Worlds.{WorldView, turn, is_busy_at, ledgers_in, replies_in, RunsTo, numbers_below}
 use Rattle.race_core.proofs.OneEnd.{idle_turn_by}
-use Rattle.local_states.specs.Worlds.{full, after_turns, worlds, TellAlike}
+use Rattle.local_states.specs.Worlds.{full, after_turns, worlds}
 use Rattle.local_states.specs.OutOfMemory.{replies_out_of_memory}
 use Rattle.layered_search.proofs.Lists.SearchLaws as search
 use Rattle.local_states.proofs.Worlds.System.{worlds_are_system}
 use Rattle.explore.specs.Search.{IsOver, IsFull, ChosenListsStandForAll, ReportsAreOfFullLists, FullListsAreReported}
-use Rattle.local_states.proofs.OutOfMemory.OutOfMemoryWorlds.{runs_are_full, ap_at, join}
+use Rattle.local_states.proofs.OutOfMemory.OutOfMemoryWorlds.{runs_are_full}
+use Rattle.layered_search.proofs.Places.{ap_at, join}
 use Rattle.local_states.proofs.Lists.Runs.{runs_append, ends_run, over_at}
 
 -- ---- lists that are chosen
 
 pub chosen_lists_stand : ChosenListsStandForAll
 chosen_lists_stand told w chosen closed is whole =
-    let stands = search.chosen_lists_stand (worlds told w) (worlds_are_system told w) chosen closed is whole in
-    let agree : TellAlike told (after_turns w is) (after_turns w stands.0) = stands.1.1.1 in
-    (stands.0, (stands.1.0, (stands.1.1.0, record { replies = agree.replies; nodes = agree.nodes; held = agree.held })))
+    search.chosen_lists_stand (worlds told w) (worlds_are_system told w) chosen closed is whole
 
 -- ---- idle turns
 

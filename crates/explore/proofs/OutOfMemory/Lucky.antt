@@ -4,19 +4,9 @@ use Rattle.race_core.specs.Turns.{Luck}
 use Rattle.race_core.specs.Worlds.{WorldView, turn, Runs}
 use Rattle.local_states.specs.Worlds.{full, after_turns}
 use Rattle.local_states.specs.OutOfMemory.{EndsWell}
-use Rattle.local_states.proofs.OutOfMemory.OutOfMemoryWorlds.{ap_at, join}
-use Rattle.local_states.proofs.Lists.Runs.{runs_append}
+use Rattle.layered_search.proofs.Places.{ap_at, join}
 use Rattle.local_states.proofs.OutOfMemory.Lucky.{full_turn}
-
--- what is on the way to such an end leads on to it
-pub well_before : (w v : WorldView) (is : List ℕ) → Runs w is v → EndsWell v → EndsWell w
-well_before w v is run well = record {
-  turns = is ++ well.turns;
-  end = well.end;
-  run = runs_append w v well.end is well.turns run well.run;
-  over = well.over;
-  none = well.none;
-}
+use Rattle.local_states.proofs.OutOfMemory.JustOne.{well_before}
 
 pub runs_full : (w v : WorldView) (is : List ℕ) → Runs w is v → EndsWell v → v ≡ after_turns w is
 runs_full w v [] run well = run

@@ -1,6 +1,6 @@
 -- The words of a graph that fits are the lists that are asked for.
 use Rattle.layered_search.specs.Limits.{ScopeView}
-use Rattle.std.specs.Prelude.{◌≡◌, ◌≤◌, ◌+◌, ℕ, suc, List, [], ◌∷◌, Bool, true, false, ◌&&◌, drop, slice_get, Option, Some, None, refl}
+use Rattle.std.specs.Prelude.{◌≡◌, ◌≤◌, ◌+◌, ℕ, suc, List, [], ◌∷◌, Bool, ◌&&◌, drop, slice_get, Option, Some, None, refl}
 use Rattle.std.specs.Global.{Vec}
 use Rattle.std.specs.Option.{option_map_or}
 use Rattle.std.proofs.Common.{sym, ap, ◌∙◌, subst, arith}
@@ -16,6 +16,7 @@ use Rattle.layered_search.specs.System.{System, IsSystem, after_turns, state_aft
 use Rattle.layered_search.specs.Lists.{is_another, is_cut, plus, cuts_after, changes_after, IsFull}
 use Rattle.layered_search.specs.Asked.{IsWithin, IsAsked, GoAlong, bounds_at}
 use Rattle.layered_search.specs.Merged.{Place, Places, bounded_cuts, cuts_with, MayFollow, IsEdge, IsFit, IsListOf, WordsAreLists}
+use Rattle.layered_search.proofs.Lists.Along.{plus_moved}
 use Rattle.layered_search.proofs.Counts.Begun.{BeginsWith, begins_to, begins_from, along_none, along_more, begin_first, begins_full}
 
 -- ---- bounds on cuts
@@ -39,10 +40,6 @@ within_unbounded (Some k) m n few = few
 pub bounded_within : (most : Option ℕ) (n : ℕ) → IsWithin most n → IsWithin most (bounded_cuts most n)
 bounded_within None n few = tt
 bounded_within (Some k) n few = few
-
-plus_moved : (b : Bool) (m n : ℕ) → m + plus b n ≡ plus b m + n
-plus_moved true m n = omega arith
-plus_moved false m n = refl
 
 -- ---- edges
 
@@ -77,7 +74,7 @@ module _ {State : Type 0} (s : System State) (laws : IsSystem s) where
         → (at k m).cuts + plus (is_cut s v (at k m).last i) n ≡ cuts_with s (at k m) i + n
     few_moved k m v i n alike =
         ap (λ (b : Bool). (at k m).cuts + plus b n) (alike_cut v (at k m).state (at k m).last i alike)
-        ∙ plus_moved (is_cut s (at k m).state (at k m).last i) (at k m).cuts n
+        ∙ sym (plus_moved (is_cut s (at k m).state (at k m).last i) (at k m).cuts n)
 
     -- the states stay alike by a turn, and on to the next place
     moved_on : (k m i : ℕ) (edge : Edge) (v : State) → s.Alike v (at k m).state → IsEdge s scope layers at k m i edge

@@ -15,7 +15,7 @@ use Rattle.layered_search.specs.Asked.{AgreeIn}
 use Rattle.layered_search.specs.Found.{found_of, AreTold}
 use Rattle.layered_search.specs.Expanded.{IsEndClassBy}
 use Rattle.layered_search.specs.Layers.{graph_node_by}
-use Rattle.layered_search.proofs.Places.{at_or_below, get_push, get_left, get_last, mapped_to, mapped_from}
+use Rattle.layered_search.proofs.Places.{at_or_below, get_push, get_left, get_last, front_of, none_left, mapped_to, mapped_from}
 use Rattle.layered_search.proofs.Layers.EdgesGrown.{keeps_push}
 
 -- ---- lists
@@ -27,20 +27,6 @@ pushed_or [] y zero = inr refl
 pushed_or [] y (suc k) = inl refl
 pushed_or (x ∷ xs) y zero = inl refl
 pushed_or (x ∷ xs) y (suc k) = pushed_or xs y k
-
--- what stands at the front of the rest
-front_of : {A : Type 0} (n : ℕ) (xs : List A) (x : A) (ys : List A) → x ∷ ys ≡ drop n xs
-    → (slice_get xs n ≡ Some x) × (ys ≡ drop (suc n) xs)
-front_of zero [] x ys e = cc
-front_of zero (z ∷ zs) x ys e =
-    (let q : z ≡ x = cc in ap (λ a. Some a) q, let q : ys ≡ zs = cc in q)
-front_of (suc n) [] x ys e = cc
-front_of (suc n) (z ∷ zs) x ys e = front_of n zs x ys e
-
-none_left : {A : Type 0} (n : ℕ) (xs : List A) → length (drop n xs) ≡ 0 → length xs ≤ n
-none_left zero xs e = omega arith
-none_left (suc n) [] e = omega arith
-none_left (suc n) (x ∷ xs) e = let le = none_left n xs e in omega arith
 
 -- ---- whether a state is over
 

@@ -19,7 +19,7 @@ use Rattle.layered_search.specs.Points.{no_cost, MayGo}
 use Rattle.layered_search.specs.Merged.{Place, Places, begins, bounded_cuts, MayFollow, IsNextPlace, IsEdge, AreEdges, IsEndOf, IsFit}
 use Rattle.layered_search.specs.Concluded.{AreFound}
 use Rattle.layered_search.specs.Layers.{LayerView, point_at, IsFirst, IsAfter, IsEdgeBy, AreEdgesBy, IsPlaced, IsGraphNode, IsSearched, HasSearched}
-use Rattle.layered_search.proofs.Places.{within_some, ap_at, join}
+use Rattle.layered_search.proofs.Places.{within_some, ap_at, join, before_or_not}
 use Rattle.layered_search.proofs.Counts.Merged.{bounded_within}
 use Rattle.layered_search.proofs.Layers.Reached.{may_some}
 use Rattle.layered_search.proofs.Layers.OnWay.{begin_goes_on}
@@ -45,9 +45,6 @@ few_there : (most : Option ℕ) (b : Bool) (n : ℕ) → IsWithin most (plus b n
     → IsWithin most (plus b (bounded_cuts most n))
 few_there None b n few = tt
 few_there (Some most) b n few = few
-
-before_or_not : (m n : ℕ) → (m < n) ⊎ (n ≤ m)
-before_or_not m n = grind arith
 
 module _ {State : Type 0} (s : System State) (scope : ScopeView) where
   -- ---- what each graph node is for

@@ -1,14 +1,14 @@
 -- From each graph node of a graph that fits some word leads to an end.
 use Rattle.layered_search.specs.Limits.{ScopeView}
-use Rattle.std.specs.Prelude.{◌≡◌, ◌<◌, ◌≤◌, ◌+◌, ℕ, zero, suc, List, [], ◌∷◌, Bool, true, false, ◌&&◌, length, slice_get, Option, Some, None, refl}
+use Rattle.std.specs.Prelude.{◌≡◌, ◌≤◌, ◌+◌, ℕ, zero, suc, List, [], ◌∷◌, Bool, true, false, ◌&&◌, length, Option, Some, None, refl}
 use Rattle.std.specs.Global.{Vec}
 use Rattle.std.proofs.Common.{sym, ap, ◌∙◌, subst, arith}
 use Rattle.std.proofs.lemmas.Bool.{and_right}
 use Rattle.std.proofs.lemmas.Bool.Decides.{nat_tests}
-use Rattle.std.proofs.lemmas.Option.{none-some, slice_get_within}
 use Rattle.schedule_graph.specs.declared.graph.Node.{Node}
 use Rattle.schedule_graph.specs.declared.graph.Node.TheVariants.{Ends, Goes}
-use Rattle.schedule_graph.specs.Words.{node_in, node_at, edges_from, edge_of, IsWord, IsSomeWord}
+use Rattle.schedule_graph.specs.Words.{node_at, edges_from, edge_of, IsWord, IsSomeWord}
+use Rattle.schedule_graph.proofs.Leading.{layer_within}
 use Rattle.layered_search.specs.declared.limits.Bounds.{Bounds}
 use Rattle.layered_search.specs.System.{System, IsSystem, state_after}
 use Rattle.layered_search.specs.Lists.{is_another, is_cut, plus}
@@ -58,21 +58,12 @@ may_some {State} s laws bounds p is at free few somebody = by p.last refl
 
 -- ---- a word
 
-pub graph_node_within : (layers : List (Vec Node)) (k m : ℕ) (graph_node : Node) → node_at layers k m ≡ Some graph_node
-    → k < length layers
-graph_node_within layers k m graph_node there = by (slice_get layers k) refl there
-  where
-    by : (layer : Option (Vec Node)) → slice_get layers k ≡ layer → node_in layer m ≡ Some graph_node
-        → k < length layers
-    by None e there = absurd (none-some graph_node there)
-    by (Some layer) e there = slice_get_within layers k layer e
-
 module _ {State : Type 0} (s : System State) (scope : ScopeView) (layers : List (Vec Node)) (classes : List (List ℕ))
     (at : Places State) (fit : IsFit s scope layers classes at) where
   some_rest : (n k m : ℕ) (graph_node : Node) → length layers ≤ k + n → node_at layers k m ≡ Some graph_node
       → (is : List ℕ) × ((class : ℕ) × IsWord layers k m is class)
   some_rest zero k m graph_node le there =
-      let lt = graph_node_within layers k m graph_node there in absurd (omega arith)
+      let lt = layer_within layers k m graph_node there in absurd (omega arith)
   some_rest (suc n) k m (Ends class) le there = ([], (class, there))
   some_rest (suc n) k m (Goes edges) le there =
       let here = fit.goes k m edges there in

@@ -5,7 +5,7 @@ use Rattle.layered_search.specs.System.{System, after_turns}
 use Rattle.layered_search.specs.Lists.{plus, is_cut, cuts_after}
 use Rattle.layered_search.specs.Points.{Point, onward, along}
 
-plus_moved : (b : Bool) (m n : ℕ) → plus b m + n ≡ m + plus b n
+pub plus_moved : (b : Bool) (m n : ℕ) → plus b m + n ≡ m + plus b n
 plus_moved true m n = omega arith
 plus_moved false m n = refl
 

@@ -1,5 +1,5 @@
 -- The handles of what has other handles are those other handles.
-use Rattle.std.specs.Prelude.{◌≡◌, ℕ, List, [], ◌∷◌, ◌++◌, length, suc, Option, Some, None, refl}
+use Rattle.std.specs.Prelude.{◌≡◌, ℕ, List, [], ◌∷◌, ◌++◌, Option, Some, None, refl}
 use Rattle.std.specs.Option.{option_map}
 use Rattle.std.proofs.Common.{sym, ap, ◌∙◌}
 use Rattle.tree_model.specs.declared.answer.Answer.{Answer}
@@ -192,7 +192,3 @@ module _ (f : ℕ → ℕ) where
 
   pub seat_numbers : (s : Seat) → seat_handles (seat_by f s) ≡ numbers_by f (seat_handles s)
   seat_numbers s = join (ledger_handles s.ledger) (doing_call_handles s.doing) _ _ (ledger_numbers s.ledger) (call_numbers s.doing)
-
-pub numbers_length : (f : ℕ → ℕ) (hs : List ℕ) → length (numbers_by f hs) ≡ length hs
-numbers_length f [] = refl
-numbers_length f (h ∷ hs) = ap suc (numbers_length f hs)

@@ -11,17 +11,15 @@ use Rattle.tree_model.specs.StepWith.{StepWith}
 use Rattle.tree_model.specs.History.{after_event, after_events}
 use Rattle.tree_model.specs.State.{State}
 use Rattle.tree_model.specs.Steps.{held}
-use Rattle.root_ops.specs.declared.below.Below.{Below}
-use Rattle.root_ops.specs.declared.op.Request.{Request}
-use Rattle.root_ops.specs.Order.{CallTurn, more, ends, due}
+use Rattle.root_ops.specs.Order.{due}
 use Rattle.root_ops.specs.View.{CallView}
-use Rattle.call_plans.specs.declared.plan.Planned.{Planned}
 use Rattle.race_core.specs.declared.seat.Seat.{Seat}
 use Rattle.race_core.specs.Book.{BookedHistory, is_close, is_done, refusal, booked}
 use Rattle.race_core.specs.Ledgers.{LedgerView}
-use Rattle.race_core.specs.Turns.{Luck, unless_refused, stepped_by, comes, begins, begins_next, begun, goes_on, turned}
+use Rattle.race_core.specs.Turns.{Luck, unless_refused, stepped_by, begun, goes_on, turned}
 use Rattle.race_core.specs.Worlds.{WorldView, turn_of, turn}
 use Rattle.race_core.specs.Renamed.{answer_by}
+use Rattle.race_core.proofs.BookMoves.{turn_keeps_root}
 use Rattle.local_states.specs.Outside.{plus, acts_outside, outside_after, roots_from, roots_of}
 
 -- ---- one event more
@@ -91,31 +89,6 @@ one_opening : (book after : BookedHistory) → IsOneOn book after → after.open
 one_opening book after as_it_was = refl
 one_opening book after (one_more a step) = refl
 
-comes_root : (ledger : LedgerView) (below : Below) (turn : CallTurn) → (comes ledger below turn).ledger.root ≡ ledger.root
-comes_root ledger below (more doing) = refl
-comes_root ledger below (ends reply) = refl
-
-begins_root : (room : Bool) (ledger : LedgerView) (request : Option Request) → (begins room ledger request).ledger.root ≡ ledger.root
-begins_root room ledger None = refl
-begins_root room ledger (Some request) = comes_root ledger _ _
-
-next_root : (room : Bool) (ledger : LedgerView) (to_come : List Planned) → (begins_next room ledger to_come).ledger.root ≡ ledger.root
-next_root room ledger [] = refl
-next_root room ledger (next ∷ others) = begins_root room _ _
-
-pub begun_root : (room : Bool) (ledger : LedgerView) (doing : Option CallView) → (begun room ledger doing).ledger.root ≡ ledger.root
-begun_root room ledger None = next_root room ledger ledger.to_come
-begun_root room ledger (Some call) = refl
-
-goes_root : (luck room : Bool) (book : BookedHistory) (ledger : LedgerView) (doing : Option CallView) → (goes_on luck room book ledger doing).seat.ledger.root ≡ ledger.root
-goes_root luck room book ledger None = refl
-goes_root luck room book ledger (Some call) = comes_root ledger call.below _
-
-pub turned_root : (luck : Luck) (book : BookedHistory) (seat : Seat) → (turned luck book seat.ledger seat.doing).seat.ledger.root ≡ seat.ledger.root
-turned_root luck book seat =
-    let seat' = begun luck.start seat.ledger seat.doing in
-    goes_root luck.step luck.room book seat'.ledger seat'.doing ∙ begun_root luck.start seat.ledger seat.doing
-
 roots_set : (s : State) (a : ℕ) (seats : List Seat) (i : ℕ) (seat new : Seat) → slice_get seats i ≡ Some seat → new.ledger.root ≡ seat.ledger.root
     → roots_from s a (slice_set seats i new) ≡ roots_from s a seats
 roots_set s a [] i seat new e r = refl
@@ -135,4 +108,4 @@ roots_stay true luck w i = by (slice_get w.seats i) refl
         let after = turned luck w.book seat.ledger seat.doing in
         let seat' = begun luck.start seat.ledger seat.doing in
         ap (λ s. roots_from s 0 (slice_set w.seats i after.seat)) (one_opening w.book after.book (goes_books luck.step luck.room w.book seat'.ledger seat'.doing))
-        ∙ roots_set w.book.opening 0 w.seats i seat after.seat e (turned_root luck w.book seat)
+        ∙ roots_set w.book.opening 0 w.seats i seat after.seat e (turn_keeps_root luck w.book seat.ledger seat.doing)

@@ -5,9 +5,10 @@ use Rattle.std.proofs.lemmas.Option.{same_Some, none-some}
 use Rattle.std.proofs.lemmas.Bool.{true≢false, false≢true}
 use Rattle.race_core.specs.declared.seat.Seat.{Seat}
 use Rattle.race_core.specs.Renamed.{numbers_by, seat_handles, LikeSeats}
+use Rattle.race_core.proofs.LikeLists.{numbers_length}
 use Rattle.local_states.specs.Alike.{Pairs, Agree}
 use Rattle.local_states.specs.Paired.{pairs_of, AreAt, AreApart}
-use Rattle.local_states.proofs.Alike.HandlesRenamed.{numbers_length, seat_numbers}
+use Rattle.local_states.proofs.Alike.HandlesRenamed.{seat_numbers}
 
 pub same_numbers : (s t : Seat) → LikeSeats s t → length (seat_handles s) ≡ length (seat_handles t)
 same_numbers s t like =

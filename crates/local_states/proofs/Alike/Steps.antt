@@ -32,13 +32,6 @@ set_at [] i y lt = absurd (omega arith)
 set_at (x ∷ xs) zero y lt = refl
 set_at (x ∷ xs) (suc i) y lt = set_at xs i y (omega arith)
 
-pub set_other : {A : Type 0} (xs : List A) (i : ℕ) (y : A) (k : ℕ) → k ≢ i → slice_get (slice_set xs i y) k ≡ slice_get xs k
-set_other [] i y k ne = refl
-set_other (x ∷ xs) zero y zero ne = absurd (ne refl)
-set_other (x ∷ xs) zero y (suc k) ne = refl
-set_other (x ∷ xs) (suc i) y zero ne = refl
-set_other (x ∷ xs) (suc i) y (suc k) ne = set_other xs i y k (λ e. ne (ap suc e))
-
 -- ---- numbers of handles that are the same but for pairs
 
 -- whatever replacements agree on the pairs give both one number

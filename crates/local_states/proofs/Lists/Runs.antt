@@ -1,11 +1,11 @@
 -- Turns one after another, and runs to the end.
 use Rattle.std.specs.Prelude.{◌≡◌, ℕ, false, Option, Some, None, length, slice_get, refl, zero, suc, List, [], ◌∷◌, ◌++◌}
 use Rattle.std.proofs.Common.{ap, ◌∙◌, subst}
+use Rattle.layered_search.proofs.Places.{length_set}
 use Rattle.race_core.specs.declared.seat.Seat.{Seat}
 use Rattle.race_core.specs.Turns.{Luck, turned}
 use Rattle.race_core.specs.Worlds.{WorldView, turn_of, turn, ledgers_in, replies_in, is_busy_at, AllOver, Runs, again, AllGoToEnd}
 use Rattle.local_states.specs.Worlds.{full, after_turns}
-use Rattle.local_states.proofs.Lists.Places.{length_set}
 
 -- ---- as many actors as ever
 
@@ -25,10 +25,6 @@ replies_of_seats [] = refl
 replies_of_seats (seat ∷ seats) = ap suc (replies_of_seats seats)
 
 -- ---- turns one after another
-
-pub after_append : (w : WorldView) (is js : List ℕ) → after_turns w (is ++ js) ≡ after_turns (after_turns w is) js
-after_append w [] js = refl
-after_append w (i ∷ is) js = after_append (turn full w i) is js
 
 pub runs_append : (w u v : WorldView) (is js : List ℕ) → Runs w is u → Runs u js v → Runs w (is ++ js) v
 runs_append w u v [] js run more = subst (λ x. Runs x js v) run more

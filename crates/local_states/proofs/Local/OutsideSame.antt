@@ -1,6 +1,7 @@
 -- Worlds that are the same act outside of their actors' roots alike.
 use Rattle.std.specs.Prelude.{◌≡◌, ◌≤◌, ◌<◌, ℕ, suc, List, [], ◌∷◌, length, Option, refl}
 use Rattle.std.proofs.Common.{sym, ap, ◌∙◌, subst, ⊎_elim}
+use Rattle.layered_search.proofs.Places.{before_or_not}
 use Rattle.race_core.specs.Book.{BookedHistory}
 use Rattle.race_core.specs.Turns.{Luck}
 use Rattle.race_core.specs.Worlds.{WorldView, turn}
@@ -9,7 +10,7 @@ use Rattle.local_states.specs.Outside.{outside_from, roots_of}
 use Rattle.local_states.specs.Same.{SameWorldsActOutsideAlike}
 use Rattle.local_states.proofs.Alike.OutsideAlike.{roots_stay}
 use Rattle.local_states.proofs.Local.Books.{not_grown}
-use Rattle.local_states.proofs.Local.Wholes.{seated_or, no_turn, same_ground, same_again, same_turns}
+use Rattle.local_states.proofs.Local.Wholes.{no_turn, same_ground, same_again, same_turns}
 use Rattle.local_states.proofs.Local.Worlds.{turns_are_local}
 
 -- as many changes of each actor before, and so after both have grown alike
@@ -25,7 +26,7 @@ grown_outside b c after others grown a (root ∷ roots) e =
 
 -- a turn lets both books grow alike
 turns_grow : (w v : WorldView) (luck : Luck) (i : ℕ) → SameParts w v → GrownAlike w.book v.book (turn luck w i).book (turn luck v i).book
-turns_grow w v luck i same = ⊎_elim seated beyond (seated_or i (length w.seats))
+turns_grow w v luck i same = ⊎_elim seated beyond (before_or_not i (length w.seats))
   where
     seated : i < length w.seats → GrownAlike w.book v.book (turn luck w i).book (turn luck v i).book
     seated lt = (turns_are_local w v luck i (same_ground w v same) (same.parts i lt)).grown

@@ -1,29 +1,29 @@
 -- Parts that are the same are so both ways and one after another, and stay so where others take turns.
 use Rattle.std.specs.Prelude.{◌≡◌, ◌≢◌, ◌⊎◌, ◌≤◌, ◌<◌, ℕ, List, [], ◌∷◌, Bool, length, Option, Some, None, slice_get, refl}
 use Rattle.std.proofs.Common.{inl, inr, sym, ap, ◌∙◌, subst, ⊎_elim, arith}
-use Rattle.std.proofs.lemmas.Option.{same_Some}
+use Rattle.std.proofs.lemmas.Option.{same_Some, slice_get_within}
 use Rattle.tree_model.specs.declared.answer.Event.{Event}
 use Rattle.tree_model.specs.StepWith.{StepWith}
 use Rattle.tree_model.specs.State.{State}
 use Rattle.tree_model.specs.Steps.{held, held_count}
 use Rattle.tree_model.proofs.Counts.{others_counts_stay}
 use Rattle.tree_model.proofs.HistoryLaws.{after_events-append}
-use Rattle.tree_model.proofs.StepLaws.{numbers_grow, others_handles_stay}
+use Rattle.tree_model.proofs.StepLaws.{numbers_grow, others_handles_stay, slice_get-set_other}
 use Rattle.root_ops.specs.Order.{due}
 use Rattle.root_ops.specs.View.{CallView}
 use Rattle.step_resolver.specs.declared.walk.Root.{Root}
+use Rattle.layered_search.proofs.Places.{within_some}
 use Rattle.race_core.specs.declared.seat.Seat.{Seat}
 use Rattle.race_core.specs.Book.{BookedHistory, tree_now, answer_now, booked}
 use Rattle.race_core.specs.Ledgers.{LedgerView}
 use Rattle.race_core.specs.Renamed.{seat_handles, LikeSeats}
 use Rattle.race_core.specs.Turns.{Luck, stepped_by, begun, goes_on, turned}
 use Rattle.race_core.specs.Worlds.{WorldView, turn_of, turn}
+use Rattle.race_core.proofs.BookMoves.{begun_root}
 use Rattle.local_states.specs.Paired.{AreAt}
 use Rattle.local_states.specs.Local.{actor_of, GivenAlike, IsOwnPair, SamePart, OthersPartsStay, PartsAreThemselves, SamePartsTurnRound, SamePartsJoin}
-use Rattle.local_states.proofs.Alike.OutsideAlike.{stepped_books, begun_root}
+use Rattle.local_states.proofs.Alike.OutsideAlike.{stepped_books}
 use Rattle.local_states.proofs.Alike.Paired.{same_numbers}
-use Rattle.local_states.proofs.Alike.PairedLists.{there_is, there_was}
-use Rattle.local_states.proofs.Alike.Steps.{set_other}
 
 pub one_actor : (x y : Seat) → LikeSeats x y → actor_of x ≡ actor_of y
 one_actor x y like = ap (λ (seat : Seat). actor_of seat) like
@@ -83,9 +83,9 @@ given_join s t u h k l (inr p) (inr q) = inr (p.0 ∙ q.0, p.1 ∙ q.1)
 pub number_there : (x y : Seat) → LikeSeats x y → (at h : ℕ) → slice_get (seat_handles x) at ≡ Some h → (k : ℕ) × AreAt (seat_handles x) (seat_handles y) at h k
 number_there x y like at h e =
     let same = same_numbers x y like in
-    let lt : at < length (seat_handles x) = there_was (seat_handles x) at h e in
+    let lt : at < length (seat_handles x) = slice_get_within (seat_handles x) at h e in
     let within : at < length (seat_handles y) = omega (arith, lt, same) in
-    let k = there_is (seat_handles y) at within in
+    let k = within_some (seat_handles y) at within in
     (k.0, record { here = e; there = k.1 })
 
 pub part_join : SamePartsJoin
@@ -181,7 +181,7 @@ pub turn_is : (luck : Luck) (w : WorldView) (i : ℕ) (x : Seat) → slice_get w
 turn_is luck w i x e = ap (λ seat. turn_of luck w i seat) e
 
 pub others_seat : (luck : Luck) (w : WorldView) (i j : ℕ) (x y : Seat) → i ≢ j → slice_get w.seats j ≡ Some y → slice_get (turn_of luck w i (Some x)).seats j ≡ Some y
-others_seat luck w i j x y ne e = set_other w.seats i (turned luck w.book x.ledger x.doing).seat j (λ q. ne (sym q)) ∙ e
+others_seat luck w i j x y ne e = slice_get-set_other w.seats i (turned luck w.book x.ledger x.doing).seat j (λ q. ne (sym q)) ∙ e
 
 still_given : (s t after : State) (h k : ℕ) → length s.handles ≤ length after.handles → k < length t.handles → GivenAlike s t h k → GivenAlike after t h k
 still_given s t after h k more lt (inl lts) = inl (omega (arith, more, lts.0), lt)

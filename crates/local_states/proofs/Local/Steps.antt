@@ -13,11 +13,12 @@ use Rattle.tree_model.specs.StepLaws.{open_count}
 use Rattle.tree_model.specs.Steps.{Outcome, kind_of, node_held, held, held_count, is_full, with_handle, outcome}
 use Rattle.tree_model.proofs.Counts.{handles_are_counted}
 use Rattle.tree_model.proofs.Places.{slice_get-last}
+use Rattle.tree_model.proofs.StepLaws.{slice_get-set_other, held_closed}
 use Rattle.local_states.specs.Alike.{Pairs, SameSteps, SameAnswers}
 use Rattle.local_states.specs.Local.{GivenAlike, IsOwnPair}
 use Rattle.local_states.specs.Paired.{AreApart}
 use Rattle.local_states.proofs.Alike.Paired.{below_or}
-use Rattle.local_states.proofs.Alike.Steps.{before, set_other, SameNumbers, code, decode, bit, unbit, Paired, open', dup', parent', read', below', list', close', make_dir', make_file', make_link', remove_file', remove_dir', rename', paired_of, AlikeEnds, tells, opens_on, closes, changes_to, other, on_both, some_both, if_both, opens_both, reads_both, shows_both, changes_both, grown, grown_old, grown_cases, grown_new, blind_answer, same_close, counts_alike}
+use Rattle.local_states.proofs.Alike.Steps.{before, SameNumbers, code, decode, bit, unbit, Paired, open', dup', parent', read', below', list', close', make_dir', make_file', make_link', remove_file', remove_dir', rename', paired_of, AlikeEnds, tells, opens_on, closes, changes_to, other, on_both, some_both, if_both, opens_both, reads_both, shows_both, changes_both, grown, grown_old, grown_cases, grown_new, blind_answer, same_close, counts_alike}
 
 -- the two trees have the same nodes, and the actor has as many handles open; it holds the same by the numbers of each
 -- pair, and each pair is apart from the others
@@ -183,11 +184,6 @@ own_apart_more part h k j l (inr new) (inr newer) = ((λ e. new.1 ∙ sym newer.
 
 -- ---- a handle less in both
 
-closed_none : (handles : List (Option OpenHandle)) (h a : ℕ) → node_held a (slice_get (slice_set handles h None) h) ≡ None
-closed_none [] h a = refl
-closed_none (first ∷ handles) zero a = refl
-closed_none (first ∷ handles) (suc h) a = closed_none handles h a
-
 abbrev closed_at : State → ℕ → State
 closed_at s h = record { nodes = s.nodes; handles = slice_set s.handles h None }
 
@@ -206,13 +202,13 @@ own_fewer a s t h k j l both old = record {
   where
     closed : h ≡ j → held (closed_at s h) a j ≡ held (closed_at t k) a l
     closed q =
-        subst (λ j. held (closed_at s h) a j ≡ None) q (closed_none s.handles h a)
-        ∙ sym (subst (λ l. held (closed_at t k) a l ≡ None) (both.0 q) (closed_none t.handles k a))
+        subst (λ j. held (closed_at s h) a j ≡ None) q (held_closed s.handles h a)
+        ∙ sym (subst (λ l. held (closed_at t k) a l ≡ None) (both.0 q) (held_closed t.handles k a))
 
     another : h ≢ j → held (closed_at s h) a j ≡ held (closed_at t k) a l
     another ne =
-        ap (node_held a) (set_other s.handles h None j (λ q. ne (sym q)))
-        ∙ (old.holds ∙ sym (ap (node_held a) (set_other t.handles k None l (λ q. ne (both.1 (sym q))))))
+        ap (node_held a) (slice_get-set_other s.handles h None j (λ q. ne (sym q)))
+        ∙ (old.holds ∙ sym (ap (node_held a) (slice_get-set_other t.handles k None l (λ q. ne (both.1 (sym q))))))
 
 -- ---- the trees after it
 

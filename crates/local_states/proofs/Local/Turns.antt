@@ -10,9 +10,9 @@ use Rattle.race_core.specs.Book.{BookedHistory, tree_now}
 use Rattle.race_core.specs.Ledgers.{LedgerView}
 use Rattle.race_core.specs.Turns.{Luck, comes, begun, Turned, goes_on, turned, stepped_by}
 use Rattle.race_core.specs.Renamed.{call_by, ledger_by}
+use Rattle.race_core.proofs.BookMoves.{begun_root}
 use Rattle.local_states.specs.Alike.{Pairs, Agree, SameSeats}
 use Rattle.local_states.specs.Local.{actor_of, SameGround, GrownAlike}
-use Rattle.local_states.proofs.Alike.OutsideAlike.{begun_root}
 use Rattle.local_states.proofs.Alike.Steps.{zero_agrees}
 use Rattle.local_states.proofs.Alike.Turns.{answered_seat, answered_by, same_begun, same_actor, due_alike}
 use Rattle.local_states.proofs.Local.Steps.{PartBy}

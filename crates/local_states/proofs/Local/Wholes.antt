@@ -1,32 +1,29 @@
 -- Worlds in which all actors have the same parts go on alike.
-use Rattle.std.specs.Prelude.{◌≡◌, ◌≢◌, ◌≤◌, ◌<◌, ◌⊎◌, ℕ, ◌+◌, ◌-◌, zero, suc, List, [], ◌∷◌, length, nat_lt, nat_le, Option, Some, None, slice_get, refl}
-use Rattle.std.proofs.Common.{inl, inr, sym, ap, ◌∙◌, subst, ⊎_elim, length-set, arith}
+use Rattle.std.specs.Prelude.{◌≡◌, ◌≢◌, ◌≤◌, ◌<◌, ◌⊎◌, ℕ, ◌+◌, ◌-◌, zero, suc, List, [], ◌∷◌, length, nat_lt, nat_le, Some, None, slice_get, refl}
+use Rattle.std.proofs.Common.{inl, inr, sym, ap, ◌∙◌, subst, ⊎_elim, arith}
 use Rattle.std.proofs.lemmas.Bool.{cases_eq}
-use Rattle.std.proofs.lemmas.Option.{same_Some}
+use Rattle.std.proofs.lemmas.Option.{same_Some, slice_get_within}
 use Rattle.step_resolver.specs.declared.walk.Root.{Root}
 use Rattle.tree_model.specs.declared.tree.TheConstants.{NUMBERS_MAX}
 use Rattle.tree_model.specs.Steps.{held_count}
+use Rattle.tree_model.proofs.StepLaws.{slice_get-set_other}
+use Rattle.layered_search.proofs.Places.{before_or_not}
 use Rattle.race_core.specs.declared.seat.Seat.{Seat}
 use Rattle.race_core.specs.Book.{tree_now}
 use Rattle.race_core.specs.Renamed.{replies_by, LikeSeats}
 use Rattle.race_core.specs.Turns.{Luck, turned}
 use Rattle.race_core.specs.Worlds.{WorldView, turn_of, turn, is_busy_in, is_within_in, ledgers_in, replies_in}
+use Rattle.race_core.proofs.BookMoves.{turn_keeps_root}
 use Rattle.local_states.specs.Local.{actor_of, GivenAlike, SamePartAt, SameGround, GoneAlike, AreNumbered, SameParts, SameWorldsTakeSameTurns, SameWorldsAreBusyAlike, SameWorldsTellTheSame}
-use Rattle.local_states.proofs.Alike.OutsideAlike.{turned_root}
-use Rattle.local_states.proofs.Alike.Paired.{below_or}
-use Rattle.local_states.proofs.Alike.PairedLists.{there_was}
-use Rattle.local_states.proofs.Alike.Steps.{set_at, set_other}
+use Rattle.local_states.proofs.Alike.Steps.{set_at}
 use Rattle.local_states.proofs.Local.Parts.{one_actor, part_kept, turned_leaves, turn_is, others_seat}
 use Rattle.local_states.proofs.Local.Worlds.{still_within, parts_busy, turns_are_local}
+use Rattle.local_states.proofs.Lists.Runs.{turn_stays}
 
 nobody : {A : Type 0} (xs : List A) (i : ℕ) → length xs ≤ i → slice_get xs i ≡ None
 nobody [] i over = refl
 nobody (x ∷ xs) zero over = absurd (omega arith)
 nobody (x ∷ xs) (suc i) over = nobody xs i (omega arith)
-
--- a number is a seat's, or beyond all
-pub seated_or : (i n : ℕ) → (i < n) ⊎ (n ≤ i)
-seated_or i n = ⊎_elim (λ lt. inl lt) (λ or. ⊎_elim (λ e. inr (omega (arith, e))) (λ lt. inr (omega (arith, lt))) or) (below_or i n)
 
 pub no_turn : (luck : Luck) (w : WorldView) (i : ℕ) → length w.seats ≤ i → turn luck w i ≡ w
 no_turn luck w i over = ap (λ seat. turn_of luck w i seat) (nobody w.seats i over)
@@ -92,13 +89,13 @@ module _ (w v : WorldView) (luck : Luck) (i : ℕ) (same : SameParts w v) (lt : 
         own q =
             let new : slice_get (turn_of luck w i (Some x)).seats j ≡ Some (turned luck w.book x.ledger x.doing).seat =
             subst (λ n. slice_get (turn_of luck w i (Some x)).seats n ≡ Some (turned luck w.book x.ledger x.doing).seat) q
-            (set_at w.seats i (turned luck w.book x.ledger x.doing).seat (there_was w.seats i x is_x)) in
+            (set_at w.seats i (turned luck w.book x.ledger x.doing).seat (slice_get_within w.seats i x is_x)) in
             let is : (turned luck w.book x.ledger x.doing).seat ≡ z = same_Some _ _ (sym new ∙ e) in
             ap (λ (seat : Seat). actor_of seat) (sym is)
-            ∙ (ap (λ (root : Root). root.owner.actor) (turned_root luck w.book x) ∙ (same.numbered i x is_x ∙ q))
+            ∙ (ap (λ (root : Root). root.owner.actor) (turn_keeps_root luck w.book x.ledger x.doing) ∙ (same.numbered i x is_x ∙ q))
 
         others : i ≢ j → actor_of z ≡ j
-        others ne = same.numbered j z (sym (set_other w.seats i (turned luck w.book x.ledger x.doing).seat j (λ r. ne (sym r))) ∙ e)
+        others ne = same.numbered j z (sym (slice_get-set_other w.seats i (turned luck w.book x.ledger x.doing).seat j (λ r. ne (sym r))) ∙ e)
 
   parts_again : (j : ℕ) → j < length w.seats → SamePartAt (turn luck w i) (turn luck v i) j
   parts_again j lt' = ⊎_elim own others (cases_eq i j)
@@ -112,15 +109,8 @@ module _ (w v : WorldView) (luck : Luck) (i : ℕ) (same : SameParts w v) (lt : 
           (subst (λ u. SamePartAt (turn_of luck w i (Some at.here)) u j) (sym (turn_is luck v i at.there at.is_there))
           (other_part at.here at.there at.is_here at.is_there at.part.like j ne (same.parts j lt')))
 
-seats_again : (luck : Luck) (w : WorldView) (i : ℕ) → length (turn luck w i).seats ≡ length w.seats
-seats_again luck w i = by (slice_get w.seats i)
-  where
-    by : (seat : Option Seat) → length (turn_of luck w i seat).seats ≡ length w.seats
-    by None = refl
-    by (Some seat) = length-set w.seats i (turned luck w.book seat.ledger seat.doing).seat
-
 pub same_turns : SameWorldsTakeSameTurns
-same_turns w v luck i same = ⊎_elim seated beyond (seated_or i (length w.seats))
+same_turns w v luck i same = ⊎_elim seated beyond (before_or_not i (length w.seats))
   where
     seated : i < length w.seats → SameParts (turn luck w i) (turn luck v i)
     seated lt =
@@ -131,10 +121,10 @@ same_turns w v luck i same = ⊎_elim seated beyond (seated_or i (length w.seats
           events = same_again _ _ _ _ same.events after.grown.events;
           numbers = same_again _ _ _ _ same.numbers after.grown.numbers;
           open_handles = same_again _ _ _ _ same.open_handles after.grown.open_handles;
-          seats = seats_again luck w i ∙ (same.seats ∙ sym (seats_again luck v i));
+          seats = turn_stays luck w i ∙ (same.seats ∙ sym (turn_stays luck v i));
           numbered = subst (λ (u : WorldView). AreNumbered u.seats) (sym (turn_is luck w i at.here at.is_here))
               (numbered_after w v luck i same lt at.here at.there at.is_here at.is_there at.part.like);
-          parts = λ j lt'. parts_again w v luck i same lt j (subst (λ n. j < n) (seats_again luck w i) lt');
+          parts = λ j lt'. parts_again w v luck i same lt j (subst (λ n. j < n) (turn_stays luck w i) lt');
         }
 
     beyond : length w.seats ≤ i → SameParts (turn luck w i) (turn luck v i)
@@ -145,7 +135,7 @@ same_turns w v luck i same = ⊎_elim seated beyond (seated_or i (length w.seats
 -- ---- what they tell
 
 pub busy_alike : SameWorldsAreBusyAlike
-busy_alike w v i same = ⊎_elim seated beyond (seated_or i (length w.seats))
+busy_alike w v i same = ⊎_elim seated beyond (before_or_not i (length w.seats))
   where
     seated : i < length w.seats → (is_busy_in (slice_get w.seats i) ≡ is_busy_in (slice_get v.seats i)) × (is_within_in (slice_get w.seats i) ≡ is_within_in (slice_get v.seats i))
     seated lt =
@@ -173,6 +163,7 @@ replies_same (s ∷ ss) (t ∷ ts) many like =
 
 pub tell_alike : SameWorldsTellTheSame
 tell_alike w v same = record {
+  outside = refl;
   replies = replies_same w.seats v.seats same.seats alike;
   nodes = same.nodes;
   held = λ a lt.
@@ -182,7 +173,7 @@ tell_alike w v same = record {
   where
     alike : (i : ℕ) (x y : Seat) → slice_get w.seats i ≡ Some x → slice_get v.seats i ≡ Some y → LikeSeats x y
     alike i x y e e' =
-        let at = same.parts i (there_was w.seats i x e) in
+        let at = same.parts i (slice_get_within w.seats i x e) in
         let here : at.here ≡ x = same_Some at.here x (sym at.is_here ∙ e) in
         let there : at.there ≡ y = same_Some at.there y (sym at.is_there ∙ e') in
         subst (λ s. LikeSeats s y) here (subst (λ t. LikeSeats at.here t) there at.part.like)

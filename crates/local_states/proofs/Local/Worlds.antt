@@ -2,23 +2,23 @@
 use Rattle.std.specs.Prelude.{◌≡◌, ◌≢◌, ◌≤◌, ◌<◌, ℕ, ◌==◌, List, true, Option, Some, None, slice_get, refl}
 use Rattle.std.proofs.Common.{sym, ap, ◌∙◌, subst, ⊎_elim, eq-eqb, arith}
 use Rattle.std.proofs.lemmas.Bool.{cases_eq}
-use Rattle.std.proofs.lemmas.Option.{same_Some}
+use Rattle.std.proofs.lemmas.Option.{same_Some, slice_get_within}
 use Rattle.step_resolver.specs.declared.walk.Root.{Root}
 use Rattle.tree_model.specs.State.{State}
+use Rattle.tree_model.proofs.StepLaws.{slice_get-set_other}
 use Rattle.race_core.specs.declared.seat.Seat.{Seat}
 use Rattle.race_core.specs.Book.{tree_now}
 use Rattle.race_core.specs.Renamed.{numbers_by, seat_handles}
 use Rattle.race_core.specs.Turns.{Luck, turned}
 use Rattle.race_core.specs.Worlds.{WorldView, turn_of, turn}
 use Rattle.race_core.proofs.LikeSeats.{like_seats_agree}
+use Rattle.race_core.proofs.BookMoves.{turn_keeps_root}
 use Rattle.local_states.specs.Alike.{Pairs, SameSeats}
 use Rattle.local_states.specs.Local.{actor_of, SamePart, GoneAlike, AreGiven, AreAllGiven, TurnsAreLocal, SamePartsAreBusyAlike, GivenNumbersStay}
 use Rattle.local_states.specs.Paired.{pairs_of, AreAt, AreApart, IsApartBefore}
 use Rattle.local_states.proofs.Alike.HandlesRenamed.{seat_numbers}
-use Rattle.local_states.proofs.Alike.OutsideAlike.{turned_root}
 use Rattle.local_states.proofs.Alike.Paired.{same_numbers, at_pair, agree_all, below_or, same_at, mark, separates, marked}
-use Rattle.local_states.proofs.Alike.PairedLists.{there_was}
-use Rattle.local_states.proofs.Alike.Steps.{zero_agrees, set_at, set_other}
+use Rattle.local_states.proofs.Alike.Steps.{zero_agrees, set_at}
 use Rattle.local_states.proofs.Alike.Turns.{same_busy, same_within}
 use Rattle.local_states.proofs.Local.Parts.{part_itself, turned_grows, turn_is}
 use Rattle.local_states.proofs.Local.Steps.{PartBy}
@@ -105,10 +105,10 @@ turns_are_local w v luck i ground at =
       part = record {
         here = one.seat;
         there = two.seat;
-        is_here = set_at w.seats i one.seat (there_was w.seats i at.here at.is_here);
-        is_there = set_at v.seats i two.seat (there_was v.seats i at.there at.is_there);
+        is_here = set_at w.seats i one.seat (slice_get_within w.seats i at.here at.is_here);
+        is_there = set_at v.seats i two.seat (slice_get_within v.seats i at.there at.is_there);
         part = part_from (actor_of at.here) after.more (tree_now one.book) (tree_now two.book) one.seat two.seat
-            (sym (ap (λ (root : Root). root.owner.actor) (turned_root luck w.book at.here))) after.trees after.seats;
+            (sym (ap (λ (root : Root). root.owner.actor) (turn_keeps_root luck w.book at.here.ledger at.here.doing))) after.trees after.seats;
       };
       grown = after.grown;
     }))
@@ -138,10 +138,10 @@ given_stay w luck i all = by (slice_get w.seats i) refl
         own : i ≡ j → AreGiven (tree_now (turned luck w.book x.ledger x.doing).book) z
         own p =
             let new = subst (λ n. slice_get (turn_of luck w i (Some x)).seats n ≡ Some (turned luck w.book x.ledger x.doing).seat) p
-            (set_at w.seats i (turned luck w.book x.ledger x.doing).seat (there_was w.seats i x q)) in
+            (set_at w.seats i (turned luck w.book x.ledger x.doing).seat (slice_get_within w.seats i x q)) in
             subst (AreGiven (tree_now (turned luck w.book x.ledger x.doing).book)) (same_Some _ _ (sym new ∙ e)) (own_given luck w x (all i x q))
 
         others : i ≢ j → AreGiven (tree_now (turned luck w.book x.ledger x.doing).book) z
         others ne at h is =
-            still_within _ _ _ (all j z (sym (set_other w.seats i (turned luck w.book x.ledger x.doing).seat j (λ r. ne (sym r))) ∙ e) at h is)
+            still_within _ _ _ (all j z (sym (slice_get-set_other w.seats i (turned luck w.book x.ledger x.doing).seat j (λ r. ne (sym r))) ∙ e) at h is)
             (turned_grows luck w.book x)

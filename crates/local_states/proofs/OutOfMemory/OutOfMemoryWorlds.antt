@@ -20,14 +20,8 @@ use Rattle.race_core.specs.Turns.{Luck, Stepped, unless_refused, outcome_of, com
 use Rattle.race_core.specs.Worlds.{WorldView, turn_of, turn, ledgers_in, replies_in, AllOver, Runs}
 use Rattle.local_states.specs.Worlds.{full, after_turns}
 use Rattle.local_states.specs.OutOfMemory.{doing_out_of_memory, reply_out_of_memory, turn_out_of_memory, outcome_out_of_memory, any_out_of_memory, call_out_of_memory, seat_out_of_memory, seats_out_of_memory, replies_out_of_memory, OutOfMemoryIsTold, OutOfMemoryStays, RunsWithoutOutOfMemoryAreFull}
+use Rattle.layered_search.proofs.Places.{ap_at, join}
 use Rattle.local_states.proofs.OutOfMemory.OutOfMemoryCalls.{stays, room_tells, refused_tells, start_tells}
-
--- with their ends told, for terms whose ends antt would look for long
-pub ap_at : {A B : Type 0} (f : A → B) (x y : A) → x ≡ y → f x ≡ f y
-ap_at f x y e = ap f e
-
-pub join : {A : Type 0} (x y z : A) → x ≡ y → y ≡ z → x ≡ z
-join x y z e e' = e ∙ e'
 
 or_left : (b c : Bool) → b ≡ true → (b || c) ≡ true
 or_left b c e = ap (λ b. b || c) e
@@ -52,7 +46,7 @@ any_last : (before : List Outcome) (last : Outcome) → outcome_out_of_memory la
 any_last [] last e = or_left (outcome_out_of_memory last) false e
 any_last (first ∷ before) last e = or_right (outcome_out_of_memory first) _ (any_last before last e)
 
-same_out_of_memory : (reply : Reply) → outcome_out_of_memory (outcome_of reply) ≡ reply_out_of_memory reply
+pub same_out_of_memory : (reply : Reply) → outcome_out_of_memory (outcome_of reply) ≡ reply_out_of_memory reply
 same_out_of_memory (call.opened handle names) = refl
 same_out_of_memory (call.link_text text) = refl
 same_out_of_memory call.done = refl

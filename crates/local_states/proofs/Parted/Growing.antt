@@ -1,14 +1,14 @@
 -- What is said by places stays so when more is met.
 use Rattle.std.specs.Prelude.{◌≡◌, ◌<◌, ◌≤◌, ◌∷◌, ℕ, List, length, slice_get, Some, refl}
 use Rattle.std.proofs.Common.{sym, ap, ◌∙◌, subst, arith}
-use Rattle.std.proofs.lemmas.Option.{same_Some}
+use Rattle.std.proofs.lemmas.Option.{same_Some, slice_get_within}
+use Rattle.layered_search.proofs.Places.{within_some}
 use Rattle.race_core.specs.Worlds.{WorldView}
 use Rattle.local_states.specs.declared.keys.Key.{Key}
 use Rattle.local_states.specs.declared.keys.Own.{Own}
 use Rattle.local_states.specs.Fingerprint.{mixed}
 use Rattle.local_states.specs.Keys.{PartsView, ComponentsView, AreRows, Grows, IsPartAt, IsKey, AreFew, AreSameKeys, AreSameKeysButOutside, outside_in, print_of}
 use Rattle.local_states.specs.Outside.{roots_of, outside_of}
-use Rattle.local_states.proofs.Alike.PairedLists.{there_is, there_was}
 use Rattle.local_states.proofs.Parted.Parts.{more_itself, more_on, in_more}
 
 pub grows_same : {c : ComponentsView} → Grows c c
@@ -35,8 +35,8 @@ pub rows_grow : {c d : ComponentsView} {actors : ℕ} → Grows c d → AreRows 
 rows_grow {c} {d} grows rows = record {
   many = grows.parts.many ∙ rows.many;
   own = λ i row e.
-      let within : i < length c.parts = let lt = there_was d.parts i row e in let same = grows.parts.many in omega arith in
-      let old = there_is c.parts i within in
+      let within : i < length c.parts = let lt = slice_get_within d.parts i row e in let same = grows.parts.many in omega arith in
+      let old = within_some c.parts i within in
       let more = grows.parts.each i old.0 old.1 in
       let same : more.0 ≡ row = same_Some more.0 row (sym more.1.0 ∙ e) in
       ap (λ (r : PartsView). r.actor) (sym same) ∙ (more.1.1.actor ∙ rows.own i old.0 old.1);

@@ -2,8 +2,8 @@
 use Rattle.std.specs.Prelude.{◌≡◌, ℕ, List, [], ◌∷◌, ◌++◌, map, Some, slice_get}
 use Rattle.std.proofs.Common.{sym, ap, ◌∙◌, ⊎_elim}
 use Rattle.std.proofs.lemmas.List.{map-append}
+use Rattle.layered_search.proofs.Places.{get_push}
 use Rattle.local_states.specs.Distinct.{AreEachOnce}
-use Rattle.local_states.proofs.Lists.Places.{get_push}
 
 pub once_more : {A : Type 0} (xs : List A) (y : A) → AreEachOnce xs → ((k : ℕ) → slice_get xs k ≡ Some y → ⊥) → AreEachOnce (xs ++ y ∷ [])
 once_more xs y once new k l x e q =

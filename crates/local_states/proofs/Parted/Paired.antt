@@ -2,9 +2,9 @@
 use Rattle.std.specs.Prelude.{◌≡◌, ◌<◌, ◌≤◌, ℕ, ◌+◌, List, length, slice_get, Some, refl}
 use Rattle.std.proofs.Common.{sym, ap, ◌∙◌, subst, ⊎_elim, arith, get_or}
 use Rattle.std.proofs.lemmas.Option.{same_Some, slice_get_within, slice_get_read}
+use Rattle.layered_search.proofs.Places.{at_or_below}
 use Rattle.local_states.specs.HandleTables.{AreGivenAs, AreGivenPairs}
 use Rattle.local_states.specs.Paired.{AreAt, IsApartBefore}
-use Rattle.local_states.proofs.Lists.Places.{at_or_below}
 
 pub at_places : (hs ks : List ℕ) (i h k : ℕ) → i < length hs → i < length ks → h ≡ get_or hs i h → k ≡ get_or ks i k → AreAt hs ks i h k
 at_places hs ks i h k lt lt' p q = record { here = slice_get_read hs (length hs) i h refl lt p; there = slice_get_read ks (length ks) i k refl lt' q }

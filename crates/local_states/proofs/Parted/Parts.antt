@@ -1,12 +1,12 @@
 -- Handle tables that are alike are those of the same parts; what is kept of parts, once each, and one more.
 use Rattle.std.specs.Prelude.{◌≡◌, ◌≤◌, ◌<◌, ℕ, ◌+◌, suc, List, [], ◌∷◌, ◌++◌, length, map, Option, Some, None, slice_get, refl}
-use Rattle.std.specs.Option.{option_map}
 use Rattle.std.proofs.Common.{sym, ap, ◌∙◌, subst, ⊎_elim, arith, take, get_or}
 use Rattle.std.proofs.lemmas.List.{take_more}
-use Rattle.std.proofs.lemmas.Option.{same_Some, none-some, slice_get-map, slice_get_within}
+use Rattle.std.proofs.lemmas.Option.{same_Some, none-some, slice_get_within}
 use Rattle.tree_model.specs.State.{State}
 use Rattle.tree_model.specs.declared.inode.OpenHandle.{OpenHandle}
 use Rattle.tree_model.specs.Steps.{node_held, held, held_count}
+use Rattle.layered_search.proofs.Places.{at_or_below, within_some, get_push, mapped_to}
 use Rattle.race_core.specs.Book.{tree_now}
 use Rattle.race_core.specs.declared.seat.Seat.{Seat}
 use Rattle.race_core.specs.declared.report.Outcome.{Outcome}
@@ -20,14 +20,10 @@ use Rattle.local_states.specs.Keys.{PartsView, AreApartParts, IsPartIn, HasMore}
 use Rattle.local_states.specs.Local.{actor_of, AreNumbered, SamePart, SamePartAt}
 use Rattle.local_states.specs.Paired.{AreAt}
 use Rattle.local_states.proofs.Alike.Paired.{same_numbers}
-use Rattle.local_states.proofs.Lists.Places.{at_or_below, within_some, get_push}
 use Rattle.local_states.proofs.Local.Parts.{one_actor, part_itself, part_back, part_join}
 use Rattle.local_states.proofs.Local.Worlds.{parts_busy}
 
 -- ---- handle tables
-
-map_at : {A B : Type 0} (f : A → B) (xs : List A) (at : ℕ) (x : A) → slice_get xs at ≡ Some x → slice_get (map f xs) at ≡ Some (f x)
-map_at f xs at x e = slice_get-map f xs at ∙ ap (option_map f) e
 
 same_maps : {B : Type 0} (f g : ℕ → B) (hs ks : List ℕ) → length hs ≡ length ks
     → ((at h k : ℕ) → AreAt hs ks at h k → f h ≡ g k) → map f hs ≡ map g ks
@@ -59,8 +55,8 @@ part_of_handle_tables s t x y g h here there like alike =
       like = like;
       pairs = λ at i j are. record {
         given = pairs.given at i j are;
-        holds = same_Some _ _ (sym (map_at (held s (actor_of x)) (seat_handles x) at i are.here)
-            ∙ (ap (λ ns. slice_get ns at) nodes ∙ map_at (held t (actor_of x)) (seat_handles y) at j are.there));
+        holds = same_Some _ _ (sym (mapped_to (held s (actor_of x)) (seat_handles x) at i are.here)
+            ∙ (ap (λ ns. slice_get ns at) nodes ∙ mapped_to (held t (actor_of x)) (seat_handles y) at j are.there));
       };
       apart = pairs.apart;
       held_handles = sym here.held_handles ∙ (alike.held_handles ∙ (there.held_handles ∙ ap (λ a. held_count t a) (sym actor)));

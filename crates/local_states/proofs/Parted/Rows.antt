@@ -4,10 +4,10 @@ use Rattle.std.proofs.Common.{sym, ap, ◌∙◌, subst, ⊎_elim, length-set, a
 use Rattle.std.proofs.lemmas.Option.{same_Some, none-some, slice_get_within, slice_get_read}
 use Rattle.std.proofs.lemmas.List.{length-append}
 use Rattle.tree_model.specs.declared.inode.Inode.{Inode}
+use Rattle.layered_search.proofs.Places.{within_some, get_push, get_set}
 use Rattle.race_core.specs.Worlds.{WorldView}
 use Rattle.local_states.specs.HandleTables.{PartView}
 use Rattle.local_states.specs.Keys.{PartsView, AreApartParts, AreInterned, ComponentsView, AreRows, HasMore, AreMoreParts, IsPartIn, IsPartAt}
-use Rattle.local_states.proofs.Lists.Places.{within_some, get_push, get_set}
 use Rattle.local_states.proofs.Parted.Parts.{more_itself}
 
 pub rows_push : (parts new : List PartsView) (row : PartsView) (n : ℕ) → new ≡ parts ++ row ∷ [] → AreRows parts n → row.actor ≡ n → AreRows new (n + 1)

@@ -2,8 +2,9 @@
 use Rattle.std.specs.Prelude.{◌≡◌, ◌<◌, ℕ, suc, ◌+◌, List, [], ◌∷◌, length, map, Option, Some, slice_get, refl}
 use Rattle.std.specs.Option.{option_map}
 use Rattle.std.proofs.Common.{sym, ap, ◌∙◌, subst, ⊎_elim, arith}
-use Rattle.std.proofs.lemmas.Option.{same_Some, slice_get-map}
+use Rattle.std.proofs.lemmas.Option.{same_Some, slice_get-map, slice_get_within}
 use Rattle.tree_model.specs.State.{State}
+use Rattle.layered_search.proofs.Places.{within_some}
 use Rattle.race_core.specs.declared.seat.Seat.{Seat}
 use Rattle.race_core.specs.Book.{tree_now}
 use Rattle.race_core.specs.Worlds.{WorldView, turn}
@@ -14,7 +15,6 @@ use Rattle.local_states.specs.HandleTables.{PartView, IsPartOf}
 use Rattle.local_states.specs.Keys.{PartsView, IsPartIn, ComponentsView, AreRows, AreInterned, IsPartAt, IsKey, AreSameKeys, AreSameKeysButOutside, outside_in}
 use Rattle.local_states.specs.Local.{actor_of, SamePart, SamePartAt, AreGiven, AreAllGiven, AreNumbered, SameParts}
 use Rattle.local_states.specs.Same.{IsSame}
-use Rattle.local_states.proofs.Alike.PairedLists.{there_is, there_was}
 use Rattle.local_states.proofs.Local.OutsideSame.{same_worlds_act}
 use Rattle.local_states.proofs.Local.Parts.{one_actor, part_itself, number_there}
 use Rattle.local_states.proofs.Parted.Parts.{at_back, at_join, one_kept}
@@ -72,7 +72,7 @@ same_keys c w u v key here there rows = record {
     seats = here.seats ∙ sym there.seats;
     numbered = here.numbered;
     parts = λ i lt.
-        let own = there_is key.own.items i (subst (λ n. i < n) (sym here.many) lt) in
+        let own = within_some key.own.items i (subst (λ n. i < n) (sym here.many) lt) in
         one_part c u v i own.0.part (length w.seats) rows (here.parts i own.0 own.1) (there.parts i own.0 own.1);
   };
   roots = here.roots ∙ sym there.roots;
@@ -82,7 +82,7 @@ same_keys c w u v key here there rows = record {
 -- the numbers of handles were given in worlds that are the same
 given_same : (u v : WorldView) → SameParts v u → AreAllGiven v → AreAllGiven u
 given_same u v same given i x e =
-    let lt : i < length v.seats = subst (λ n. i < n) (sym same.seats) (there_was u.seats i x e) in
+    let lt : i < length v.seats = subst (λ n. i < n) (sym same.seats) (slice_get_within u.seats i x e) in
     let at = same.parts i lt in
     subst (AreGiven (tree_now u.book)) (same_Some at.there x (sym at.is_there ∙ e))
     (part_given (tree_now v.book) (tree_now u.book) at.here at.there at.part (given i at.here at.is_here))
@@ -107,7 +107,7 @@ key_of_same c w u v key is same =
   where
     numbered : AreNumbered u.seats
     numbered i x e =
-        let lt : i < length v.seats = subst (λ n. i < n) (sym same.parts.seats) (there_was u.seats i x e) in
+        let lt : i < length v.seats = subst (λ n. i < n) (sym same.parts.seats) (slice_get_within u.seats i x e) in
         let at = same.parts.parts i lt in
         let there : at.there ≡ x = same_Some at.there x (sym at.is_there ∙ e) in
         ap (λ (seat : Seat). actor_of seat) (sym there) ∙ (sym (one_actor at.here at.there at.part.like) ∙ is.numbered i at.here at.is_here)
@@ -115,7 +115,7 @@ key_of_same c w u v key is same =
     parts : (i : ℕ) (own : Own) → slice_get key.own.items i ≡ Some own → IsPartAt c u i own.part
     parts i own e =
         let part = is.parts i own e in
-        let lt : part.row.actor < length v.seats = there_was v.seats part.row.actor part.is.same.here part.is.same.is_here in
+        let lt : part.row.actor < length v.seats = slice_get_within v.seats part.row.actor part.is.same.here part.is.same.is_here in
         record {
           row = part.row;
           there = part.there;
@@ -191,8 +191,8 @@ module _ (c : ComponentsView) (w u v : WorldView) (key other : Key) (rows : AreR
     seats = here.seats ∙ sym there.seats;
     numbered = here.numbered;
     parts = λ i lt.
-        let own = there_is key.own.items i (subst (λ n. i < n) (sym here.many) lt) in
-        let its = there_is other.own.items i (subst (λ n. i < n) (here.seats ∙ (sym there.seats ∙ sym there.many)) lt) in
+        let own = within_some key.own.items i (subst (λ n. i < n) (sym here.many) lt) in
+        let its = within_some other.own.items i (subst (λ n. i < n) (here.seats ∙ (sym there.seats ∙ sym there.many)) lt) in
         let part = same_part key.own.items other.own.items are.parts i own.0 its.0 own.1 its.1 in
         one_part c u v i own.0.part (length w.seats) rows (here.parts i own.0 own.1)
         (subst (λ at. IsPartAt c v i at) (sym part) (there.parts i its.0 its.1));
@@ -217,7 +217,7 @@ module _ (c : ComponentsView) (w u v : WorldView) (key other : Key) (rows : AreR
           let two = there.parts i its q in
           let row : two.row ≡ one.row = same_Some two.row one.row (sym two.there ∙ one.there) in
           let is : IsPartIn one.row v its.part = subst (λ (r : PartsView). IsPartIn r v its.part) row two.is in
-          let lt : one.row.actor < length u.seats = there_was u.seats one.row.actor one.is.same.here one.is.same.is_here in
+          let lt : one.row.actor < length u.seats = slice_get_within u.seats one.row.actor one.is.same.here one.is.same.is_here in
           met.parts_once i one.row one.there own.part its.part u v one.is is (same.parts one.row.actor lt)
 
 -- each actor has the same part in a world as in itself
@@ -231,6 +231,6 @@ same_itself w numbered = record {
   seats = refl;
   numbered = numbered;
   parts = λ i lt.
-      let seat = there_is w.seats i lt in
+      let seat = within_some w.seats i lt in
       record { here = seat.0; there = seat.0; is_here = seat.1; is_there = seat.1; part = part_itself (tree_now w.book) seat.0 };
 }

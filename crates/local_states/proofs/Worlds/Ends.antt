@@ -6,7 +6,8 @@ use Rattle.tree_model.specs.Steps.{held_count}
 use Rattle.race_core.specs.declared.report.Outcome.{Outcome}
 use Rattle.race_core.specs.Renamed.{outcomes_by, replies_by}
 use Rattle.race_core.specs.Worlds.{WorldView, ledgers_in, replies_in}
-use Rattle.local_states.specs.Worlds.{TellAlike, EndView, IsEndOf, SameOutcome}
+use Rattle.local_states.specs.Local.{TellAlike}
+use Rattle.local_states.specs.Worlds.{EndView, IsEndOf, SameOutcome}
 use Rattle.local_states.proofs.Lists.Runs.{replies_of_seats}
 
 -- ---- replies

@@ -1,13 +1,13 @@
 -- Worlds like one another go on alike, and tell the same outcome.
-use Rattle.std.specs.Prelude.{◌≡◌, ◌<◌, ℕ, Bool, length, refl}
+use Rattle.std.specs.Prelude.{◌≡◌, ◌<◌, ℕ, Bool, false, refl}
 use Rattle.std.proofs.Common.{◌∙◌, subst}
 use Rattle.race_core.specs.Worlds.{WorldView, turn, is_busy_at, is_within_at}
-use Rattle.local_states.specs.Worlds.{full, IsLike, same, onward, TellAlike}
-use Rattle.local_states.specs.Local as local
+use Rattle.local_states.specs.Worlds.{full, IsLike, same, onward}
+use Rattle.local_states.specs.Local.{TellAlike}
 use Rattle.local_states.specs.Outside.{outside_of}
 use Rattle.local_states.proofs.Local.OutsideSame.{same_worlds_act}
 use Rattle.local_states.proofs.Local.Wholes.{busy_alike, tell_alike}
-use Rattle.local_states.proofs.OutOfMemory.OutOfMemoryWorlds.{join}
+use Rattle.layered_search.proofs.Places.{join}
 
 -- ---- worlds like one another
 
@@ -25,26 +25,18 @@ like_busy i (same u) = refl
 like_busy i (onward w u v is like) =
     join (is_busy_at w.seats i) (is_busy_at u.seats i) (is_busy_at v.seats i) (busy_alike w u i is.parts).0 (like_busy {w = u} {v = v} i like)
 
-pub like_tells : {told : Bool} {w v : WorldView} → IsLike told w v → local.TellAlike w v
-like_tells (same u) = record { replies = refl; nodes = refl; held = λ a lt. refl }
-like_tells (onward w u v is like) =
-    let first : local.TellAlike w u = tell_alike w u is.parts in
-    let rest : local.TellAlike u v = like_tells {w = u} {v = v} like in record {
-      replies = first.replies ∙ rest.replies;
-      nodes = first.nodes ∙ rest.nodes;
-      held = λ a lt. first.held a lt ∙ rest.held a (subst (λ n. a < n) is.parts.seats lt);
-    }
-
-pub like_outside : {told : Bool} {w v : WorldView} → IsLike told w v → outside_of told w ≡ outside_of told v
-like_outside (same u) = refl
-like_outside {told} (onward w u v is like) = join (outside_of told w) (outside_of told u) (outside_of told v) is.outside (like_outside {w = u} {v = v} like)
-
 pub like_within : {told : Bool} {w v : WorldView} (i : ℕ) → IsLike told w v → is_within_at w.seats i ≡ is_within_at v.seats i
 like_within i (same u) = refl
 like_within i (onward w u v is like) =
     join (is_within_at w.seats i) (is_within_at u.seats i) (is_within_at v.seats i) (busy_alike w u i is.parts).1 (like_within {w = u} {v = v} i like)
 
 pub like_agree : {told : Bool} {w v : WorldView} → IsLike told w v → TellAlike told w v
-like_agree {told} {w} {v} like =
-    let tells : local.TellAlike w v = like_tells {w = w} {v = v} like in
-    record { replies = tells.replies; nodes = tells.nodes; held = tells.held; outside = like_outside {w = w} {v = v} like }
+like_agree (same u) = record { replies = refl; nodes = refl; held = λ a lt. refl; outside = refl }
+like_agree {told} (onward w u v is like) =
+    let first : TellAlike false w u = tell_alike w u is.parts in
+    let rest : TellAlike told u v = like_agree {w = u} {v = v} like in record {
+      replies = first.replies ∙ rest.replies;
+      nodes = first.nodes ∙ rest.nodes;
+      held = λ a lt. first.held a lt ∙ rest.held a (subst (λ n. a < n) is.parts.seats lt);
+      outside = join (outside_of told w) (outside_of told u) (outside_of told v) is.outside rest.outside;
+    }

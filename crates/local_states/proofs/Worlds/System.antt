@@ -10,7 +10,7 @@ use Rattle.local_states.proofs.Lists.Runs.{actors_stay}
 use Rattle.local_states.proofs.Worlds.Ends.{tell_same, tell_turned, tell_on, worlds_tell, worlds_same}
 use Rattle.local_states.proofs.Worlds.Like.{like_turns, like_trans, like_busy, like_within, like_agree}
 
-busy_within : (seats : List Seat) (i : ℕ) → is_busy_at seats i ≡ true → i < length seats
+pub busy_within : (seats : List Seat) (i : ℕ) → is_busy_at seats i ≡ true → i < length seats
 busy_within [] i busy = absurd (cc)
 busy_within (seat ∷ seats) zero busy = omega arith
 busy_within (seat ∷ seats) (suc i) busy = let rest = busy_within seats i busy in omega arith

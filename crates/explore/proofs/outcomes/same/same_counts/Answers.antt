@@ -1,6 +1,6 @@
 use Rattle.std.proofs.Common.{◌≡◌, ℕ, ◌∙◌, sym, subst, ⊎_elim}
 use Rattle.tree_model.specs.Steps.{held_count}
-use Rattle.local_states.proofs.Lists.Places.{at_or_below}
+use Rattle.layered_search.proofs.Places.{at_or_below}
 use Rattle.explore.proofs.outcomes.same.same_counts.Goals as goal
 
 pub loop-at-preserved : goal.loop-at-preserved

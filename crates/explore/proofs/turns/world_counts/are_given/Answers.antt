@@ -1,10 +1,10 @@
 use Rattle.std.proofs.Common.{◌≡◌, ◌<◌, ◌∙◌, ◌++◌, ℕ, List, ap, sym, subst, refl, ⊎_elim, length, arith}
 use Rattle.std.specs.Prelude.{Some, slice_get}
 use Rattle.std.proofs.lemmas.Bool.{cases_eq}
+use Rattle.std.proofs.lemmas.Option.{slice_get_within}
 use Rattle.race_core.specs.Book.{tree_now}
 use Rattle.race_core.specs.Renamed.{seat_handles}
 use Rattle.local_states.specs.Local.{AreGiven}
-use Rattle.local_states.proofs.Alike.PairedLists.{there_was}
 use Rattle.explore.proofs.turns.world_counts.are_given.Goals as goal
 
 pub loop-actor-preserved : goal.loop-actor-preserved
@@ -19,5 +19,5 @@ loop-actor-preserved g c = λ i x lt there.
 
 pub returns : goal.returns
 returns g c = λ t i x there.
-    let within : i < length c.args.world.now.seats = there_was c.args.world.now.seats i x there in
+    let within : i < length c.args.world.now.seats = slice_get_within c.args.world.now.seats i x there in
     c.loop-actor.invariant i x (omega arith) there

@@ -3,8 +3,8 @@ use Rattle.std.specs.Prelude.{map, slice_get, Some}
 use Rattle.std.specs.Global.{Vec}
 use Rattle.tree_model.specs.declared.inode.Inode.{Inode}
 use Rattle.tree_model.proofs.Places.{slice_get-last}
+use Rattle.layered_search.proofs.Places.{get_left}
 use Rattle.local_states.specs.Distinct.{AreEachOnce}
-use Rattle.local_states.proofs.Lists.Places.{get_left}
 use Rattle.local_states.proofs.Parted.Once.{once_more, map_push}
 use Rattle.local_states.proofs.nodes.NodeLists.put.Goals as goal
 

@@ -1,10 +1,10 @@
 use Rattle.std.proofs.Common.{◌≡◌, sym, ap, ◌∙◌, subst, List, [], ◌∷◌, ◌++◌, length}
 use Rattle.std.specs.Prelude.{map, slice_get, Some}
 use Rattle.tree_model.proofs.Places.{slice_get-last}
+use Rattle.layered_search.proofs.Places.{get_left}
 use Rattle.race_core.specs.declared.report.Outcome.{Outcome}
 use Rattle.race_core.specs.Renamed.{outcome_by}
 use Rattle.local_states.specs.Distinct.{AreEachOnce}
-use Rattle.local_states.proofs.Lists.Places.{get_left}
 use Rattle.local_states.proofs.Parted.Once.{once_more, map_push}
 use Rattle.local_states.proofs.outcome_table.OutcomeTable.put.Goals as goal
 

@@ -2,10 +2,10 @@ use Rattle.std.proofs.Common.{sym, ap, ◌∙◌, subst, length}
 use Rattle.std.specs.Prelude.{◌≡◌, List, [], ◌∷◌, ◌++◌, slice_get, Some}
 use Rattle.std.proofs.lemmas.Option.{slice_get_within}
 use Rattle.tree_model.proofs.Places.{slice_get-last}
+use Rattle.layered_search.proofs.Places.{get_left}
 use Rattle.race_core.specs.Renamed.{seat_by}
 use Rattle.local_states.specs.HandleTables.{HasHandleTable, HasOutcomes, PartView, IsPartOf}
 use Rattle.local_states.specs.Keys.{PartsView, IsPartIn}
-use Rattle.local_states.proofs.Lists.Places.{get_left}
 use Rattle.local_states.proofs.Parted.Parts.{part_itself_at, parts_pushed}
 use Rattle.local_states.proofs.parts.Parts.push.Goals as goal
 

@@ -1,5 +1,5 @@
 use Rattle.std.proofs.Common.{◌<◌, ◌∙◌, length, arith}
-use Rattle.local_states.proofs.Alike.PairedLists.{there_was}
+use Rattle.std.proofs.lemmas.Option.{slice_get_within}
 use Rattle.explore.proofs.Keyed.Found.{outside_kept, parts_more}
 use Rattle.explore.proofs.Keyed.Growing.{grows_on, rows_grow}
 use Rattle.explore.proofs.turns.known_turns.KnownTurns.put_parts.Goals as goal
@@ -24,5 +24,5 @@ loop-actor-preserved g c =
 
 pub returns-clause-parts : goal.returns-clause-parts
 returns-clause-parts g c = λ i one there.
-    let within : i < length c.loop-actor.own = there_was c.loop-actor.own i one there in
+    let within : i < length c.loop-actor.own = slice_get_within c.loop-actor.own i one there in
     c.loop-actor.invariant.parts i one (omega arith) there
