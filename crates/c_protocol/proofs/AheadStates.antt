@@ -34,7 +34,8 @@ last_dot (q ∷ r ∷ qs) p = last_dot (r ∷ qs) p
 
 dot_at : (ps : List Part) (i : ℕ) (p : Part) → slice_get ps i ≡ Some p → ends_in_dot (take (i + 1) ps) ≡ is_dot p
 dot_at ps i p found =
-    ap ends_in_dot (take_more ps i p (slice_get_within ps i p found) ∙ ap (λ q. take i ps ++ q ∷ []) (get_or_from_slice_get ps i p p found))
+    ap ends_in_dot (take_more ps i p (slice_get_within ps i p found)
+    ∙ ap (λ q. take i ps ++ q ∷ []) (get_or_from_slice_get ps i p p found))
     ∙ last_dot (take i ps) p
 
 all_taken : (ps : List Part) (i : ℕ) → slice_get ps i ≡ None → take i ps ≡ ps
@@ -57,7 +58,8 @@ pub record Found (call : CallView) (most number used names : ℕ) (dot : Bool) (
   pub there : IsThere call at dir names i
   pub dotted : dot ≡ ends_in_dot (take i (doing_ahead call.doing))
 
-pub none_found : (call : CallView) (most number : ℕ) (old : List ℕ) (dir : ℕ) (name : List ℕ) → due call.below call.doing ≡ Open dir name
+pub none_found : (call : CallView) (most number : ℕ) (old : List ℕ) (dir : ℕ) (name : List ℕ)
+    → due call.below call.doing ≡ Open dir name
     → Found call most number 0 0 false 0 old old
 none_found call most number old dir name opens =
     record {
@@ -87,7 +89,8 @@ found_cur call most number used names dot i old room was part_is =
       counted = was.counted;
       there = elim was.there [
         | inl h ↦
-            let first = at_first call was.dir h.3.0 part.Cur h.3.1 (ap (slice_get (doing_ahead call.doing)) (sym h.1) ∙ part_is) in
+            let first = at_first call was.dir h.3.0 part.Cur h.3.1
+            (ap (slice_get (doing_ahead call.doing)) (sym h.1) ∙ part_is) in
             cc (first.1)
         | inr h ↦ inr (
           h.0,
@@ -100,7 +103,8 @@ found_cur call most number used names dot i old room was part_is =
 
 -- a name is due to be opened
 due_there : (call : CallView) (at : CallView) (dir names i : ℕ) (n : List ℕ) → IsThere call at dir names i
-    → slice_get (doing_ahead call.doing) i ≡ Some (part.Named n) → is_too_long n ≡ false → AtName at dir n (drop (i + 1) (doing_ahead call.doing))
+    → slice_get (doing_ahead call.doing) i ≡ Some (part.Named n) → is_too_long n ≡ false
+    → AtName at dir n (drop (i + 1) (doing_ahead call.doing))
 due_there call at dir names i n (inl h) part_is short =
     let ps = doing_ahead call.doing in
     let first = at_first call dir h.3.0 (part.Named n) h.3.1 (ap (slice_get ps) (sym h.1) ∙ part_is) in
@@ -114,7 +118,8 @@ due_there call at dir names i n (inr h) part_is short =
 
 -- it is laid out, and passed
 pub found_name : (call : CallView) (most number used names : ℕ) (dot : Bool) (i end : ℕ) (n old room new : List ℕ)
-    → Found call most number used names dot i old room → slice_get (doing_ahead call.doing) i ≡ Some (part.Named n) → is_too_long n ≡ false → names < most → LiesAt n used end room new
+    → Found call most number used names dot i old room → slice_get (doing_ahead call.doing) i ≡ Some (part.Named n)
+    → is_too_long n ≡ false → names < most → LiesAt n used end room new
     → Found call most number end (names + 1) false (i + 1) old new
 found_name call most number used names dot i end n old room new was part_is short fewer lies =
     let due_now = due_there call was.at was.dir names i n was.there part_is short in
@@ -124,26 +129,35 @@ found_name call most number used names dot i end n old room new was part_is shor
       at = behind.0;
       dir = was.next;
       next = was.next + 1;
-      looking = one_laid call was.at most was.from number used was.dir was.next end old room new n behind.1.0 (More behind.0) was.looking
-          (omega (arith, was.counted, fewer)) (is_due was.at was.dir n (drop (i + 1) (doing_ahead call.doing)) due_now) behind.1.1.0 lies.0 lies.1.0 lies.1.1;
+      looking = one_laid call was.at most was.from number used was.dir was.next end old room new n behind.1.0
+          (More behind.0) was.looking
+          (omega (arith, was.counted, fewer))
+          (is_due was.at was.dir n (drop (i + 1) (doing_ahead call.doing)) due_now) behind.1.1.0 lies.0 lies.1.0
+          lies.1.1;
       counted = omega (arith, was.counted);
       there = inr (omega arith, behind.1.1.1);
       dotted = sym (dot_at (doing_ahead call.doing) i (part.Named n) part_is);
     }
 
 -- `..` is laid out behind the names
-pub found_up : (call : CallView) (most number used names : ℕ) (dot : Bool) (i : ℕ) (old room new : List ℕ) (ahead : Ahead)
-    → Found call most number used names dot i old room → slice_get (doing_ahead call.doing) i ≡ Some part.Up → ahead.names ≡ names
-    → ahead.ends ≡ false → ahead.dot ≡ false → new ≡ take used room ++ (up_text ahead.up ++ drop ahead.used room) → ahead.used ≡ used + length (up_text ahead.up)
+pub found_up : (call : CallView) (most number used names : ℕ) (dot : Bool) (i : ℕ) (old room new : List ℕ)
+    (ahead : Ahead)
+    → Found call most number used names dot i old room → slice_get (doing_ahead call.doing) i ≡ Some part.Up
+    → ahead.names ≡ names
+    → ahead.ends ≡ false → ahead.dot ≡ false → new ≡ take used room ++ (up_text ahead.up ++ drop ahead.used room)
+    → ahead.used ≡ used + length (up_text ahead.up)
     → ComeNext call most number ahead old new
 found_up call most number used names dot i old room new ahead was part_is count ends no_dot laid takes =
     elim was.there [
       | inl h ↦
-          let first = at_first call was.dir h.3.0 part.Up h.3.1 (ap (slice_get (doing_ahead call.doing)) (sym h.1) ∙ part_is) in
+          let first = at_first call was.dir h.3.0 part.Up h.3.1
+          (ap (slice_get (doing_ahead call.doing)) (sym h.1) ∙ part_is) in
           cc (first.1)
       | inr h ↦
-          let stands = subst (λ ps. StandsIn was.at was.dir ps) (part_at (doing_ahead call.doing) i part.Up part_is) h.1 in
-          at_end call was.at most was.from number used was.dir was.next names ahead old room new was.looking (omega (arith, was.counted))
+          let stands = subst (λ ps. StandsIn was.at was.dir ps)
+          (part_at (doing_ahead call.doing) i part.Up part_is) h.1 in
+          at_end call was.at most was.from number used was.dir was.next names ahead old room new was.looking
+          (omega (arith, was.counted))
           (record {
             names = count;
             laid = laid;
@@ -160,10 +174,12 @@ pub found_end : (call : CallView) (most number used names : ℕ) (dot : Bool) (i
     → ComeNext call most number ahead old room
 found_end call most number used names dot i old room ahead was none is =
     let ps = doing_ahead call.doing in
-    let told : Ahead = record { names = names; used = used; up = false; ends = nat_lt 0 names; dot = nat_lt 0 names && dot } in
+    let told : Ahead = record
+    { names = names; used = used; up = false; ends = nat_lt 0 names; dot = nat_lt 0 names && dot } in
     let same : room ≡ take used room ++ drop used room = sym (take-append-drop used room) in
     let found : ComeNext call most number told old room =
-    at_end call was.at most was.from number used was.dir was.next names told old room room was.looking (omega (arith, was.counted))
+    at_end call was.at most was.from number used was.dir was.next names told old room room was.looking
+    (omega (arith, was.counted))
     (record {
       names = refl;
       laid = same;
@@ -178,8 +194,10 @@ found_end call most number used names dot i old room ahead was none is =
 
 -- a part is taken
 pub found_part : (call : CallView) (most number bound i : ℕ) (p : Part) (so_far next : Spelled) (old room new : List ℕ)
-    → Found call most number so_far.used so_far.names so_far.dot i old room → slice_get (doing_ahead call.doing) i ≡ Some p
-    → bound ≤ most → TakesPart p so_far bound next room new → Found call most number next.used next.names next.dot (i + 1) old new
+    → Found call most number so_far.used so_far.names so_far.dot i old room
+    → slice_get (doing_ahead call.doing) i ≡ Some p
+    → bound ≤ most → TakesPart p so_far bound next room new
+    → Found call most number next.used next.names next.dot (i + 1) old new
 found_part call most number bound i part.Cur so_far next old room new was part_is within takes =
     let kept = found_cur call most number so_far.used so_far.names so_far.dot i old room was part_is in
     subst (λ r. Found call most number next.used next.names next.dot (i + 1) old r) (sym takes.1)
@@ -189,4 +207,5 @@ found_part call most number bound i (part.Named n) so_far next old room new was 
     let fewer = takes.0 in
     subst (λ k. Found call most number next.used k next.dot (i + 1) old new) (sym takes.2)
     (subst (λ d. Found call most number next.used (so_far.names + 1) d (i + 1) old new) (sym takes.3)
-    (found_name call most number so_far.used so_far.names so_far.dot i next.used n old room new was part_is takes.1 (omega (arith, fewer, within)) takes.4))
+    (found_name call most number so_far.used so_far.names so_far.dot i next.used n old room new was part_is takes.1
+    (omega (arith, fewer, within)) takes.4))

@@ -48,7 +48,8 @@ use Rattle.c_protocol.specs.declared.numbers.Asked.{Asked}
 
 -- ---- a place's names
 
-reprinted_more : (t : Bool) (b : ℕ) (bs : List ℕ) (ps : List (List ℕ)) → (b == SLASH) ≡ t → after_slashes ps ≡ SLASH ∷ bs
+reprinted_more : (t : Bool) (b : ℕ) (bs : List ℕ) (ps : List (List ℕ)) → (b == SLASH) ≡ t
+    → after_slashes ps ≡ SLASH ∷ bs
     → after_slashes (cond t ([] ∷ ps) (onto_first b ps)) ≡ SLASH ∷ b ∷ bs
 reprinted_more true b bs ps e h = ap (λ cs. SLASH ∷ cs) (h ∙ ap (λ c. c ∷ bs) (sym (eqb-true b SLASH e)))
 reprinted_more false b bs [] e h = cc (h)
@@ -77,11 +78,13 @@ pub record IsPlace (place : List ℕ) (names : List (List ℕ)) : Type 0 where
   pub pieces : between_slashes (first ∷ text) ≡ names
   pub valid : list_all is_name names ≡ true
 
-pub placed : (place : List ℕ) (names : List (List ℕ)) → has_names (names_read place) ≡ true → names_read place ≡ Some names → IsPlace place names
+pub placed : (place : List ℕ) (names : List (List ℕ)) → has_names (names_read place) ≡ true
+    → names_read place ≡ Some names → IsPlace place names
 placed [] names some is = cc (some)
 placed (b ∷ []) names some is = absurd (no_names (b == SLASH) some)
 placed (b ∷ c ∷ text) names some is =
-    let all = some_of (b == SLASH) (list_all is_name (between_slashes (c ∷ text))) (between_slashes (c ∷ text)) names is in
+    let all = some_of (b == SLASH) (list_all is_name (between_slashes (c ∷ text)))
+    (between_slashes (c ∷ text)) names is in
     record {
       first = c;
       text = text;
@@ -94,7 +97,8 @@ pub no_fault : (fault : Option Errno) → is_none fault ≡ true → fault ≡ N
 no_fault None h = refl
 no_fault (Some error) h = cc (h)
 
-short_if : (c long : Bool) → is_none (if not c then Some Invalid else (if long then Some TooLong else None)) ≡ true → long ≡ false
+short_if : (c long : Bool) → is_none (if not c then Some Invalid else (if long then Some TooLong else None)) ≡ true
+    → long ≡ false
 short_if true true h = cc (h)
 short_if true false h = refl
 short_if false long h = cc (h)
@@ -105,7 +109,8 @@ short name h = short_if (is_component name) (nat_lt NAME_MAX (length name)) h
 -- ---- from name to name
 
 asked_more : (f : Bool) (n : List ℕ) (ps : List Passed) (last : Passed)
-    → asked f (part.Named n ∷ map part.Named (names_passed ps last)) ≡ Named true n ∷ asked f (map part.Named (names_passed ps last))
+    → asked f (part.Named n ∷ map part.Named (names_passed ps last)) ≡ Named true n ∷ asked f
+    (map part.Named (names_passed ps last))
 asked_more f n [] last = refl
 asked_more f n (p ∷ ps) last = refl
 
@@ -114,7 +119,8 @@ abbrev pub onto : List Passed → Passed → List (List ℕ) → List (List ℕ)
 onto [] last names = last.name ∷ names
 onto (p ∷ ps) last names = onto ps last (p.name ∷ names)
 
-pub onto_is : (ps : List Passed) (last : Passed) (names : List (List ℕ)) → onto ps last names ≡ reverse (names_passed ps last) ++ names
+pub onto_is : (ps : List Passed) (last : Passed) (names : List (List ℕ))
+    → onto ps last names ≡ reverse (names_passed ps last) ++ names
 onto_is [] last names = refl
 onto_is (p ∷ ps) last names =
     let rest = names_passed ps last in
@@ -129,20 +135,25 @@ module _
     (below : Below)
     (goal : Goal)
     (lift : walk.Turn → CallTurn)
-    (goes_on : (w : walk.Walking) (step : StepWith ℕ) (answer : Answer) (lines : List Line) (end : CallTurn) → step ≡ walk.due (way_from below.root goal below.flags) w
-    → LeadsTo below (lift (walk.take (way_from below.root goal below.flags) true w answer)) lines end → LeadsTo below (lift (walk.more w)) (answered step answer ∷ lines) end)
+    (goes_on : (w : walk.Walking) (step : StepWith ℕ) (answer : Answer) (lines : List Line) (end : CallTurn)
+    → step ≡ walk.due (way_from below.root goal below.flags) w
+    → LeadsTo below (lift (walk.take (way_from below.root goal below.flags) true w answer)) lines end
+    → LeadsTo below (lift (walk.more w)) (answered step answer ∷ lines) end)
     (b : ℕ) where
   abbrev way : Way
   way = way_from below.root goal below.flags
 
-  at_name : (pos : Position) (follow : Bool) (n : List ℕ) (own : List AskedPart) → is_dir_position pos ≡ true → is_too_long n ≡ false
+  at_name : (pos : Position) (follow : Bool) (n : List ℕ) (own : List AskedPart) → is_dir_position pos ≡ true
+      → is_too_long n ≡ false
       → on_own way pos (Named follow n ∷ own) b ≡ walk.more (opening pos true follow n (todo [] own b))
   at_name root_itself follow n own dir is =
       ap (λ t. if t then walk.gives_up [] TooLong else walk.more (opening root_itself true follow n (todo [] own b))) is
   at_name (holds h names) follow n own dir is =
-      ap (λ t. if t then (if is_too_long n then walk.gives_up (h.number ∷ []) TooLong else walk.more (opening (holds h names) true follow n (todo [] own b)))
+      ap (λ t. if t then (if is_too_long n then walk.gives_up (h.number ∷ []) TooLong else walk.more
+      (opening (holds h names) true follow n (todo [] own b)))
       else walk.gives_up (h.number ∷ []) NotDir) dir
-      ∙ ap (λ t. if t then walk.gives_up (h.number ∷ []) TooLong else walk.more (opening (holds h names) true follow n (todo [] own b))) is
+      ∙ ap (λ t. if t then walk.gives_up (h.number ∷ []) TooLong else walk.more
+      (opening (holds h names) true follow n (todo [] own b))) is
 
   -- what was held is closed
   entered : (pos : Position) (n : List ℕ) (h : Handle) (own : List AskedPart) (lines : List Line) (end : CallTurn)
@@ -150,36 +161,48 @@ module _
       → LeadsTo below (lift (walk.enters way true pos n h (todo [] own b))) (closes (handles_of pos) ++ lines) end
   entered root_itself n h own lines end led = led
   entered (holds held names) n h own lines end led =
-      goes_on (walk.closing held.number [] (walk.onward (holds h (n ∷ names)) (todo [] own b))) (Close held.number) Done lines end refl led
+      goes_on (walk.closing held.number [] (walk.onward (holds h (n ∷ names)) (todo [] own b)))
+      (Close held.number) Done lines end refl led
 
-  opened_on : (pos : Position) (follow : Bool) (p : Passed) (kind : Kind) (own : List AskedPart) (lines : List Line) (end : CallTurn)
+  opened_on : (pos : Position) (follow : Bool) (p : Passed) (kind : Kind) (own : List AskedPart) (lines : List Line)
+      (end : CallTurn)
       → is_dir_position pos ≡ true → is_name p.name ≡ true → is_followed follow kind ≡ false
       → LeadsTo below (lift (on_own way (holds (handle p kind) (p.name ∷ names_of pos)) own b)) lines end
-      → LeadsTo below (lift (on_own way pos (Named follow p.name ∷ own) b)) (opens (handle_at way pos) p kind ∷ (closes (handles_of pos) ++ lines)) end
+      → LeadsTo below (lift (on_own way pos (Named follow p.name ∷ own) b))
+      (opens (handle_at way pos) p kind ∷ (closes (handles_of pos) ++ lines)) end
   opened_on pos follow p kind own lines end dir is stays led =
-      subst (λ turn. LeadsTo below (lift turn) (opens (handle_at way pos) p kind ∷ (closes (handles_of pos) ++ lines)) end)
+      subst (λ turn. LeadsTo below (lift turn)
+      (opens (handle_at way pos) p kind ∷ (closes (handles_of pos) ++ lines)) end)
       (sym (at_name pos follow p.name own dir (short p.name is)))
-      (goes_on (opening pos true follow p.name (todo [] own b)) (Open (handle_at way pos) p.name) (Opened p.number p.node kind)
+      (goes_on (opening pos true follow p.name (todo [] own b)) (Open (handle_at way pos) p.name)
+      (Opened p.number p.node kind)
       (closes (handles_of pos) ++ lines) end refl
       (subst (λ t. LeadsTo below
-      (lift (if t then walk.follows_link way pos (handle p kind) (todo [] own b) else walk.enters way true pos p.name (handle p kind) (todo [] own b)))
+      (lift (if t then walk.follows_link way pos (handle p kind) (todo [] own b) else walk.enters way true pos p.name
+      (handle p kind) (todo [] own b)))
       (closes (handles_of pos) ++ lines) end) (sym stays) (entered pos p.name (handle p kind) own lines end led)))
 
   -- it stands where it was opened
   ended : (h : Handle) (names told : List (List ℕ)) → same_names told (reverse names) ≡ true
-      → LeadsTo below (lift (walk.more (walk.ending h names []))) (answered (NameBelow below.root.handle h.number) (Names told) ∷ []) (lift (walk.found h names))
+      → LeadsTo below (lift (walk.more (walk.ending h names [])))
+      (answered (NameBelow below.root.handle h.number) (Names told) ∷ []) (lift (walk.found h names))
   ended h names told same =
-      goes_on (walk.ending h names []) (NameBelow below.root.handle h.number) (Names told) [] (lift (walk.found h names)) refl
+      goes_on (walk.ending h names []) (NameBelow below.root.handle h.number) (Names told) []
+      (lift (walk.found h names)) refl
       (ap (λ t. lift (if t then walk.found h names else walk.gives_up (h.number ∷ []) Raced)) same)
 
-  pub passed_on : (ps : List Passed) (last : Passed) (kind : Kind) (told : List (List ℕ)) (pos : Position) → is_dir_position pos ≡ true
-      → list_all is_name (names_passed ps last) ≡ true → is_followed (follows goal) kind ≡ false → same_names told (reverse (onto ps last (names_of pos))) ≡ true
+  pub passed_on : (ps : List Passed) (last : Passed) (kind : Kind) (told : List (List ℕ)) (pos : Position)
+      → is_dir_position pos ≡ true
+      → list_all is_name (names_passed ps last) ≡ true → is_followed (follows goal) kind ≡ false
+      → same_names told (reverse (onto ps last (names_of pos))) ≡ true
       → LeadsTo below (lift (on_own way pos (asked (follows goal) (map part.Named (names_passed ps last))) b))
-      (lines_from below.root.handle (handle_at way pos) (handles_of pos) ps last kind told) (lift (walk.found (handle last kind) (onto ps last (names_of pos))))
+      (lines_from below.root.handle (handle_at way pos) (handles_of pos) ps last kind told)
+      (lift (walk.found (handle last kind) (onto ps last (names_of pos))))
   passed_on [] last kind told pos dir valid stays same =
       let ask : List Line = answered (NameBelow below.root.handle last.number) (Names told) ∷ [] in
       let names = last.name ∷ names_of pos in
-      opened_on pos (follows goal) last kind [] ask (lift (walk.found (handle last kind) names)) dir (and_true (is_name last.name) true valid).0 stays
+      opened_on pos (follows goal) last kind [] ask (lift (walk.found (handle last kind) names)) dir
+      (and_true (is_name last.name) true valid).0 stays
       (ended (handle last kind) names told same)
   passed_on (p ∷ ps) last kind told pos dir valid stays same =
       let own = asked (follows goal) (map part.Named (names_passed ps last)) in
@@ -187,7 +210,8 @@ module _
       let new = holds (handle p Dir) (p.name ∷ names_of pos) in
       let end = lift (walk.found (handle last kind) (onto ps last (p.name ∷ names_of pos))) in
       let rest = lines_from below.root.handle p.number (p.number ∷ []) ps last kind told in
-      subst (λ (ps : List AskedPart). LeadsTo below (lift (on_own way pos ps b)) (opens (handle_at way pos) p Dir ∷ (closes (handles_of pos) ++ rest)) end)
+      subst (λ (ps : List AskedPart). LeadsTo below (lift (on_own way pos ps b))
+      (opens (handle_at way pos) p Dir ∷ (closes (handles_of pos) ++ rest)) end)
       (sym (asked_more (follows goal) p.name ps last))
       (opened_on pos true p Dir own rest end dir each.0 refl (passed_on ps last kind told new refl each.1 stays same))
 
@@ -206,13 +230,17 @@ pub parts_either : (path text : List ℕ) (first : ℕ) (t : Bool) → same_byte
 parts_either path text first true e h = ap parts_of (same_text path (SLASH ∷ first ∷ text) e)
 parts_either path text first false e h = ap parts_of (same_text path (first ∷ text) h)
 
-parts_named : (path place : List ℕ) (names : List (List ℕ)) → IsPlace place names → spells_place path place ≡ true → parts_of path ≡ map part.Named names
+parts_named : (path place : List ℕ) (names : List (List ℕ)) → IsPlace place names → spells_place path place ≡ true
+    → parts_of path ≡ map part.Named names
 parts_named path place names h spells =
     let whole = SLASH ∷ h.first ∷ h.text in
-    let as_printed : printed names ≡ whole = printed_is names SLASH (h.first ∷ h.text) (ap after_slashes (sym h.pieces) ∙ reprinted (h.first ∷ h.text)) in
-    let read = printed_read names (λ k d l. no_fault (name_fault (get_or names k d)) (AllPass-from_list_all is_name names h.valid k d l)) in
+    let as_printed : printed names ≡ whole =
+    printed_is names SLASH (h.first ∷ h.text) (ap after_slashes (sym h.pieces) ∙ reprinted (h.first ∷ h.text)) in
+    let read = printed_read names
+    (λ k d l. no_fault (name_fault (get_or names k d)) (AllPass-from_list_all is_name names h.valid k d l)) in
     let either : spells_place path whole ≡ true = subst (λ p. spells_place path p ≡ true) h.is spells in
-    parts_either path h.text h.first (same_bytes path whole) refl either ∙ ap parts_of (sym as_printed) ∙ ap (λ (r : Reading). r.parts) read
+    parts_either path h.text h.first (same_bytes path whole) refl either ∙ ap parts_of (sym as_printed)
+    ∙ ap (λ (r : Reading). r.parts) read
 
 -- ---- which walk it is
 
@@ -220,13 +248,17 @@ parts_named path place names h spells =
 record IsWalk (below : Below) (op : Op) (path : List ℕ) (kind : Kind) : Type 0 where
   goal : Goal
   lift : walk.Turn → CallTurn
-  begins : starts below true op ≡ unless_fault (text_fault path) (lift (walk.begins (way_from below.root goal below.flags) (reading_of path)))
-  goes_on : (w : walk.Walking) (step : StepWith ℕ) (answer : Answer) (lines : List Line) (end : CallTurn) → step ≡ walk.due (way_from below.root goal below.flags) w
-      → LeadsTo below (lift (walk.take (way_from below.root goal below.flags) true w answer)) lines end → LeadsTo below (lift (walk.more w)) (answered step answer ∷ lines) end
+  begins : starts below true op ≡ unless_fault (text_fault path)
+      (lift (walk.begins (way_from below.root goal below.flags) (reading_of path)))
+  goes_on : (w : walk.Walking) (step : StepWith ℕ) (answer : Answer) (lines : List Line) (end : CallTurn)
+      → step ≡ walk.due (way_from below.root goal below.flags) w
+      → LeadsTo below (lift (walk.take (way_from below.root goal below.flags) true w answer)) lines end
+      → LeadsTo below (lift (walk.more w)) (answered step answer ∷ lines) end
   stays : is_followed (follows goal) kind ≡ false
   found : (h : Handle) (names : List (List ℕ)) → h.kind ≡ kind → lift (walk.found h names) ≡ ends (opened h names)
 
-resolves : (below : Below) (goal : Goal) (op : Op) (path : List ℕ) (kind : Kind) → starts below true op ≡ on_path below (Opens goal) path → is_followed (follows goal) kind ≡ false
+resolves : (below : Below) (goal : Goal) (op : Op) (path : List ℕ) (kind : Kind)
+    → starts below true op ≡ on_path below (Opens goal) path → is_followed (follows goal) kind ≡ false
     → IsWalk below op path kind
 resolves below goal op path kind begins stays = record {
   goal = goal;
@@ -237,14 +269,16 @@ resolves below goal op path kind begins stays = record {
   found = λ h names e. refl;
 }
 
-makes_all : (below : Below) (op : Op) (path : List ℕ) (kind : Kind) → op ≡ MkdirAll path → is_dir_kind kind ≡ true → IsWalk below op path kind
+makes_all : (below : Below) (op : Op) (path : List ℕ) (kind : Kind) → op ≡ MkdirAll path → is_dir_kind kind ≡ true
+    → IsWalk below op path kind
 makes_all below op path kind is dir = record {
   goal = Deepest;
   lift = λ turn. makes (make.after_walk true turn);
   begins = ap (starts below true) is;
   goes_on = λ w step answer lines end e led. (e, led);
   stays = no_link kind dir;
-  found = λ h names e. ap (λ t. makes (if t then make.made h names else make.gives_up (h.number ∷ []) NotDir)) (ap is_dir_kind e ∙ dir);
+  found = λ h names e. ap (λ t. makes (if t then make.made h names else make.gives_up (h.number ∷ []) NotDir))
+      (ap is_dir_kind e ∙ dir);
 }
   where
     no_link : (kind : Kind) → is_dir_kind kind ≡ true → is_followed true kind ≡ false
@@ -261,16 +295,22 @@ module _ (asked_for : Asked) (path second : List ℕ) (op : Op) (kind : Kind) wh
   abbrev op_by : ℕ → Option Op
   op_by n = op_of (record asked_for { op = n }) path second
 
-  by_number : (two one ten : Bool) → (asked_for.op == 2) ≡ two → (asked_for.op == 1) ≡ one → (asked_for.op == 10) ≡ ten → op_by asked_for.op ≡ Some op
-      → opens_kind asked_for.op kind ≡ true → (two || ((one && not (is_followed true kind)) || (ten && is_dir_kind kind))) ≡ true
+  by_number : (two one ten : Bool) → (asked_for.op == 2) ≡ two → (asked_for.op == 1) ≡ one → (asked_for.op == 10) ≡ ten
+      → op_by asked_for.op ≡ Some op
+      → opens_kind asked_for.op kind ≡ true
+      → (two || ((one && not (is_followed true kind)) || (ten && is_dir_kind kind))) ≡ true
       → IsWalk (below_asked asked_for) op path kind
   by_number true one ten e f g named h k =
-      let is : Some (ResolveNoFollow path) ≡ Some op = subst (λ n. op_by n ≡ Some op) (eqb-true asked_for.op 2 e) named in
-      resolves (below_asked asked_for) NoFollow op path kind (ap (starts (below_asked asked_for) true) (sym (same_Some (ResolveNoFollow path) op is))) refl
+      let is : Some (ResolveNoFollow path) ≡ Some op =
+      subst (λ n. op_by n ≡ Some op) (eqb-true asked_for.op 2 e) named in
+      resolves (below_asked asked_for) NoFollow op path kind
+      (ap (starts (below_asked asked_for) true) (sym (same_Some (ResolveNoFollow path) op is))) refl
   by_number false true ten e f g named h k =
       let is : Some (Resolve path) ≡ Some op = subst (λ n. op_by n ≡ Some op) (eqb-true asked_for.op 1 f) named in
-      let plain : (not (is_followed true kind) || false) ≡ true = subst (λ n. opens_kind n kind ≡ true) (eqb-true asked_for.op 1 f) h in
-      resolves (below_asked asked_for) Follow op path kind (ap (starts (below_asked asked_for) true) (sym (same_Some (Resolve path) op is)))
+      let plain : (not (is_followed true kind) || false) ≡ true =
+      subst (λ n. opens_kind n kind ≡ true) (eqb-true asked_for.op 1 f) h in
+      resolves (below_asked asked_for) Follow op path kind
+      (ap (starts (below_asked asked_for) true) (sym (same_Some (Resolve path) op is)))
       (not-true (is_followed true kind) (first_or (not (is_followed true kind)) plain))
   by_number false false true e f g named h k =
       let is : Some (MkdirAll path) ≡ Some op = subst (λ n. op_by n ≡ Some op) (eqb-true asked_for.op 10 g) named in
@@ -279,14 +319,17 @@ module _ (asked_for : Asked) (path second : List ℕ) (op : Op) (kind : Kind) wh
 
 -- ---- to the reply
 
-begins_so : (below : Below) (goal : Goal) (lift : walk.Turn → CallTurn) (path : List ℕ) (names : List (List ℕ)) → text_fault path ≡ None
+begins_so : (below : Below) (goal : Goal) (lift : walk.Turn → CallTurn) (path : List ℕ) (names : List (List ℕ))
+    → text_fault path ≡ None
     → leads_out (begins_with_slash path) below.flags ≡ false → parts_of path ≡ map part.Named names
     → unless_fault (text_fault path) (lift (walk.begins (way_from below.root goal below.flags) (reading_of path)))
-    ≡ lift (on_own (way_from below.root goal below.flags) root_itself (asked (follows goal) (map part.Named names)) LINKS_MAX)
+    ≡ lift (on_own (way_from below.root goal below.flags) root_itself
+    (asked (follows goal) (map part.Named names)) LINKS_MAX)
 begins_so below goal lift path names whole inside parts =
     let way = way_from below.root goal below.flags in
     ap (λ f. unless_fault f (lift (walk.begins way (reading_of path)))) whole
-    ∙ ap (λ t. lift (if t then walk.failed CrossRoot else on_own way root_itself (asked (follows goal) (parts_of path)) LINKS_MAX)) inside
+    ∙ ap (λ t. lift (if t then walk.failed CrossRoot else on_own way root_itself
+    (asked (follows goal) (parts_of path)) LINKS_MAX)) inside
     ∙ ap (λ ps. lift (on_own way root_itself (asked (follows goal) ps) LINKS_MAX)) parts
 
 module _ (asked_for : Asked) (path second place : List ℕ) (kind : ℕ) (op : Op) (ps : List Passed) (last : Passed) where
@@ -299,19 +342,27 @@ module _ (asked_for : Asked) (path second place : List ℕ) (kind : ℕ) (op : O
   abbrev below : Below
   below = below_asked asked_for
 
-  leads : IsWalk below op path of → leads_out (begins_with_slash path) below.flags ≡ false → text_fault path ≡ None → IsPlace place names
-      → spells_place path place ≡ true → LeadsTo below (starts below true op) (lines_at_once asked_for.root ps last of) (ends (reply_view (opened_at_once ps last of)))
+  leads : IsWalk below op path of → leads_out (begins_with_slash path) below.flags ≡ false → text_fault path ≡ None
+      → IsPlace place names
+      → spells_place path place ≡ true
+      → LeadsTo below (starts below true op) (lines_at_once asked_for.root ps last of)
+      (ends (reply_view (opened_at_once ps last of)))
   leads is inside whole place_is spells =
       let way = way_from below.root is.goal below.flags in
       let turned : onto ps last [] ≡ reverse names = onto_is ps last [] ∙ append-nil (reverse names) in
       let same : same_names names (reverse (onto ps last [])) ≡ true =
-      ap (λ ns. same_names names (reverse ns)) turned ∙ ap (same_names names) (reverse-reverse names) ∙ same_where_equal names names refl in
-      let begins = is.begins ∙ begins_so below is.goal is.lift path names whole inside (parts_named path place names place_is spells) in
+      ap (λ ns. same_names names (reverse ns)) turned ∙ ap (same_names names) (reverse-reverse names)
+      ∙ same_where_equal names names refl in
+      let begins = is.begins
+      ∙ begins_so below is.goal is.lift path names whole inside (parts_named path place names place_is spells) in
       let first = is.lift (on_own way root_itself (asked (follows is.goal) (map part.Named names)) LINKS_MAX) in
-      let end = ap (λ ns. is.lift (walk.found (handle last of) ns)) turned ∙ is.found (handle last of) (reverse names) refl in
-      subst (λ turn. LeadsTo below turn (lines_at_once asked_for.root ps last of) (ends (reply_view (opened_at_once ps last of)))) (sym begins)
+      let end = ap (λ ns. is.lift (walk.found (handle last of) ns)) turned
+      ∙ is.found (handle last of) (reverse names) refl in
+      subst (λ turn. LeadsTo below turn (lines_at_once asked_for.root ps last of)
+      (ends (reply_view (opened_at_once ps last of)))) (sym begins)
       (subst (LeadsTo below first (lines_at_once asked_for.root ps last of)) end
-      (passed_on below is.goal is.lift is.goes_on LINKS_MAX ps last of names root_itself refl place_is.valid is.stays same))
+      (passed_on below is.goal is.lift is.goes_on LINKS_MAX ps last of names root_itself refl place_is.valid is.stays
+      same))
 
 pub tells : EachCallTells → OpensAtOnceTell
 tells each asked_for path second place kind op ps last named at_once read =
@@ -320,11 +371,15 @@ tells each asked_for path second place kind op ps last named at_once read =
     let inside = and_true (not (leads_out (begins_with_slash path) below.flags)) _ kinds.1 in
     let whole = and_true (is_none (text_fault path)) _ inside.1 in
     let spells = and_true (has_names (names_read place)) (spells_place path place) whole.1 in
-    let is = by_number asked_for path second op (kind_of kind) (asked_for.op == 2) (asked_for.op == 1) (asked_for.op == 10) refl refl refl named kinds.0 kinds.0 in
-    let led = leads asked_for path second place kind op ps last is (not-true (leads_out (begins_with_slash path) below.flags) inside.0)
+    let is = by_number asked_for path second op (kind_of kind) (asked_for.op == 2) (asked_for.op == 1)
+    (asked_for.op == 10) refl refl refl named kinds.0 kinds.0 in
+    let led = leads asked_for path second place kind op ps last is
+    (not-true (leads_out (begins_with_slash path) below.flags) inside.0)
     (no_fault (text_fault path) whole.0) (placed place (names_passed ps last) spells.0 read) spells.1 in
     record {
       leads = led;
       tells = λ opening before window node is.
-          each (call_in asked_for op true (lines_at_once asked_for.root ps last (kind_of kind)) opening before window node) (opened_at_once ps last (kind_of kind)) is led;
+          each (call_in asked_for op true
+          (lines_at_once asked_for.root ps last (kind_of kind)) opening before window node)
+          (opened_at_once ps last (kind_of kind)) is led;
     }

@@ -37,7 +37,8 @@ walks : (below : Below) (aim : Aim) → WalksBy below (way_of below aim) (λ w. 
 walks below aim = record { due_is = λ w. refl; take_is = λ w next answer is. ap (walked below true aim) is }
 
 makes_all : (below : Below) → WalksBy below (make_way below) (λ w. making (make.walking w))
-makes_all below = record { due_is = λ w. refl; take_is = λ w next answer is. ap (λ t. makes (make.after_walk true t)) is }
+makes_all below = record
+    { due_is = λ w. refl; take_is = λ w next answer is. ap (λ t. makes (make.after_walk true t)) is }
 
 clears : (below : Below) (way : Way) (target : List ℕ) → WalksBy below way (λ w. removing (remove.walking way target w))
 clears below way target =
@@ -62,7 +63,8 @@ pub record AtName (at : CallView) (dir : ℕ) (name : List ℕ) (ps : List Part)
 abbrev pub IsFirst : CallView → ℕ → List ℕ → Part → Type 0
 IsFirst at dir name p = AtName at dir name (drop 1 (doing_ahead at.doing)) × (p ≡ part.Named name)
 
-by_walk : (at : CallView) (way : Way) (step : walk.Walking → Doing) → WalksBy at.below way step → (w : walk.Walking) → at.doing ≡ step w
+by_walk : (at : CallView) (way : Way) (step : walk.Walking → Doing) → WalksBy at.below way step → (w : walk.Walking)
+    → at.doing ≡ step w
     → (dir : ℕ) (n : List ℕ) (p : Part) → walk.due way w ≡ Open dir n → slice_get (parts_ahead w) 0 ≡ Some p
     → AtName at dir n (drop 1 (parts_ahead w)) × (p ≡ part.Named n)
 by_walk at way step within (walk.opening position own follow m rest) is dir n p opens first =
@@ -92,19 +94,22 @@ by_walk at way step within (walk.closing h hs after) is dir n p opens first = cc
 first_of : (below : Below) (doing : Doing) (dir : ℕ) (n : List ℕ) (p : Part) → due below doing ≡ Open dir n
     → slice_get (doing_ahead doing) 0 ≡ Some p → IsFirst (record { below = below; doing = doing }) dir n p
 first_of below (walking w aim) dir n p opens first =
-    by_walk (record { below = below; doing = walking w aim }) (way_of below aim) (λ w. walking w aim) (walks below aim) w refl dir n p opens first
+    by_walk (record { below = below; doing = walking w aim }) (way_of below aim) (λ w. walking w aim)
+    (walks below aim) w refl dir n p opens first
 first_of below (acting wanted step hs) dir n p opens first = cc (first)
 first_of below (checking old new renaming) dir n p opens first = cc (first)
 first_of below (closing h hs after) dir n p opens first = cc (first)
 first_of below (making (make.walking w)) dir n p opens first =
-    by_walk (record { below = below; doing = making (make.walking w) }) (make_way below) (λ w. making (make.walking w)) (makes_all below) w refl dir n p opens first
+    by_walk (record { below = below; doing = making (make.walking w) }) (make_way below) (λ w. making (make.walking w))
+    (makes_all below) w refl dir n p opens first
 first_of below (making (make.making held names m left)) dir n p opens first = cc (first)
 first_of below (making (make.opening held names m left)) dir n p opens first = cc (first)
 first_of below (making (make.leaving old new names left)) dir n p opens first = cc (first)
 first_of below (making (make.ending held names)) dir n p opens first = cc (first)
 first_of below (making (make.closing h hs error)) dir n p opens first = cc (first)
 first_of below (removing (remove.walking way target w)) dir n p opens first =
-    by_walk (record { below = below; doing = removing (remove.walking way target w) }) way (λ w. removing (remove.walking way target w))
+    by_walk (record { below = below; doing = removing (remove.walking way target w) }) way
+    (λ w. removing (remove.walking way target w))
     (clears below way target) w refl dir n p opens first
 first_of below (removing (remove.clearing stage level above count left)) dir n p opens first = cc (first)
 first_of below (removing (remove.closing h hs end)) dir n p opens first = cc (first)
@@ -115,9 +120,11 @@ pub at_first : (at : CallView) (dir : ℕ) (n : List ℕ) (p : Part) → due at.
 at_first at dir n p opens first = first_of at.below at.doing dir n p opens first
 
 -- the name is due
-pub is_due : (at : CallView) (dir : ℕ) (n : List ℕ) (ps : List Part) → AtName at dir n ps → due at.below at.doing ≡ Open dir n
+pub is_due : (at : CallView) (dir : ℕ) (n : List ℕ) (ps : List Part) → AtName at dir n ps
+    → due at.below at.doing ≡ Open dir n
 is_due at dir n ps a =
-    ap (due at.below) a.is ∙ a.within.due_is (walk.opening a.position a.own a.follow n a.rest) ∙ ap (λ d. Open d n) (sym a.here)
+    ap (due at.below) a.is ∙ a.within.due_is (walk.opening a.position a.own a.follow n a.rest)
+    ∙ ap (λ d. Open d n) (sym a.here)
 
 -- ---- behind a name
 
@@ -135,17 +142,29 @@ pub record StandsIn (at : CallView) (dir : ℕ) (ps : List Part) : Type 0 where
   pub behind : to_pass rest ≡ ps
 
 -- an answer leads the call on where it leads the walk
-leads_on : (at : CallView) (way : Way) (step : walk.Walking → Doing) → WalksBy at.below way step → (w next : walk.Walking) (answered : Answered)
+leads_on : (at : CallView) (way : Way) (step : walk.Walking → Doing) → WalksBy at.below way step
+    → (w next : walk.Walking) (answered : Answered)
     → at.doing ≡ step w → walk.take way true w (answer_of true answered []) ≡ walk.more next
     → IsNext at answered [] (More (record { below = at.below; doing = step next }))
-leads_on at way step within w next answered is taken =
-    (true, ((true, sym (ap (λ d. take at.below true d (answer_of true answered [])) is ∙ within.take_is w next (answer_of true answered []) taken)), refl))
+leads_on at way step within w next answered is taken = (
+  true,
+  (
+    (
+      true,
+      sym (ap (λ d. take at.below true d (answer_of true answered [])) is
+          ∙ within.take_is w next (answer_of true answered []) taken),
+    ),
+    refl,
+  ),
+)
 
 -- the directory is opened, and the one that has its name is closed
 abbrev pub Stands : CallView → ℕ → ℕ → List Part → Type 0
-Stands at dir number ps = (last : CallView) × ((shut : Bool) × (Enters at dir number shut (More last) × StandsIn last number ps))
+Stands at dir number ps = (last : CallView)
+    × ((shut : Bool) × (Enters at dir number shut (More last) × StandsIn last number ps))
 
-enters_by : (at : CallView) (dir number : ℕ) (n : List ℕ) (ps : List Part) (way : Way) (step : walk.Walking → Doing) → WalksBy at.below way step
+enters_by : (at : CallView) (dir number : ℕ) (n : List ℕ) (ps : List Part) (way : Way) (step : walk.Walking → Doing)
+    → WalksBy at.below way step
     → (position : Position) (own follow : Bool) (inner others : List _) (b : ℕ)
     → at.doing ≡ step (walk.opening position own follow n (todo inner others b)) → dir ≡ handle_at way position
     → to_pass (todo inner others b) ≡ ps → Stands at dir number ps
@@ -158,7 +177,8 @@ enters_by at dir number n ps way step within root_itself own follow inner others
           (
             More (record { below = at.below; doing = step on.0 }),
             (
-              leads_on at way step within (walk.opening root_itself own follow n (todo inner others b)) on.0 (as_directory number) is
+              leads_on at way step within (walk.opening root_itself own follow n (todo inner others b)) on.0
+                  (as_directory number) is
                   (enters_directory way root_itself own follow n (todo inner others b) number ∙ on.1),
               refl,
             ),
@@ -190,7 +210,8 @@ enters_by at dir number n ps way step within (holds handle names) own follow inn
           (
             More between,
             (
-              leads_on at way step within (walk.opening (holds handle names) own follow n rest) closes (as_directory number) is
+              leads_on at way step within (walk.opening (holds handle names) own follow n rest) closes
+                  (as_directory number) is
                   (enters_directory way (holds handle names) own follow n rest number),
               (
                 within.due_is closes ∙ ap (λ d. Close d) (sym here),
@@ -217,14 +238,18 @@ enters_by at dir number n ps way step within (holds handle names) own follow inn
       ),
     )
 
-by_todo : (at : CallView) (dir number : ℕ) (n : List ℕ) (ps : List Part) (way : Way) (step : walk.Walking → Doing) → WalksBy at.below way step
-    → (position : Position) (own follow : Bool) (rest : Todo) → at.doing ≡ step (walk.opening position own follow n rest)
+by_todo : (at : CallView) (dir number : ℕ) (n : List ℕ) (ps : List Part) (way : Way) (step : walk.Walking → Doing)
+    → WalksBy at.below way step
+    → (position : Position) (own follow : Bool) (rest : Todo)
+    → at.doing ≡ step (walk.opening position own follow n rest)
     → dir ≡ handle_at way position → to_pass rest ≡ ps → Stands at dir number ps
 by_todo at dir number n ps way step within position own follow (todo inner others b) is here behind =
     enters_by at dir number n ps way step within position own follow inner others b is here behind
 
-pub stands_behind : (at : CallView) (dir number : ℕ) (n : List ℕ) (ps : List Part) → AtName at dir n ps → Stands at dir number ps
-stands_behind at dir number n ps a = by_todo at dir number n ps a.way a.step a.within a.position a.own a.follow a.rest a.is a.here a.behind
+pub stands_behind : (at : CallView) (dir number : ℕ) (n : List ℕ) (ps : List Part) → AtName at dir n ps
+    → Stands at dir number ps
+stands_behind at dir number n ps a =
+    by_todo at dir number n ps a.way a.step a.within a.position a.own a.follow a.rest a.is a.here a.behind
 
 -- ---- by the part that comes next
 
@@ -247,7 +272,8 @@ past_cur at dir ps s =
 same_more : (w now : walk.Walking) → walk.more w ≡ walk.more now → w ≡ now
 same_more w now is = cc (is)
 
-pub at_next : (at : CallView) (dir : ℕ) (m : List ℕ) (ps : List Part) → StandsIn at dir (part.Named m ∷ ps) → is_too_long m ≡ false → AtName at dir m ps
+pub at_next : (at : CallView) (dir : ℕ) (m : List ℕ) (ps : List Part) → StandsIn at dir (part.Named m ∷ ps)
+    → is_too_long m ≡ false → AtName at dir m ps
 at_next at dir m ps s short =
     let names = s.name ∷ s.names in
     let on = opens_there s.way dir names s.rest m ps s.behind short in

@@ -18,7 +18,8 @@ use Rattle.path_text.proofs.Lists.{put}
 
 -- ---- names that are passed
 
-pub record Passing (call : CallView) (text : List ℕ) (from number yielded dir next : ℕ) (shut : Bool) (turn : CallTurn) : Type 0 where
+pub record Passing (call : CallView) (text : List ℕ) (from number yielded dir next : ℕ) (shut : Bool)
+    (turn : CallTurn) : Type 0 where
   pub so_far : List Entered
   pub names : names_of so_far ≡ take yielded (between_slashes text)
   pub count : length so_far ≡ yielded
@@ -27,33 +28,40 @@ pub record Passing (call : CallView) (text : List ℕ) (from number yielded dir 
   pub closed : shut ≡ is_shut so_far
   pub makes : Makes (steps_of from number so_far) (More call) turn
 
-first_shut : (ns : List Entered) (n : Entered) (shut : Bool) → length ns ≡ 0 → shut ≡ n.shut → shut ≡ is_shut (ns ++ n ∷ [])
+first_shut : (ns : List Entered) (n : Entered) (shut : Bool) → length ns ≡ 0 → shut ≡ n.shut
+    → shut ≡ is_shut (ns ++ n ∷ [])
 first_shut [] n shut none is = is
 first_shut (m ∷ ms) n shut none is = let never : ⊥ = omega (arith, none) in absurd never
 
-later_shut : (ns : List Entered) (n : Entered) (shut : Bool) → 0 < length ns → shut ≡ is_shut ns → shut ≡ is_shut (ns ++ n ∷ [])
+later_shut : (ns : List Entered) (n : Entered) (shut : Bool) → 0 < length ns → shut ≡ is_shut ns
+    → shut ≡ is_shut (ns ++ n ∷ [])
 later_shut [] n shut some is = let never : ⊥ = omega (arith, some) in absurd never
 later_shut (m ∷ ms) n shut some is = is
 
 module _ (call : CallView) (text : List ℕ) (from number yielded dir next : ℕ) (shut : Bool) (turn : CallTurn)
-    (was : Passing call text from number yielded dir next shut turn) (name : List ℕ) (closed : Bool) (last : CallTurn) (more : ℕ)
+    (was : Passing call text from number yielded dir next shut turn) (name : List ℕ) (closed : Bool) (last : CallTurn)
+    (more : ℕ)
     (piece : (yielded < length (between_slashes text)) × (name ≡ get_or (between_slashes text) yielded name))
-    (step : Makes (steps_of dir next (record { name = name; shut = closed } ∷ [])) turn last) (counts : more ≡ yielded + 1) where
+    (step : Makes (steps_of dir next (record { name = name; shut = closed } ∷ [])) turn last)
+    (counts : more ≡ yielded + 1) where
   abbrev this : Entered
   this = record { name = name; shut = closed }
 
-  passed : (now : Bool) → now ≡ is_shut (was.so_far ++ this ∷ []) → Passing call text from number more next (next + 1) now last
+  passed : (now : Bool) → now ≡ is_shut (was.so_far ++ this ∷ [])
+      → Passing call text from number more next (next + 1) now last
   passed now is =
       record {
         so_far = was.so_far ++ this ∷ [];
         names = one_name_more was.so_far this ∙ ap (λ l. l ++ name ∷ []) was.names
             ∙ ap (λ x. take yielded (between_slashes text) ++ x ∷ []) piece.1
-            ∙ sym (take_more (between_slashes text) yielded name piece.0) ∙ ap (λ k. take k (between_slashes text)) (sym counts);
+            ∙ sym (take_more (between_slashes text) yielded name piece.0)
+            ∙ ap (λ k. take k (between_slashes text)) (sym counts);
         count = one_longer was.so_far this ∙ omega (arith, was.count, counts);
         counted = let longer = one_longer was.so_far this in omega (arith, was.counted, longer);
         here = was.counted ∙ sym (counts_up number was.so_far) ∙ sym (one_dir_more from number was.so_far this);
         closed = is;
-        makes = passes_one_more from number dir next was.so_far this (More call) turn last was.here was.counted was.makes step;
+        makes = passes_one_more from number dir next was.so_far this
+            (More call) turn last was.here was.counted was.makes step;
       }
 
   pub first_passed : next ≡ number → Passing call text from number more next (next + 1) closed last
@@ -70,7 +78,8 @@ module _ (call : CallView) (text : List ℕ) (from number yielded dir next : ℕ
 
 -- ---- names that are laid out
 
-pub record Looking (call : CallView) (most from number used dir next : ℕ) (turn : CallTurn) (old room : List ℕ) : Type 0 where
+pub record Looking (call : CallView) (most from number used dir next : ℕ) (turn : CallTurn)
+    (old room : List ℕ) : Type 0 where
   pub so_far : List Entered
   pub counted : next ≡ number + length so_far
   pub few : length so_far ≤ most
@@ -80,7 +89,8 @@ pub record Looking (call : CallView) (most from number used dir next : ℕ) (tur
   pub fits : used ≤ length room
   pub laid : room ≡ after_slashes (names_of so_far) ++ drop (length (after_slashes (names_of so_far))) old
 
-pub none_laid : (call : CallView) (most from number : ℕ) (old : List ℕ) → Looking call most from number 0 from number (More call) old old
+pub none_laid : (call : CallView) (most from number : ℕ) (old : List ℕ)
+    → Looking call most from number 0 from number (More call) old old
 none_laid call most from number old = record {
   so_far = [];
   counted = omega arith;
@@ -92,12 +102,15 @@ none_laid call most from number old = record {
   laid = refl;
 }
 
-pub one_laid : (call at : CallView) (most from number used dir next end : ℕ) (old room new : List ℕ) (name : List ℕ) (shut : Bool) (last : CallTurn)
+pub one_laid : (call at : CallView) (most from number used dir next end : ℕ) (old room new : List ℕ) (name : List ℕ)
+    (shut : Bool) (last : CallTurn)
     → Looking call most from number used dir next (More at) old room → next - number < most
-    → due at.below at.doing ≡ Open dir name → Enters at dir next shut last → end ≡ used + (length name + 1) → end ≤ length new
+    → due at.below at.doing ≡ Open dir name → Enters at dir next shut last → end ≡ used + (length name + 1)
+    → end ≤ length new
     → new ≡ take used room ++ ((SLASH ∷ name) ++ drop end room)
     → Looking call most from number end next (next + 1) last old new
-one_laid call at most from number used dir next end old room new name shut last was fewer is_due enters ends within lies =
+one_laid call at most from number used dir next end old room new name shut last was fewer is_due enters ends within
+    lies =
     let this : Entered = record { name = name; shut = shut } in
     let ns = names_of was.so_far in
     let longer = one_longer was.so_far this in
@@ -112,16 +125,19 @@ one_laid call at most from number used dir next end old room new name shut last 
       counted = omega (arith, was.counted, longer);
       few = omega (arith, was.counted, longer, fewer);
       here = was.counted ∙ sym (counts_up number was.so_far) ∙ sym (one_dir_more from number was.so_far this);
-      makes = passes_one_more from number dir next was.so_far this (More call) (More at) last was.here was.counted was.makes
+      makes = passes_one_more from number dir next was.so_far this (More call)
+          (More at) last was.here was.counted was.makes
           (entered at dir next name shut last is_due enters);
-      ends_at = (let is : end ≡ length (after_slashes ns ++ SLASH ∷ name) = omega (arith, ends, was.ends_at, counted) in is) ∙ sym (ap length text);
+      ends_at = (let is : end ≡ length (after_slashes ns ++ SLASH ∷ name) = omega (arith, ends, was.ends_at, counted) in
+          is) ∙ sym (ap length text);
       fits = within;
       laid = subst (λ l. new ≡ l ++ drop (length l) old) (sym text) both;
     }
 
 -- what was laid out is what comes next, up to the step that is due then
 pub at_end : (call at : CallView) (most from number used dir next count : ℕ) (ahead : Ahead) (old room new : List ℕ)
-    → Looking call most from number used dir next (More at) old room → count ≡ next - number → IsEnd at dir count used ahead room new
+    → Looking call most from number used dir next (More at) old room → count ≡ next - number
+    → IsEnd at dir count used ahead room new
     → ahead.dot ≡ (ahead.ends && ends_in_dot (doing_ahead call.doing)) → ComeNext call most number ahead old new
 at_end call at most from number used dir next count ahead old room new was many end dotted =
     let text = after_slashes (names_of was.so_far) in

@@ -140,12 +140,12 @@ split_link s pieces ps l start end passes dirs_are entry_named rest steps =
     sym (take-append-drop (end - start) (drop start s.path))
     ∙ ap (λ x. x ++ drop (end - start) (drop start s.path)) entry_named
     ∙ ap (λ y. (SLASH ∷ l.name) ++ y)
-        (drop-drop (end - start) start s.path ∙ ap (λ n. drop n s.path) (omega (arith, to))) in
+    (drop-drop (end - start) start s.path ∙ ap (λ n. drop n s.path) (omega (arith, to))) in
     let first : drop s.at s.path ≡ after_slashes (through.names_of ps) ++ ((SLASH ∷ l.name) ++ behind) =
     sym (take-append-drop (start - s.at) (drop s.at s.path))
     ∙ ap (λ x. x ++ drop (start - s.at) (drop s.at s.path)) names.is
     ∙ ap (λ y. after_slashes (through.names_of ps) ++ y)
-        (drop-drop (start - s.at) s.at s.path ∙ ap (λ n. drop n s.path) (omega (arith, from)) ∙ second) in
+    (drop-drop (start - s.at) s.at s.path ∙ ap (λ n. drop n s.path) (omega (arith, from)) ∙ second) in
     record {
       names = names;
       name = name;
@@ -204,12 +204,12 @@ no_child passed upper child none =
 module _ (s t : Stand) (place : List ℕ) (told : List (List ℕ)) (h : rises_through s place t.path ≡ true) where
   up_one : (comes_up s ≡ true)
       × (((is_place place && (is_child (take s.at s.path) (place_text place) && is_joined t.path (place_text place)
-          (drop (s.at + 3) s.path)))) ≡ true)
+      (drop (s.at + 3) s.path)))) ≡ true)
   up_one = and_true (comes_up s) _ h
 
   up_two : (is_place place ≡ true)
       × ((is_child (take s.at s.path) (place_text place) && is_joined t.path (place_text place)
-          (drop (s.at + 3) s.path)) ≡ true)
+      (drop (s.at + 3) s.path)) ≡ true)
   up_two = and_true (is_place place) _ up_one.1
 
   pub up_three : (is_child (take s.at s.path) (place_text place) ≡ true)
@@ -319,14 +319,14 @@ stands_by abs s t pos inner own h ps l start end text texts path split text_step
     ∙ ap (λ y. after_slashes (between_slashes (inner_text text)) ++ y) (behind_is behind split.behind)
     ∙ sym (slashes-append (between_slashes (inner_text text)) (pieces_of behind)) in
     let all = both_of is_step (through.names_of ps) (l.name ∷ pieces_of behind)
-        (ap (list_all is_step) (sym split.pieces_are) ∙ h.steps) in
+    (ap (list_all is_step) (sym split.pieces_are) ∙ h.steps) in
     let steps = all_of is_step (between_slashes (inner_text text)) (pieces_of behind) text_steps
-        (and_true (is_step l.name) (list_all is_step (pieces_of behind)) all.1).1 in
+    (and_true (is_step l.name) (list_all is_step (pieces_of behind)) all.1).1 in
     let is = append_assoc (followed (parts_of text)) texts path ∙ ap (λ q. followed (parts_of text) ++ q) left
     ∙ ap (λ ps. map (ask true) ps ++ map ask_piece (pieces_of behind)) (parts_inner text text_steps)
     ∙ asked_pieces (between_slashes (inner_text text)) (pieces_of behind) in
     stands_at abs s t pos ps start later new h.dir h.passed h.valid split.names.is split.names.valid split.before
-        split.size spliced at_is later_is steps (followed (parts_of text) ++ texts) path is
+    split.size spliced at_is later_is steps (followed (parts_of text) ++ texts) path is
 
 -- behind `..`
 pub stands_above : (s t : Stand) (old : Handle) (n : List ℕ) (names told : List (List ℕ)) (inner own : List AskedPart)

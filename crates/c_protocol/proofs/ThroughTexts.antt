@@ -59,9 +59,11 @@ pub names_are_steps : (ns : List (List ℕ)) → list_all is_name ns ≡ true �
 names_are_steps [] h = refl
 names_are_steps (n ∷ ns) h =
     let each = and_true (is_name n) (list_all is_name ns) h in
-    ap (λ b. b && list_all is_step ns) (second_is (same_bytes n (codes "..")) (is_name n) each.0) ∙ names_are_steps ns each.1
+    ap (λ b. b && list_all is_step ns) (second_is (same_bytes n (codes "..")) (is_name n) each.0)
+    ∙ names_are_steps ns each.1
 
-component_if : (c long : Bool) → is_none (if not c then Some Invalid else (if long then Some TooLong else None)) ≡ true → c ≡ true
+component_if : (c long : Bool) → is_none (if not c then Some Invalid else (if long then Some TooLong else None)) ≡ true
+    → c ≡ true
 component_if true long h = refl
 component_if false long h = cc (h)
 
@@ -70,7 +72,8 @@ pub record IsPlain (name : List ℕ) : Type 0 where
   pub free : list_any (λ b. b == SLASH) name ≡ false
   pub part : part_of name ≡ Named name
 
-named : (dot dots : Bool) (name : List ℕ) → dot ≡ false → dots ≡ false → (if dot then Cur else (if dots then Up else Named name)) ≡ Named name
+named : (dot dots : Bool) (name : List ℕ) → dot ≡ false → dots ≡ false
+    → (if dot then Cur else (if dots then Up else Named name)) ≡ Named name
 named dot dots name h k = rw (h, k)
 
 pub plain : (name : List ℕ) → is_name name ≡ true → IsPlain name
@@ -80,16 +83,19 @@ plain name h =
     let dots = not (same_bytes name (codes "..")) in
     let slash = not (list_any (λ b. b == SLASH) name) in
     let nul = not (list_any (λ b. b == NUL) name) in
-    let four = and_true (empty && dot && dots && slash) nul (component_if (is_component name) (nat_lt NAME_MAX (length name)) h) in
+    let four = and_true (empty && dot && dots && slash) nul
+    (component_if (is_component name) (nat_lt NAME_MAX (length name)) h) in
     let three = and_true (empty && dot && dots) slash four.0 in
     let two = and_true (empty && dot) dots three.0 in
     let one = and_true empty dot two.0 in
     record {
       free = not-true (list_any (λ b. b == SLASH) name) three.1;
-      part = named (same_bytes name (codes ".")) (same_bytes name (codes "..")) name (not-true (same_bytes name (codes ".")) one.1) (not-true (same_bytes name (codes "..")) two.1);
+      part = named (same_bytes name (codes ".")) (same_bytes name (codes "..")) name
+          (not-true (same_bytes name (codes ".")) one.1) (not-true (same_bytes name (codes "..")) two.1);
     }
 
-free_by : (p : List ℕ) (d : Bool) → same_bytes p (codes "..") ≡ d → (d || is_name p) ≡ true → list_any (λ b. b == SLASH) p ≡ false
+free_by : (p : List ℕ) (d : Bool) → same_bytes p (codes "..") ≡ d → (d || is_name p) ≡ true
+    → list_any (λ b. b == SLASH) p ≡ false
 free_by p true e h = ap (list_any (λ b. b == SLASH)) (same_text p (codes "..") e)
 free_by p false e h = (plain p h).free
 
@@ -100,13 +106,16 @@ one_piece : (p : List ℕ) → list_any (λ b. b == SLASH) p ≡ false → betwe
 one_piece [] h = refl
 one_piece (b ∷ p) h =
     let each = or_false (b == SLASH) (list_any (λ c. c == SLASH) p) h in
-    ap (λ t. cond t ([] ∷ between_slashes p) (onto_first b (between_slashes p))) each.0 ∙ ap (onto_first b) (one_piece p each.1)
+    ap (λ t. cond t ([] ∷ between_slashes p) (onto_first b (between_slashes p))) each.0
+    ∙ ap (onto_first b) (one_piece p each.1)
 
-piece_before : (p rest : List ℕ) → list_any (λ b. b == SLASH) p ≡ false → between_slashes (p ++ SLASH ∷ rest) ≡ p ∷ between_slashes rest
+piece_before : (p rest : List ℕ) → list_any (λ b. b == SLASH) p ≡ false
+    → between_slashes (p ++ SLASH ∷ rest) ≡ p ∷ between_slashes rest
 piece_before [] rest h = refl
 piece_before (b ∷ p) rest h =
     let each = or_false (b == SLASH) (list_any (λ c. c == SLASH) p) h in
-    ap (λ t. cond t ([] ∷ between_slashes (p ++ SLASH ∷ rest)) (onto_first b (between_slashes (p ++ SLASH ∷ rest)))) each.0
+    ap (λ t. cond t ([] ∷ between_slashes (p ++ SLASH ∷ rest)) (onto_first b (between_slashes (p ++ SLASH ∷ rest))))
+    each.0
     ∙ ap (onto_first b) (piece_before p rest each.1)
 
 pub pieces_back : (ps : List (List ℕ)) → list_all is_step ps ≡ true → pieces_of (after_slashes ps) ≡ ps
@@ -132,7 +141,8 @@ slash_first [] text = refl
 slash_first (n ∷ ns) text = refl
 
 -- names, one more, and what comes behind
-pub names_split : (ns : List (List ℕ)) (n behind : List ℕ) → list_all is_name ns ≡ true → is_name n ≡ true → is_behind behind ≡ true
+pub names_split : (ns : List (List ℕ)) (n behind : List ℕ) → list_all is_name ns ≡ true → is_name n ≡ true
+    → is_behind behind ≡ true
     → pieces_of (after_slashes ns ++ (SLASH ∷ n ++ behind)) ≡ ns ++ n ∷ pieces_of behind
 names_split [] n behind valid is h = piece_split n behind (plain n is).free h
 names_split (m ∷ ns) n behind valid is h =
@@ -152,8 +162,10 @@ pub record IsNames (text : List ℕ) (ns : List (List ℕ)) : Type 0 where
 pub same_some : (xs ys : List (List ℕ)) → Some xs ≡ Some ys → xs ≡ ys
 same_some xs ys h = cc (h)
 
-pub names_are : (text : List ℕ) (ns : List (List ℕ)) → are_names_or_none text ≡ true → names_in text ≡ Some ns → IsNames text ns
-names_are [] ns h e = record { is = ap after_slashes (same_some [] ns e); valid = ap (list_all is_name) (sym (same_some [] ns e)) }
+pub names_are : (text : List ℕ) (ns : List (List ℕ)) → are_names_or_none text ≡ true → names_in text ≡ Some ns
+    → IsNames text ns
+names_are [] ns h e =
+    record { is = ap after_slashes (same_some [] ns e); valid = ap (list_all is_name) (sym (same_some [] ns e)) }
 names_are (b ∷ text) ns h e =
     let p = placed (b ∷ text) ns h e in
     record { is = p.is ∙ sym (reprinted (p.first ∷ p.text)) ∙ ap after_slashes p.pieces; valid = p.valid }
@@ -172,7 +184,8 @@ entry_at passed above (b ∷ name) e h =
     let each = and_true (b == SLASH) (is_name name) h in
     record {
       name = name;
-      is = e ∙ ap (λ c. above ++ c ∷ name) (eqb-true b SLASH each.0) ∙ ap (λ n. above ++ SLASH ∷ n) (sym (append-nil name));
+      is = e ∙ ap (λ c. above ++ c ∷ name) (eqb-true b SLASH each.0)
+          ∙ ap (λ n. above ++ SLASH ∷ n) (sym (append-nil name));
       valid = each.1;
     }
 
@@ -189,7 +202,8 @@ child_is passed above h =
 none_dropped : (ps : List (List ℕ)) → list_all is_step ps ≡ true → filter (λ p. not (is_empty p)) ps ≡ ps
 none_dropped [] h = refl
 none_dropped ([] ∷ ps) h = cc (h)
-none_dropped ((b ∷ p) ∷ ps) h = ap (λ qs. (b ∷ p) ∷ qs) (none_dropped ps (and_true (is_step (b ∷ p)) (list_all is_step ps) h).1)
+none_dropped ((b ∷ p) ∷ ps) h =
+    ap (λ qs. (b ∷ p) ∷ qs) (none_dropped ps (and_true (is_step (b ∷ p)) (list_all is_step ps) h).1)
 
 abbrev later : List (List ℕ) → List (List ℕ)
 later [] = []
@@ -220,7 +234,8 @@ parts_steps : (t : List ℕ) → are_steps t ≡ true → parts_of t ≡ map par
 parts_steps t h =
     let some = list_any (λ p. not (is_empty p)) (between_slashes t) in
     ap (λ ps. map part_of ps ++ (if has_final_slash t then Cur ∷ [] else [])) (none_dropped (between_slashes t) h)
-    ∙ ap (λ e. map part_of (between_slashes t) ++ (if e then Cur ∷ [] else [])) (and_false some (ends_with_slash t) (closed_by t (ends_with_slash t) refl h))
+    ∙ ap (λ e. map part_of (between_slashes t) ++ (if e then Cur ∷ [] else []))
+    (and_false some (ends_with_slash t) (closed_by t (ends_with_slash t) refl h))
     ∙ append-nil (map part_of (between_slashes t))
 
 pub parts_slashed : (t : List ℕ) → are_steps t ≡ true → parts_of (SLASH ∷ t) ≡ map part_of (between_slashes t)
@@ -232,7 +247,8 @@ parts_by : (b : ℕ) (text : List ℕ) (t : Bool) → (b == SLASH) ≡ t → are
 parts_by b text true e h = ap (λ c. parts_of (c ∷ text)) (eqb-true b SLASH e) ∙ parts_slashed text h
 parts_by b text false e h = parts_steps (b ∷ text) h
 
-pub parts_inner : (text : List ℕ) → are_steps (inner_text text) ≡ true → parts_of text ≡ map part_of (between_slashes (inner_text text))
+pub parts_inner : (text : List ℕ) → are_steps (inner_text text) ≡ true
+    → parts_of text ≡ map part_of (between_slashes (inner_text text))
 parts_inner [] h = cc (h)
 parts_inner (b ∷ text) h = parts_by b text (b == SLASH) refl h
 

@@ -17,22 +17,28 @@ use Rattle.explore.specs.Told.{IsToldBy, AreToldBy}
 use Rattle.schedule_graph.specs.Counted.{AreSoMany}
 
 -- one more class is told
-pub told_push : (w : WorldView) (scope : Scope) (counted : List (Class EndView)) (classes new : List ClassView) (at : ℕ) (last : Class EndView) (class : ClassView)
+pub told_push : (w : WorldView) (scope : Scope) (counted : List (Class EndView)) (classes new : List ClassView) (at : ℕ)
+    (last : Class EndView) (class : ClassView)
     → length classes ≡ at → slice_get counted at ≡ Some last → new ≡ classes ++ class ∷ []
-    → ((k : ℕ) (one : Class EndView) (class : ClassView) → slice_get counted k ≡ Some one → slice_get classes k ≡ Some class → IsAsked w scope one.least.items → IsToldBy w scope one class)
+    → ((k : ℕ) (one : Class EndView) (class : ClassView) → slice_get counted k ≡ Some one
+    → slice_get classes k ≡ Some class → IsAsked w scope one.least.items → IsToldBy w scope one class)
     → (IsAsked w scope last.least.items → IsToldBy w scope last class)
-    → (k : ℕ) (one : Class EndView) (class : ClassView) → slice_get counted k ≡ Some one → slice_get new k ≡ Some class → IsAsked w scope one.least.items → IsToldBy w scope one class
+    → (k : ℕ) (one : Class EndView) (class : ClassView) → slice_get counted k ≡ Some one → slice_get new k ≡ Some class
+    → IsAsked w scope one.least.items → IsToldBy w scope one class
 told_push w scope counted classes new at last class many there pushed before is k one other here put =
     ⊎_elim (λ old. before k one other here old)
     (λ end asked.
     let same : last ≡ one = same_Some last one (sym there ∙ (ap (slice_get counted) (sym (end.0 ∙ many)) ∙ here)) in
-    let told : IsToldBy w scope last class = is (subst (λ (o : Class EndView). IsAsked w scope o.least.items) (sym same) asked) in
-    subst (λ (o : Class EndView). IsToldBy w scope o other) same (subst (λ c. IsToldBy w scope last c) (sym end.1) told))
+    let told : IsToldBy w scope last class =
+    is (subst (λ (o : Class EndView). IsAsked w scope o.least.items) (sym same) asked) in
+    subst (λ (o : Class EndView). IsToldBy w scope o other) same
+    (subst (λ c. IsToldBy w scope last c) (sym end.1) told))
     (get_push classes class k other (ap (λ cs. slice_get cs k) (sym pushed) ∙ put))
 
 module _ (w : WorldView) (scope : Scope) (counted : List (Class EndView)) (classes : List ClassView) (lists turns : ℕ)
     (merged : search.IsMerged (worlds scope.outside w) (lists_in scope) (views_of counted) lists turns)
-    (tell : TellOutcomes (worlds scope.outside w) (world_outcomes scope.outside) counted) (told : AreToldBy w scope counted classes) where
+    (tell : TellOutcomes (worlds scope.outside w) (world_outcomes scope.outside) counted)
+    (told : AreToldBy w scope counted classes) where
   -- what is known of a class: what was counted of it
   record At (k : ℕ) (class : ClassView) : Type 0 where
     one : Class EndView
@@ -40,7 +46,8 @@ module _ (w : WorldView) (scope : Scope) (counted : List (Class EndView)) (class
     told_is : IsToldBy w scope one class
     tells : TellsOutcome (worlds scope.outside w) (world_outcomes scope.outside) one
 
-  view_at : (k : ℕ) (one : Class EndView) → slice_get counted k ≡ Some one → slice_get (views_of counted) k ≡ Some (view_of one)
+  view_at : (k : ℕ) (one : Class EndView) → slice_get counted k ≡ Some one
+      → slice_get (views_of counted) k ≡ Some (view_of one)
   view_at k one there =
       slice_get-map (λ (class : Class EndView). view_of class) counted k
       ∙ ap (λ (o : Option (Class EndView)). option_map (λ (class : Class EndView). view_of class) o) there
@@ -49,7 +56,12 @@ module _ (w : WorldView) (scope : Scope) (counted : List (Class EndView)) (class
   at k class there =
       let one = within_some counted k (subst (λ n. k < n) told.many (slice_get_within classes k class there)) in
       let view = view_at k one.0 one.1 in
-      record { one = one.0; view = view; told_is = told.each k one.0 class one.1 there (merged.each k (view_of one.0) view).asked; tells = tell k one.0 one.1 }
+      record {
+        one = one.0;
+        view = view;
+        told_is = told.each k one.0 class one.1 there (merged.each k (view_of one.0) view).asked;
+        tells = tell k one.0 one.1;
+      }
 
   merged_class : (k : ℕ) (class : ClassView) → At k class → IsMergedClass w scope class
   merged_class k class known =
@@ -66,8 +78,10 @@ module _ (w : WorldView) (scope : Scope) (counted : List (Class EndView)) (class
           report = known.told_is.end.report;
           outside = known.told_is.end.outside;
         };
-        least = subst (λ js. (is : List ℕ) → IsAsked w scope is → AgreeIn w scope is js → is_at_most (rank w js) (rank w is) ≡ true) same is.least;
-        lists = subst (λ n. AreSoMany (λ is. IsAsked w scope is × AgreeIn w scope is class.least.turns) n) (sym known.told_is.lists)
+        least = subst (λ js. (is : List ℕ) → IsAsked w scope is → AgreeIn w scope is js
+            → is_at_most (rank w js) (rank w is) ≡ true) same is.least;
+        lists = subst (λ n. AreSoMany (λ is. IsAsked w scope is × AgreeIn w scope is class.least.turns) n)
+            (sym known.told_is.lists)
             (subst (λ js. AreSoMany (λ is. IsAsked w scope is × AgreeIn w scope is js) known.one.lists) same is.lists);
       }
 
@@ -75,7 +89,8 @@ module _ (w : WorldView) (scope : Scope) (counted : List (Class EndView)) (class
   has_class is asked =
       let has = merged.told is asked in
       let within : has.at < length counted =
-      subst (λ n. has.at < n) (length-map counted (λ (class : Class EndView). view_of class)) (slice_get_within (views_of counted) has.at has.class has.there) in
+      subst (λ n. has.at < n) (length-map counted (λ (class : Class EndView). view_of class))
+      (slice_get_within (views_of counted) has.at has.class has.there) in
       let class = within_some classes has.at (subst (λ n. has.at < n) (sym told.many) within) in
       let known = at has.at class.0 class.1 in
       let same : has.class ≡ view_of known.one = same_Some has.class (view_of known.one) (sym has.there ∙ known.view) in
@@ -83,7 +98,8 @@ module _ (w : WorldView) (scope : Scope) (counted : List (Class EndView)) (class
         at = has.at;
         class = class.0;
         there = class.1;
-        agrees = subst (λ js. AgreeIn w scope is js) (ap (λ (c : search.ClassView). c.least) same ∙ sym known.told_is.turns) has.agrees;
+        agrees = subst (λ js. AgreeIn w scope is js)
+            (ap (λ (c : search.ClassView). c.least) same ∙ sym known.told_is.turns) has.agrees;
       }
 
   pub all_merged : IsMerged w scope classes lists turns

@@ -21,7 +21,8 @@ others_stay w i j apart = ap is_busy_in (by (slice_get w.seats i))
   where
     by : (o : Option Seat) → slice_get (turn_of full w i o).seats j ≡ slice_get w.seats j
     by None = refl
-    by (Some seat) = slice_get-set_other w.seats i (turned full w.book seat.ledger seat.doing).seat j (λ e. apart (sym e))
+    by (Some seat) = slice_get-set_other w.seats i (turned full w.book seat.ledger seat.doing).seat j
+        (λ e. apart (sym e))
 
 full_runs : (w : WorldView) (is : List ℕ) → Runs w is (after_turns w is)
 full_runs w [] = refl
@@ -36,7 +37,8 @@ before_first a i w [] less e whole = sym (others_stay w i a (λ q. absurd (omega
 before_first a i w (j ∷ is) less e whole =
     let next : i ≤ j = leb-true i j (and_parts (nat_le i j) (rises (j ∷ is)) e).0 in
     sym (others_stay w i a (λ q. absurd (omega (arith, less, q))))
-    ∙ before_first a j (turn full w i) is (omega (arith, less, next)) (and_parts (nat_le i j) (rises (j ∷ is)) e).1 whole.1
+    ∙ before_first a j (turn full w i) is (omega (arith, less, next))
+    (and_parts (nat_le i j) (rises (j ∷ is)) e).1 whole.1
 
 -- so many numbers from one on
 abbrev from : ℕ → ℕ → List ℕ
@@ -58,11 +60,13 @@ abbrev GoesOn : ℕ → ℕ → Type 0
 GoesOn a k = (w : WorldView) (is : List ℕ) → IsFull w is → rises (a ∷ is) ≡ true → length w.seats ≤ a + k
     → AllGoToEnd w (from a k) (after_turns w is)
 
-one_turn_more : (w v : WorldView) (a k : ℕ) → AllGoToEnd (turn full w a) (from a (suc k)) v → AllGoToEnd w (from a (suc k)) v
+one_turn_more : (w v : WorldView) (a k : ℕ) → AllGoToEnd (turn full w a) (from a (suc k)) v
+    → AllGoToEnd w (from a (suc k)) v
 one_turn_more w v a k gone =
     (gone.0, record { turns = suc gone.1.turns; run = (full, gone.1.run); over = gone.1.over }, gone.2)
 
-no_turn : (w v : WorldView) (a k : ℕ) → is_busy_at w.seats a ≡ false → AllGoToEnd w (from (suc a) k) v → AllGoToEnd w (from a (suc k)) v
+no_turn : (w v : WorldView) (a k : ℕ) → is_busy_at w.seats a ≡ false → AllGoToEnd w (from (suc a) k) v
+    → AllGoToEnd w (from a (suc k)) v
 no_turn w v a k idle gone = (w, record { turns = 0; run = refl; over = idle }, gone)
 
 turn_keeps : (w : WorldView) (i : ℕ) → length (turn full w i).seats ≡ length w.seats
@@ -86,7 +90,8 @@ one_after_another a k others w (i ∷ is) whole e few =
     onward : rises (i ∷ is) ≡ true
     onward = (and_parts (nat_le a i) (rises (i ∷ is)) e).1
 
-    by : ((u : WorldView) → IsFull u is → rises (a ∷ is) ≡ true → length u.seats ≤ a + suc k → AllGoToEnd u (from a (suc k)) (after_turns u is))
+    by : ((u : WorldView) → IsFull u is → rises (a ∷ is) ≡ true → length u.seats ≤ a + suc k
+        → AllGoToEnd u (from a (suc k)) (after_turns u is))
         → (b : Bool) → (i == a) ≡ b → AllGoToEnd w (from a (suc k)) (after_turns (turn full w i) is)
     by rest true same =
         let q : i ≡ a = eqb-true i a same in
@@ -99,13 +104,15 @@ one_after_another a k others w (i ∷ is) whole e few =
         let ne : i ≢ a = λ q. false≢true (sym apart ∙ eq-eqb i a q) in
         let less : a < i = omega (arith, late, ne) in
         no_turn w (after_turns w (i ∷ is)) a k (before_first a i w is less onward whole)
-        (others w (i ∷ is) whole (and_from (nat_le (suc a) i) (rises (i ∷ is)) (le-leb (suc a) i less) onward) (omega (arith, few)))
+        (others w (i ∷ is) whole (and_from (nat_le (suc a) i) (rises (i ∷ is)) (le-leb (suc a) i less) onward)
+        (omega (arith, few)))
 
 all_go_on : (k a : ℕ) → GoesOn a k
 all_go_on zero a = nobody_left a
 all_go_on (suc k) a = one_after_another a k (all_go_on k (suc a))
 
-rising_ends : (w : WorldView) (is : List ℕ) → IsFull w is → rises is ≡ true → AllGoToEnd w (numbers_below (length w.seats)) (after_turns w is)
+rising_ends : (w : WorldView) (is : List ℕ) → IsFull w is → rises is ≡ true
+    → AllGoToEnd w (numbers_below (length w.seats)) (after_turns w is)
 rising_ends w is whole e =
     subst (λ (ns : List ℕ). AllGoToEnd w ns (after_turns w is)) (sym (below_from (length w.seats)))
     (all_go_on (length w.seats) 0 w is whole (begins is e) (omega arith))
@@ -127,7 +134,9 @@ parted w [] whole = record { tail = []; rising = refl; whole = whole; same = ref
 parted w (i ∷ is) whole = by (parted (turn full w i) is whole.1) (rises (i ∷ is)) refl
   where
     Here : List ℕ → Type 0
-    Here js = (tail : List ℕ) × ((rises tail ≡ true) × (IsFull (after_turns w js) tail × (after_turns (after_turns w js) tail ≡ after_turns w (i ∷ is))))
+    Here js = (tail : List ℕ)
+        × ((rises tail ≡ true)
+        × (IsFull (after_turns w js) tail × (after_turns (after_turns w js) tail ≡ after_turns w (i ∷ is))))
 
     make : (js : List ℕ) → without_tail (i ∷ is) ≡ js → Here js → Parted w (i ∷ is)
     make js e here =
@@ -141,14 +150,17 @@ parted w (i ∷ is) whole = by (parted (turn full w i) is whole.1) (rises (i ∷
         (rest.tail, (rest.rising, (rest.whole, rest.same)))
 
 -- each turn of a full list is an actor's
-all_within : (n : ℕ) (w : WorldView) (is : List ℕ) → length w.seats ≡ n → IsFull w is → first_beyond n (without_tail is) ≡ None
+all_within : (n : ℕ) (w : WorldView) (is : List ℕ) → length w.seats ≡ n → IsFull w is
+    → first_beyond n (without_tail is) ≡ None
 all_within n w [] many whole = refl
-all_within n w (i ∷ is) many whole = by (all_within n (turn full w i) is (turn_keeps w i ∙ many) whole.1) (rises (i ∷ is)) refl
+all_within n w (i ∷ is) many whole =
+    by (all_within n (turn full w i) is (turn_keeps w i ∙ many) whole.1) (rises (i ∷ is)) refl
   where
     actor : nat_lt i n ≡ true
     actor = subst (λ (m : ℕ). nat_lt i m ≡ true) many (le-leb (suc i) (length w.seats) (busy_within w.seats i whole.0))
 
-    by : first_beyond n (without_tail is) ≡ None → (b : Bool) → rises (i ∷ is) ≡ b → first_beyond n (without_tail (i ∷ is)) ≡ None
+    by : first_beyond n (without_tail is) ≡ None → (b : Bool) → rises (i ∷ is) ≡ b
+        → first_beyond n (without_tail (i ∷ is)) ≡ None
     by rest true e = ap (λ (b : Bool). first_beyond n (if b then [] else i ∷ without_tail is)) e
     by rest false e =
         ap (λ (b : Bool). first_beyond n (if b then [] else i ∷ without_tail is)) e
@@ -159,7 +171,8 @@ written_lead_there w scope ending memory is =
     let turns = ending.turns in
     let parts = parted w turns is.asked.whole in
     let middle = after_turns w (without_tail turns) in
-    let gone : AllGoToEnd middle (numbers_below (length middle.seats)) (after_turns middle parts.tail) = rising_ends middle parts.tail parts.whole parts.rising in
+    let gone : AllGoToEnd middle (numbers_below (length middle.seats)) (after_turns middle parts.tail) =
+    rising_ends middle parts.tail parts.whole parts.rising in
     let ended : AllGoToEnd middle (numbers_below (length w.seats)) (after_turns w turns) =
     subst (λ (n : ℕ). AllGoToEnd middle (numbers_below n) (after_turns w turns)) (actors_stay w (without_tail turns))
     (subst (λ (v : WorldView). AllGoToEnd middle (numbers_below (length middle.seats)) v) parts.same gone) in

@@ -32,16 +32,19 @@ use Rattle.explore_parts.proofs.SumText.{quoted-sum}
 -- ---- lists
 
 module _ {A : Type 0} (f : A → Data) (P : A → Type 0) where
-  items_say : (Says : Data → A → Type 0) → ((x : A) → P x → Says (settled (f x)) x) → (xs : List A) → AllByRecursion P xs
+  items_say : (Says : Data → A → Type 0) → ((x : A) → P x → Says (settled (f x)) x) → (xs : List A)
+      → AllByRecursion P xs
       → ItemsSay Says (settled_items (items_from f xs)) xs
   items_say Says each [] h = tt
   items_say Says each (x ∷ xs) h = (each x h.0, items_say Says each xs h.1)
 
-  items_have : ((x : A) → P x → HasCounts (f x)) → (xs : List A) → AllByRecursion P xs → ItemsHaveCounts (items_from f xs)
+  items_have : ((x : A) → P x → HasCounts (f x)) → (xs : List A) → AllByRecursion P xs
+      → ItemsHaveCounts (items_from f xs)
   items_have each [] h = tt
   items_have each (x ∷ xs) h = (each x h.0, items_have each xs h.1)
 
-items_shallow : {A : Type 0} (f : A → Data) (n : ℕ) → ((x : A) → depth (f x) ≤ n) → (xs : List A) → items_depth (items_from f xs) ≤ n
+items_shallow : {A : Type 0} (f : A → Data) (n : ℕ) → ((x : A) → depth (f x) ≤ n) → (xs : List A)
+    → items_depth (items_from f xs) ≤ n
 items_shallow f n each [] = omega arith
 items_shallow f n each (x ∷ xs) = omega (arith, each x, items_shallow f n each xs)
 
@@ -91,18 +94,23 @@ printed (b ∷ bs) h =
 after_rule : (rule : Rule) (bs : List ℕ) → AllByRecursion IsAscii bs → AllByRecursion IsAscii (rule_word rule ++ bs)
 after_rule When bs h = (omega arith, (omega arith, (omega arith, (omega arith, (omega arith, h)))))
 after_rule Never bs h = (omega arith, (omega arith, (omega arith, (omega arith, (omega arith, (omega arith, h))))))
-after_rule Always bs h = (omega arith, (omega arith, (omega arith, (omega arith, (omega arith, (omega arith, (omega arith, h)))))))
+after_rule Always bs h =
+    (omega arith, (omega arith, (omega arith, (omega arith, (omega arith, (omega arith, (omega arith, h)))))))
 
 abbrev IsProperty : Property → Type 0
 IsProperty property = is_property true property.text ≡ true
 
 says_property : (property : Property) → IsProperty property → SaysProperty (property_data property) property
 says_property property h =
-    let bs = printed property.text (and_parts (names_a_line true property.text && not (ends_in_blank property.text)) (list_all is_printed property.text) h).1 in
+    let bs = printed property.text
+    (and_parts (names_a_line true property.text && not (ends_in_blank property.text))
+    (list_all is_printed property.text) h).1 in
     (ap Some (ascii_same (rule_word property.rule ++ property.text) (after_rule property.rule property.text bs)), h)
 
-says_properties : (all : List Property) → All IsProperty all → SaysList SaysProperty (settled (list_data property_data all)) all
-says_properties all h = items_say property_data IsProperty SaysProperty says_property all (recursion_from_All IsProperty all h)
+says_properties : (all : List Property) → All IsProperty all
+    → SaysList SaysProperty (settled (list_data property_data all)) all
+says_properties all h =
+    items_say property_data IsProperty SaysProperty says_property all (recursion_from_All IsProperty all h)
 
 have_cuts : (cuts : Option ℕ) → FewCuts cuts → HasCounts (cuts_data cuts)
 have_cuts None h = tt
@@ -118,7 +126,8 @@ have_question script asked fits = (
       (
         tt,
         (
-          items_have property_data IsProperty (λ property h. tt) asked.properties.items (recursion_from_All IsProperty asked.properties.items fits.properties),
+          items_have property_data IsProperty (λ property h. tt) asked.properties.items
+              (recursion_from_All IsProperty asked.properties.items fits.properties),
           tt,
         ),
       ),
@@ -132,11 +141,17 @@ cuts_shallow (Some cuts) = omega arith
 
 question_shallow : (script : List ℕ) (asked : Asked) → depth (question_data script asked) ≤ 3
 question_shallow script asked =
-    omega (arith, numbers_shallow asked.named.items, cuts_shallow asked.limits.scope.cuts, items_shallow property_data 0 (λ property. omega arith) asked.properties.items)
+    omega (
+      arith,
+      numbers_shallow asked.named.items,
+      cuts_shallow asked.limits.scope.cuts,
+      items_shallow property_data 0 (λ property. omega arith) asked.properties.items,
+    )
 
 -- ---- outcomes
 
-says_told : (told : Told) → ToldFits told → told.schedule ≡ schedule_words told.turns.items → SaysTold (settled (told_data told)) told
+says_told : (told : Told) → ToldFits told → told.schedule ≡ schedule_words told.turns.items
+    → SaysTold (settled (told_data told)) told
 says_told told fits scheduled = record {
   lists = refl;
   cuts = refl;
@@ -168,12 +183,14 @@ module _ (script : List ℕ) (asked : Asked) (part : Part) (asks : AskedFits ask
   abbrev IsWell : Told → Type 0
   IsWell told = ToldFits told × (told.schedule ≡ schedule_words told.turns.items)
 
-  both : (all : List Told) → AllByRecursion ToldFits all → AllByRecursion (λ told. told.schedule ≡ schedule_words told.turns.items) all → AllByRecursion IsWell all
+  both : (all : List Told) → AllByRecursion ToldFits all
+      → AllByRecursion (λ told. told.schedule ≡ schedule_words told.turns.items) all → AllByRecursion IsWell all
   both [] h k = tt
   both (told ∷ all) h k = ((h.0, k.0), both all h.1 k.1)
 
   well : AllByRecursion IsWell part.all.items
-  well = both part.all.items (recursion_from_All ToldFits part.all.items fits.all) (recursion_from_All _ part.all.items scheduled)
+  well = both part.all.items (recursion_from_All ToldFits part.all.items fits.all)
+      (recursion_from_All _ part.all.items scheduled)
 
   abbrev Actors : Vec ℕ → Type 0
   Actors actors = All IsActor actors.items
@@ -187,8 +204,15 @@ module _ (script : List ℕ) (asked : Asked) (part : Part) (asks : AskedFits ask
     (
       have_actors part.begin.items fits.begin,
       (
-        items_have (λ actors. numbers_data actors.items) Actors (λ actors h. have_actors actors.items h) part.might.items mights,
-        (fits.lists, (fits.turns, (items_have told_data IsWell (λ told h. have_told told h.0) part.all.items well, (tt, tt)))),
+        items_have (λ actors. numbers_data actors.items) Actors
+            (λ actors h. have_actors actors.items h) part.might.items mights,
+        (
+          fits.lists,
+          (
+            fits.turns,
+            (items_have told_data IsWell (λ told h. have_told told h.0) part.all.items well, (tt, tt)),
+          ),
+        ),
       ),
     ),
   )
@@ -199,21 +223,25 @@ module _ (script : List ℕ) (asked : Asked) (part : Part) (asks : AskedFits ask
         arith,
         question_shallow script asked,
         numbers_shallow part.begin.items,
-        items_shallow (λ (actors : Vec ℕ). numbers_data actors.items) 1 (λ actors. numbers_shallow actors.items) part.might.items,
+        items_shallow (λ (actors : Vec ℕ). numbers_data actors.items) 1
+            (λ actors. numbers_shallow actors.items) part.might.items,
         items_shallow told_data 2 told_shallow part.all.items,
       )
 
   pub line_read : read (sealed body) ≡ Some (settled written)
-  line_read = ap read (sym (part_same script asked part (sum_of body) (quoted-sum body))) ∙ reads_back written have_part part_shallow
+  line_read = ap read (sym (part_same script asked part (sum_of body) (quoted-sum body)))
+      ∙ reads_back written have_part part_shallow
 
   -- it is one line
   pub line_is_one : IsOneLine (sealed body)
-  line_is_one = subst IsOneLine (part_same script asked part (sum_of body) (quoted-sum body)) (compact_line written have_part)
+  line_is_one = subst IsOneLine (part_same script asked part (sum_of body) (quoted-sum body))
+      (compact_line written have_part)
 
   pub line_says : SaysPart (settled written) part
   line_says = record {
     begin = says_actors part.begin.items fits.begin;
-    might = items_say (λ actors. numbers_data actors.items) Actors SaysActors (λ actors h. says_actors actors.items h) part.might.items mights;
+    might = items_say (λ actors. numbers_data actors.items) Actors SaysActors
+        (λ actors h. says_actors actors.items h) part.might.items mights;
     within = fits.within;
     lists = refl;
     turns = refl;

@@ -34,19 +34,23 @@ plus_most : (b : Bool) (m n : ℕ) → m ≤ n → plus b m ≤ suc n
 plus_most true m n le = omega arith
 plus_most false m n le = omega arith
 
-pub few_outside : (a : ℕ) (root : Option ℕ) (s : State) (events : List Event) → outside_after a root s events ≤ length events
+pub few_outside : (a : ℕ) (root : Option ℕ) (s : State) (events : List Event)
+    → outside_after a root s events ≤ length events
 few_outside a root s [] = omega arith
 few_outside a root s (event ∷ events) =
-    plus_most ((event.actor == a) && acts_outside root s event) (outside_after a root (after_event s event) events) (length events)
+    plus_most ((event.actor == a) && acts_outside root s event) (outside_after a root (after_event s event) events)
+    (length events)
     (few_outside a root (after_event s event) events)
 
-pub few_counts : (book : BookedHistory) (k : ℕ) (roots : List (Option ℕ)) (i : ℕ) → slice_index_or (outside_from book k roots) i 0 ≤ length book.events
+pub few_counts : (book : BookedHistory) (k : ℕ) (roots : List (Option ℕ)) (i : ℕ)
+    → slice_index_or (outside_from book k roots) i 0 ≤ length book.events
 few_counts book k [] zero = omega arith
 few_counts book k [] (suc i) = omega arith
 few_counts book k (root ∷ roots) zero = few_outside k root book.opening book.events
 few_counts book k (root ∷ roots) (suc i) = few_counts book (suc k) roots i
 
-pub counts_long : (book : BookedHistory) (k : ℕ) (roots : List (Option ℕ)) → length (outside_from book k roots) ≡ length roots
+pub counts_long : (book : BookedHistory) (k : ℕ) (roots : List (Option ℕ))
+    → length (outside_from book k roots) ≡ length roots
 counts_long book k [] = refl
 counts_long book k (root ∷ roots) = ap suc (counts_long book (suc k) roots)
 
@@ -90,22 +94,27 @@ and_second : (b c : Bool) → (b && c) ≡ true → c ≡ true
 and_second true c e = e
 and_second false c e = absurd (true≢false (sym e))
 
-changes_tell : (s : State) (r : Result (List Inode) Errno) → is_done (changes s r).answer ≡ false → only_tells (changes s r).answer ≡ true
+changes_tell : (s : State) (r : Result (List Inode) Errno) → is_done (changes s r).answer ≡ false
+    → only_tells (changes s r).answer ≡ true
 changes_tell s (Ok nodes) e = absurd (true≢false e)
 changes_tell s (Err error) e = refl
 
-on_tells : (s : State) (d : Option ℕ) (go : ℕ → Outcome) → ((x : ℕ) → is_done (go x).answer ≡ false → only_tells (go x).answer ≡ true)
-    → is_done (with_some d (refused s BadHandle) go).answer ≡ false → only_tells (with_some d (refused s BadHandle) go).answer ≡ true
+on_tells : (s : State) (d : Option ℕ) (go : ℕ → Outcome)
+    → ((x : ℕ) → is_done (go x).answer ≡ false → only_tells (go x).answer ≡ true)
+    → is_done (with_some d (refused s BadHandle) go).answer ≡ false
+    → only_tells (with_some d (refused s BadHandle) go).answer ≡ true
 on_tells s None go each e = refl
 on_tells s (Some x) go each e = each x e
 
-entries_tell : (s : State) (a : ℕ) (x : StepWith ℕ) → is_on_entries x ≡ true → is_done (outcome s a x).answer ≡ false → only_tells (outcome s a x).answer ≡ true
+entries_tell : (s : State) (a : ℕ) (x : StepWith ℕ) → is_on_entries x ≡ true → is_done (outcome s a x).answer ≡ false
+    → only_tells (outcome s a x).answer ≡ true
 entries_tell s a (steps.MakeDir h n) e f = on_tells s (held s a h) _ (λ d. changes_tell s _) f
 entries_tell s a (steps.MakeFile h n) e f = on_tells s (held s a h) _ (λ d. changes_tell s _) f
 entries_tell s a (steps.MakeLink h n text) e f = on_tells s (held s a h) _ (λ d. changes_tell s _) f
 entries_tell s a (steps.RemoveFile h n) e f = on_tells s (held s a h) _ (λ d. changes_tell s _) f
 entries_tell s a (steps.RemoveDir h n) e f = on_tells s (held s a h) _ (λ d. changes_tell s _) f
-entries_tell s a (steps.Rename h n k m mode) e f = on_tells s (held s a h) _ (λ d. on_tells s (held s a k) _ (λ f. changes_tell s _)) f
+entries_tell s a (steps.Rename h n k m mode) e f =
+    on_tells s (held s a h) _ (λ d. on_tells s (held s a k) _ (λ f. changes_tell s _)) f
 entries_tell s a (steps.Open h n) e f = absurd (true≢false (sym e))
 entries_tell s a (steps.Dup h) e f = absurd (true≢false (sym e))
 entries_tell s a (steps.Parent h) e f = absurd (true≢false (sym e))
@@ -125,26 +134,31 @@ module _ (b : BookedHistory) (a : ℕ) (x : StepWith ℕ) where
   later k [] lt = refl
   later k (root ∷ roots) lt =
       let first = after_push k root b.opening b.events latest
-      ∙ plus_not (a == k) (acts_outside root (tree_now b) latest) (outside_after k root b.opening b.events) (differ a k lt) in
+      ∙ plus_not (a == k) (acts_outside root (tree_now b) latest) (outside_after k root b.opening b.events)
+      (differ a k lt) in
       let rest = later (suc k) roots (omega arith) in
       λ i. first i ∷ rest i
 
   -- whether it is outside of its actor's root is added to that actor's count
   pub counted_more : (k i : ℕ) (roots : List (Option ℕ)) → a ≡ k + i
-      → outside_from (booked b a x) k roots ≡ bumped (acts_outside (slice_index_or roots i None) (tree_now b) latest) i (outside_from b k roots)
+      → outside_from (booked b a x) k roots ≡ bumped (acts_outside (slice_index_or roots i None) (tree_now b) latest) i
+      (outside_from b k roots)
   counted_more k i [] e = sym (bumped_none (acts_outside (slice_index_or [] i None) (tree_now b) latest) i)
   counted_more k zero (root ∷ roots) e =
       let acts = acts_outside root (tree_now b) latest in
       let first = after_push k root b.opening b.events latest
       ∙ ap (λ own. plus (own && acts) (outside_after k root b.opening b.events)) (own a k e) in
       let rest = later (suc k) roots (omega (arith, e)) in
-      (λ i. first i ∷ rest i) ∙ sym (bumped_first acts (outside_after k root b.opening b.events) (outside_from b (suc k) roots))
+      (λ i. first i ∷ rest i)
+      ∙ sym (bumped_first acts (outside_after k root b.opening b.events) (outside_from b (suc k) roots))
   counted_more k (suc i) (root ∷ roots) e =
       let acts = acts_outside (slice_index_or roots i None) (tree_now b) latest in
       let first = after_push k root b.opening b.events latest
-      ∙ plus_not (a == k) (acts_outside root (tree_now b) latest) (outside_after k root b.opening b.events) (beyond a k i e) in
+      ∙ plus_not (a == k) (acts_outside root (tree_now b) latest) (outside_after k root b.opening b.events)
+      (beyond a k i e) in
       let rest = counted_more (suc k) i roots (omega (arith, e)) in
-      (λ j. first j ∷ rest j) ∙ sym (bumped_next acts i (outside_after k root b.opening b.events) (outside_from b (suc k) roots))
+      (λ j. first j ∷ rest j)
+      ∙ sym (bumped_next acts i (outside_after k root b.opening b.events) (outside_from b (suc k) roots))
 
   -- ---- the tree
 
@@ -154,7 +168,8 @@ module _ (b : BookedHistory) (a : ℕ) (x : StepWith ℕ) where
   pub handles_stay : is_on_entries x ≡ true → (tree_now (booked b a x)).handles ≡ (tree_now b).handles
   handles_stay e = ap (λ (s : State). s.handles) tree_then ∙ handles_are_left (tree_now b) a x e
 
-  pub nodes_stay : (is_done (answer_now b a x) && is_on_entries x) ≡ false → (tree_now (booked b a x)).nodes ≡ (tree_now b).nodes
+  pub nodes_stay : (is_done (answer_now b a x) && is_on_entries x) ≡ false
+      → (tree_now (booked b a x)).nodes ≡ (tree_now b).nodes
   nodes_stay e = ap (λ (s : State). s.nodes) tree_then ∙ by (is_on_entries x) refl
     where
       by : (on : Bool) → is_on_entries x ≡ on → (outcome (tree_now b) a x).after.nodes ≡ (tree_now b).nodes
@@ -181,7 +196,8 @@ none_changed (steps.List h) e = refl
 none_changed (steps.Close h) e = refl
 
 -- an event that is no change, or isn't made, is none
-pub no_change : (root : Option ℕ) (s : State) (event : Event) → (is_done event.answer && is_on_entries event.step) ≡ false → acts_outside root s event ≡ false
+pub no_change : (root : Option ℕ) (s : State) (event : Event)
+    → (is_done event.answer && is_on_entries event.step) ≡ false → acts_outside root s event ≡ false
 no_change root s event e = by (is_on_entries event.step) refl
   where
     and_false : (b : Bool) → (b && false) ≡ false
@@ -190,45 +206,60 @@ no_change root s event e = by (is_on_entries event.step) refl
 
     by : (on : Bool) → is_on_entries event.step ≡ on → acts_outside root s event ≡ false
     by false f =
-        ap (λ hs. is_done event.answer && any_outside s root event.actor hs) (none_changed event.step f) ∙ and_false (is_done event.answer)
+        ap (λ hs. is_done event.answer && any_outside s root event.actor hs) (none_changed event.step f)
+        ∙ and_false (is_done event.answer)
     by true f =
-        ap (λ b. b && any_outside s root event.actor (changed_by event.step)) (sym (and_true (is_done event.answer) (is_on_entries event.step) f) ∙ e)
+        ap (λ b. b && any_outside s root event.actor (changed_by event.step))
+        (sym (and_true (is_done event.answer) (is_on_entries event.step) f) ∙ e)
 
 -- ---- an event is counted
 
 -- the event at the end of the book
-last_is : (before book : BookedHistory) (latest : IsLatest before book) (at : ℕ) (event : Event) → at ≡ length before.events → slice_get book.events at ≡ Some event
+last_is : (before book : BookedHistory) (latest : IsLatest before book) (at : ℕ) (event : Event)
+    → at ≡ length before.events → slice_get book.events at ≡ Some event
     → event ≡ record { actor = latest.actor; step = latest.step; answer = answer_now before latest.actor latest.step }
 last_is before book latest at event e there =
-    let last : Event = record { actor = latest.actor; step = latest.step; answer = answer_now before latest.actor latest.step } in
-    sym (same_Some last event (sym (get_last before.events last) ∙ ap (λ n. slice_get (before.events ++ last ∷ []) n) (sym e)
+    let last : Event = record
+    { actor = latest.actor; step = latest.step; answer = answer_now before latest.actor latest.step } in
+    sym (same_Some last event
+    (sym (get_last before.events last) ∙ ap (λ n. slice_get (before.events ++ last ∷ []) n) (sym e)
     ∙ ap (λ (b : BookedHistory). slice_get b.events at) (sym latest.is) ∙ there))
 
-pub count_room : (before : BookedHistory) (tally : TallyView) (at i : ℕ) → IsCounted before tally → at ≡ length before.events → slice_index_or tally.counts i 0 ≤ at
+pub count_room : (before : BookedHistory) (tally : TallyView) (at i : ℕ) → IsCounted before tally
+    → at ≡ length before.events → slice_index_or tally.counts i 0 ≤ at
 count_room before tally at i counted e =
     let few = few_counts before 0 tally.roots i in
     subst (λ counts. slice_index_or counts i 0 ≤ at) (sym counted.counts_are) (omega (arith, few, e))
 
-pub count_none : (before book : BookedHistory) (latest : IsLatest before book) (tally : TallyView) (at : ℕ) (event : Event) → IsCounted before tally
-    → at ≡ length before.events → slice_get book.events at ≡ Some event → (is_done event.answer && is_on_entries event.step) ≡ false → IsCounted book tally
+pub count_none : (before book : BookedHistory) (latest : IsLatest before book) (tally : TallyView) (at : ℕ)
+    (event : Event) → IsCounted before tally
+    → at ≡ length before.events → slice_get book.events at ≡ Some event
+    → (is_done event.answer && is_on_entries event.step) ≡ false → IsCounted book tally
 count_none before book latest tally at event counted e there none =
-    let last : Event = record { actor = latest.actor; step = latest.step; answer = answer_now before latest.actor latest.step } in
+    let last : Event = record
+    { actor = latest.actor; step = latest.step; answer = answer_now before latest.actor latest.step } in
     let is : event ≡ last = last_is before book latest at event e there in
-    let none' : (is_done last.answer && is_on_entries last.step) ≡ false = ap (λ (x : Event). is_done x.answer && is_on_entries x.step) (sym is) ∙ none in
+    let none' : (is_done last.answer && is_on_entries last.step) ≡ false =
+    ap (λ (x : Event). is_done x.answer && is_on_entries x.step) (sym is) ∙ none in
     subst (λ (b : BookedHistory). IsCounted b tally) (sym latest.is) (record {
       counts_are =
           counted.counts_are
           ∙ sym (counted_more before latest.actor latest.step 0 latest.actor tally.roots (omega arith)
-          ∙ ap (λ b. bumped b latest.actor (outside_from before 0 tally.roots)) (no_change (slice_index_or tally.roots latest.actor None) (tree_now before) last none'));
+          ∙ ap (λ b. bumped b latest.actor (outside_from before 0 tally.roots))
+          (no_change (slice_index_or tally.roots latest.actor None) (tree_now before) last none'));
       nodes_are = λ told. counted.nodes_are told ∙ sym (nodes_stay before latest.actor latest.step none');
     })
 
-pub count_change : (before book : BookedHistory) (latest : IsLatest before book) (tally new : TallyView) (at : ℕ) (event : Event) (after : State) (outside : Bool)
+pub count_change : (before book : BookedHistory) (latest : IsLatest before book) (tally new : TallyView) (at : ℕ)
+    (event : Event) (after : State) (outside : Bool)
     → tally.told ≡ true → IsCounted before tally → at ≡ length before.events → slice_get book.events at ≡ Some event
     → (is_done event.answer && is_on_entries event.step) ≡ true → after ≡ tree_now book
-    → outside ≡ any_outside (record { nodes = tally.nodes; handles = after.handles }) (slice_index_or tally.roots event.actor None) event.actor (changed_by event.step)
-    → new.roots ≡ tally.roots → new.counts ≡ bumped outside event.actor tally.counts → new.nodes ≡ after.nodes → IsCounted book new
-count_change before book latest tally new at event after outside told counted e there change is_after is_outside roots counts nodes =
+    → outside ≡ any_outside (record { nodes = tally.nodes; handles = after.handles })
+    (slice_index_or tally.roots event.actor None) event.actor (changed_by event.step)
+    → new.roots ≡ tally.roots → new.counts ≡ bumped outside event.actor tally.counts → new.nodes ≡ after.nodes
+    → IsCounted book new
+count_change before book latest tally new at event after outside told counted e there change is_after is_outside roots
+    counts nodes =
     record {
       counts_are =
           counts
@@ -253,57 +284,72 @@ count_change before book latest tally new at event after outside told counted e 
     handles : after.handles ≡ (tree_now before).handles
     handles =
         ap (λ (s : State). s.handles) is_after ∙ ap (λ (b : BookedHistory). (tree_now b).handles) latest.is
-        ∙ handles_stay before latest.actor latest.step (and_second (is_done last.answer) (is_on_entries last.step) change')
+        ∙ handles_stay before latest.actor latest.step
+        (and_second (is_done last.answer) (is_on_entries last.step) change')
 
     all_outside : outside ≡ acts_outside (slice_index_or tally.roots latest.actor None) (tree_now before) last
     all_outside =
         is_outside
-        ∙ (λ i. any_outside (record { nodes = counted.nodes_are told i; handles = handles i }) (slice_index_or tally.roots (is i).actor None) (is i).actor (changed_by (is i).step))
-        ∙ ap (λ b. b && any_outside (tree_now before) (slice_index_or tally.roots latest.actor None) latest.actor (changed_by latest.step))
+        ∙ (λ i. any_outside (record { nodes = counted.nodes_are told i; handles = handles i })
+        (slice_index_or tally.roots (is i).actor None) (is i).actor (changed_by (is i).step))
+        ∙ ap (λ b. b && any_outside (tree_now before) (slice_index_or tally.roots latest.actor None) latest.actor
+        (changed_by latest.step))
         (sym (and_first (is_done last.answer) (is_on_entries last.step) change'))
 
 -- ---- a turn is counted
 
 -- the turn made no step
-pub follow_same : (before after : WorldView) (luck : Luck) (i : ℕ) (tally : TallyView) → IsTally before tally → after ≡ turn luck before i
+pub follow_same : (before after : WorldView) (luck : Luck) (i : ℕ) (tally : TallyView) → IsTally before tally
+    → after ≡ turn luck before i
     → length after.book.events ≡ length before.book.events → IsTally after tally
 follow_same before after luck i tally is turned same =
     subst (λ (w : WorldView). IsTally w tally) (sym turned) (record {
       roots_are = is.roots_are ∙ sym (roots_stay tally.told luck before i);
-      counted = subst (λ (b : BookedHistory). IsCounted b tally) (sym (by (turn luck before i).book (turn_books luck before i)
+      counted = subst (λ (b : BookedHistory). IsCounted b tally)
+          (sym (by (turn luck before i).book (turn_books luck before i)
           (ap (λ (w : WorldView). length w.book.events) (sym turned) ∙ same))) is.counted;
     })
   where
-    by : (book : BookedHistory) → IsOneOn before.book book → length book.events ≡ length before.book.events → book ≡ before.book
+    by : (book : BookedHistory) → IsOneOn before.book book → length book.events ≡ length before.book.events
+        → book ≡ before.book
     by book as_it_was e = refl
     by book (one_more a step) e =
-        let long = length_push before.book.events (record { actor = a; step = step; answer = answer_now before.book a step }) in
+        let long = length_push before.book.events
+        (record { actor = a; step = step; answer = answer_now before.book a step }) in
         absurd (omega (arith, long, e))
 
 -- the turn made one
-pub follow_one : (before after : WorldView) (luck : Luck) (i : ℕ) → after ≡ turn luck before i → (length after.book.events ≡ length before.book.events → ⊥)
+pub follow_one : (before after : WorldView) (luck : Luck) (i : ℕ) → after ≡ turn luck before i
+    → (length after.book.events ≡ length before.book.events → ⊥)
     → IsLatest before.book after.book × (length after.book.events ≡ length before.book.events + 1)
 follow_one before after luck i turned other =
-    subst (λ (w : WorldView). IsLatest before.book w.book × (length w.book.events ≡ length before.book.events + 1)) (sym turned)
-    (by (turn luck before i).book (turn_books luck before i) (λ e. other (ap (λ (w : WorldView). length w.book.events) turned ∙ e)))
+    subst (λ (w : WorldView). IsLatest before.book w.book × (length w.book.events ≡ length before.book.events + 1))
+    (sym turned)
+    (by (turn luck before i).book (turn_books luck before i)
+    (λ e. other (ap (λ (w : WorldView). length w.book.events) turned ∙ e)))
   where
     by : (book : BookedHistory) → IsOneOn before.book book → (length book.events ≡ length before.book.events → ⊥)
         → IsLatest before.book book × (length book.events ≡ length before.book.events + 1)
     by book as_it_was e = absurd (e refl)
-    by book (one_more a step) e =
-        (record { actor = a; step = step; is = refl }, length_push before.book.events (record { actor = a; step = step; answer = answer_now before.book a step }))
+    by book (one_more a step) e = (
+      record { actor = a; step = step; is = refl },
+      length_push before.book.events (record { actor = a; step = step; answer = answer_now before.book a step }),
+    )
 
-pub follow_tally : (before after : WorldView) (luck : Luck) (i : ℕ) (old new : TallyView) → IsTally before old → after ≡ turn luck before i
+pub follow_tally : (before after : WorldView) (luck : Luck) (i : ℕ) (old new : TallyView) → IsTally before old
+    → after ≡ turn luck before i
     → new.told ≡ old.told → new.roots ≡ old.roots → IsCounted after.book new → IsTally after new
 follow_tally before after luck i old new is turned told roots counted = record {
-  roots_are = roots ∙ is.roots_are ∙ sym (roots_stay old.told luck before i) ∙ (λ i. roots_of (sym told i) (sym turned i));
+  roots_are = roots ∙ is.roots_are ∙ sym (roots_stay old.told luck before i)
+      ∙ (λ i. roots_of (sym told i) (sym turned i));
   counted = counted;
 }
 
 -- ---- a tally
 
 -- the counts of a world's tally are the world's
-pub counts_there : (w : WorldView) (tally : TallyView) (counts : List ℕ) → IsTally w tally → counts ≡ tally.counts → counts ≡ outside_of tally.told w
+pub counts_there : (w : WorldView) (tally : TallyView) (counts : List ℕ) → IsTally w tally → counts ≡ tally.counts
+    → counts ≡ outside_of tally.told w
 counts_there w tally counts is e = e ∙ is.counted.counts_are ∙ ap (λ roots. outside_from w.book 0 roots) is.roots_are
 
 take_push : {X : Type 0} (xs : List X) (n : ℕ) (x : X) → slice_get xs n ≡ Some x → take (n + 1) xs ≡ take n xs ++ x ∷ []
@@ -326,23 +372,29 @@ counts_push book a (first ∷ roots) root none =
     ap (λ rest. outside_after a first book.opening book.events ∷ rest) (counts_push book (suc a) roots root none)
 
 -- of a world without a step: one actor more
-pub roots_more : (w : WorldView) (opening : State) (n : ℕ) (old new : List (Option ℕ)) (root : Option ℕ) → opening ≡ tree_now w.book → w.book.events ≡ []
-    → n < length w.seats → new ≡ old ++ root ∷ [] → ((seat : Seat) → slice_get w.seats n ≡ Some seat → root ≡ held opening n seat.ledger.root.handle)
+pub roots_more : (w : WorldView) (opening : State) (n : ℕ) (old new : List (Option ℕ)) (root : Option ℕ)
+    → opening ≡ tree_now w.book → w.book.events ≡ []
+    → n < length w.seats → new ≡ old ++ root ∷ []
+    → ((seat : Seat) → slice_get w.seats n ≡ Some seat → root ≡ held opening n seat.ledger.root.handle)
     → old ≡ roots_from w.book.opening 0 (take n w.seats) → new ≡ roots_from w.book.opening 0 (take (n + 1) w.seats)
 roots_more w opening n old new root opens none lt is own was =
     let seat = within_some w.seats n lt in
     let tree : opening ≡ w.book.opening = opens ∙ ap (λ events. after_events w.book.opening events) none in
     is ∙ (λ i. was i ++ (own seat.0 seat.1 ∙ ap (λ s. held s n seat.0.ledger.root.handle) tree) i ∷ [])
-    ∙ sym (roots_push w.book.opening 0 n (take n w.seats) seat.0 (let long = length-take-le n w.seats (omega (arith, lt)) in omega (arith, long)))
+    ∙ sym (roots_push w.book.opening 0 n (take n w.seats) seat.0
+    (let long = length-take-le n w.seats (omega (arith, lt)) in omega (arith, long)))
     ∙ ap (λ seats. roots_from w.book.opening 0 seats) (sym (take_push w.seats n seat.0 seat.1))
 
-pub counts_more : (book : BookedHistory) (old new : List (Option ℕ)) (root : Option ℕ) (counts after : List ℕ) → book.events ≡ [] → new ≡ old ++ root ∷ []
+pub counts_more : (book : BookedHistory) (old new : List (Option ℕ)) (root : Option ℕ) (counts after : List ℕ)
+    → book.events ≡ [] → new ≡ old ++ root ∷ []
     → after ≡ counts ++ 0 ∷ [] → counts ≡ outside_from book 0 old → after ≡ outside_from book 0 new
 counts_more book old new root counts after none is then was =
-    then ∙ ap (λ xs. xs ++ 0 ∷ []) was ∙ sym (counts_push book 0 old root none) ∙ ap (λ roots. outside_from book 0 roots) (sym is)
+    then ∙ ap (λ xs. xs ++ 0 ∷ []) was ∙ sym (counts_push book 0 old root none)
+    ∙ ap (λ roots. outside_from book 0 roots) (sym is)
 
 -- an actor's first handle is its root's
-pub first_is : (handles : List ℕ) (h : ℕ) (seat : Seat) → handles ≡ seat_handles seat → h ≡ get_or handles 0 h → h ≡ seat.ledger.root.handle
+pub first_is : (handles : List ℕ) (h : ℕ) (seat : Seat) → handles ≡ seat_handles seat → h ≡ get_or handles 0 h
+    → h ≡ seat.ledger.root.handle
 first_is handles h seat are is = is ∙ ap (λ hs. get_or hs 0 h) are
 
 nat_some : (n : ℕ) → nat_lt 0 (suc n) ≡ true

@@ -47,15 +47,18 @@ module _ (asked : Asked) (tree : State) (plans : List ActorPlan) (lines : ℕ) (
   -- he is one of the actors, and nothing says that the turn after these can't be his
   abbrev Can : List ℕ → ℕ → Type 0
   Can before actor = (actor < length plans)
-      × ((limits : Limits) → asked.limits.scope.cuts ≡ limits.scope.cuts → IsBarred world limits (before ++ actor ∷ []) → ⊥)
+      × ((limits : Limits) → asked.limits.scope.cuts ≡ limits.scope.cuts → IsBarred world limits (before ++ actor ∷ [])
+      → ⊥)
 
-  each_can : (is : List ℕ) → IsAsked world asked.limits.scope is → (before rest : List ℕ) (actor : ℕ) → is ≡ before ++ actor ∷ rest → Can before actor
+  each_can : (is : List ℕ) → IsAsked world asked.limits.scope is → (before rest : List ℕ) (actor : ℕ)
+      → is ≡ before ++ actor ∷ rest → Can before actor
   each_can is whole before rest actor e = (
     subst (λ (n : ℕ). actor < n) (actors_stay world (take (length before) (before ++ actor ∷ [])) ∙ sym seats)
         (busy_within (after_turns world (take (length before) (before ++ actor ∷ []))).seats actor
         (busy_there world (before ++ actor ∷ []) rest (length before) actor
         (subst (λ (js : List ℕ). IsFull world js) joined whole.whole) (slice_get-last before actor))),
-    (λ limits bound barred. none_begins world asked.limits.scope limits (before ++ actor ∷ []) bound barred is (whole, (rest, joined))),
+    (λ limits bound barred. none_begins world asked.limits.scope limits (before ++ actor ∷ []) bound barred is
+        (whole, (rest, joined))),
   )
     where
       joined : is ≡ (before ++ actor ∷ []) ++ rest
@@ -88,21 +91,28 @@ module _ (asked : Asked) (tree : State) (plans : List ActorPlan) (lines : ℕ) (
         (one.1.0, (drop turns begin ++ one.1.1.0, first))))
         is.1.1.far
       where
-        first : one.0 ≡ take (length part.might.items) own.limits.scope.begin.items ++ (drop (length part.might.items) own.limits.scope.begin.items ++ one.1.1.0)
+        first : one.0 ≡ take
+            (length part.might.items)
+            own.limits.scope.begin.items ++ (drop
+            (length part.might.items) own.limits.scope.begin.items ++ one.1.1.0)
         first =
             one.1.1.1
-            ∙ (ap (λ (begin : List ℕ). begin ++ one.1.1.0) (is.1.1.begin ∙ sym (take-append-drop (length part.might.items) own.limits.scope.begin.items))
-            ∙ append_assoc (take (length part.might.items) own.limits.scope.begin.items) (drop (length part.might.items) own.limits.scope.begin.items) one.1.1.0)
+            ∙ (ap (λ (begin : List ℕ). begin ++ one.1.1.0)
+            (is.1.1.begin ∙ sym (take-append-drop (length part.might.items) own.limits.scope.begin.items))
+            ∙ append_assoc (take (length part.might.items) own.limits.scope.begin.items)
+            (drop (length part.might.items) own.limits.scope.begin.items) one.1.1.0)
 
     -- whoever can have a turn might have had it
-    tells : (at actor : ℕ) → at < length part.begin.items → Can (take at part.begin.items) actor → MightHave part at actor
+    tells : (at actor : ℕ) → at < length part.begin.items → Can (take at part.begin.items) actor
+        → MightHave part at actor
     tells at actor short can =
         let there = slice_get-some part.might.items at (subst (λ (n : ℕ). at < n) (sym far) short) in
         ⊎_elim (λ among. (there.0, (there.1, among)))
         (λ barred.
         absurd
         (can.1 own.limits is.1.0.scope.cuts
-        (subst (λ (begin : List ℕ). IsBarred world own.limits (take at begin ++ actor ∷ [])) (sym is.1.1.begin) barred)))
+        (subst (λ (begin : List ℕ). IsBarred world own.limits (take at begin ++ actor ∷ []))
+        (sym is.1.1.begin) barred)))
         (is.1.1.might at there.0 there.1 actor can.0)
 
     -- it doesn't go beyond a full list
@@ -111,13 +121,17 @@ module _ (asked : Asked) (tree : State) (plans : List ActorPlan) (lines : ℕ) (
         let longer : one.0 ≡ js ++ (begins.0 ++ one.1.1.0) =
         one.1.1.1 ∙ (ap (λ (begin : List ℕ). begin ++ one.1.1.0) begins.1 ∙ append_assoc js begins.0 one.1.1.0) in
         let none : begins.0 ≡ [] =
-        none_first begins.0 one.1.1.0 (ends_there world js (begins.0 ++ one.1.1.0) whole (subst (λ (is : List ℕ). IsFull world is) longer one.1.0.whole)) in
+        none_first begins.0 one.1.1.0
+        (ends_there world js (begins.0 ++ one.1.1.0) whole
+        (subst (λ (is : List ℕ). IsFull world is) longer one.1.0.whole)) in
         begins.1 ∙ (ap (λ (rest : List ℕ). js ++ rest) none ∙ append-nil js)
 
   -- ---- parts without gaps
 
-  module _ (parts : List Part) (each : AreOfOneQuestion asked tree plans lines parts) (apart : are_apart parts ≡ true) (all : AreAll parts) where
-    covers : (is : List ℕ) → IsAsked world asked.limits.scope is → BeginsWithOne (λ begin. IsAmong begin (begins_in parts)) is
+  module _ (parts : List Part) (each : AreOfOneQuestion asked tree plans lines parts) (apart : are_apart parts ≡ true)
+      (all : AreAll parts) where
+    covers : (is : List ℕ) → IsAsked world asked.limits.scope is
+        → BeginsWithOne (λ begin. IsAmong begin (begins_in parts)) is
     covers is whole =
         begins_with_one parts Can apart all (λ part h some. tells part (each part h) some) is (each_can is whole)
         (λ part h some. ends part (each part h) some is whole.whole)

@@ -53,7 +53,8 @@ pub record HandlesGrow (s t : State) : Type 0 where
   pub open_handles : open_count t + from_bool closes ≡ open_count s + from_bool opens
 
 none_grow : (s t : State) → length t.handles ≡ length s.handles → open_count t ≡ open_count s → HandlesGrow s t
-none_grow s t e e' = record { opens = false; closes = false; one = refl; numbers = omega arith; open_handles = omega arith }
+none_grow s t e e' =
+    record { opens = false; closes = false; one = refl; numbers = omega arith; open_handles = omega arith }
 
 by_step : {s : State} {a : ℕ} {step : StepWith ℕ} {o : Outcome} → Does s a step o
     → open_count o.after + closed_count o.answer step ≡ open_count s + opened_count o.answer → HandlesGrow s o.after
@@ -73,7 +74,8 @@ by_step {s} (closes h x e1) counted = record {
   numbers = length-set s.handles h None ∙ omega arith;
   open_handles = counted;
 }
-by_step {s} (changes_to nodes e1 changed) counted = none_grow s (record { nodes = nodes; handles = s.handles }) refl refl
+by_step {s} (changes_to nodes e1 changed) counted =
+    none_grow s (record { nodes = nodes; handles = s.handles }) refl refl
 
 pub handles_grow : (s : State) (a : ℕ) (step : StepWith ℕ) → HandlesGrow s (outcome s a step).after
 handles_grow s a step = by_step (does s a step) (handles_are_counted s a step).1
@@ -91,7 +93,8 @@ and_told told acts e = ap (λ t. t && acts) e
 
 module _ (told : Bool) (luck : Luck) (v : WorldView) (i : ℕ) where
   by_book : (after : BookedHistory) (seats : List Seat) → IsOneBy i v.book after
-      → roots_of told (record { book = after; seats = seats; spent = v.spent }) ≡ roots_of told v → GrowsBy told i v (record { book = after; seats = seats; spent = v.spent })
+      → roots_of told (record { book = after; seats = seats; spent = v.spent }) ≡ roots_of told v
+      → GrowsBy told i v (record { book = after; seats = seats; spent = v.spent })
   by_book after seats parts.as_it_was roots = record {
     effect = record { nodes = 0; part = 0; event = false; opens = false; closes = false; outside = false };
     one = refl;
@@ -105,12 +108,20 @@ module _ (told : Bool) (luck : Luck) (v : WorldView) (i : ℕ) where
   }
   by_book after seats (parts.one_more step) roots =
       let event : Event = record { actor = i; step = step; answer = answer_now v.book i step } in
-      let tree : tree_now (booked v.book i step) ≡ (outcome (tree_now v.book) i step).after = after_events-append v.book.opening v.book.events (event ∷ []) in
+      let tree : tree_now (booked v.book i step) ≡ (outcome (tree_now v.book) i step).after =
+      after_events-append v.book.opening v.book.events (event ∷ []) in
       let handles : HandlesGrow (tree_now v.book) (tree_now (booked v.book i step)) =
       subst (λ t. HandlesGrow (tree_now v.book) t) (sym tree) (handles_grow (tree_now v.book) i step) in
       let acts : Bool = acts_outside (slice_index_or (roots_of told v) i None) (tree_now v.book) event in
       record {
-        effect = record { nodes = 0; part = 0; event = true; opens = handles.opens; closes = handles.closes; outside = told && acts };
+        effect = record {
+          nodes = 0;
+          part = 0;
+          event = true;
+          opens = handles.opens;
+          closes = handles.closes;
+          outside = told && acts;
+        };
         one = handles.one;
         grown = record {
           events = length_push v.book.events event;
@@ -134,7 +145,8 @@ module _ (told : Bool) (luck : Luck) (v : WorldView) (i : ℕ) where
       let is : turn luck v i ≡ turn_of luck v i (Some x.0) = turn_is luck v i x.0 x.1 in
       subst (λ u. GrowsBy told i v u) (sym is)
       (by_book (turned luck v.book x.0.ledger x.0.doing).book (turn_of luck v i (Some x.0)).seats
-      (subst (λ a. IsOneBy a v.book (turned luck v.book x.0.ledger x.0.doing).book) (numbered i x.0 x.1) (turned_books luck v.book x.0))
+      (subst (λ a. IsOneBy a v.book (turned luck v.book x.0.ledger x.0.doing).book) (numbered i x.0 x.1)
+      (turned_books luck v.book x.0))
       (ap (λ u. roots_of told u) (sym is) ∙ roots_stay told luck v i))
 
 -- ---- what comparisons tell of it
@@ -143,7 +155,8 @@ lt_by : (so : Bool) (m n : ℕ) → n ≡ m + from_bool so → nat_lt m n ≡ so
 lt_by true m n e = grind (arith, nat_tests)
 lt_by false m n e = grind (arith, nat_tests)
 
-lt_closed : (opens closes : Bool) (m n : ℕ) → (opens && closes) ≡ false → n + from_bool closes ≡ m + from_bool opens → nat_lt n m ≡ closes
+lt_closed : (opens closes : Bool) (m n : ℕ) → (opens && closes) ≡ false → n + from_bool closes ≡ m + from_bool opens
+    → nat_lt n m ≡ closes
 lt_closed true true m n both e = absurd (true≢false both)
 lt_closed true false m n both e = grind (arith, nat_tests)
 lt_closed false true m n both e = grind (arith, nat_tests)
@@ -153,7 +166,8 @@ roots_long : (s : State) (a : ℕ) (seats : List Seat) → length (roots_from s 
 roots_long s a [] = refl
 roots_long s a (seat ∷ seats) = ap suc (roots_long s (suc a) seats)
 
-bumped_own : (so : Bool) (i : ℕ) (counts : List ℕ) → i < length counts → slice_index_or (bumped so i counts) i 0 ≡ slice_index_or counts i 0 + from_bool so
+bumped_own : (so : Bool) (i : ℕ) (counts : List ℕ) → i < length counts
+    → slice_index_or (bumped so i counts) i 0 ≡ slice_index_or counts i 0 + from_bool so
 bumped_own so i [] lt = absurd (omega arith)
 bumped_own true zero (n ∷ counts) lt = omega arith
 bumped_own false zero (n ∷ counts) lt = omega arith
@@ -165,25 +179,31 @@ outside_lt : (told : Bool) (so : Bool) (i : ℕ) (v : WorldView) → i < length 
 outside_lt true so i v lt untold =
     let long = counts_long v.book 0 (roots_of true v) ∙ roots_long v.book.opening 0 v.seats in
     lt_by so _ _ (bumped_own so i (outside_of true v) (subst (λ n. i < n) (sym long) lt))
-outside_lt false so i v lt untold = ap (λ ns. nat_lt 0 (slice_index_or ns i 0)) (bumped_none so i) ∙ (none_here i ∙ sym (untold refl))
+outside_lt false so i v lt untold = ap (λ ns. nat_lt 0 (slice_index_or ns i 0)) (bumped_none so i)
+    ∙ (none_here i ∙ sym (untold refl))
   where
     none_here : (i : ℕ) → nat_lt (slice_index_or [] i 0) (slice_index_or [] i 0) ≡ false
     none_here zero = refl
     none_here (suc i) = refl
 
 -- an effect by comparisons of the numbers before and after
-pub grown_by : (told : Bool) (luck : Luck) (i : ℕ) (v : WorldView) (effect : Effect) → AreNumbered v.seats → i < length v.seats
+pub grown_by : (told : Bool) (luck : Luck) (i : ℕ) (v : WorldView) (effect : Effect) → AreNumbered v.seats
+    → i < length v.seats
     → effect.event ≡ nat_lt (length v.book.events) (length (turn luck v i).book.events)
     → effect.opens ≡ nat_lt (length (tree_now v.book).handles) (length (tree_now (turn luck v i).book).handles)
     → effect.closes ≡ nat_lt (open_count (tree_now (turn luck v i).book)) (open_count (tree_now v.book))
-    → effect.outside ≡ nat_lt (slice_index_or (outside_of told v) i 0) (slice_index_or (outside_of told (turn luck v i)) i 0)
+    → effect.outside ≡ nat_lt (slice_index_or (outside_of told v) i 0)
+    (slice_index_or (outside_of told (turn luck v i)) i 0)
     → HasGrown told i v (turn luck v i) effect
 grown_by told luck i v effect numbered lt event opens closed outside = record {
   events = subst (λ so. length after.book.events ≡ length v.book.events + from_bool so) event_is by.grown.events;
-  numbers = subst (λ so. length (tree_now after.book).handles ≡ length (tree_now v.book).handles + from_bool so) opens_is by.grown.numbers;
+  numbers = subst (λ so. length (tree_now after.book).handles ≡ length (tree_now v.book).handles + from_bool so)
+      opens_is by.grown.numbers;
   open_handles =
-      subst (λ so. open_count (tree_now after.book) + from_bool so ≡ open_count (tree_now v.book) + from_bool effect.opens) closes_is
-      (subst (λ so. open_count (tree_now after.book) + from_bool by.effect.closes ≡ open_count (tree_now v.book) + from_bool so) opens_is by.grown.open_handles);
+      subst (λ so. open_count (tree_now after.book) + from_bool so ≡ open_count
+      (tree_now v.book) + from_bool effect.opens) closes_is
+      (subst (λ so. open_count (tree_now after.book) + from_bool by.effect.closes ≡ open_count
+      (tree_now v.book) + from_bool so) opens_is by.grown.open_handles);
   outside = subst (λ so. outside_of told after ≡ bumped so i (outside_of told v)) outside_is by.grown.outside;
   untold = λ e. sym outside_is ∙ by.grown.untold e;
 }
@@ -205,5 +225,6 @@ grown_by told luck i v effect numbered lt event opens closed outside = record {
 
     outside_is : by.effect.outside ≡ effect.outside
     outside_is =
-        sym (outside ∙ ap (λ ns. nat_lt (slice_index_or (outside_of told v) i 0) (slice_index_or ns i 0)) by.grown.outside
+        sym (outside ∙ ap (λ ns. nat_lt (slice_index_or (outside_of told v) i 0) (slice_index_or ns i 0))
+        by.grown.outside
         ∙ outside_lt told by.effect.outside i v lt by.grown.untold)

@@ -22,7 +22,8 @@ use Rattle.explore.proofs.Lists.SearchLaws.{over_rests, reported}
 pub runs_turn_at : (w v u : WorldView) (turns : List ℕ) (k : ℕ) → k < length turns → Runs w (take k turns) v
     → (luck : Luck) × (u ≡ turn luck v (get_or turns k 0)) → Runs w (take (k + 1) turns) u
 runs_turn_at w v u turns k lt run turned =
-    subst (λ is. Runs w is u) (sym (take_more turns k 0 lt)) (runs_push w v u (take k turns) (get_or turns k 0) turned.0 run turned.1)
+    subst (λ is. Runs w is u) (sym (take_more turns k 0 lt))
+    (runs_push w v u (take k turns) (get_or turns k 0) turned.0 run turned.1)
 
 pub turn_actors : (v u : WorldView) (i : ℕ) → (luck : Luck) × (u ≡ turn luck v i) → length u.seats ≡ length v.seats
 turn_actors v u i turned = ap (λ (x : WorldView). length x.seats) turned.1 ∙ turn_stays turned.0 v i
@@ -34,7 +35,8 @@ at_ok (Err x) e h = absurd (true≢false e)
 
 -- ---- a world that has ended, and its report tells of no want
 
-module _ (world : WorldView) (tree : State) (events : List Event) (replies : List (List Outcome)) (kept : List StandingObject)
+module _ (world : WorldView) (tree : State) (events : List Event) (replies : List (List Outcome))
+    (kept : List StandingObject)
     (ran : RunsTo world [] tree events replies kept) (none : replies_out_of_memory replies ≡ false) where
   -- one in which nobody had anything left to do is as it was
   end_is : IsOver world → ran.end ≡ world
@@ -45,7 +47,8 @@ module _ (world : WorldView) (tree : State) (events : List Event) (replies : Lis
   pub is_end : (told : Bool) (outside : List ℕ) → outside ≡ outside_of told world → IsOver world
       → IsEndOf told world (record { tree = tree; events = events; replies = replies; kept = kept; outside = outside })
   is_end told outside counted over = record {
-    report = subst (λ (v : WorldView). Reports v.book (ledgers_in v.seats) tree events replies kept) (end_is over) ran.reports;
+    report = subst (λ (v : WorldView). Reports v.book (ledgers_in v.seats) tree events replies kept)
+        (end_is over) ran.reports;
     outside = counted;
   }
 
@@ -55,7 +58,8 @@ module _ (world : WorldView) (tree : State) (events : List Event) (replies : Lis
       let all = reported world [] tree events replies kept ran none in
       ap length ran.reports.are_replies
       ∙ (replies_of_seats ran.end.seats
-      ∙ (ap_at (λ (v : WorldView). length v.seats) ran.end (after_turns world ([] ++ all.0)) all.1.0 ∙ actors_stay world ([] ++ all.0)))
+      ∙ (ap_at (λ (v : WorldView). length v.seats) ran.end (after_turns world ([] ++ all.0)) all.1.0
+      ∙ actors_stay world ([] ++ all.0)))
 
 -- ---- a full list gone through
 
@@ -64,7 +68,8 @@ full_over w [] over = over
 full_over w (i ∷ is) rest = full_over (turn full w i) is rest.1
 
 -- what a run comes to, of which nobody tells that memory was wanting, is what the world after its turns comes to
-pub run_ends : (w v : WorldView) (is : List ℕ) (said told : Bool) (end : EndView) → Runs w is v → EndsWell v → said ≡ told
+pub run_ends : (w v : WorldView) (is : List ℕ) (said told : Bool) (end : EndView) → Runs w is v → EndsWell v
+    → said ≡ told
     → (IsOver v → IsEndOf said v end) → IsOver (after_turns w is) → IsEndOf told (after_turns w is) end
 run_ends w v is said told end run well same ends whole =
     let there : v ≡ after_turns w is = runs_full w v is run well in
@@ -72,6 +77,7 @@ run_ends w v is said told end run well same ends whole =
     subst (λ b. IsEndOf b (after_turns w is) end) same (subst (λ (u : WorldView). IsEndOf said u end) there (ends over))
 
 -- two things that are said of a success
-pub ok_both : {T E : Type 0} {P Q R : T → Type 0} (r : Result T E) → ((x : T) → P x → Q x → R x) → IfOk r P → IfOk r Q → IfOk r R
+pub ok_both : {T E : Type 0} {P Q R : T → Type 0} (r : Result T E) → ((x : T) → P x → Q x → R x) → IfOk r P → IfOk r Q
+    → IfOk r R
 ok_both (Ok x) on p q = on x p q
 ok_both (Err e) on p q = p

@@ -28,35 +28,49 @@ chosen_lists_stand told w chosen closed is whole =
 pub over_rests : (w : WorldView) (is : List ℕ) → IsOver w → after_turns w is ≡ w
 over_rests w [] over = refl
 over_rests w (i ∷ is) over =
-    join (after_turns (turn full w i) is) (after_turns w is) w (ap_at (λ (u : WorldView). after_turns u is) (turn full w i) w (idle_turn_by full w i (over i))) (over_rests w is over)
+    join (after_turns (turn full w i) is) (after_turns w is) w
+    (ap_at (λ (u : WorldView). after_turns u is) (turn full w i) w (idle_turn_by full w i (over i)))
+    (over_rests w is over)
 
 full_rests : (w : WorldView) (is js : List ℕ) → IsFull w is → after_turns w (is ++ js) ≡ after_turns w is
 full_rests w [] js over = over_rests w js over
 full_rests w (i ∷ is) js rest = full_rests (turn full w i) is js rest.1
 
 -- any list after which nobody has anything left to do comes to what a full one comes to
-tight : (w : WorldView) (is : List ℕ) → IsOver (after_turns w is) → (js : List ℕ) × (IsFull w js × (after_turns w is ≡ after_turns w js))
+tight : (w : WorldView) (is : List ℕ) → IsOver (after_turns w is)
+    → (js : List ℕ) × (IsFull w js × (after_turns w is ≡ after_turns w js))
 tight w [] over = ([], (over, refl))
 tight w (i ∷ is) over = by (λ u rest. tight u is rest) (is_busy_at w.seats i) refl
   where
-    by : ((u : WorldView) → IsOver (after_turns u is) → (js : List ℕ) × (IsFull u js × (after_turns u is ≡ after_turns u js)))
-        → (b : Bool) → is_busy_at w.seats i ≡ b → (js : List ℕ) × (IsFull w js × (after_turns (turn full w i) is ≡ after_turns w js))
+    by : ((u : WorldView) → IsOver (after_turns u is)
+        → (js : List ℕ) × (IsFull u js × (after_turns u is ≡ after_turns u js)))
+        → (b : Bool) → is_busy_at w.seats i ≡ b
+        → (js : List ℕ) × (IsFull w js × (after_turns (turn full w i) is ≡ after_turns w js))
     by others true e = let rest = others (turn full w i) over in (i ∷ rest.0, ((e, rest.1.0), rest.1.1))
     by others false e =
-        let moved : after_turns (turn full w i) is ≡ after_turns w is = ap_at (λ (u : WorldView). after_turns u is) (turn full w i) w (idle_turn_by full w i e) in
-        let rest = others w (subst (λ (u : WorldView). IsOver u) moved over) in
-        (rest.0, (rest.1.0, join (after_turns (turn full w i) is) (after_turns w is) (after_turns w rest.0) moved rest.1.1))
+        let moved : after_turns (turn full w i) is ≡ after_turns w is =
+        ap_at (λ (u : WorldView). after_turns u is) (turn full w i) w (idle_turn_by full w i e) in
+        let rest = others w (subst (λ (u : WorldView). IsOver u) moved over) in (
+          rest.0,
+          (
+            rest.1.0,
+            join (after_turns (turn full w i) is) (after_turns w is)
+                (after_turns w rest.0) moved rest.1.1,
+          ),
+        )
 
 -- ---- runs to the end
 
 -- what a report is of: the turns of the schedule and more, with memory for all
-pub reported : (w : WorldView) (schedule : List ℕ) (tree : State) (events : List Event) (replies : List (List Outcome)) (kept : List StandingObject)
+pub reported : (w : WorldView) (schedule : List ℕ) (tree : State) (events : List Event) (replies : List (List Outcome))
+    (kept : List StandingObject)
     → (ran : RunsTo w schedule tree events replies kept) → replies_out_of_memory replies ≡ false
     → (js : List ℕ) × ((ran.end ≡ after_turns w (schedule ++ js)) × IsOver (after_turns w (schedule ++ js)))
 reported w schedule tree events replies kept ran none =
     let rest = ends_run ran.runs.middle ran.end (numbers_below (length w.seats)) ran.runs.rest in
     let whole = runs_append w ran.runs.middle ran.end schedule rest.0 ran.runs.scheduled rest.1 in
-    let quiet : replies_out_of_memory (replies_in (ledgers_in ran.end.seats)) ≡ false = sym (ap replies_out_of_memory ran.reports.are_replies) ∙ none in
+    let quiet : replies_out_of_memory (replies_in (ledgers_in ran.end.seats)) ≡ false =
+    sym (ap replies_out_of_memory ran.reports.are_replies) ∙ none in
     let is = runs_are_full w ran.end (schedule ++ rest.0) whole ran.over quiet in
     (rest.0, (is, subst (λ (u : WorldView). IsOver u) is (λ i. over_at ran.end.seats i ran.over)))
 
@@ -64,13 +78,15 @@ pub reports_are_full : ReportsAreOfFullLists
 reports_are_full w schedule tree events replies kept ran none =
     let all = reported w schedule tree events replies kept ran none in
     let short = tight w (schedule ++ all.0) all.1.1 in
-    let end : ran.end ≡ after_turns w short.0 = join ran.end (after_turns w (schedule ++ all.0)) (after_turns w short.0) all.1.0 short.1.1 in (
+    let end : ran.end ≡ after_turns w short.0 =
+    join ran.end (after_turns w (schedule ++ all.0)) (after_turns w short.0) all.1.0 short.1.1 in (
       short.0,
       (
         short.1.0,
         (
           ran.reports.is_tree ∙ ap_at (λ (u : WorldView). tree_now u.book) ran.end (after_turns w short.0) end,
-          ran.reports.are_replies ∙ ap_at (λ (u : WorldView). replies_in (ledgers_in u.seats)) ran.end (after_turns w short.0) end,
+          ran.reports.are_replies
+              ∙ ap_at (λ (u : WorldView). replies_in (ledgers_in u.seats)) ran.end (after_turns w short.0) end,
         ),
       ),
     )
@@ -78,7 +94,9 @@ reports_are_full w schedule tree events replies kept ran none =
 pub full_lists_are_reported : FullListsAreReported
 full_lists_are_reported w is tree events replies kept whole ran none =
     let all = reported w is tree events replies kept ran none in
-    let end : ran.end ≡ after_turns w is = join ran.end (after_turns w (is ++ all.0)) (after_turns w is) all.1.0 (full_rests w is all.0 whole) in (
+    let end : ran.end ≡ after_turns w is =
+    join ran.end (after_turns w (is ++ all.0)) (after_turns w is) all.1.0 (full_rests w is all.0 whole) in (
       ran.reports.is_tree ∙ ap_at (λ (u : WorldView). tree_now u.book) ran.end (after_turns w is) end,
-      ran.reports.are_replies ∙ ap_at (λ (u : WorldView). replies_in (ledgers_in u.seats)) ran.end (after_turns w is) end,
+      ran.reports.are_replies
+          ∙ ap_at (λ (u : WorldView). replies_in (ledgers_in u.seats)) ran.end (after_turns w is) end,
     )

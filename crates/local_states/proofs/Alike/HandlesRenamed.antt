@@ -46,12 +46,14 @@ module _ (f : ℕ → ℕ) where
 
   walking_numbers : (w : Walking) → walking_handles (walking_by f w) ≡ numbers_by f (walking_handles w)
   walking_numbers (walk.opening position own follow n rest) = position_numbers position
-  walking_numbers (walk.reading position link rest) = join (handles_of position) (link.number ∷ []) _ _ (position_numbers position) refl
+  walking_numbers (walk.reading position link rest) =
+      join (handles_of position) (link.number ∷ []) _ _ (position_numbers position) refl
   walking_numbers (walk.rising handle names rest) = refl
   walking_numbers (walk.judging handle names rest) = refl
   walking_numbers (walk.duping rest) = refl
   walking_numbers (walk.ending handle names rest) = refl
-  walking_numbers (walk.closing h hs after) = ap (λ ks. f h ∷ ks) (join hs (walk_after_handles after) _ _ refl (walk_after_numbers after))
+  walking_numbers (walk.closing h hs after) =
+      ap (λ ks. f h ∷ ks) (join hs (walk_after_handles after) _ _ refl (walk_after_numbers after))
 
   making_numbers : (m : make.Making) → making_handles (making_by f m) ≡ numbers_by f (making_handles m)
   making_numbers (make.walking w) = walking_numbers w
@@ -76,7 +78,8 @@ module _ (f : ℕ → ℕ) where
   removing_numbers : (r : remove.Removing) → removing_handles (removing_by f r) ≡ numbers_by f (removing_handles r)
   removing_numbers (remove.walking edge target w) = ap (λ ks. f edge.root ∷ ks) (walking_numbers w)
   removing_numbers (remove.clearing stage level above count left) =
-      join (stage_handles stage) (level.dir ∷ levels_handles above) _ _ (stage_numbers stage) (ap (λ ks. f level.dir ∷ ks) (levels_numbers above))
+      join (stage_handles stage) (level.dir ∷ levels_handles above) _ _ (stage_numbers stage)
+      (ap (λ ks. f level.dir ∷ ks) (levels_numbers above))
   removing_numbers (remove.closing h hs end) = refl
 
   step_numbers : (s : StepWith ℕ) → step_handles (step_by f s) ≡ numbers_by f (step_handles s)
@@ -124,10 +127,12 @@ module _ (f : ℕ → ℕ) where
   aim_numbers (aims.Renames old renaming) = refl
 
   doing_numbers : (d : Doing) → doing_handles (doing_by f d) ≡ numbers_by f (doing_handles d)
-  doing_numbers (call.walking w aim) = join (walking_handles w) (aim_handles aim) _ _ (walking_numbers w) (aim_numbers aim)
+  doing_numbers (call.walking w aim) =
+      join (walking_handles w) (aim_handles aim) _ _ (walking_numbers w) (aim_numbers aim)
   doing_numbers (call.acting wanted step hs) = join (step_handles step) hs _ _ (step_numbers step) refl
   doing_numbers (call.checking old new renaming) = refl
-  doing_numbers (call.closing h hs after) = ap (λ ks. f h ∷ ks) (join hs (after_handles after) _ _ refl (after_numbers after))
+  doing_numbers (call.closing h hs after) =
+      ap (λ ks. f h ∷ ks) (join hs (after_handles after) _ _ refl (after_numbers after))
   doing_numbers (call.making bulk) = making_numbers bulk
   doing_numbers (call.removing bulk) = removing_numbers bulk
   doing_numbers (call.releasing h) = refl
@@ -166,15 +171,19 @@ module _ (f : ℕ → ℕ) where
 
   outcomes_numbers : (os : List Outcome) → outcomes_handles (outcomes_by f os) ≡ numbers_by f (outcomes_handles os)
   outcomes_numbers [] = refl
-  outcomes_numbers (o ∷ os) = join (outcome_handles o) (outcomes_handles os) _ _ (outcome_numbers o) (outcomes_numbers os)
+  outcomes_numbers (o ∷ os) =
+      join (outcome_handles o) (outcomes_handles os) _ _ (outcome_numbers o) (outcomes_numbers os)
 
-  option_numbers : (s : Option StandingObject) → option_handles (option_map (standing_by f) s) ≡ numbers_by f (option_handles s)
+  option_numbers : (s : Option StandingObject)
+      → option_handles (option_map (standing_by f) s) ≡ numbers_by f (option_handles s)
   option_numbers None = refl
   option_numbers (Some standing) = refl
 
-  standings_numbers : (ss : List (Option StandingObject)) → standings_handles (standings_by f ss) ≡ numbers_by f (standings_handles ss)
+  standings_numbers : (ss : List (Option StandingObject))
+      → standings_handles (standings_by f ss) ≡ numbers_by f (standings_handles ss)
   standings_numbers [] = refl
-  standings_numbers (s ∷ ss) = join (option_handles s) (standings_handles ss) _ _ (option_numbers s) (standings_numbers ss)
+  standings_numbers (s ∷ ss) =
+      join (option_handles s) (standings_handles ss) _ _ (option_numbers s) (standings_numbers ss)
 
   kept_numbers : (ss : List StandingObject) → kept_handles (kept_by f ss) ≡ numbers_by f (kept_handles ss)
   kept_numbers [] = refl
@@ -182,13 +191,16 @@ module _ (f : ℕ → ℕ) where
 
   ledger_numbers : (l : LedgerView) → ledger_handles (ledger_by f l) ≡ numbers_by f (ledger_handles l)
   ledger_numbers l =
-      let ends = join (standings_handles l.standings) (kept_handles l.kept) _ _ (standings_numbers l.standings) (kept_numbers l.kept) in
+      let ends = join (standings_handles l.standings) (kept_handles l.kept) _ _ (standings_numbers l.standings)
+      (kept_numbers l.kept) in
       let came = join (outcomes_handles l.outcomes) _ _ _ (outcomes_numbers l.outcomes) ends in
       ap (λ ks. f l.root.handle ∷ ks) (join (plans_handles l.to_come) _ _ _ (plans_numbers l.to_come) came)
 
-  call_numbers : (c : Option CallView) → doing_call_handles (option_map (call_by f) c) ≡ numbers_by f (doing_call_handles c)
+  call_numbers : (c : Option CallView)
+      → doing_call_handles (option_map (call_by f) c) ≡ numbers_by f (doing_call_handles c)
   call_numbers None = refl
   call_numbers (Some c) = ap (λ ks. f c.below.root.handle ∷ ks) (doing_numbers c.doing)
 
   pub seat_numbers : (s : Seat) → seat_handles (seat_by f s) ≡ numbers_by f (seat_handles s)
-  seat_numbers s = join (ledger_handles s.ledger) (doing_call_handles s.doing) _ _ (ledger_numbers s.ledger) (call_numbers s.doing)
+  seat_numbers s = join (ledger_handles s.ledger) (doing_call_handles s.doing) _ _ (ledger_numbers s.ledger)
+      (call_numbers s.doing)

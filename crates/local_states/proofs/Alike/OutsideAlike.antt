@@ -31,11 +31,14 @@ plus_swap false true n = refl
 plus_swap false false n = refl
 
 pub after_push : (a : ℕ) (root : Option ℕ) (s : State) (events : List Event) (last : Event)
-    → outside_after a root s (events ++ last ∷ []) ≡ plus ((last.actor == a) && acts_outside root (after_events s events) last) (outside_after a root s events)
+    → outside_after a root s (events ++ last ∷ []) ≡ plus
+    ((last.actor == a) && acts_outside root (after_events s events) last) (outside_after a root s events)
 after_push a root s [] last = refl
 after_push a root s (event ∷ events) last =
-    ap (λ n. plus ((event.actor == a) && acts_outside root s event) n) (after_push a root (after_event s event) events last)
-    ∙ plus_swap ((event.actor == a) && acts_outside root s event) ((last.actor == a) && acts_outside root (after_events (after_event s event) events) last)
+    ap (λ n. plus ((event.actor == a) && acts_outside root s event) n)
+    (after_push a root (after_event s event) events last)
+    ∙ plus_swap ((event.actor == a) && acts_outside root s event)
+    ((last.actor == a) && acts_outside root (after_events (after_event s event) events) last)
     (outside_after a root (after_event s event) events)
 
 pub blind_done : (f : ℕ → ℕ) (answer : Answer) → is_done (answer_by f answer) ≡ is_done answer
@@ -54,8 +57,10 @@ pub stepped_books : (luck : Bool) (book : BookedHistory) (a : ℕ) (step : StepW
 stepped_books luck book a step = by (luck || is_close step) (refusal book a step)
   where
     by : (d : Bool) (refused : Option Errno)
-        → ((if d then unless_refused book a step refused else record { answer = Refused NoMemory; book = book }).book ≡ book)
-        ⊎ ((if d then unless_refused book a step refused else record { answer = Refused NoMemory; book = book }).book ≡ booked book a step)
+        → ((if d then unless_refused book a step refused else record { answer = Refused NoMemory; book = book }).book
+        ≡ book)
+        ⊎ ((if d then unless_refused book a step refused else record { answer = Refused NoMemory; book = book }).book
+        ≡ booked book a step)
     by true (Some error) = inl refl
     by true None = inr refl
     by false refused = inl refl
@@ -65,13 +70,15 @@ pub data IsOneOn (book : BookedHistory) : BookedHistory → Type 0 where
   as_it_was : IsOneOn book book
   one_more : (a : ℕ) (step : StepWith ℕ) → IsOneOn book (booked book a step)
 
-goes_books : (luck room : Bool) (book : BookedHistory) (ledger : LedgerView) (doing : Option CallView) → IsOneOn book (goes_on luck room book ledger doing).book
+goes_books : (luck room : Bool) (book : BookedHistory) (ledger : LedgerView) (doing : Option CallView)
+    → IsOneOn book (goes_on luck room book ledger doing).book
 goes_books luck room book ledger None = as_it_was
 goes_books luck room book ledger (Some call) =
     by (stepped_books luck book ledger.root.owner.actor (due call.below call.doing))
   where
     by : ((stepped_by luck book ledger.root.owner.actor (due call.below call.doing)).book ≡ book)
-        ⊎ ((stepped_by luck book ledger.root.owner.actor (due call.below call.doing)).book ≡ booked book ledger.root.owner.actor (due call.below call.doing))
+        ⊎ ((stepped_by luck book ledger.root.owner.actor (due call.below call.doing)).book
+        ≡ booked book ledger.root.owner.actor (due call.below call.doing))
         → IsOneOn book (stepped_by luck book ledger.root.owner.actor (due call.below call.doing)).book
     by (inl e) = subst (λ b. IsOneOn book b) (sym e) as_it_was
     by (inr e) = subst (λ b. IsOneOn book b) (sym e) (one_more ledger.root.owner.actor (due call.below call.doing))
@@ -89,14 +96,16 @@ one_opening : (book after : BookedHistory) → IsOneOn book after → after.open
 one_opening book after as_it_was = refl
 one_opening book after (one_more a step) = refl
 
-roots_set : (s : State) (a : ℕ) (seats : List Seat) (i : ℕ) (seat new : Seat) → slice_get seats i ≡ Some seat → new.ledger.root ≡ seat.ledger.root
+roots_set : (s : State) (a : ℕ) (seats : List Seat) (i : ℕ) (seat new : Seat) → slice_get seats i ≡ Some seat
+    → new.ledger.root ≡ seat.ledger.root
     → roots_from s a (slice_set seats i new) ≡ roots_from s a seats
 roots_set s a [] i seat new e r = refl
 roots_set s a (first ∷ seats) zero seat new e r =
     let same : first ≡ seat = same_Some first seat e in
     let root = r ∙ ap (λ (x : Seat). x.ledger.root) (sym same) in
     λ i. held s a (root i).handle ∷ roots_from s (suc a) seats
-roots_set s a (first ∷ seats) (suc i) seat new e r = ap (λ rest. held s a first.ledger.root.handle ∷ rest) (roots_set s (suc a) seats i seat new e r)
+roots_set s a (first ∷ seats) (suc i) seat new e r =
+    ap (λ rest. held s a first.ledger.root.handle ∷ rest) (roots_set s (suc a) seats i seat new e r)
 
 pub roots_stay : (told : Bool) (luck : Luck) (w : WorldView) (i : ℕ) → roots_of told (turn luck w i) ≡ roots_of told w
 roots_stay false luck w i = refl
@@ -107,5 +116,6 @@ roots_stay true luck w i = by (slice_get w.seats i) refl
     by (Some seat) e =
         let after = turned luck w.book seat.ledger seat.doing in
         let seat' = begun luck.start seat.ledger seat.doing in
-        ap (λ s. roots_from s 0 (slice_set w.seats i after.seat)) (one_opening w.book after.book (goes_books luck.step luck.room w.book seat'.ledger seat'.doing))
+        ap (λ s. roots_from s 0 (slice_set w.seats i after.seat))
+        (one_opening w.book after.book (goes_books luck.step luck.room w.book seat'.ledger seat'.doing))
         ∙ roots_set w.book.opening 0 w.seats i seat after.seat e (turn_keeps_root luck w.book seat.ledger seat.doing)

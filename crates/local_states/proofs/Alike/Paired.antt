@@ -12,7 +12,8 @@ use Rattle.local_states.proofs.Alike.HandlesRenamed.{seat_numbers}
 
 pub same_numbers : (s t : Seat) → LikeSeats s t → length (seat_handles s) ≡ length (seat_handles t)
 same_numbers s t like =
-    sym (numbers_length (λ h. 0) (seat_handles s)) ∙ (ap length (sym (seat_numbers (λ h. 0) s)) ∙ (ap (λ (seat : Seat). length (seat_handles seat)) like
+    sym (numbers_length (λ h. 0) (seat_handles s))
+    ∙ (ap length (sym (seat_numbers (λ h. 0) s)) ∙ (ap (λ (seat : Seat). length (seat_handles seat)) like
     ∙ (ap length (seat_numbers (λ h. 0) t) ∙ numbers_length (λ h. 0) (seat_handles t))))
 
 -- ---- pairs by their places
@@ -35,7 +36,8 @@ own_pair h k b = ap (λ c. (c && (k == k)) || b) (eq-eqb h h refl) ∙ ap (λ c.
 pub at_pair : (hs ks : List ℕ) (h k : ℕ) → pairs_of hs ks h k ≡ true → (at : ℕ) × AreAt hs ks at h k
 at_pair [] ks h k e = absurd (false≢true e)
 at_pair (i ∷ hs) [] h k e = absurd (false≢true e)
-at_pair (i ∷ hs) (j ∷ ks) h k e = ⊎_elim first (λ p. later (at_pair hs ks h k p)) (either ((i == h) && (j == k)) (pairs_of hs ks h k) e)
+at_pair (i ∷ hs) (j ∷ ks) h k e =
+    ⊎_elim first (λ p. later (at_pair hs ks h k p)) (either ((i == h) && (j == k)) (pairs_of hs ks h k) e)
   where
     first : (i == h) && (j == k) ≡ true → (at : ℕ) × AreAt (i ∷ hs) (j ∷ ks) at h k
     first p = let two = both (i == h) (j == k) p in
@@ -45,25 +47,30 @@ at_pair (i ∷ hs) (j ∷ ks) h k e = ⊎_elim first (λ p. later (at_pair hs ks
     later there = (suc there.0, record { here = there.1.here; there = there.1.there })
 
 -- handles that are paired place by place get the same numbers where pairs do
-pub agree_all : (f g : ℕ → ℕ) (hs ks : List ℕ) → length hs ≡ length ks → ((h k : ℕ) → pairs_of hs ks h k ≡ true → f h ≡ g k) → numbers_by f hs ≡ numbers_by g ks
+pub agree_all : (f g : ℕ → ℕ) (hs ks : List ℕ) → length hs ≡ length ks
+    → ((h k : ℕ) → pairs_of hs ks h k ≡ true → f h ≡ g k) → numbers_by f hs ≡ numbers_by g ks
 agree_all f g [] [] same agree = refl
 agree_all f g [] (k ∷ ks) same agree = absurd (omega (arith, same))
 agree_all f g (h ∷ hs) [] same agree = absurd (omega (arith, same))
 agree_all f g (h ∷ hs) (k ∷ ks) same agree =
     let one = agree h k (own_pair h k (pairs_of hs ks h k)) in
     let n : length hs ≡ length ks = omega (arith, same) in
-    let rest = agree_all f g hs ks n (λ i j p. agree i j (ap (λ c. ((h == i) && (k == j)) || c) p ∙ or_right ((h == i) && (k == j)))) in
+    let rest = agree_all f g hs ks n
+    (λ i j p. agree i j (ap (λ c. ((h == i) && (k == j)) || c) p ∙ or_right ((h == i) && (k == j)))) in
     λ i. one i ∷ rest i
 
 pub below_or : (m n : ℕ) → (m < n) ⊎ ((m ≡ n) ⊎ (n < m))
 below_or zero zero = inr (inl refl)
 below_or zero (suc n) = inl (omega arith)
 below_or (suc m) zero = inr (inr (omega arith))
-below_or (suc m) (suc n) = ⊎_elim (λ lt. inl (omega arith)) (λ or. ⊎_elim (λ e. inr (inl (ap suc e))) (λ lt. inr (inr (omega arith))) or) (below_or m n)
+below_or (suc m) (suc n) =
+    ⊎_elim (λ lt. inl (omega arith)) (λ or. ⊎_elim (λ e. inr (inl (ap suc e))) (λ lt. inr (inr (omega arith))) or)
+    (below_or m n)
 
 -- ---- one number for each pair
 
-pub same_at : (f g : ℕ → ℕ) (hs ks : List ℕ) (at h k : ℕ) → numbers_by f hs ≡ numbers_by g ks → AreAt hs ks at h k → f h ≡ g k
+pub same_at : (f g : ℕ → ℕ) (hs ks : List ℕ) (at h k : ℕ) → numbers_by f hs ≡ numbers_by g ks → AreAt hs ks at h k
+    → f h ≡ g k
 same_at f g [] ks at h k e are = absurd (none-some _ are.here)
 same_at f g (i ∷ hs) [] at h k e are = absurd (none-some _ are.there)
 same_at f g (i ∷ hs) (j ∷ ks) zero h k e are =

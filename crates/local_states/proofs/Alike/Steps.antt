@@ -65,14 +65,18 @@ pub data Paired (pairs : Pairs) : StepWith ℕ → StepWith ℕ → Type 0 where
   dup' : (h k : ℕ) → SameNumbers pairs h k → Paired pairs (steps.Dup h) (steps.Dup k)
   parent' : (h k : ℕ) → SameNumbers pairs h k → Paired pairs (steps.Parent h) (steps.Parent k)
   read' : (h k : ℕ) → SameNumbers pairs h k → Paired pairs (steps.ReadLink h) (steps.ReadLink k)
-  below' : (r q h k : ℕ) → SameNumbers pairs r q → SameNumbers pairs h k → Paired pairs (steps.NameBelow r h) (steps.NameBelow q k)
+  below' : (r q h k : ℕ) → SameNumbers pairs r q → SameNumbers pairs h k
+      → Paired pairs (steps.NameBelow r h) (steps.NameBelow q k)
   list' : (h k : ℕ) → SameNumbers pairs h k → Paired pairs (steps.List h) (steps.List k)
   close' : (h k : ℕ) → SameNumbers pairs h k → Paired pairs (steps.Close h) (steps.Close k)
   make_dir' : (h k : ℕ) (n : List ℕ) → SameNumbers pairs h k → Paired pairs (steps.MakeDir h n) (steps.MakeDir k n)
   make_file' : (h k : ℕ) (n : List ℕ) → SameNumbers pairs h k → Paired pairs (steps.MakeFile h n) (steps.MakeFile k n)
-  make_link' : (h k : ℕ) (n text : List ℕ) → SameNumbers pairs h k → Paired pairs (steps.MakeLink h n text) (steps.MakeLink k n text)
-  remove_file' : (h k : ℕ) (n : List ℕ) → SameNumbers pairs h k → Paired pairs (steps.RemoveFile h n) (steps.RemoveFile k n)
-  remove_dir' : (h k : ℕ) (n : List ℕ) → SameNumbers pairs h k → Paired pairs (steps.RemoveDir h n) (steps.RemoveDir k n)
+  make_link' : (h k : ℕ) (n text : List ℕ) → SameNumbers pairs h k
+      → Paired pairs (steps.MakeLink h n text) (steps.MakeLink k n text)
+  remove_file' : (h k : ℕ) (n : List ℕ) → SameNumbers pairs h k
+      → Paired pairs (steps.RemoveFile h n) (steps.RemoveFile k n)
+  remove_dir' : (h k : ℕ) (n : List ℕ) → SameNumbers pairs h k
+      → Paired pairs (steps.RemoveDir h n) (steps.RemoveDir k n)
   rename' : (h k : ℕ) (n : List ℕ) (d e : ℕ) (m : List ℕ) (mode : Mode) → SameNumbers pairs h k → SameNumbers pairs d e
       → Paired pairs (steps.Rename h n d m mode) (steps.Rename k n e m mode)
 
@@ -84,40 +88,68 @@ module _ (pairs : Pairs) where
   paired_of (steps.Open h n) (steps.Open k m) same =
       let first : ◌≡◌ {A = StepWith ℕ} (steps.Open 0 n) (steps.Open 0 m) = same (λ h. 0) (λ h. 0) zero_agrees in
       let names : n ≡ m = cc (first) in
-      subst (λ m. Paired pairs (steps.Open h n) (steps.Open k m)) names (open' h k n (λ f g agree. let e : ◌≡◌ {A = StepWith ℕ} (steps.Open (f h) n) (steps.Open (g k) m) = same f g agree in cc (e)))
-  paired_of (steps.Dup h) (steps.Dup k) same = dup' h k (λ f g agree. let e : ◌≡◌ {A = StepWith ℕ} (steps.Dup (f h)) (steps.Dup (g k)) = same f g agree in cc (e))
-  paired_of (steps.Parent h) (steps.Parent k) same = parent' h k (λ f g agree. let e : ◌≡◌ {A = StepWith ℕ} (steps.Parent (f h)) (steps.Parent (g k)) = same f g agree in cc (e))
-  paired_of (steps.ReadLink h) (steps.ReadLink k) same = read' h k (λ f g agree. let e : ◌≡◌ {A = StepWith ℕ} (steps.ReadLink (f h)) (steps.ReadLink (g k)) = same f g agree in cc (e))
+      subst (λ m. Paired pairs (steps.Open h n) (steps.Open k m)) names
+      (open' h k n (λ f g agree. let e : ◌≡◌ {A = StepWith ℕ} (steps.Open (f h) n) (steps.Open (g k) m) =
+      same f g agree in cc (e)))
+  paired_of (steps.Dup h) (steps.Dup k) same =
+      dup' h k (λ f g agree. let e : ◌≡◌ {A = StepWith ℕ} (steps.Dup (f h)) (steps.Dup (g k)) = same f g agree in
+      cc (e))
+  paired_of (steps.Parent h) (steps.Parent k) same =
+      parent' h k (λ f g agree. let e : ◌≡◌ {A = StepWith ℕ} (steps.Parent (f h)) (steps.Parent (g k)) =
+      same f g agree in cc (e))
+  paired_of (steps.ReadLink h) (steps.ReadLink k) same =
+      read' h k (λ f g agree. let e : ◌≡◌ {A = StepWith ℕ} (steps.ReadLink (f h)) (steps.ReadLink (g k)) =
+      same f g agree in cc (e))
   paired_of (steps.NameBelow r h) (steps.NameBelow q k) same =
-      below' r q h k (λ f g agree. let e : ◌≡◌ {A = StepWith ℕ} (steps.NameBelow (f r) (f h)) (steps.NameBelow (g q) (g k)) = same f g agree in cc (e))
-      (λ f g agree. let e : ◌≡◌ {A = StepWith ℕ} (steps.NameBelow (f r) (f h)) (steps.NameBelow (g q) (g k)) = same f g agree in cc (e))
-  paired_of (steps.List h) (steps.List k) same = list' h k (λ f g agree. let e : ◌≡◌ {A = StepWith ℕ} (steps.List (f h)) (steps.List (g k)) = same f g agree in cc (e))
-  paired_of (steps.Close h) (steps.Close k) same = close' h k (λ f g agree. let e : ◌≡◌ {A = StepWith ℕ} (steps.Close (f h)) (steps.Close (g k)) = same f g agree in cc (e))
+      below' r q h k (λ f g agree. let e : ◌≡◌ {A = StepWith ℕ} (steps.NameBelow (f r) (f h))
+      (steps.NameBelow (g q) (g k)) = same f g agree in cc (e))
+      (λ f g agree. let e : ◌≡◌ {A = StepWith ℕ} (steps.NameBelow (f r) (f h)) (steps.NameBelow (g q) (g k)) =
+      same f g agree in cc (e))
+  paired_of (steps.List h) (steps.List k) same =
+      list' h k (λ f g agree. let e : ◌≡◌ {A = StepWith ℕ} (steps.List (f h)) (steps.List (g k)) = same f g agree in
+      cc (e))
+  paired_of (steps.Close h) (steps.Close k) same =
+      close' h k (λ f g agree. let e : ◌≡◌ {A = StepWith ℕ} (steps.Close (f h)) (steps.Close (g k)) = same f g agree in
+      cc (e))
   paired_of (steps.MakeDir h n) (steps.MakeDir k m) same =
       let first : ◌≡◌ {A = StepWith ℕ} (steps.MakeDir 0 n) (steps.MakeDir 0 m) = same (λ h. 0) (λ h. 0) zero_agrees in
       let names : n ≡ m = cc (first) in
-      subst (λ m. Paired pairs (steps.MakeDir h n) (steps.MakeDir k m)) names (make_dir' h k n (λ f g agree. let e : ◌≡◌ {A = StepWith ℕ} (steps.MakeDir (f h) n) (steps.MakeDir (g k) m) = same f g agree in cc (e)))
+      subst (λ m. Paired pairs (steps.MakeDir h n) (steps.MakeDir k m)) names
+      (make_dir' h k n (λ f g agree. let e : ◌≡◌ {A = StepWith ℕ} (steps.MakeDir (f h) n) (steps.MakeDir (g k) m) =
+      same f g agree in cc (e)))
   paired_of (steps.MakeFile h n) (steps.MakeFile k m) same =
       let first : ◌≡◌ {A = StepWith ℕ} (steps.MakeFile 0 n) (steps.MakeFile 0 m) = same (λ h. 0) (λ h. 0) zero_agrees in
       let names : n ≡ m = cc (first) in
-      subst (λ m. Paired pairs (steps.MakeFile h n) (steps.MakeFile k m)) names (make_file' h k n (λ f g agree. let e : ◌≡◌ {A = StepWith ℕ} (steps.MakeFile (f h) n) (steps.MakeFile (g k) m) = same f g agree in cc (e)))
+      subst (λ m. Paired pairs (steps.MakeFile h n) (steps.MakeFile k m)) names
+      (make_file' h k n (λ f g agree. let e : ◌≡◌ {A = StepWith ℕ} (steps.MakeFile (f h) n)
+      (steps.MakeFile (g k) m) = same f g agree in cc (e)))
   paired_of (steps.MakeLink h n text) (steps.MakeLink k m text') same =
-      let first : ◌≡◌ {A = StepWith ℕ} (steps.MakeLink 0 n text) (steps.MakeLink 0 m text') = same (λ h. 0) (λ h. 0) zero_agrees in
+      let first : ◌≡◌ {A = StepWith ℕ} (steps.MakeLink 0 n text) (steps.MakeLink 0 m text') =
+      same (λ h. 0) (λ h. 0) zero_agrees in
       let names : n ≡ m = cc (first) in
       let texts : text ≡ text' = cc (first) in
       subst (λ m. Paired pairs (steps.MakeLink h n text) (steps.MakeLink k m text')) names
       (subst (λ text'. Paired pairs (steps.MakeLink h n text) (steps.MakeLink k n text')) texts
-      (make_link' h k n text (λ f g agree. let e : ◌≡◌ {A = StepWith ℕ} (steps.MakeLink (f h) n text) (steps.MakeLink (g k) m text') = same f g agree in cc (e))))
+      (make_link' h k n text
+      (λ f g agree. let e : ◌≡◌ {A = StepWith ℕ} (steps.MakeLink (f h) n text) (steps.MakeLink (g k) m text') =
+      same f g agree in cc (e))))
   paired_of (steps.RemoveFile h n) (steps.RemoveFile k m) same =
-      let first : ◌≡◌ {A = StepWith ℕ} (steps.RemoveFile 0 n) (steps.RemoveFile 0 m) = same (λ h. 0) (λ h. 0) zero_agrees in
+      let first : ◌≡◌ {A = StepWith ℕ} (steps.RemoveFile 0 n) (steps.RemoveFile 0 m) =
+      same (λ h. 0) (λ h. 0) zero_agrees in
       let names : n ≡ m = cc (first) in
-      subst (λ m. Paired pairs (steps.RemoveFile h n) (steps.RemoveFile k m)) names (remove_file' h k n (λ f g agree. let e : ◌≡◌ {A = StepWith ℕ} (steps.RemoveFile (f h) n) (steps.RemoveFile (g k) m) = same f g agree in cc (e)))
+      subst (λ m. Paired pairs (steps.RemoveFile h n) (steps.RemoveFile k m)) names
+      (remove_file' h k n (λ f g agree. let e : ◌≡◌ {A = StepWith ℕ} (steps.RemoveFile (f h) n)
+      (steps.RemoveFile (g k) m) = same f g agree in cc (e)))
   paired_of (steps.RemoveDir h n) (steps.RemoveDir k m) same =
-      let first : ◌≡◌ {A = StepWith ℕ} (steps.RemoveDir 0 n) (steps.RemoveDir 0 m) = same (λ h. 0) (λ h. 0) zero_agrees in
+      let first : ◌≡◌ {A = StepWith ℕ} (steps.RemoveDir 0 n) (steps.RemoveDir 0 m) =
+      same (λ h. 0) (λ h. 0) zero_agrees in
       let names : n ≡ m = cc (first) in
-      subst (λ m. Paired pairs (steps.RemoveDir h n) (steps.RemoveDir k m)) names (remove_dir' h k n (λ f g agree. let e : ◌≡◌ {A = StepWith ℕ} (steps.RemoveDir (f h) n) (steps.RemoveDir (g k) m) = same f g agree in cc (e)))
+      subst (λ m. Paired pairs (steps.RemoveDir h n) (steps.RemoveDir k m)) names
+      (remove_dir' h k n (λ f g agree. let e : ◌≡◌ {A = StepWith ℕ} (steps.RemoveDir (f h) n)
+      (steps.RemoveDir (g k) m) = same f g agree in cc (e)))
   paired_of (steps.Rename h n d m mode) (steps.Rename k n' e m' mode') same =
-      let first : ◌≡◌ {A = StepWith ℕ} (steps.Rename 0 n 0 m mode) (steps.Rename 0 n' 0 m' mode') = same (λ h. 0) (λ h. 0) zero_agrees in
+      let first : ◌≡◌ {A = StepWith ℕ} (steps.Rename 0 n 0 m mode) (steps.Rename 0 n' 0 m' mode') =
+      same (λ h. 0) (λ h. 0) zero_agrees in
       let old : n ≡ n' = cc (first) in
       let new : m ≡ m' = cc (first) in
       let modes : mode ≡ mode' = cc (first) in
@@ -125,8 +157,10 @@ module _ (pairs : Pairs) where
       (subst (λ m'. Paired pairs (steps.Rename h n d m mode) (steps.Rename k n e m' mode')) new
       (subst (λ mode'. Paired pairs (steps.Rename h n d m mode) (steps.Rename k n e m mode')) modes
       (rename' h k n d e m mode
-      (λ f g agree. let q : ◌≡◌ {A = StepWith ℕ} (steps.Rename (f h) n (f d) m mode) (steps.Rename (g k) n' (g e) m' mode') = same f g agree in cc (q))
-      (λ f g agree. let q : ◌≡◌ {A = StepWith ℕ} (steps.Rename (f h) n (f d) m mode) (steps.Rename (g k) n' (g e) m' mode') = same f g agree in cc (q)))))
+      (λ f g agree. let q : ◌≡◌ {A = StepWith ℕ} (steps.Rename (f h) n (f d) m mode)
+      (steps.Rename (g k) n' (g e) m' mode') = same f g agree in cc (q))
+      (λ f g agree. let q : ◌≡◌ {A = StepWith ℕ} (steps.Rename (f h) n (f d) m mode)
+      (steps.Rename (g k) n' (g e) m' mode') = same f g agree in cc (q)))))
   paired_of x y same = absurd (differ (same (λ h. 0) (λ h. 0) zero_agrees))
     where
       differ : step_by (λ h. 0) x ≡ step_by (λ h. 0) y → ⊥
@@ -137,10 +171,12 @@ module _ (pairs : Pairs) where
 pub data AlikeEnds (s t : State) (a : ℕ) (pairs : Pairs) : Outcome → Outcome → Type 0 where
   tells : (answer : Answer) → only_tells answer ≡ true → AlikeEnds s t a pairs (answered s answer) (answered t answer)
   opens_on : (x : ℕ) (what : Object)
-      → AlikeEnds s t a pairs (record { answer = Opened (length s.handles) x (kind_of what); after = with_handle s a x })
+      → AlikeEnds s t a pairs
+      (record { answer = Opened (length s.handles) x (kind_of what); after = with_handle s a x })
       (record { answer = Opened (length t.handles) x (kind_of what); after = with_handle t a x })
   closes : (h k : ℕ) → ((j l : ℕ) → pairs j l ≡ true → (h ≡ j → k ≡ l) × (k ≡ l → h ≡ j))
-      → AlikeEnds s t a pairs (record { answer = Done; after = record { nodes = s.nodes; handles = slice_set s.handles h None } })
+      → AlikeEnds s t a pairs
+      (record { answer = Done; after = record { nodes = s.nodes; handles = slice_set s.handles h None } })
       (record { answer = Done; after = record { nodes = t.nodes; handles = slice_set t.handles k None } })
   changes_to : (nodes : List Inode)
       → AlikeEnds s t a pairs (record { answer = Done; after = record { nodes = nodes; handles = s.handles } })
@@ -156,9 +192,12 @@ module _ (pairs : Pairs) (s : State) (handles : List (Option OpenHandle)) (a : �
 
   pub on_both : (o p : Option ℕ) → o ≡ p → (F G : ℕ → Outcome) → ((x : ℕ) → Ends (F x) (G x))
       → Ends (with_some o (refused s BadHandle) F) (with_some p (refused (other s handles) BadHandle) G)
-  on_both o p e F G r = subst (λ p. Ends (with_some o (refused s BadHandle) F) (with_some p (refused (other s handles) BadHandle) G)) e (by o)
+  on_both o p e F G r =
+      subst (λ p. Ends (with_some o (refused s BadHandle) F) (with_some p (refused (other s handles) BadHandle) G)) e
+      (by o)
     where
-      by : (o : Option ℕ) → Ends (with_some o (refused s BadHandle) F) (with_some o (refused (other s handles) BadHandle) G)
+      by : (o : Option ℕ) → Ends (with_some o (refused s BadHandle) F)
+          (with_some o (refused (other s handles) BadHandle) G)
       by None = tells (Refused BadHandle) refl
       by (Some x) = r x
 
@@ -167,13 +206,15 @@ module _ (pairs : Pairs) (s : State) (handles : List (Option OpenHandle)) (a : �
   some_both None error F G r = tells (Refused error) refl
   some_both (Some x) error F G r = r x
 
-  pub if_both : (b c : Bool) → b ≡ c → (error : Errno) (o u : Outcome) → Ends o u → Ends (refuse_if b (refused s error) o) (refuse_if c (refused (other s handles) error) u)
+  pub if_both : (b c : Bool) → b ≡ c → (error : Errno) (o u : Outcome) → Ends o u
+      → Ends (refuse_if b (refused s error) o) (refuse_if c (refused (other s handles) error) u)
   if_both true true e error o u r = tells (Refused error) refl
   if_both false false e error o u r = r
   if_both true false e error o u r = absurd (true≢false e)
   if_both false true e error o u r = absurd (false≢true e)
 
-  pub opens_both : is_full s a ≡ is_full (other s handles) a → (x : ℕ) → Ends (opens s a x) (opens (other s handles) a x)
+  pub opens_both : is_full s a ≡ is_full (other s handles) a → (x : ℕ)
+      → Ends (opens s a x) (opens (other s handles) a x)
   opens_both same x =
       if_both (is_full s a) (is_full (other s handles) a) same TooMany _ _
       (some_both (object_at s.nodes x) NotFound _ _ (λ what. opens_on x what))
@@ -188,7 +229,8 @@ module _ (pairs : Pairs) (s : State) (handles : List (Option OpenHandle)) (a : �
   shows_both None = tells NotBelow refl
   shows_both (Some names) = tells (Names (reverse names)) refl
 
-  pub changes_both : (changed : Result (List Inode) Errno) → Ends (changes s changed) (changes (other s handles) changed)
+  pub changes_both : (changed : Result (List Inode) Errno)
+      → Ends (changes s changed) (changes (other s handles) changed)
   changes_both (Err error) = tells (Refused error) refl
   changes_both (Ok nodes) = changes_to nodes
 
@@ -204,7 +246,8 @@ grown_old pairs h k j l p = ap (λ b. b || ((j == h) && (l == k))) p
 pub grown_cases : (pairs : Pairs) (h k j l : ℕ) → grown pairs h k j l ≡ true → (pairs j l ≡ true) ⊎ ((j ≡ h) × (l ≡ k))
 grown_cases pairs h k j l p = by (pairs j l) (j == h) (l == k) refl refl refl p
   where
-    by : (b c d : Bool) → pairs j l ≡ b → (j == h) ≡ c → (l == k) ≡ d → (b || (c && d)) ≡ true → (pairs j l ≡ true) ⊎ ((j ≡ h) × (l ≡ k))
+    by : (b c d : Bool) → pairs j l ≡ b → (j == h) ≡ c → (l == k) ≡ d → (b || (c && d)) ≡ true
+        → (pairs j l ≡ true) ⊎ ((j ≡ h) × (l ≡ k))
     by true c d e e' e'' q = inl e
     by false true true e e' e'' q = inr (eqb-true j h e', eqb-true l k e'')
     by false true false e e' e'' q = absurd (false≢true q)
@@ -272,10 +315,12 @@ closed_is NotBelow step = refl
 closed_is (Listed names) step = refl
 closed_is (Refused error) step = refl
 
-closed_same : (answer : Answer) (x y : StepWith ℕ) → is_close x ≡ is_close y → closed_count answer x ≡ closed_count answer y
+closed_same : (answer : Answer) (x y : StepWith ℕ) → is_close x ≡ is_close y
+    → closed_count answer x ≡ closed_count answer y
 closed_same answer x y e = closed_is answer x ∙ ap (closed_by answer) e ∙ sym (closed_is answer y)
 
-pub counts_alike : {pairs : Pairs} {s t : State} {a : ℕ} {o u : Outcome} (x y : StepWith ℕ) → is_close x ≡ is_close y → AlikeEnds s t a pairs o u
+pub counts_alike : {pairs : Pairs} {s t : State} {a : ℕ} {o u : Outcome} (x y : StepWith ℕ) → is_close x ≡ is_close y
+    → AlikeEnds s t a pairs o u
     → (opened_count o.answer ≡ opened_count u.answer) × (closed_count o.answer x ≡ closed_count u.answer y)
 counts_alike x y e (tells answer e') = (refl, closed_same answer x y e)
 counts_alike x y e (opens_on z what) = (refl, refl)

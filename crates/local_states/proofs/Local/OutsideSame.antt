@@ -20,12 +20,14 @@ grown_outside b c after others grown a [] e = refl
 grown_outside b c after others grown a (root ∷ roots) e =
     let head : changes_outside a root b ≡ changes_outside a root c = cc (e) in
     let tail : outside_from b (suc a) roots ≡ outside_from c (suc a) roots = cc (e) in
-    let first : changes_outside a root after ≡ changes_outside a root others = same_again _ _ _ _ head (grown.outside a root) in
+    let first : changes_outside a root after ≡ changes_outside a root others =
+    same_again _ _ _ _ head (grown.outside a root) in
     let rest = grown_outside b c after others grown (suc a) roots tail in
     λ i. first i ∷ rest i
 
 -- a turn lets both books grow alike
-turns_grow : (w v : WorldView) (luck : Luck) (i : ℕ) → SameParts w v → GrownAlike w.book v.book (turn luck w i).book (turn luck v i).book
+turns_grow : (w v : WorldView) (luck : Luck) (i : ℕ) → SameParts w v
+    → GrownAlike w.book v.book (turn luck w i).book (turn luck v i).book
 turns_grow w v luck i same = ⊎_elim seated beyond (before_or_not i (length w.seats))
   where
     seated : i < length w.seats → GrownAlike w.book v.book (turn luck w i).book (turn luck v i).book
@@ -34,7 +36,8 @@ turns_grow w v luck i same = ⊎_elim seated beyond (before_or_not i (length w.s
     beyond : length w.seats ≤ i → GrownAlike w.book v.book (turn luck w i).book (turn luck v i).book
     beyond over =
         subst (λ (u : WorldView). GrownAlike w.book v.book u.book (turn luck v i).book) (sym (no_turn luck w i over))
-        (subst (λ (u : WorldView). GrownAlike w.book v.book w.book u.book) (sym (no_turn luck v i (subst (λ n. n ≤ i) same.seats over)))
+        (subst (λ (u : WorldView). GrownAlike w.book v.book w.book u.book)
+        (sym (no_turn luck v i (subst (λ n. n ≤ i) same.seats over)))
         (not_grown w.book v.book))
 
 pub same_worlds_act : SameWorldsActOutsideAlike
@@ -43,7 +46,8 @@ same_worlds_act told w v luck i same = record {
   roots = roots_stay told luck w i ∙ same.roots ∙ sym (roots_stay told luck v i);
   outside =
       ap (λ roots. outside_from (turn luck w i).book 0 roots) (roots_stay told luck w i)
-      ∙ grown_outside w.book v.book (turn luck w i).book (turn luck v i).book (turns_grow w v luck i same.parts) 0 (roots_of told w)
+      ∙ grown_outside w.book v.book (turn luck w i).book (turn luck v i).book (turns_grow w v luck i same.parts) 0
+      (roots_of told w)
       (same.outside ∙ ap (λ roots. outside_from v.book 0 roots) (sym same.roots))
       ∙ ap (λ roots. outside_from (turn luck v i).book 0 roots) (same.roots ∙ sym (roots_stay told luck v i));
 }

@@ -63,7 +63,8 @@ part_back s t x y part =
     let actor = one_actor x y part.like in record {
       like = sym part.like;
       pairs = λ at k h are. subst (λ a. IsOwnPair a t s k h) actor
-          (pair_back (actor_of x) s t h k (part.pairs at h k (turned_round (seat_handles x) (seat_handles y) at h k are)));
+          (pair_back (actor_of x) s t h k
+          (part.pairs at h k (turned_round (seat_handles x) (seat_handles y) at h k are)));
       apart = λ at k h are before l j lt those.
           let both = part.apart at h k (turned_round (seat_handles x) (seat_handles y) at h k are) before j l lt
           (turned_round (seat_handles x) (seat_handles y) before j l those) in
@@ -80,7 +81,8 @@ given_join s t u h k l (inr p) (inl q) = inl (omega (arith, p.0, p.1, q.0), q.1)
 given_join s t u h k l (inr p) (inr q) = inr (p.0 ∙ q.0, p.1 ∙ q.1)
 
 -- the number of the second list at a place of the first
-pub number_there : (x y : Seat) → LikeSeats x y → (at h : ℕ) → slice_get (seat_handles x) at ≡ Some h → (k : ℕ) × AreAt (seat_handles x) (seat_handles y) at h k
+pub number_there : (x y : Seat) → LikeSeats x y → (at h : ℕ) → slice_get (seat_handles x) at ≡ Some h
+    → (k : ℕ) × AreAt (seat_handles x) (seat_handles y) at h k
 number_there x y like at h e =
     let same = same_numbers x y like in
     let lt : at < length (seat_handles x) = slice_get_within (seat_handles x) at h e in
@@ -95,7 +97,8 @@ part_join s t u x y z first second =
       pairs = λ at h l are.
           let k = number_there x y first.like at h are.here in
           let one = first.pairs at h k.0 k.1 in
-          let two = subst (λ a. IsOwnPair a t u k.0 l) actor (second.pairs at k.0 l (record { here = k.1.there; there = are.there })) in
+          let two = subst (λ a. IsOwnPair a t u k.0 l) actor
+          (second.pairs at k.0 l (record { here = k.1.there; there = are.there })) in
           record { given = given_join s t u h k.0 l one.given two.given; holds = one.holds ∙ two.holds };
       apart = λ at h l are before j n lt those.
           let k = number_there x y first.like at h are.here in
@@ -139,31 +142,40 @@ pub data IsOneBy (a : ℕ) (book : BookedHistory) : BookedHistory → Type 0 whe
 goes_books : (luck room : Bool) (book : BookedHistory) (ledger : LedgerView) (doing : Option CallView)
     → IsOneBy ledger.root.owner.actor book (goes_on luck room book ledger doing).book
 goes_books luck room book ledger None = as_it_was
-goes_books luck room book ledger (Some call) = by (stepped_books luck book ledger.root.owner.actor (due call.below call.doing))
+goes_books luck room book ledger (Some call) =
+    by (stepped_books luck book ledger.root.owner.actor (due call.below call.doing))
   where
     by : ((stepped_by luck book ledger.root.owner.actor (due call.below call.doing)).book ≡ book)
-        ⊎ ((stepped_by luck book ledger.root.owner.actor (due call.below call.doing)).book ≡ booked book ledger.root.owner.actor (due call.below call.doing))
-        → IsOneBy ledger.root.owner.actor book (stepped_by luck book ledger.root.owner.actor (due call.below call.doing)).book
+        ⊎ ((stepped_by luck book ledger.root.owner.actor (due call.below call.doing)).book
+        ≡ booked book ledger.root.owner.actor (due call.below call.doing))
+        → IsOneBy ledger.root.owner.actor book
+        (stepped_by luck book ledger.root.owner.actor (due call.below call.doing)).book
     by (inl e) = subst (λ b. IsOneBy ledger.root.owner.actor book b) (sym e) as_it_was
     by (inr e) = subst (λ b. IsOneBy ledger.root.owner.actor book b) (sym e) (one_more (due call.below call.doing))
 
-pub turned_books : (luck : Luck) (book : BookedHistory) (seat : Seat) → IsOneBy (actor_of seat) book (turned luck book seat.ledger seat.doing).book
+pub turned_books : (luck : Luck) (book : BookedHistory) (seat : Seat)
+    → IsOneBy (actor_of seat) book (turned luck book seat.ledger seat.doing).book
 turned_books luck book seat =
     let begun_seat = begun luck.start seat.ledger seat.doing in
-    subst (λ (root : Root). IsOneBy root.owner.actor book (turned luck book seat.ledger seat.doing).book) (begun_root luck.start seat.ledger seat.doing)
+    subst (λ (root : Root). IsOneBy root.owner.actor book (turned luck book seat.ledger seat.doing).book)
+    (begun_root luck.start seat.ledger seat.doing)
     (goes_books luck.step luck.room book begun_seat.ledger begun_seat.doing)
 
-grown_one : (a : ℕ) (book after : BookedHistory) → IsOneBy a book after → length (tree_now book).handles ≤ length (tree_now after).handles
+grown_one : (a : ℕ) (book after : BookedHistory) → IsOneBy a book after
+    → length (tree_now book).handles ≤ length (tree_now after).handles
 grown_one a book after as_it_was = omega arith
 grown_one a book after (one_more step) =
     let event : Event = record { actor = a; step = step; answer = answer_now book a step } in
-    subst (λ (t : State). length (tree_now book).handles ≤ length t.handles) (sym (after_events-append book.opening book.events (event ∷ [])))
+    subst (λ (t : State). length (tree_now book).handles ≤ length t.handles)
+    (sym (after_events-append book.opening book.events (event ∷ [])))
     (numbers_grow (tree_now book) a step).1
 
-pub turned_grows : (luck : Luck) (book : BookedHistory) (x : Seat) → length (tree_now book).handles ≤ length (tree_now (turned luck book x.ledger x.doing).book).handles
+pub turned_grows : (luck : Luck) (book : BookedHistory) (x : Seat)
+    → length (tree_now book).handles ≤ length (tree_now (turned luck book x.ledger x.doing).book).handles
 turned_grows luck book x = grown_one (actor_of x) book _ (turned_books luck book x)
 
-leaves_one : (a b : ℕ) → a ≢ b → (book after : BookedHistory) → IsOneBy a book after → Leaves b (tree_now book) (tree_now after)
+leaves_one : (a b : ℕ) → a ≢ b → (book after : BookedHistory) → IsOneBy a book after
+    → Leaves b (tree_now book) (tree_now after)
 leaves_one a b ne book after as_it_was = leaves_itself b (tree_now book)
 leaves_one a b ne book after (one_more step) =
     let event : Event = record { actor = a; step = step; answer = answer_now book a step } in
@@ -177,13 +189,17 @@ pub turned_leaves : (luck : Luck) (book : BookedHistory) (x y : Seat) → actor_
     → Leaves (actor_of y) (tree_now book) (tree_now (turned luck book x.ledger x.doing).book)
 turned_leaves luck book x y ne = leaves_one (actor_of x) (actor_of y) ne book _ (turned_books luck book x)
 
-pub turn_is : (luck : Luck) (w : WorldView) (i : ℕ) (x : Seat) → slice_get w.seats i ≡ Some x → turn luck w i ≡ turn_of luck w i (Some x)
+pub turn_is : (luck : Luck) (w : WorldView) (i : ℕ) (x : Seat) → slice_get w.seats i ≡ Some x
+    → turn luck w i ≡ turn_of luck w i (Some x)
 turn_is luck w i x e = ap (λ seat. turn_of luck w i seat) e
 
-pub others_seat : (luck : Luck) (w : WorldView) (i j : ℕ) (x y : Seat) → i ≢ j → slice_get w.seats j ≡ Some y → slice_get (turn_of luck w i (Some x)).seats j ≡ Some y
-others_seat luck w i j x y ne e = slice_get-set_other w.seats i (turned luck w.book x.ledger x.doing).seat j (λ q. ne (sym q)) ∙ e
+pub others_seat : (luck : Luck) (w : WorldView) (i j : ℕ) (x y : Seat) → i ≢ j → slice_get w.seats j ≡ Some y
+    → slice_get (turn_of luck w i (Some x)).seats j ≡ Some y
+others_seat luck w i j x y ne e =
+    slice_get-set_other w.seats i (turned luck w.book x.ledger x.doing).seat j (λ q. ne (sym q)) ∙ e
 
-still_given : (s t after : State) (h k : ℕ) → length s.handles ≤ length after.handles → k < length t.handles → GivenAlike s t h k → GivenAlike after t h k
+still_given : (s t after : State) (h k : ℕ) → length s.handles ≤ length after.handles → k < length t.handles
+    → GivenAlike s t h k → GivenAlike after t h k
 still_given s t after h k more lt (inl lts) = inl (omega (arith, more, lts.0), lt)
 still_given s t after h k more lt (inr one) = inl (omega (arith, more, lt, one.0, one.1), lt)
 
@@ -193,6 +209,9 @@ parts_stay w luck i j x y ne e e' differ =
     let leaves = turned_leaves luck w.book x y differ in (
       subst (λ (u : WorldView). slice_get u.seats j ≡ Some y) is (others_seat luck w i j x y ne e'),
       (λ t z part given. subst (λ (u : WorldView). SamePart (tree_now u.book) t y z) is
-          (part_kept (tree_now w.book) t (tree_now (turned luck w.book x.ledger x.doing).book) t y z leaves (leaves_itself (actor_of y) t)
-          (λ at h k are alike. still_given (tree_now w.book) t (tree_now (turned luck w.book x.ledger x.doing).book) h k leaves.numbers (given at k are.there) alike) part)),
+          (part_kept (tree_now w.book) t (tree_now (turned luck w.book x.ledger x.doing).book) t y z leaves
+          (leaves_itself (actor_of y) t)
+          (λ at h k are alike. still_given (tree_now w.book) t
+          (tree_now (turned luck w.book x.ledger x.doing).book) h k leaves.numbers (given at k are.there) alike)
+          part)),
     )

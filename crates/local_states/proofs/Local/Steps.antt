@@ -54,7 +54,8 @@ module _ (a : ℕ) (pairs : Pairs) (s t : State) (part : PartBy a pairs s t) whe
 
 -- ---- what a step comes to in both trees
 
-module _ (a : ℕ) (pairs : Pairs) (s : State) (handles : List (Option OpenHandle)) (part : PartBy a pairs s (other s handles)) where
+module _ (a : ℕ) (pairs : Pairs) (s : State) (handles : List (Option OpenHandle))
+    (part : PartBy a pairs s (other s handles)) where
   own_both : (x y : StepWith ℕ) → is_full s a ≡ is_full (other s handles) a → Paired pairs x y
       → AlikeEnds s (other s handles) a pairs (outcome s a x) (outcome (other s handles) a y)
   own_both x y same (open' h k n p) =
@@ -62,7 +63,8 @@ module _ (a : ℕ) (pairs : Pairs) (s : State) (handles : List (Option OpenHandl
       if_both pairs s handles a (not (is_dir s.nodes d)) _ refl NotDir _ _
       (some_both pairs s handles a (child s.nodes d n) NotFound _ _ (λ c. opens_both pairs s handles a same c)))
   own_both x y same (dup' h k p) =
-      on_both pairs s handles a _ _ (own_held a pairs s (other s handles) part h k p) _ _ (λ d. opens_both pairs s handles a same d)
+      on_both pairs s handles a _ _ (own_held a pairs s (other s handles) part h k p) _ _
+      (λ d. opens_both pairs s handles a same d)
   own_both x y same (parent' h k p) =
       on_both pairs s handles a _ _ (own_held a pairs s (other s handles) part h k p) _ _ (λ d.
       if_both pairs s handles a (not (is_dir s.nodes d)) _ refl NotDir _ _
@@ -76,7 +78,8 @@ module _ (a : ℕ) (pairs : Pairs) (s : State) (handles : List (Option OpenHandl
       (λ d. shows_both pairs s handles a (names_below s.nodes end_class d)))
   own_both x y same (list' h k p) =
       on_both pairs s handles a _ _ (own_held a pairs s (other s handles) part h k p) _ _ (λ d.
-      if_both pairs s handles a (not (is_dir s.nodes d)) _ refl NotDir _ _ (tells (Listed (sorted_names (names_in s.nodes d))) refl))
+      if_both pairs s handles a (not (is_dir s.nodes d)) _ refl NotDir _ _
+      (tells (Listed (sorted_names (names_in s.nodes d))) refl))
   own_both x y same (close' h k p) =
       on_both pairs s handles a _ _ (own_held a pairs s (other s handles) part h k p) _ _
       (λ d. closes h k (own_together a pairs s (other s handles) part h k p))
@@ -100,7 +103,8 @@ module _ (a : ℕ) (pairs : Pairs) (s : State) (handles : List (Option OpenHandl
       on_both pairs s handles a _ _ (own_held a pairs s (other s handles) part j l p') _ _
       (λ e. changes_both pairs s handles a (renames s.nodes d n e m mode)))
 
-own_ends : (a : ℕ) (pairs : Pairs) (s t : State) → PartBy a pairs s t → is_full s a ≡ is_full t a → (x y : StepWith ℕ) → Paired pairs x y
+own_ends : (a : ℕ) (pairs : Pairs) (s t : State) → PartBy a pairs s t → is_full s a ≡ is_full t a → (x y : StepWith ℕ)
+    → Paired pairs x y
     → AlikeEnds s t a pairs (outcome s a x) (outcome t a y)
 own_ends a pairs s t part full x y p = go t.nodes part.nodes part
   where
@@ -128,16 +132,20 @@ module _ (a x : ℕ) (s t : State) where
   old_holds : (h k : ℕ) → h < length s.handles → k < length t.handles → held s a h ≡ held t a k
       → held (with_handle s a x) a h ≡ held (with_handle t a x) a k
   old_holds h k lt lt' same =
-      ap (node_held a) (before s.handles (entry ∷ []) h lt) ∙ (same ∙ sym (ap (node_held a) (before t.handles (entry ∷ []) k lt')))
+      ap (node_held a) (before s.handles (entry ∷ []) h lt)
+      ∙ (same ∙ sym (ap (node_held a) (before t.handles (entry ∷ []) k lt')))
 
-  new_holds : (h k : ℕ) → h ≡ length s.handles → k ≡ length t.handles → held (with_handle s a x) a h ≡ held (with_handle t a x) a k
+  new_holds : (h k : ℕ) → h ≡ length s.handles → k ≡ length t.handles
+      → held (with_handle s a x) a h ≡ held (with_handle t a x) a k
   new_holds h k e e' =
       ap (λ n. node_held a (slice_get (s.handles ++ entry ∷ []) n)) e
       ∙ (ap (node_held a) (slice_get-last s.handles entry) ∙ (sym (ap (node_held a) (slice_get-last t.handles entry))
       ∙ sym (ap (λ n. node_held a (slice_get (t.handles ++ entry ∷ []) n)) e')))
 
-  none_holds : (h k : ℕ) → length s.handles < h → length t.handles < k → held (with_handle s a x) a h ≡ held (with_handle t a x) a k
-  none_holds h k lt lt' = ap (node_held a) (beyond s.handles entry h lt) ∙ sym (ap (node_held a) (beyond t.handles entry k lt'))
+  none_holds : (h k : ℕ) → length s.handles < h → length t.handles < k
+      → held (with_handle s a x) a h ≡ held (with_handle t a x) a k
+  none_holds h k lt lt' = ap (node_held a) (beyond s.handles entry h lt)
+      ∙ sym (ap (node_held a) (beyond t.handles entry k lt'))
 
   more_here : length (with_handle s a x).handles ≡ length s.handles + 1
   more_here = length-append s.handles (entry ∷ [])
@@ -156,27 +164,33 @@ module _ (a x : ℕ) (s t : State) where
       by (inr one) same = record {
         given = inr (one.0, more_here ∙ (ap (λ n. n + 1) one.1 ∙ sym more_there));
         holds = ⊎_elim (λ lt. old_holds h k lt (omega (arith, lt, one.0, one.1)) same)
-            (λ or. ⊎_elim (λ e. new_holds h k e (sym one.0 ∙ (e ∙ one.1))) (λ lt. none_holds h k lt (omega (arith, lt, one.0, one.1))) or)
+            (λ or. ⊎_elim (λ e. new_holds h k e (sym one.0 ∙ (e ∙ one.1)))
+            (λ lt. none_holds h k lt (omega (arith, lt, one.0, one.1))) or)
             (below_or h (length s.handles));
       }
 
-  new_more : (h k : ℕ) → h ≡ length s.handles → k ≡ length t.handles → IsOwnPair a (with_handle s a x) (with_handle t a x) h k
+  new_more : (h k : ℕ) → h ≡ length s.handles → k ≡ length t.handles
+      → IsOwnPair a (with_handle s a x) (with_handle t a x) h k
   new_more h k e e' = record {
     given = inl (omega (arith, e, more_here), omega (arith, e', more_there));
     holds = new_holds h k e e';
   }
 
 -- what is given alike is apart from the numbers to come
-apart_new : (s t : State) (h k j l : ℕ) → GivenAlike s t h k → j ≡ length s.handles → l ≡ length t.handles → AreApart h k j l
-apart_new s t h k j l (inl lt) e e' = ((λ q. absurd (omega (arith, lt.0, e, q))), (λ q. absurd (omega (arith, lt.1, e', q))))
-apart_new s t h k j l (inr one) e e' = ((λ q. sym one.0 ∙ (q ∙ (e ∙ (one.1 ∙ sym e')))), (λ q. one.0 ∙ (q ∙ (e' ∙ (sym one.1 ∙ sym e)))))
+apart_new : (s t : State) (h k j l : ℕ) → GivenAlike s t h k → j ≡ length s.handles → l ≡ length t.handles
+    → AreApart h k j l
+apart_new s t h k j l (inl lt) e e' =
+    ((λ q. absurd (omega (arith, lt.0, e, q))), (λ q. absurd (omega (arith, lt.1, e', q))))
+apart_new s t h k j l (inr one) e e' =
+    ((λ q. sym one.0 ∙ (q ∙ (e ∙ (one.1 ∙ sym e')))), (λ q. one.0 ∙ (q ∙ (e' ∙ (sym one.1 ∙ sym e)))))
 
 own_apart_more : {a : ℕ} {pairs : Pairs} {s t : State} → PartBy a pairs s t → (h k j l : ℕ)
     → (pairs h k ≡ true) ⊎ ((h ≡ length s.handles) × (k ≡ length t.handles))
     → (pairs j l ≡ true) ⊎ ((j ≡ length s.handles) × (l ≡ length t.handles))
     → AreApart h k j l
 own_apart_more part h k j l (inl p) (inl q) = part.apart h k j l p q
-own_apart_more {s = s} {t = t} part h k j l (inl p) (inr new) = apart_new s t h k j l (part.paired h k p).given new.0 new.1
+own_apart_more {s = s} {t = t} part h k j l (inl p) (inr new) =
+    apart_new s t h k j l (part.paired h k p).given new.0 new.1
 own_apart_more {s = s} {t = t} part h k j l (inr new) (inl q) =
     let both = apart_new s t j l h k (part.paired j l q).given new.0 new.1 in
     ((λ e. sym (both.0 (sym e))), (λ e. sym (both.1 (sym e))))
@@ -192,9 +206,11 @@ given_fewer s t h k j l (inl lt) =
     let same = length-set s.handles h None in
     let same' = length-set t.handles k None in
     inl (omega (arith, lt.0, same), omega (arith, lt.1, same'))
-given_fewer s t h k j l (inr one) = inr (one.0, length-set s.handles h None ∙ (one.1 ∙ sym (length-set t.handles k None)))
+given_fewer s t h k j l (inr one) =
+    inr (one.0, length-set s.handles h None ∙ (one.1 ∙ sym (length-set t.handles k None)))
 
-own_fewer : (a : ℕ) (s t : State) (h k j l : ℕ) → AreApart h k j l → IsOwnPair a s t j l → IsOwnPair a (closed_at s h) (closed_at t k) j l
+own_fewer : (a : ℕ) (s t : State) (h k j l : ℕ) → AreApart h k j l → IsOwnPair a s t j l
+    → IsOwnPair a (closed_at s h) (closed_at t k) j l
 own_fewer a s t h k j l both old = record {
   given = given_fewer s t h k j l old.given;
   holds = ⊎_elim closed another (cases_eq h j);
@@ -217,7 +233,8 @@ own_fewer a s t h k j l both old = record {
 pub record AfterOwnStep (a : ℕ) (pairs : Pairs) (s t : State) (o u : Outcome) : Type 0 where
   pub more : Pairs
   pub grows : (h k : ℕ) → pairs h k ≡ true → more h k ≡ true
-  pub news : (h k : ℕ) → more h k ≡ true → (pairs h k ≡ true) ⊎ ((h < length o.after.handles) × (k < length u.after.handles))
+  pub news : (h k : ℕ) → more h k ≡ true
+      → (pairs h k ≡ true) ⊎ ((h < length o.after.handles) × (k < length u.after.handles))
   pub trees : PartBy a more o.after u.after
   pub answers : SameAnswers more o.answer u.answer
   pub numbers : length o.after.handles + length t.handles ≡ length u.after.handles + length s.handles
@@ -247,15 +264,18 @@ after_own_ends {a} {pairs} {s} {t} part (tells answer e) held_handles open_handl
 after_own_ends {a} {pairs} {s} {t} part (opens_on x what) held_handles open_handles = record {
   more = grown pairs (length s.handles) (length t.handles);
   grows = λ h k p. grown_old pairs (length s.handles) (length t.handles) h k p;
-  news = λ h k p. ⊎_elim (λ old. inl old) (λ new. inr (omega (arith, new.0, more_here a x s t), omega (arith, new.1, more_there a x s t)))
+  news = λ h k p. ⊎_elim (λ old. inl old)
+      (λ new. inr (omega (arith, new.0, more_here a x s t), omega (arith, new.1, more_there a x s t)))
       (grown_cases pairs (length s.handles) (length t.handles) h k p);
   trees = record {
     nodes = part.nodes;
     held_handles = held_handles;
-    paired = λ h k p. ⊎_elim (λ old. old_more a x s t h k (part.paired h k old)) (λ new. new_more a x s t h k new.0 new.1)
+    paired = λ h k p. ⊎_elim (λ old. old_more a x s t h k (part.paired h k old))
+        (λ new. new_more a x s t h k new.0 new.1)
         (grown_cases pairs (length s.handles) (length t.handles) h k p);
     apart = λ h k j l p q. own_apart_more part h k j l
-        (grown_cases pairs (length s.handles) (length t.handles) h k p) (grown_cases pairs (length s.handles) (length t.handles) j l q);
+        (grown_cases pairs (length s.handles) (length t.handles) h k p)
+        (grown_cases pairs (length s.handles) (length t.handles) j l q);
   };
   answers = λ f g agree. ap (λ h. Opened h x (kind_of what))
       (agree (length s.handles) (length t.handles) (grown_new pairs (length s.handles) (length t.handles)));
@@ -273,7 +293,8 @@ after_own_ends {a} {pairs} {s} {t} part (closes h k both) held_handles open_hand
     apart = part.apart;
   };
   answers = λ f g agree. refl;
-  numbers = none_each _ _ (length s.handles) (length t.handles) (length-set s.handles h None) (length-set t.handles k None);
+  numbers = none_each _ _ (length s.handles) (length t.handles) (length-set s.handles h None)
+      (length-set t.handles k None);
   open_handles = open_handles;
 }
 after_own_ends {a} {pairs} {s} {t} part (changes_to nodes) held_handles open_handles = record {

@@ -51,13 +51,16 @@ module _ (w v : WorldView) (luck : Luck) (i : ℕ) (same : SameParts w v) (lt : 
   numbers_again : length (tree_now (turn luck w i).book).handles ≡ length (tree_now (turn luck v i).book).handles
   numbers_again = same_again _ _ _ _ same.numbers gone.grown.numbers
 
-  module _ (x y : Seat) (is_x : slice_get w.seats i ≡ Some x) (is_y : slice_get v.seats i ≡ Some y) (like : LikeSeats x y) where
-    numbers_after : length (tree_now (turned luck w.book x.ledger x.doing).book).handles ≡ length (tree_now (turned luck v.book y.ledger y.doing).book).handles
+  module _ (x y : Seat) (is_x : slice_get w.seats i ≡ Some x) (is_y : slice_get v.seats i ≡ Some y)
+      (like : LikeSeats x y) where
+    numbers_after : length (tree_now (turned luck w.book x.ledger x.doing).book).handles ≡ length
+        (tree_now (turned luck v.book y.ledger y.doing).book).handles
     numbers_after =
         ap (λ (u : WorldView). length (tree_now u.book).handles) (sym (turn_is luck w i x is_x))
         ∙ (numbers_again ∙ ap (λ (u : WorldView). length (tree_now u.book).handles) (turn_is luck v i y is_y))
 
-    other_part : (j : ℕ) → i ≢ j → SamePartAt w v j → SamePartAt (turn_of luck w i (Some x)) (turn_of luck v i (Some y)) j
+    other_part : (j : ℕ) → i ≢ j → SamePartAt w v j
+        → SamePartAt (turn_of luck w i (Some x)) (turn_of luck v i (Some y)) j
     other_part j ne old =
         let actor : actor_of x ≡ i = same.numbered i x is_x in
         let others : actor_of old.here ≡ j = same.numbered j old.here old.is_here in
@@ -75,10 +78,12 @@ module _ (w v : WorldView) (luck : Luck) (i : ℕ) (same : SameParts w v) (lt : 
               (λ place h k are given. given_after h k here.numbers there.numbers given) old.part;
         }
       where
-        given_after : (h k : ℕ) → length (tree_now w.book).handles ≤ length (tree_now (turned luck w.book x.ledger x.doing).book).handles
+        given_after : (h k : ℕ)
+            → length (tree_now w.book).handles ≤ length (tree_now (turned luck w.book x.ledger x.doing).book).handles
             → length (tree_now v.book).handles ≤ length (tree_now (turned luck v.book y.ledger y.doing).book).handles
             → GivenAlike (tree_now w.book) (tree_now v.book) h k
-            → GivenAlike (tree_now (turned luck w.book x.ledger x.doing).book) (tree_now (turned luck v.book y.ledger y.doing).book) h k
+            → GivenAlike (tree_now (turned luck w.book x.ledger x.doing).book)
+            (tree_now (turned luck v.book y.ledger y.doing).book) h k
         given_after h k more more' (inl lts) = inl (still_within _ _ _ lts.0 more, still_within _ _ _ lts.1 more')
         given_after h k more more' (inr one) = inr (one.0, numbers_after)
 
@@ -88,14 +93,17 @@ module _ (w v : WorldView) (luck : Luck) (i : ℕ) (same : SameParts w v) (lt : 
         own : i ≡ j → actor_of z ≡ j
         own q =
             let new : slice_get (turn_of luck w i (Some x)).seats j ≡ Some (turned luck w.book x.ledger x.doing).seat =
-            subst (λ n. slice_get (turn_of luck w i (Some x)).seats n ≡ Some (turned luck w.book x.ledger x.doing).seat) q
+            subst (λ n. slice_get (turn_of luck w i (Some x)).seats n ≡ Some (turned luck w.book x.ledger x.doing).seat)
+            q
             (set_at w.seats i (turned luck w.book x.ledger x.doing).seat (slice_get_within w.seats i x is_x)) in
             let is : (turned luck w.book x.ledger x.doing).seat ≡ z = same_Some _ _ (sym new ∙ e) in
             ap (λ (seat : Seat). actor_of seat) (sym is)
-            ∙ (ap (λ (root : Root). root.owner.actor) (turn_keeps_root luck w.book x.ledger x.doing) ∙ (same.numbered i x is_x ∙ q))
+            ∙ (ap (λ (root : Root). root.owner.actor) (turn_keeps_root luck w.book x.ledger x.doing)
+            ∙ (same.numbered i x is_x ∙ q))
 
         others : i ≢ j → actor_of z ≡ j
-        others ne = same.numbered j z (sym (slice_get-set_other w.seats i (turned luck w.book x.ledger x.doing).seat j (λ r. ne (sym r))) ∙ e)
+        others ne = same.numbered j z
+            (sym (slice_get-set_other w.seats i (turned luck w.book x.ledger x.doing).seat j (λ r. ne (sym r))) ∙ e)
 
   parts_again : (j : ℕ) → j < length w.seats → SamePartAt (turn luck w i) (turn luck v i) j
   parts_again j lt' = ⊎_elim own others (cases_eq i j)
@@ -137,7 +145,9 @@ same_turns w v luck i same = ⊎_elim seated beyond (before_or_not i (length w.s
 pub busy_alike : SameWorldsAreBusyAlike
 busy_alike w v i same = ⊎_elim seated beyond (before_or_not i (length w.seats))
   where
-    seated : i < length w.seats → (is_busy_in (slice_get w.seats i) ≡ is_busy_in (slice_get v.seats i)) × (is_within_in (slice_get w.seats i) ≡ is_within_in (slice_get v.seats i))
+    seated : i < length w.seats
+        → (is_busy_in (slice_get w.seats i) ≡ is_busy_in (slice_get v.seats i))
+        × (is_within_in (slice_get w.seats i) ≡ is_within_in (slice_get v.seats i))
     seated lt =
         let at = same.parts i lt in
         let busy = parts_busy (tree_now w.book) (tree_now v.book) at.here at.there at.part in (
@@ -145,7 +155,9 @@ busy_alike w v i same = ⊎_elim seated beyond (before_or_not i (length w.seats)
           ap is_within_in at.is_here ∙ (busy.1 ∙ sym (ap is_within_in at.is_there)),
         )
 
-    beyond : length w.seats ≤ i → (is_busy_in (slice_get w.seats i) ≡ is_busy_in (slice_get v.seats i)) × (is_within_in (slice_get w.seats i) ≡ is_within_in (slice_get v.seats i))
+    beyond : length w.seats ≤ i
+        → (is_busy_in (slice_get w.seats i) ≡ is_busy_in (slice_get v.seats i))
+        × (is_within_in (slice_get w.seats i) ≡ is_within_in (slice_get v.seats i))
     beyond over =
         let none = nobody w.seats i over ∙ sym (nobody v.seats i (subst (λ n. n ≤ i) same.seats over)) in
         (ap is_busy_in none, ap is_within_in none)
@@ -168,7 +180,8 @@ tell_alike w v same = record {
   nodes = same.nodes;
   held = λ a lt.
       let at = same.parts a lt in
-      subst (λ n. held_count (tree_now w.book) n ≡ held_count (tree_now v.book) n) (same.numbered a at.here at.is_here) at.part.held_handles;
+      subst (λ n. held_count (tree_now w.book) n ≡ held_count (tree_now v.book) n)
+      (same.numbered a at.here at.is_here) at.part.held_handles;
 }
   where
     alike : (i : ℕ) (x y : Seat) → slice_get w.seats i ≡ Some x → slice_get v.seats i ≡ Some y → LikeSeats x y

@@ -30,22 +30,29 @@ well_played w u [] run well = run
 well_played w u (i ∷ is) run well =
     let next : WorldView = turn run.0 w i in
     let here : next ≡ turn full w i = full_turn run.0 w i (well_before next u is run.1 well) in
-    join u (plays next is) (plays (turn full w i) is) (well_played next u is run.1 well) (ap_at (λ (x : WorldView). plays x is) next (turn full w i) here)
+    join u (plays next is) (plays (turn full w i) is) (well_played next u is run.1 well)
+    (ap_at (λ (x : WorldView). plays x is) next (turn full w i) here)
 
 all_well : (is : List ℕ) (w v : WorldView) (gone : AllGoToEnd w is v) → EndsWell v → AllPlayed is w v gone
 all_well [] w v gone well = tt
 all_well (i ∷ is) w v gone well =
-    let rest = ends_run gone.0 v is gone.2 in
-    (well_played w gone.0 (again i gone.1.turns) gone.1.run (well_before gone.0 v rest.0 rest.1 well), all_well is gone.0 v gone.2 well)
+    let rest = ends_run gone.0 v is gone.2 in (
+      well_played w gone.0 (again i gone.1.turns) gone.1.run (well_before gone.0 v rest.0 rest.1 well),
+      all_well is gone.0 v gone.2 well,
+    )
 
-out_well : (w : WorldView) (schedule : List ℕ) (tree : State) (events : List Event) (replies : List (List Outcome)) (kept : List StandingObject)
-    (ran : RunsTo w schedule tree events replies kept) → replies_out_of_memory replies ≡ false → OutPlayed w schedule ran.end ran.runs
+out_well : (w : WorldView) (schedule : List ℕ) (tree : State) (events : List Event) (replies : List (List Outcome))
+    (kept : List StandingObject)
+    (ran : RunsTo w schedule tree events replies kept) → replies_out_of_memory replies ≡ false
+    → OutPlayed w schedule ran.end ran.runs
 out_well w schedule tree events replies kept ran none =
-    let quiet : replies_out_of_memory (replies_in (ledgers_in ran.end.seats)) ≡ false = sym (ap replies_out_of_memory ran.reports.are_replies) ∙ none in
+    let quiet : replies_out_of_memory (replies_in (ledgers_in ran.end.seats)) ≡ false =
+    sym (ap replies_out_of_memory ran.reports.are_replies) ∙ none in
     let well : EndsWell ran.end = record { turns = []; end = ran.end; run = refl; over = ran.over; none = quiet } in
     let rest = ends_run ran.runs.middle ran.end (numbers_below (length w.seats)) ran.runs.rest in
     record {
-      scheduled = well_played w ran.runs.middle schedule ran.runs.scheduled (well_before ran.runs.middle ran.end rest.0 rest.1 well);
+      scheduled = well_played w ran.runs.middle schedule ran.runs.scheduled
+          (well_before ran.runs.middle ran.end rest.0 rest.1 well);
       rest = all_well (numbers_below (length w.seats)) ran.runs.middle ran.end ran.runs.rest well;
     }
 

@@ -35,7 +35,8 @@ pub rows_grow : {c d : ComponentsView} {actors : ℕ} → Grows c d → AreRows 
 rows_grow {c} {d} grows rows = record {
   many = grows.parts.many ∙ rows.many;
   own = λ i row e.
-      let within : i < length c.parts = let lt = slice_get_within d.parts i row e in let same = grows.parts.many in omega arith in
+      let within : i < length c.parts = let lt = slice_get_within d.parts i row e in let same = grows.parts.many in
+      omega arith in
       let old = within_some c.parts i within in
       let more = grows.parts.each i old.0 old.1 in
       let same : more.0 ≡ row = same_Some more.0 row (sym more.1.0 ∙ e) in

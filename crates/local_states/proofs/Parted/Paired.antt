@@ -6,15 +6,19 @@ use Rattle.layered_search.proofs.Places.{at_or_below}
 use Rattle.local_states.specs.HandleTables.{AreGivenAs, AreGivenPairs}
 use Rattle.local_states.specs.Paired.{AreAt, IsApartBefore}
 
-pub at_places : (hs ks : List ℕ) (i h k : ℕ) → i < length hs → i < length ks → h ≡ get_or hs i h → k ≡ get_or ks i k → AreAt hs ks i h k
-at_places hs ks i h k lt lt' p q = record { here = slice_get_read hs (length hs) i h refl lt p; there = slice_get_read ks (length ks) i k refl lt' q }
+pub at_places : (hs ks : List ℕ) (i h k : ℕ) → i < length hs → i < length ks → h ≡ get_or hs i h → k ≡ get_or ks i k
+    → AreAt hs ks i h k
+at_places hs ks i h k lt lt' p q =
+    record { here = slice_get_read hs (length hs) i h refl lt p; there = slice_get_read ks (length ks) i k refl lt' q }
 
 -- what holds of each pair before that place
 abbrev pub PairedBefore : ℕ → ℕ → List ℕ → List ℕ → ℕ → Type 0
-PairedBefore given others hs ks n = (at h k : ℕ) → at < n → AreAt hs ks at h k → AreGivenAs given others h k × IsApartBefore hs ks h k at
+PairedBefore given others hs ks n = (at h k : ℕ) → at < n → AreAt hs ks at h k
+    → AreGivenAs given others h k × IsApartBefore hs ks h k at
 
 pub paired_more : (given others : ℕ) (hs ks : List ℕ) (n h k : ℕ) → PairedBefore given others hs ks n
-    → AreAt hs ks n h k → AreGivenAs given others h k → IsApartBefore hs ks h k n → PairedBefore given others hs ks (n + 1)
+    → AreAt hs ks n h k → AreGivenAs given others h k → IsApartBefore hs ks h k n
+    → PairedBefore given others hs ks (n + 1)
 paired_more given others hs ks n h k before are alike apart at i j lt those =
     ⊎_elim (λ below. before at i j below those) here (at_or_below at n lt)
   where
@@ -25,7 +29,8 @@ paired_more given others hs ks n h k before are alike apart at i j lt those =
         let Both : ℕ → ℕ → ℕ → Type 0 = λ m a b. AreGivenAs given others a b × IsApartBefore hs ks a b m in
         subst (λ m. Both m i j) (sym e) (subst (λ b. Both n i b) q (subst (λ a. Both n a k) p (alike, apart)))
 
-pub paired_all : (given others : ℕ) (hs ks : List ℕ) (n : ℕ) → length hs ≤ n → PairedBefore given others hs ks n → AreGivenPairs given others hs ks
+pub paired_all : (given others : ℕ) (hs ks : List ℕ) (n : ℕ) → length hs ≤ n → PairedBefore given others hs ks n
+    → AreGivenPairs given others hs ks
 paired_all given others hs ks n over before = record {
   given = λ at h k are. (before at h k (within at h are.here) are).0;
   apart = λ at h k are. (before at h k (within at h are.here) are).1;

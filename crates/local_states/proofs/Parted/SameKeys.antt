@@ -26,25 +26,31 @@ pub part_given : (s t : State) (x y : Seat) → SamePart s t x y → AreGiven s 
 part_given s t x y part given at k e =
     let h = number_there y x (sym part.like) at k e in
     let lt : h.0 < length s.handles = given at h.0 h.1.there in
-    ⊎_elim (λ both. both.1) (λ one. omega (arith, lt, one.0, one.1)) (part.pairs at h.0 k (record { here = h.1.there; there = h.1.here })).given
+    ⊎_elim (λ both. both.1) (λ one. omega (arith, lt, one.0, one.1))
+    (part.pairs at h.0 k (record { here = h.1.there; there = h.1.here })).given
 
-pub at_actor : {v : WorldView} {row : PartsView} {at : ℕ} (i : ℕ) → row.actor ≡ i → (is : IsPartIn row v at) → SamePartAt v is.other i
+pub at_actor : {v : WorldView} {row : PartsView} {at : ℕ} (i : ℕ) → row.actor ≡ i → (is : IsPartIn row v at)
+    → SamePartAt v is.other i
 at_actor {v} i own is = subst (λ n. SamePartAt v is.other n) own is.same
 
 -- two worlds have the part at one place
-pub one_part : (c : ComponentsView) (u v : WorldView) (i at actors : ℕ) → AreRows c.parts actors → IsPartAt c u i at → IsPartAt c v i at → SamePartAt u v i
+pub one_part : (c : ComponentsView) (u v : WorldView) (i at actors : ℕ) → AreRows c.parts actors → IsPartAt c u i at
+    → IsPartAt c v i at → SamePartAt u v i
 one_part c u v i at actors rows here there =
     let row : there.row ≡ here.row = same_Some there.row here.row (sym there.there ∙ here.there) in
     let is : IsPartIn here.row v at = subst (λ row. IsPartIn row v at) row there.is in
     let own : here.row.actor ≡ i = rows.own i here.row here.there in
     let part : is.part ≡ here.is.part = same_Some is.part here.is.part (sym is.there ∙ here.is.there) in
-    let kept : IsPartOf here.row.outcomes is.other here.row.actor here.is.part = subst (λ (p : PartView). IsPartOf here.row.outcomes is.other here.row.actor p) part is.is in
+    let kept : IsPartOf here.row.outcomes is.other here.row.actor here.is.part =
+    subst (λ (p : PartView). IsPartOf here.row.outcomes is.other here.row.actor p) part is.is in
     let others : SamePartAt here.is.other is.other i =
-    subst (λ n. SamePartAt here.is.other is.other n) own (one_kept here.row.outcomes here.is.other is.other here.row.actor here.is.part here.is.is kept) in
+    subst (λ n. SamePartAt here.is.other is.other n) own
+    (one_kept here.row.outcomes here.is.other is.other here.row.actor here.is.part here.is.is kept) in
     at_join (at_actor i own here.is) (at_join others (at_back (at_actor i own is)))
 
 -- the part is at its place for all worlds where it is the same
-pub part_of_same : (c : ComponentsView) (u v : WorldView) (i at actors : ℕ) → AreRows c.parts actors → SamePartAt u v i → IsPartAt c v i at → IsPartAt c u i at
+pub part_of_same : (c : ComponentsView) (u v : WorldView) (i at actors : ℕ) → AreRows c.parts actors → SamePartAt u v i
+    → IsPartAt c v i at → IsPartAt c u i at
 part_of_same c u v i at actors rows same part =
     let own : part.row.actor ≡ i = rows.own i part.row part.there in
     record {
@@ -61,7 +67,8 @@ part_of_same c u v i at actors rows same part =
 
 -- ---- whole worlds
 
-pub same_keys : (c : ComponentsView) (w u v : WorldView) (key : Key) → IsKey c w u key → IsKey c w v key → AreRows c.parts (length w.seats) → IsSame c.told u v
+pub same_keys : (c : ComponentsView) (w u v : WorldView) (key : Key) → IsKey c w u key → IsKey c w v key
+    → AreRows c.parts (length w.seats) → IsSame c.told u v
 same_keys c w u v key here there rows = record {
   parts = record {
     nodes = same_Some _ _ (sym here.nodes ∙ there.nodes);
@@ -87,7 +94,8 @@ given_same u v same given i x e =
     subst (AreGiven (tree_now u.book)) (same_Some at.there x (sym at.is_there ∙ e))
     (part_given (tree_now v.book) (tree_now u.book) at.here at.there at.part (given i at.here at.is_here))
 
-pub key_of_same : (c : ComponentsView) (w u v : WorldView) (key : Key) → IsKey c w v key → IsSame c.told v u → IsKey c w u key
+pub key_of_same : (c : ComponentsView) (w u v : WorldView) (key : Key) → IsKey c w v key → IsSame c.told v u
+    → IsKey c w u key
 key_of_same c w u v key is same =
     let nodes = same.parts.nodes in record {
       nodes = is.nodes ∙ ap Some nodes;
@@ -110,12 +118,14 @@ key_of_same c w u v key is same =
         let lt : i < length v.seats = subst (λ n. i < n) (sym same.parts.seats) (slice_get_within u.seats i x e) in
         let at = same.parts.parts i lt in
         let there : at.there ≡ x = same_Some at.there x (sym at.is_there ∙ e) in
-        ap (λ (seat : Seat). actor_of seat) (sym there) ∙ (sym (one_actor at.here at.there at.part.like) ∙ is.numbered i at.here at.is_here)
+        ap (λ (seat : Seat). actor_of seat) (sym there)
+        ∙ (sym (one_actor at.here at.there at.part.like) ∙ is.numbered i at.here at.is_here)
 
     parts : (i : ℕ) (own : Own) → slice_get key.own.items i ≡ Some own → IsPartAt c u i own.part
     parts i own e =
         let part = is.parts i own e in
-        let lt : part.row.actor < length v.seats = slice_get_within v.seats part.row.actor part.is.same.here part.is.same.is_here in
+        let lt : part.row.actor < length v.seats =
+        slice_get_within v.seats part.row.actor part.is.same.here part.is.same.is_here in
         record {
           row = part.row;
           there = part.there;
@@ -138,7 +148,8 @@ keys_back key other same = record {
 }
 
 -- a key and one with the same numbers are keys of one world
-pub key_again : (c : ComponentsView) (w v : WorldView) (key other : Key) → AreSameKeys key other → IsKey c w v key → IsKey c w v other
+pub key_again : (c : ComponentsView) (w v : WorldView) (key other : Key) → AreSameKeys key other → IsKey c w v key
+    → IsKey c w v other
 key_again c w v key other same is = record {
   nodes = ap (λ n. slice_get c.lists n) (sym same.nodes) ∙ is.nodes;
   lines = is.lines;
@@ -157,19 +168,24 @@ key_again c w v key other same is = record {
 
 -- the same turn leads worlds with one key to worlds with one key
 pub key_turned : (c d : ComponentsView) (w u v : WorldView) (i : ℕ) (key next : Key) → AreRows c.parts (length w.seats)
-    → IsKey c w u key → IsKey c w v key → IsKey d w (turn full u i) next → c.told ≡ d.told → IsKey d w (turn full v i) next
+    → IsKey c w u key → IsKey c w v key → IsKey d w (turn full u i) next → c.told ≡ d.told
+    → IsKey d w (turn full v i) next
 key_turned c d w u v i key next rows here there after told =
     let same = same_worlds_act c.told u v full i (same_keys c w u v key here there rows) in
-    key_of_same d w (turn full v i) (turn full u i) next after (subst (λ told. IsSame told (turn full u i) (turn full v i)) told same)
+    key_of_same d w (turn full v i) (turn full u i) next after
+    (subst (λ told. IsSame told (turn full u i) (turn full v i)) told same)
 
 -- ---- keys that are the same but for changes outside of roots
 
-same_part : (xs ys : List Own) → map (λ (o : Own). o.part) xs ≡ map (λ (o : Own). o.part) ys → (i : ℕ) (x y : Own) → slice_get xs i ≡ Some x → slice_get ys i ≡ Some y → x.part ≡ y.part
+same_part : (xs ys : List Own) → map (λ (o : Own). o.part) xs ≡ map (λ (o : Own). o.part) ys → (i : ℕ) (x y : Own)
+    → slice_get xs i ≡ Some x → slice_get ys i ≡ Some y → x.part ≡ y.part
 same_part xs ys e i x y here there =
-    let at = λ (os : List Own) (o : Own) (is : slice_get os i ≡ Some o). slice_get-map (λ (o : Own). o.part) os i ∙ ap (λ (o : Option Own). option_map (λ (o : Own). o.part) o) is in
+    let at = λ (os : List Own) (o : Own) (is : slice_get os i ≡ Some o). slice_get-map (λ (o : Own). o.part) os i
+    ∙ ap (λ (o : Option Own). option_map (λ (o : Own). o.part) o) is in
     same_Some x.part y.part (sym (at xs x here) ∙ (ap (λ ps. slice_get ps i) e ∙ at ys y there))
 
-same_owns : (xs ys : List Own) → length xs ≡ length ys → ((i : ℕ) (x y : Own) → slice_get xs i ≡ Some x → slice_get ys i ≡ Some y → x.part ≡ y.part)
+same_owns : (xs ys : List Own) → length xs ≡ length ys
+    → ((i : ℕ) (x y : Own) → slice_get xs i ≡ Some x → slice_get ys i ≡ Some y → x.part ≡ y.part)
     → map (λ (o : Own). o.part) xs ≡ map (λ (o : Own). o.part) ys
 same_owns [] [] long part = refl
 same_owns [] (y ∷ ys) long part = absurd (omega (arith, long))
@@ -179,7 +195,8 @@ same_owns (x ∷ xs) (y ∷ ys) long part =
     let rest = same_owns xs ys (omega (arith, long)) (λ i a b e q. part (suc i) a b e q) in
     λ k. first k ∷ rest k
 
-module _ (c : ComponentsView) (w u v : WorldView) (key other : Key) (rows : AreRows c.parts (length w.seats)) (here : IsKey c w u key) (there : IsKey c w v other) where
+module _ (c : ComponentsView) (w u v : WorldView) (key other : Key) (rows : AreRows c.parts (length w.seats))
+    (here : IsKey c w u key) (there : IsKey c w v other) where
   -- they are keys of worlds in which each actor has the same part
   pub same_but_outside_parts : AreSameKeysButOutside key other → SameParts u v
   same_but_outside_parts are = record {
@@ -187,12 +204,14 @@ module _ (c : ComponentsView) (w u v : WorldView) (key other : Key) (rows : AreR
     lines = here.lines ∙ sym there.lines;
     events = let one = here.events in let two = there.events in let e = are.events in omega arith;
     numbers = let one = here.numbers in let two = there.numbers in let e = are.opened in omega arith;
-    open_handles = let one = here.open_handles in let two = there.open_handles in let e = are.opened in let q = are.closed in omega arith;
+    open_handles = let one = here.open_handles in let two = there.open_handles in let e = are.opened in
+        let q = are.closed in omega arith;
     seats = here.seats ∙ sym there.seats;
     numbered = here.numbered;
     parts = λ i lt.
         let own = within_some key.own.items i (subst (λ n. i < n) (sym here.many) lt) in
-        let its = within_some other.own.items i (subst (λ n. i < n) (here.seats ∙ (sym there.seats ∙ sym there.many)) lt) in
+        let its = within_some other.own.items i
+        (subst (λ n. i < n) (here.seats ∙ (sym there.seats ∙ sym there.many)) lt) in
         let part = same_part key.own.items other.own.items are.parts i own.0 its.0 own.1 its.1 in
         one_part c u v i own.0.part (length w.seats) rows (here.parts i own.0 own.1)
         (subst (λ at. IsPartAt c v i at) (sym part) (there.parts i its.0 its.1));
@@ -204,20 +223,23 @@ module _ (c : ComponentsView) (w u v : WorldView) (key other : Key) (rows : AreR
     nodes = met.lists_once key.nodes other.nodes _ here.nodes (there.nodes ∙ ap Some (sym same.nodes));
     events = let one = here.events in let two = there.events in let both = same.events in omega arith;
     opened = opened;
-    closed = let one = here.open_handles in let two = there.open_handles in let both = same.open_handles in let e = opened in omega arith;
+    closed = let one = here.open_handles in let two = there.open_handles in let both = same.open_handles in
+        let e = opened in omega arith;
     parts = same_owns key.own.items other.own.items (here.many ∙ (same.seats ∙ sym there.many)) part_once;
   }
     where
       opened : key.opened ≡ other.opened
       opened = let one = here.numbers in let two = there.numbers in let both = same.numbers in omega arith
 
-      part_once : (i : ℕ) (own its : Own) → slice_get key.own.items i ≡ Some own → slice_get other.own.items i ≡ Some its → own.part ≡ its.part
+      part_once : (i : ℕ) (own its : Own) → slice_get key.own.items i ≡ Some own
+          → slice_get other.own.items i ≡ Some its → own.part ≡ its.part
       part_once i own its e q =
           let one = here.parts i own e in
           let two = there.parts i its q in
           let row : two.row ≡ one.row = same_Some two.row one.row (sym two.there ∙ one.there) in
           let is : IsPartIn one.row v its.part = subst (λ (r : PartsView). IsPartIn r v its.part) row two.is in
-          let lt : one.row.actor < length u.seats = slice_get_within u.seats one.row.actor one.is.same.here one.is.same.is_here in
+          let lt : one.row.actor < length u.seats =
+          slice_get_within u.seats one.row.actor one.is.same.here one.is.same.is_here in
           met.parts_once i one.row one.there own.part its.part u v one.is is (same.parts one.row.actor lt)
 
 -- each actor has the same part in a world as in itself
@@ -232,5 +254,11 @@ same_itself w numbered = record {
   numbered = numbered;
   parts = λ i lt.
       let seat = within_some w.seats i lt in
-      record { here = seat.0; there = seat.0; is_here = seat.1; is_there = seat.1; part = part_itself (tree_now w.book) seat.0 };
+      record {
+        here = seat.0;
+        there = seat.0;
+        is_here = seat.1;
+        is_there = seat.1;
+        part = part_itself (tree_now w.book) seat.0;
+      };
 }

@@ -16,12 +16,15 @@ pub replies_map : (f : ℕ → ℕ) (xs : List (List Outcome)) → replies_by f 
 replies_map f [] = refl
 replies_map f (x ∷ xs) = ap (λ ys. outcomes_by f x ∷ ys) (replies_map f xs)
 
-pub other_reply_lengths : (f : ℕ → ℕ) (xs ys : List (List Outcome)) → replies_by f xs ≡ replies_by f ys → length xs ≡ length ys
+pub other_reply_lengths : (f : ℕ → ℕ) (xs ys : List (List Outcome)) → replies_by f xs ≡ replies_by f ys
+    → length xs ≡ length ys
 other_reply_lengths f xs ys e = same_lengths (outcomes_by f) xs ys (sym (replies_map f xs) ∙ (e ∙ replies_map f ys))
 
-pub other_reply_at : (f : ℕ → ℕ) (xs ys : List (List Outcome)) (i : ℕ) (x y : List Outcome) → replies_by f xs ≡ replies_by f ys → i < length xs → x ≡ get_or xs i x → y ≡ get_or ys i y
+pub other_reply_at : (f : ℕ → ℕ) (xs ys : List (List Outcome)) (i : ℕ) (x y : List Outcome)
+    → replies_by f xs ≡ replies_by f ys → i < length xs → x ≡ get_or xs i x → y ≡ get_or ys i y
     → outcomes_by f x ≡ outcomes_by f y
-other_reply_at f xs ys i x y e lt p q = same_at (outcomes_by f) xs ys i x y (sym (replies_map f xs) ∙ (e ∙ replies_map f ys)) lt p q
+other_reply_at f xs ys i x y e lt p q =
+    same_at (outcomes_by f) xs ys i x y (sym (replies_map f xs) ∙ (e ∙ replies_map f ys)) lt p q
 
 -- ---- worlds that tell the same outcome
 
@@ -56,7 +59,8 @@ module _ (told : Bool) where
 module _ (told : Bool) (v w : WorldView) (e d : EndView) (is : IsEndOf told v e) (are : IsEndOf told w d) where
   pub worlds_tell : SameOutcome e d → TellAlike told v w
   worlds_tell h = record {
-    replies = ap (replies_by (λ h. 0)) (sym is.report.are_replies) ∙ (h.replies ∙ ap (replies_by (λ h. 0)) are.report.are_replies);
+    replies = ap (replies_by (λ h. 0)) (sym is.report.are_replies)
+        ∙ (h.replies ∙ ap (replies_by (λ h. 0)) are.report.are_replies);
     nodes = ap (λ s. s.nodes) (sym is.report.is_tree) ∙ (h.nodes ∙ ap (λ s. s.nodes) are.report.is_tree);
     held = λ a lt.
         ap (λ s. held_count s a) (sym is.report.is_tree)
@@ -66,11 +70,13 @@ module _ (told : Bool) (v w : WorldView) (e d : EndView) (is : IsEndOf told v e)
   }
     where
       many : length v.seats ≡ length d.replies
-      many = sym (replies_of_seats v.seats) ∙ (ap length (sym is.report.are_replies) ∙ other_reply_lengths (λ h. 0) e.replies d.replies h.replies)
+      many = sym (replies_of_seats v.seats)
+          ∙ (ap length (sym is.report.are_replies) ∙ other_reply_lengths (λ h. 0) e.replies d.replies h.replies)
 
   pub worlds_same : TellAlike told v w → SameOutcome e d
   worlds_same h = record {
-    replies = ap (replies_by (λ h. 0)) is.report.are_replies ∙ (h.replies ∙ ap (replies_by (λ h. 0)) (sym are.report.are_replies));
+    replies = ap (replies_by (λ h. 0)) is.report.are_replies
+        ∙ (h.replies ∙ ap (replies_by (λ h. 0)) (sym are.report.are_replies));
     held = λ a lt.
         ap (λ s. held_count s a) is.report.is_tree
         ∙ (h.held a (subst (λ n. a < n) many lt)

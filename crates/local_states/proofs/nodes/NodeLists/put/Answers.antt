@@ -14,20 +14,30 @@ lists_in lists = map (λ (list : Vec Inode). list.items) lists
 pub invariant_of-self-2 : goal.invariant_of-self-2
 invariant_of-self-2 c =
     let old = c.self.inside.lists.items in
-    let more : lists_in c.push.new.self.items ≡ lists_in old ++ c.args.nodes.now ∷ [] = map_push (λ (list : Vec Inode). list.items) old c.push.new.self.items c.in_ok-copy_nodes.field-0 c.args.nodes.now c.in_ok-push.ensures.items c.in_ok-copy_nodes.ensures in
+    let more : lists_in c.push.new.self.items ≡ lists_in old ++ c.args.nodes.now ∷ [] =
+    map_push (λ (list : Vec Inode). list.items) old c.push.new.self.items c.in_ok-copy_nodes.field-0
+    c.args.nodes.now c.in_ok-push.ensures.items c.in_ok-copy_nodes.ensures in
     subst (λ xs. AreEachOnce xs) (sym more) (once_more (lists_in old) c.args.nodes.now c.self.invariant
-    (λ k e. c.in_default.ensures.nowhere k (subst (λ (xs : List (List Inode)). slice_get xs k ≡ Some c.args.nodes.now) c.self.view_is e)))
+    (λ k e. c.in_default.ensures.nowhere k
+    (subst (λ (xs : List (List Inode)). slice_get xs k ≡ Some c.args.nodes.now) c.self.view_is e)))
 
 pub returns-clause-keeps : goal.returns-clause-keeps
 returns-clause-keeps c = λ k x e.
     let old = c.self.inside.lists.items in
-    let more : lists_in c.push.new.self.items ≡ lists_in old ++ c.args.nodes.now ∷ [] = map_push (λ (list : Vec Inode). list.items) old c.push.new.self.items c.in_ok-copy_nodes.field-0 c.args.nodes.now c.in_ok-push.ensures.items c.in_ok-copy_nodes.ensures in
-    subst (λ (xs : List (List Inode)). slice_get xs k ≡ Some x) (sym more) (get_left (lists_in old) c.args.nodes.now k x (subst (λ (xs : List (List Inode)). slice_get xs k ≡ Some x) (sym c.self.view_is) e))
+    let more : lists_in c.push.new.self.items ≡ lists_in old ++ c.args.nodes.now ∷ [] =
+    map_push (λ (list : Vec Inode). list.items) old c.push.new.self.items c.in_ok-copy_nodes.field-0
+    c.args.nodes.now c.in_ok-push.ensures.items c.in_ok-copy_nodes.ensures in
+    subst (λ (xs : List (List Inode)). slice_get xs k ≡ Some x) (sym more)
+    (get_left (lists_in old) c.args.nodes.now k x
+    (subst (λ (xs : List (List Inode)). slice_get xs k ≡ Some x) (sym c.self.view_is) e))
 
 pub returns-clause-there : goal.returns-clause-there
 returns-clause-there c =
     let old = c.self.inside.lists.items in
-    let more : lists_in c.push.new.self.items ≡ lists_in old ++ c.args.nodes.now ∷ [] = map_push (λ (list : Vec Inode). list.items) old c.push.new.self.items c.in_ok-copy_nodes.field-0 c.args.nodes.now c.in_ok-push.ensures.items c.in_ok-copy_nodes.ensures in
+    let more : lists_in c.push.new.self.items ≡ lists_in old ++ c.args.nodes.now ∷ [] =
+    map_push (λ (list : Vec Inode). list.items) old c.push.new.self.items c.in_ok-copy_nodes.field-0
+    c.args.nodes.now c.in_ok-push.ensures.items c.in_ok-copy_nodes.ensures in
     subst (λ (xs : List (List Inode)). slice_get xs c.len-at.result ≡ Some c.args.nodes.now) (sym more)
-    (subst (λ n. slice_get (lists_in old ++ c.args.nodes.now ∷ []) n ≡ Some c.args.nodes.now) (sym (c.len-at.ensures ∙ sym (ap length c.self.view_is)))
+    (subst (λ n. slice_get (lists_in old ++ c.args.nodes.now ∷ []) n ≡ Some c.args.nodes.now)
+    (sym (c.len-at.ensures ∙ sym (ap length c.self.view_is)))
     (slice_get-last (lists_in old) c.args.nodes.now))

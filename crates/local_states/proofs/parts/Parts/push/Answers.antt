@@ -11,13 +11,16 @@ use Rattle.local_states.proofs.parts.Parts.push.Goals as goal
 
 pub seat_without_outcomes-requires : goal.seat_without_outcomes-requires
 seat_without_outcomes-requires g c =
-    let has = subst (λ (row : PartsView). HasHandleTable c.args.world.now row.actor c.args.handle_table) (sym c.self.view_is) c.requires.handle_table in
+    let has = subst (λ (row : PartsView). HasHandleTable c.args.world.now row.actor c.args.handle_table)
+    (sym c.self.view_is) c.requires.handle_table in
     slice_get_within c.args.world.now.seats c.self.inside.actor has.seat has.there
 
 pub invariant_of-self-2 : goal.invariant_of-self-2
 invariant_of-self-2 g c =
-    let has = subst (λ (row : PartsView). HasHandleTable c.args.world.now row.actor c.args.handle_table) (sym c.self.view_is) c.requires.handle_table in
-    let are = subst (λ (row : PartsView). HasOutcomes row.outcomes c.args.world.now row.actor c.args.outcomes.items) (sym c.self.view_is) c.requires.outcomes in
+    let has = subst (λ (row : PartsView). HasHandleTable c.args.world.now row.actor c.args.handle_table)
+    (sym c.self.view_is) c.requires.handle_table in
+    let are = subst (λ (row : PartsView). HasOutcomes row.outcomes c.args.world.now row.actor c.args.outcomes.items)
+    (sym c.self.view_is) c.requires.outcomes in
     let part : PartView = record {
       seat = c.in_ok-seat.seat;
       outcomes = c.args.outcomes.items;
@@ -32,7 +35,8 @@ invariant_of-self-2 g c =
       busy = c.has_turns-busy.ensures;
       within = c.is_within_call-within.ensures;
     } in
-    parts_pushed c.self.inside.actor c.self.inside.outcomes c.self.inside.parts.items c.reserve.new.self.items c.push_reserved.new.self.items part
+    parts_pushed c.self.inside.actor c.self.inside.outcomes c.self.inside.parts.items c.reserve.new.self.items
+    c.push_reserved.new.self.items part
     c.args.world.now c.push_reserved.ensures.items c.in_ok-reserve.ensures.items c.self.invariant is
     (λ k it. c.requires.new k (subst (λ (row : PartsView). IsPartIn row c.args.world.now k) c.self.view_is it))
 
@@ -48,13 +52,16 @@ returns-clause-keeps g c = λ k x e.
     } in
     let all : c.push_reserved.new.self.items ≡ old ++ part ∷ [] =
     c.push_reserved.ensures.items
-    ∙ ap (λ (ps : List PartView). ps ++ part ∷ []) (c.in_ok-reserve.ensures.items ∙ ap (λ (row : PartsView). row.parts) c.self.view_is) in
+    ∙ ap (λ (ps : List PartView). ps ++ part ∷ [])
+    (c.in_ok-reserve.ensures.items ∙ ap (λ (row : PartsView). row.parts) c.self.view_is) in
     subst (λ (ps : List PartView). slice_get ps k ≡ Some x) (sym all) (get_left old part k x e)
 
 pub returns-clause-there : goal.returns-clause-there
 returns-clause-there g c =
-    let has = subst (λ (row : PartsView). HasHandleTable c.args.world.now row.actor c.args.handle_table) (sym c.self.view_is) c.requires.handle_table in
-    let are = subst (λ (row : PartsView). HasOutcomes row.outcomes c.args.world.now row.actor c.args.outcomes.items) (sym c.self.view_is) c.requires.outcomes in
+    let has = subst (λ (row : PartsView). HasHandleTable c.args.world.now row.actor c.args.handle_table)
+    (sym c.self.view_is) c.requires.handle_table in
+    let are = subst (λ (row : PartsView). HasOutcomes row.outcomes c.args.world.now row.actor c.args.outcomes.items)
+    (sym c.self.view_is) c.requires.outcomes in
     let old : List PartView = c.args.self.now.parts in
     let part : PartView = record {
       seat = c.in_ok-seat.seat;
@@ -65,7 +72,8 @@ returns-clause-there g c =
     } in
     let all : c.push_reserved.new.self.items ≡ old ++ part ∷ [] =
     c.push_reserved.ensures.items
-    ∙ ap (λ (ps : List PartView). ps ++ part ∷ []) (c.in_ok-reserve.ensures.items ∙ ap (λ (row : PartsView). row.parts) c.self.view_is) in
+    ∙ ap (λ (ps : List PartView). ps ++ part ∷ [])
+    (c.in_ok-reserve.ensures.items ∙ ap (λ (row : PartsView). row.parts) c.self.view_is) in
     record {
       part = part;
       there = subst (λ (ps : List PartView). slice_get ps (length old) ≡ Some part) (sym all) (slice_get-last old part);

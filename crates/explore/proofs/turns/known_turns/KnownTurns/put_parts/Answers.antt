@@ -17,8 +17,10 @@ loop-actor-preserved g c =
       entries = was.entries;
       start = was.start;
       given = was.given;
-      outside = outside_kept old c.put_part.new.self c.args.world.now c.loop-actor.own c.loop-actor.actor c.in_ok-own.field-0 c.put_part.ensures.grows lt ∙ was.outside;
-      parts = parts_more old c.put_part.new.self c.args.world.now c.loop-actor.own c.loop-actor.actor c.in_ok-own.field-0 c.put_part.ensures.grows lt
+      outside = outside_kept old c.put_part.new.self c.args.world.now c.loop-actor.own c.loop-actor.actor
+          c.in_ok-own.field-0 c.put_part.ensures.grows lt ∙ was.outside;
+      parts = parts_more old c.put_part.new.self c.args.world.now c.loop-actor.own c.loop-actor.actor
+          c.in_ok-own.field-0 c.put_part.ensures.grows lt
           c.in_ok-own.ensures.part was.parts;
     }
 
