@@ -1,19 +1,13 @@
 /*
- * server.h: a file system whose server lies (FUSE, by /dev/fuse alone). The server is a process of its own, and has a small tree. What
- * it lies about stands in memory that the test shares with it: an error for each question of one kind, numbers, kinds, a link's
- * text, the names of a directory.
+ * server.h: a file system whose server lies. It has a small tree. What it lies about stands in memory that the test shares with
+ * it: an error for each question of one kind, numbers, kinds, a link's text, the names of a directory.
  */
 #ifndef SERVER_H
 #define SERVER_H
 
-#include "support.h"
+#include "fuse.h"
 
-#include <linux/fuse.h>
-#include <signal.h>
 #include <sys/mman.h>
-#include <sys/mount.h>
-#include <sys/prctl.h>
-#include <time.h>
 
 /* The tree, and once more below `box`: each node's number is its place here and one more. An object's size tells its label. */
 struct node {
@@ -48,20 +42,6 @@ static struct lies *lies;
 enum { ANY_QUESTION = 0xffff };
 
 /* ---- answers */
-
-static int device = -1;
-
-static void answer(uint64_t unique, int error, const void *bytes, size_t length)
-{
-    char room[65536 + sizeof(struct fuse_out_header)];
-    struct fuse_out_header head = {.len = (uint32_t)(sizeof head + length), .error = -error, .unique = unique};
-    memcpy(room, &head, sizeof head);
-    if (length > 0)
-        memcpy(room + sizeof head, bytes, length);
-    /* A question that was called off takes no answer. */
-    if (write(device, room, head.len) < 0 && errno != ENOENT)
-        _exit(2);
-}
 
 static struct fuse_attr attributes_of(uint64_t node)
 {
@@ -161,50 +141,23 @@ static bool is_lied_to(uint32_t opcode)
     return is_asked && opcode != FUSE_FORGET && opcode != FUSE_BATCH_FORGET && opcode != FUSE_INTERRUPT && lies->times > 0;
 }
 
-static void serve(void)
+static void serve(const struct fuse_in_header *head, const char *more)
 {
-    static _Alignas(8) char room[1 << 17];
-    const struct fuse_in_header *head = (const void *)room;
-    for (;;) {
-        ssize_t got = read(device, room, sizeof room);
-        if (got < 0 && (errno == EINTR || errno == ENOENT || errno == EAGAIN))
-            continue;
-        if (got < (ssize_t)sizeof *head)
-            _exit(0);
-        __atomic_add_fetch(&lies->questions, 1, __ATOMIC_RELAXED);
-        if (is_lied_to(head->opcode)) {
-            lies->times--;
-            answer(head->unique, lies->error, NULL, 0);
-        } else {
-            serve_one(head, room + sizeof *head);
-        }
+    __atomic_add_fetch(&lies->questions, 1, __ATOMIC_RELAXED);
+    if (is_lied_to(head->opcode)) {
+        lies->times--;
+        answer(head->unique, lies->error, NULL, 0);
+    } else {
+        serve_one(head, more);
     }
 }
 
-/* ---- it begins */
-
-/*
- * Mounts it at a directory, in a mount namespace of this process's own: or ends as a check does that has no right to. The server
- * ends with this process.
- */
 static inline void begin_server(const char *where, unsigned long flags)
 {
-    char options[128];
     lies = mmap(NULL, sizeof *lies, PROT_READ | PROT_WRITE, MAP_SHARED | MAP_ANONYMOUS, -1, 0);
-    device = open("/dev/fuse", O_RDWR | O_CLOEXEC);
-    if (lies == MAP_FAILED || device < 0 || unshare(CLONE_NEWNS) != 0 || mount(NULL, "/", NULL, MS_REC | MS_PRIVATE, NULL) != 0)
+    if (lies == MAP_FAILED)
         _exit(NO_RIGHT);
-    snprintf(options, sizeof options, "fd=%d,rootmode=40755,user_id=%u,group_id=%u,default_permissions", device, geteuid(), getegid());
-    if (mount("lies", where, "fuse", MS_NOSUID | MS_NODEV | flags, options) != 0)
-        _exit(NO_RIGHT);
-    fflush(stdout);
-    pid_t parent = getpid();
-    if (sure(fork(), "fork") == 0) {
-        prctl(PR_SET_PDEATHSIG, SIGKILL);
-        if (getppid() == parent)
-            serve();
-        _exit(0);
-    }
+    begin_serving(where, flags, serve);
     close(device);
 }
 

@@ -8,6 +8,7 @@
 
 #include <errno.h>
 #include <fcntl.h>
+#include <limits.h>
 #include <stdarg.h>
 #include <stdbool.h>
 #include <stdint.h>
@@ -147,6 +148,19 @@ static inline bool is_same_object(int fd, int other)
     if (fd < 0 || other < 0)
         return fd == other;
     return fstat(fd, &one) == 0 && fstat(other, &two) == 0 && one.st_ino == two.st_ino && one.st_dev == two.st_dev;
+}
+
+/*
+ * Whether the kernel says of this descriptor that its entry was removed. LINKS is /proc/self/fd, which was opened before: a
+ * thread in a jail has no /proc. No name may end so itself.
+ */
+__attribute__((unused)) static bool is_called_removed(int links, int fd)
+{
+    static const char gone[] = " (deleted)";
+    char name[16], text[PATH_MAX];
+    snprintf(name, sizeof name, "%d", fd);
+    const ssize_t length = readlinkat(links, name, text, sizeof text), end = sizeof gone - 1;
+    return length > end && memcmp(text + length - end, gone, (size_t)end) == 0;
 }
 
 /* Whether this thread has openat2(2), which an older kernel lacks and a filter may refuse. */
