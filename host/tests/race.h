@@ -26,13 +26,13 @@ struct worker {
     /* A call: a descriptor, 0 or -errno. */
     int (*work)(int at, uint64_t *state);
     bool control;
-    unsigned long raced;
+    unsigned long raced, removed;
     atomic_ulong calls, done, escaped;
 };
 
 static atomic_bool stop, fooled;
 static atomic_ulong moves;
-static int root, kept_root, seen_root;
+static int root, kept_root, seen_root, links;
 /* Where a control wasn't fooled, though one was there. */
 static bool has_shown = true;
 
@@ -57,6 +57,25 @@ static inline bool has_escaped(int fd)
     return true;
 }
 
+/*
+ * Whether this thread's last call had INROOT_BELOW. What somebody removes just while the kernel looks it up, such a call may
+ * open, as openat2(2) itself does (removed.c). No other call is excused, and no object whose entry isn't called removed.
+ */
+static _Thread_local bool by_last_check;
+
+static inline void judge(struct worker *me, int fd)
+{
+    if (!has_escaped(fd))
+        return;
+    if (by_last_check && !me->control && is_called_removed(links, fd)) {
+        me->removed++;
+        return;
+    }
+    me->escaped++;
+    if (me->control)
+        fooled = true;
+}
+
 static inline void *work_on(void *self)
 {
     struct worker *me = self;
@@ -65,16 +84,14 @@ static inline void *work_on(void *self)
     if (me->place == KEPT || me->place == SEEN)
         at = me->place == KEPT ? kept_root : seen_root;
     while (!stop) {
+        by_last_check = me->place == SEEN;
         int got = me->work(at, &state);
         me->calls++;
         me->done += got >= 0;
         me->raced += got == -EAGAIN;
         if (got <= 0)
             continue;
-        bool escaped = has_escaped(got);
-        me->escaped += escaped;
-        if (escaped && me->control)
-            fooled = true;
+        judge(me, got);
         close(got);
     }
     return NULL;
@@ -121,8 +138,8 @@ static inline void *in_the_way(void *what)
 
 static inline void tell_worker(const char *race, const struct worker *w)
 {
-    printf("%s: %s: %lu calls, %lu done, %lu EAGAIN, %lu escaped\n", race, w->name, (unsigned long)w->calls,
-           (unsigned long)w->done, w->raced, (unsigned long)w->escaped);
+    printf("%s: %s: %lu calls, %lu done, %lu EAGAIN, %lu escaped, %lu removed\n", race, w->name, (unsigned long)w->calls,
+           (unsigned long)w->done, w->raced, (unsigned long)w->escaped, w->removed);
     if (w->control)
         return;
     gives((long)w->escaped, 0, "%s: %s: escaped", race, w->name);
@@ -165,6 +182,7 @@ static inline void race(const char *name, struct worker *workers, int count, voi
     const struct crowd all = {workers, count};
     pthread_t mover, threads[MOST_WORKERS];
     bool has_control = false;
+    links = sure(open("/proc/self/fd", O_PATH | O_DIRECTORY | O_CLOEXEC), "/proc/self/fd");
     int before = open_descriptors();
     sure(count <= MOST_WORKERS ? 0 : -1, "more workers");
     pthread_create(&mover, NULL, in_the_way, &move);

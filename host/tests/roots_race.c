@@ -69,13 +69,15 @@ static const int ways[] = {
     0, INROOT_ONE_BY_ONE, INROOT_NO_RETRY, INROOT_NO_RETRY | INROOT_ONE_BY_ONE, INROOT_BELOW, INROOT_BELOW | INROOT_NO_RETRY,
 };
 
+/* What a call by the last check alone may open once it was removed, it may cut off, too: so that one only reads. */
 static int resolve(int at, uint64_t *state)
 {
     int flags = ways[pick(state, sizeof ways / sizeof *ways)];
     char path[PATH_MAX + 80];
+    by_last_check |= (flags & INROOT_BELOW) != 0;
     snprintf(path, sizeof path, "%s%s", pick(state, 2) ? "./" : "", paths[pick(state, PATHS)]);
     switch (pick(state, 16)) {
-    case 0: return inroot_openat(at, path, O_WRONLY | O_TRUNC, 0, flags);
+    case 0: return inroot_openat(at, path, by_last_check ? O_RDONLY : O_WRONLY | O_TRUNC, 0, flags);
     case 1: return inroot_mkfile(at, paths[TO_NEW], 0600, flags & ~INROOT_BELOW);
     default: return inroot_open(at, path, flags);
     }
