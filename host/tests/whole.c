@@ -87,10 +87,11 @@ static int by_kernel(const char *path, int flags)
                    (flags & INROOT_NO_LINKS ? RESOLVE_NO_SYMLINKS : 0) | (flags & INROOT_NO_XDEV ? RESOLVE_NO_XDEV : 0),
     };
     long fd;
-    /* A rename anywhere on the machine may refuse `..`. */
+    int turns = 0;
+    /* A rename anywhere on the machine may refuse `..`; and the kernel may begin anew for it, and count links twice. */
     do
         fd = __real_syscall(SYS_openat2, root, path, &how, sizeof how);
-    while (fd < 0 && errno == EAGAIN);
+    while (fd < 0 && (errno == EAGAIN || (errno == ELOOP && ++turns < 20)));
     return fd < 0 ? -errno : (int)fd;
 }
 
