@@ -119,7 +119,8 @@ IsThere w n = is_gone (w.states n).nodes w.node ≡ false
 abbrev pub ParentSays : World → Bool → ℕ → Exchange → Type 0
 ParentSays w layered n (opens_directory error) =
     (error ≡ 0 → OpensAbove w (suc n)) × (error ≡ ENOENT → IsGone w (suc n))
--- stat(2), rmdir(2): a removed directory has no link, but on overlayfs; one that has none is removed
+-- stat(2), rmdir(2): a removed directory has no link, but on overlayfs; one that has none is removed. On a cgroup2 it
+-- keeps its links, too: there this premise doesn't hold.
 ParentSays w layered n (asks_links error links) =
     Stays w n × (error ≡ 0 → (links ≡ 0 → IsGone w (suc n))
     × (links ≢ 0 → (layered ≡ true) ⊎ IsThere w (suc n)))
