@@ -5,15 +5,20 @@
 #ifndef QUESTIONS_H
 #define QUESTIONS_H
 
+#include "halves.h"
 #include "support.h"
 #include "wraps.h"
 
 /* The root, `box` in the directory of the test, and how it is asked: by its descriptor, or in a jail. */
 static int base, root, at;
 
-/* What is done, before which question about a place from here on. */
+/*
+ * What is done, before which question about a place from here on; or within it, where the kernel has looked whether the object is
+ * gone, and takes its names after that.
+ */
 static void (*act)(void);
 static int questions;
+static bool is_within;
 
 static void ask(void)
 {
@@ -26,6 +31,8 @@ static void ask(void)
 /* A link of /proc has a name; the link that a descriptor is has none. */
 ssize_t __wrap_readlinkat(int dir, const char *name, char *text, size_t size)
 {
+    if (name[0] != 0 && is_within)
+        return read_in_halves(dir, name, text, size, ask);
     if (name[0] != 0)
         ask();
     return __real_readlinkat(dir, name, text, size);

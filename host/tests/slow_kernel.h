@@ -1,13 +1,14 @@
 /*
  * slow_kernel.h: a kernel whose calls take their time, and others who move directories meanwhile, between any two system calls of
- * the driver or within one: openat2(2) looks up one name after another and at last where it is, and getcwd(2) looks first
- * whether the directory is gone and then for its names, as the kernel does. To be linked with --wrap of each function that is
- * wrapped here.
+ * the driver or within one: openat2(2) looks up one name after another and at last where it is; getcwd(2), and readlinkat(2) of a
+ * link in /proc, look first whether the object is gone and then for its names, as the kernel does. To be linked with --wrap of each
+ * function that is wrapped here.
  */
 #ifndef SLOW_KERNEL_H
 #define SLOW_KERNEL_H
 
 #include "../openat2.h"
+#include "halves.h"
 #include "support.h"
 #include "wraps.h"
 
@@ -57,7 +58,7 @@ static ssize_t tell_lie(char *text, size_t size, size_t length)
 ssize_t __wrap_readlinkat(int dir, const char *name, char *text, size_t size)
 {
     ask();
-    ssize_t length = __real_readlinkat(dir, name, text, size);
+    ssize_t length = name[0] != 0 ? read_in_halves(dir, name, text, size, ask) : __real_readlinkat(dir, name, text, size);
     return length > 0 && proc_lies ? tell_lie(text, size, (size_t)length) : length;
 }
 
@@ -107,11 +108,9 @@ static bool is_under(int top, int dir)
 
 static bool is_gone(int fd)
 {
-    static const char deleted[] = " (deleted)";
     char name[48], text[PATH_MAX];
     snprintf(name, sizeof name, "thread-self/fd/%d", fd);
-    ssize_t length = __real_readlinkat(proc, name, text, sizeof text), tail = sizeof deleted - 1;
-    return length > tail && memcmp(text + length - tail, deleted, (size_t)tail) == 0;
+    return is_called_gone(text, __real_readlinkat(proc, name, text, sizeof text));
 }
 
 /* Where it was found in a directory: what is gone counts as in that one still, and what was moved is outside here. */
@@ -153,7 +152,6 @@ static long look_up(int top, const char *names, const struct open_how *how)
 /* In a jail: the names are those that the link to the current directory has by then. */
 static long tell_directory(char *text, size_t size)
 {
-    static const char deleted[] = " (deleted)";
     char later[PATH_MAX];
     ask();
     long length = __real_syscall(SYS_getcwd, text, size);

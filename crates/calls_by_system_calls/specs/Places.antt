@@ -33,7 +33,7 @@ place_world x m top node passed root object = record {
 }
 
 -- A place was told, that isn't called deleted, and its names are the answer. `places_stood` has an exception: it is
--- supposed not to be met, so a directory in a jail that the kernel had seen below the root right before isn't removed.
+-- supposed not to be met, so what the kernel had seen below the root right before isn't removed.
 pub record PlaceIsAsked (x : Linux) (m calls top node : ℕ) (answer : Answer) : Type 0 where
   pub facts : Facts
   pub kept : List ℕ
@@ -45,7 +45,7 @@ pub record PlaceIsAsked (x : Linux) (m calls top node : ℕ) (answer : Answer) :
   pub object : ℕ → List ℕ
   pub is : Conversation facts kept exchanges (StandsAt place is_root)
   pub all : length exchanges ≡ calls
-  pub says : AreAnswers (place_world x m top node passed root object) 0 exchanges
+  pub says : AreAnswers (place_world x m top node passed root object) facts 0 exchanges
   pub texts : ReadsLink exchanges → TextsTell (place_world x m top node passed root object) facts kept
   pub not_deleted : ends_as_gone place ≡ false
   pub seen : facts.seen ≡ true → (n : ℕ) → n < calls → is_gone (state_at x (m + suc n)).nodes node ≡ false

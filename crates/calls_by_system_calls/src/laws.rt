@@ -52,7 +52,7 @@ pub fn opens_through_by_system_calls()
 
 /// Where a conversation of `place_protocol` told a place that isn't called deleted, and its names are the answer to a
 /// NameBelow, this answer was so at the moment of one of its system calls (getcwd(2), proc(5), openat2(2), statx(2)).
-/// Of a directory in a jail that the kernel had seen below the root right before it is supposed that it isn't removed.
+/// Of what the kernel had seen below the root right before it is supposed that it isn't removed.
 pub fn asked_places_stood()
     ensures { AskedPlacesStood }
 {

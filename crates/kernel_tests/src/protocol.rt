@@ -176,39 +176,53 @@ fn what_was_seen_needs_no_look_up(rt: HostRuntime) -> Result<(), Fail> {
     Ok(())
 }
 
+const ALONE: Facts = Facts {
+    second: false,
+    ..FACTS
+};
+
+const FILE_ALONE: Facts = Facts {
+    directory: false,
+    ..ALONE
+};
+
+const AGAIN: Exchange = (8, FINE, "/srv/root");
+
 #[test]
 fn a_text_alone_is_read_between_two(rt: HostRuntime) -> Result<(), Fail> {
-    let alone = Facts {
-        second: false,
-        ..FACTS
-    };
-    let again = (8, FINE, "/srv/root");
-    assert!(rt;
-        stands(
-            end_of(alone, "", &[ROOT, TEXT, (7, YES, ""), again]),
-            9,
-            4,
-            false
-        )
-    );
-    assert!(rt;
-        is_unmade(
-            end_of(
-                alone,
-                "",
-                &[ROOT, TEXT, (7, YES, ""), (8, FINE, "/srv/other")]
-            ),
-            11
-        )
-    );
-    assert!(rt; is_unmade(end_of(alone, "", &[ROOT, TEXT, (7, FINE, "")]), 95));
+    for facts in &[ALONE, FILE_ALONE] {
+        let facts = *facts;
+        assert!(rt;
+            stands(
+                end_of(
+                    facts,
+                    "",
+                    &[ROOT, TEXT, (7, YES, ""), AGAIN, (10, FINE, "/srv/root/a/b")]
+                ),
+                9,
+                4,
+                false
+            )
+        );
+        assert!(rt;
+            is_unmade(
+                end_of(
+                    facts,
+                    "",
+                    &[ROOT, TEXT, (7, YES, ""), (8, FINE, "/srv/other")]
+                ),
+                11
+            )
+        );
+        assert!(rt; is_unmade(end_of(facts, "", &[ROOT, TEXT, (7, FINE, "")]), 95));
+    }
     let gone = (6, FINE, "/srv/root/a (deleted)");
     assert!(rt;
         stands(
             end_of(
-                alone,
+                ALONE,
                 "",
-                &[ROOT, gone, (7, YES, ""), again, (11, FINE, "")]
+                &[ROOT, gone, (7, YES, ""), AGAIN, (11, FINE, "")]
             ),
             9,
             12,
@@ -217,15 +231,59 @@ fn a_text_alone_is_read_between_two(rt: HostRuntime) -> Result<(), Fail> {
     );
     assert!(rt;
         is_unmade(
-            end_of(alone, "", &[ROOT, gone, (7, YES, ""), again, (11, YES, "")]),
+            end_of(ALONE, "", &[ROOT, gone, (7, YES, ""), AGAIN, (11, YES, "")]),
             11
         )
     );
+    assert!(rt; is_unmade(end_of(FILE_ALONE, "", &[ROOT, gone, (7, YES, ""), AGAIN]), 11));
+    Ok(())
+}
+
+// It was removed once the kernel had looked whether it was, and its directory was moved below the root after that.
+#[test]
+fn what_was_removed_as_its_text_was_read_is_none(rt: HostRuntime) -> Result<(), Fail> {
+    let removed = (10, FINE, "/srv/root/a/b (deleted)");
+    for facts in &[ALONE, FILE_ALONE] {
+        let facts = *facts;
+        let begun = [ROOT, TEXT, (7, YES, ""), AGAIN];
+        assert!(rt; end_of(facts, "", &begun).what == 10);
+        assert!(rt;
+            is_unmade(
+                end_of(facts, "", &[ROOT, TEXT, (7, YES, ""), AGAIN, removed]),
+                11
+            )
+        );
+        assert!(rt;
+            is_unmade(
+                end_of(
+                    facts,
+                    "",
+                    &[ROOT, TEXT, (7, YES, ""), AGAIN, (10, fails(13), "")]
+                ),
+                13
+            )
+        );
+        // It was moved since, which is no matter.
+        assert!(rt;
+            stands(
+                end_of(
+                    facts,
+                    "",
+                    &[ROOT, TEXT, (7, YES, ""), AGAIN, (10, FINE, "/srv/c")]
+                ),
+                9,
+                4,
+                false
+            )
+        );
+    }
+    let text = (6, FINE, "/a/b");
     let file = Facts {
-        directory: false,
-        ..alone
+        jailed: true,
+        ..FILE_ALONE
     };
-    assert!(rt; is_unmade(end_of(file, "", &[ROOT, gone, (7, YES, ""), again]), 11));
+    assert!(rt; stands(end_of(file, "", &[text, (10, FINE, "/a/b")]), 0, 4, false));
+    assert!(rt; is_unmade(end_of(file, "", &[text, (10, FINE, "/a/b (deleted)")]), 11));
     Ok(())
 }
 
@@ -242,17 +300,20 @@ fn a_refused_look_up_is_done_without(rt: HostRuntime) -> Result<(), Fail> {
         ROOT,
         TEXT,
         (7, YES, ""),
-        (8, FINE, "/srv/root"),
+        AGAIN,
+        (10, FINE, "/srv/root/a/b"),
     ];
     assert!(rt; stands(end_of(FACTS, "", &begun), 9, 4, false));
+    assert!(rt; end_of(FACTS, "", &begun[..7]).what == 10);
     let file = Facts {
         directory: false,
         ..JAIL
     };
     let text = (6, FINE, "/a/b");
+    let link = (10, FINE, "/a/b");
     assert!(rt;
         stands(
-            end_of(file, "", &[text, (9, refused, ""), text]),
+            end_of(file, "", &[text, (9, refused, ""), text, link]),
             0,
             4,
             false
@@ -274,10 +335,6 @@ fn alone_at_root<'a>(path: &'a str, answer: Answer) -> [Exchange<'a>; 5] {
 
 #[test]
 fn what_left_its_mount_is_not_the_root(rt: HostRuntime) -> Result<(), Fail> {
-    let alone = Facts {
-        second: false,
-        ..FACTS
-    };
     let other = Answer {
         found: Object {
             inode: 12,
@@ -290,18 +347,18 @@ fn what_left_its_mount_is_not_the_root(rt: HostRuntime) -> Result<(), Fail> {
         ..FINE
     };
     for path in &["/", "/srv/root"] {
-        assert!(rt; stands(end_of(alone, "", &alone_at_root(*path, FINE)), 0, 1, true));
+        assert!(rt; stands(end_of(ALONE, "", &alone_at_root(*path, FINE)), 0, 1, true));
         assert!(rt;
             stands(
-                end_of(alone, "", &alone_at_root(*path, by_mount)),
+                end_of(ALONE, "", &alone_at_root(*path, by_mount)),
                 0,
                 1,
                 true
             )
         );
-        assert!(rt; is_unmade(end_of(alone, "", &alone_at_root(*path, other)), 11));
-        assert!(rt; is_unmade(end_of(alone, "", &alone_at_root(*path, fails(11))), 11));
-        assert!(rt; is_unmade(end_of(alone, "", &alone_at_root(*path, fails(24))), 24));
+        assert!(rt; is_unmade(end_of(ALONE, "", &alone_at_root(*path, other)), 11));
+        assert!(rt; is_unmade(end_of(ALONE, "", &alone_at_root(*path, fails(11))), 11));
+        assert!(rt; is_unmade(end_of(ALONE, "", &alone_at_root(*path, fails(24))), 24));
     }
     // It was seen below the root before it left.
     let seen = Facts {

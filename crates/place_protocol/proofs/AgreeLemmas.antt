@@ -5,12 +5,12 @@ use Rattle.std.proofs.lemmas.Bool.{cond-true, cond-false, cond_both, eq-eqb, le-
 use Rattle.path_text.specs.Name.{same_bytes}
 use Rattle.path_text.specs.declared.name.TheConstants.{SLASH}
 use Rattle.path_text.specs.declared.path.TheConstants.{TEXT_MAX}
-use Rattle.kernel_text.specs.Place.{place_below, place_between, place_of_cwd, IsPart}
+use Rattle.kernel_text.specs.Place.{ends_as_gone, is_named, place_below, place_between, place_of_cwd, IsPart}
 use Rattle.kernel_text.specs.declared.place.Place.{Place}
 use Rattle.system_calls.specs.Objects.{is_same_object}
 use Rattle.place_protocol.specs.Conversation.{Conversation, Exchange, Goes, StandsAt, keep}
-use Rattle.place_protocol.specs.Texts.{Texts, Finds, path_of_root, place_of, texts_of}
-use Rattle.place_protocol.specs.Turns.{after_cwd, after_cwd_again, after_found, after_is_root, after_look_up, after_object, after_root_again, confirm, confirm_alone, confirm_place, first_link, has_found, has_path, in_jail, is_root, link_error, look_up_error, without_second, EAGAIN, ENAMETOOLONG}
+use Rattle.place_protocol.specs.Texts.{Texts, Finds, bytes_of, path_of_root, place_before, place_of, texts_of}
+use Rattle.place_protocol.specs.Turns.{after_cwd, after_cwd_again, after_found, after_is_root, after_link_again, after_look_up, after_object, after_root_again, confirm, confirm_alone, confirm_place, first_link, has_found, has_path, in_jail, is_root, link_error, look_up_error, without_second, EAGAIN, ENAMETOOLONG}
 use Rattle.place_protocol.specs.Witness.{AgreeingWitnessesAreTold, FindsObject, FindsRoot, Worked, is_top}
 use Rattle.place_protocol.specs.declared.questions.Answer.{Answer}
 use Rattle.place_protocol.specs.declared.questions.Facts.{Facts}
@@ -18,17 +18,18 @@ use Rattle.place_protocol.specs.declared.questions.Question.TheVariants.{Enter, 
 use Rattle.place_protocol.specs.declared.turns.Turn.{Turn}
 use Rattle.place_protocol.specs.declared.turns.Turn.TheVariants.{Ask, Look, Stands, Unmade}
 use Rattle.place_protocol.proofs.GoesLemmas.{answered}
-use Rattle.place_protocol.proofs.TextLemmas.{or_none, or_second, part_size, place_alone, place_with_second}
+use Rattle.place_protocol.proofs.TextLemmas.{or_none, or_second, part_size, place_alone, place_with_second, told_before}
 
 -- ---- which turn follows
 
 -- a place that the text tells was found
 found_there : (text : List ℕ) (o : Option (List ℕ)) (found : Option Place) (place : List ℕ) → Finds text o found → o ≡ Some place
-    → (at : Place) × (found ≡ Some at) × IsPart text place at.start at.length
+    → (at : Place) × (found ≡ Some at) × IsPart text place at.start at.length × (at.gone ≡ ends_as_gone place)
 found_there text None found place h e = absurd cc
 found_there text (Some p) None place h e = absurd h
 found_there text (Some p) (Some at) place h e =
-    let same : p ≡ place = cc in (at, refl, subst (λ (q : List ℕ). IsPart text q at.start at.length) same h.0)
+    let same : p ≡ place = cc in
+    (at, refl, subst (λ (q : List ℕ). IsPart text q at.start at.length) same h.0, h.1 ∙ ap ends_as_gone same)
 
 first_false : (x y : Bool) → (x || y) ≡ false → x ≡ false
 first_false true y e = e
@@ -159,80 +160,123 @@ enter_tells facts kept place enter cwd again jailed directory seen worked cwd_wo
     let e : a.0 ≡ Ask Cwd = a.1 ∙ cond-true (enter.answer.error == 0) (Ask Cwd) _ (eq-eqb enter.answer.error 0 worked.1) in
     cwd_tells facts place t a.0 cwd again seen cwd_worked told q ne e a.2
 
--- the root itself, without openat2(2)
-which_tells : (facts : Facts) (place : List ℕ) (t : Texts) (next : Turn) (which : Exchange) → place_of facts t ≡ Some place
-    → FindsRoot which → next ≡ Ask IsRoot → Goes facts t next (which ∷ []) (Else place) → ⊥
-which_tells facts place t next which told finds is h =
-    let g = subst (λ (n : Turn). Goes facts t n (which ∷ []) (Else place)) is h in
+-- ---- without openat2(2)
+
+-- this last exchange tells the place
+abbrev LastTells : Facts → List ℕ → Exchange → Type 0
+LastTells facts place last =
+    (t : Texts) (next : Turn) (at : Place) → place_of facts t ≡ Some place → IsPart t.text place at.start at.length
+    → at.gone ≡ ends_as_gone place → next ≡ confirm_alone facts at → Goes facts t next (last ∷ []) (Else place) → ⊥
+
+-- which objects both are, of the root itself
+which_turn : (facts : Facts) (at : Place) → facts.jailed ≡ false → is_root at ≡ true → confirm_alone facts at ≡ Ask IsRoot
+which_turn facts at jailed top =
+    cond-true (is_root at) _ _ top ∙ cond-false facts.jailed (Unmade EAGAIN) (Ask IsRoot) jailed
+
+which_tells : (facts : Facts) (place : List ℕ) (which : Exchange) → facts.jailed ≡ false → is_top place ≡ true → FindsRoot which
+    → LastTells facts place which
+which_tells facts place which jailed top finds t next at told part gone is h =
+    let own : is_root at ≡ true = sym (ap (λ n. n == 1) (part_size t.text place at.start at.length part)) ∙ top in
+    let g = subst (λ (n : Turn). Goes facts t n (which ∷ []) (Else place)) (is ∙ which_turn facts at jailed own) h in
     let a = answered IsRoot facts t which [] (Else place) finds.0.0 g.1 in
     let f = found_there t.text (place_of facts t) a.1.0 place a.1.1 told in
     let e : a.0 ≡ Stands f.0 (is_root f.0) =
     a.1.2 ∙ (ap (after_is_root which.answer) f.1 ∙ cond-true _ (Stands f.0 (is_root f.0)) _ (both_true (eq-eqb which.answer.error 0 finds.0.1) finds.1)) in
     ended place t a.0 f.0 e f.2 a.2
 
--- a place without openat2(2)
-alone_turn : (facts : Facts) (at : Place) → facts.jailed ≡ false → facts.second ≡ false → is_root at ≡ true
-    → confirm_place facts at ≡ Ask IsRoot
-alone_turn facts at jailed second top =
-    cond-true (not facts.second) (confirm_alone facts at) _ (ap not second)
-    ∙ (cond-true (is_root at) _ _ top ∙ cond-false facts.jailed (Unmade EAGAIN) (Ask IsRoot) jailed)
+-- the object's link again, of any other
+link_turn : (facts : Facts) (at : Place) → is_root at ≡ false → at.gone ≡ false → confirm_alone facts at ≡ Ask LinkAgain
+link_turn facts at top there =
+    cond-false (is_root at) _ _ top ∙ cond-true (not at.gone) (Ask LinkAgain) _ (ap not there)
 
-root_again_tells : (facts : Facts) (place : List ℕ) (t : Texts) (next : Turn) (again which : Exchange)
-    → facts.jailed ≡ false → facts.second ≡ false → is_top place ≡ true → Worked RootAgain again → length again.text ≤ TEXT_MAX
-    → place_between t.root t.text again.text ≡ Some place → FindsRoot which → next ≡ Ask RootAgain
-    → Goes facts t next (again ∷ which ∷ []) (Else place) → ⊥
-root_again_tells facts place t next again which jailed second top worked size told finds is h =
-    let g = subst (λ (n : Turn). Goes facts t n (again ∷ which ∷ []) (Else place)) is h in
-    let a = answered RootAgain facts t again (which ∷ []) (Else place) worked.0 g.1 in
+named_turn : (error : ℕ) (again text : List ℕ) (at : Place) → error ≡ 0 → is_named again (bytes_of text at) ≡ true
+    → after_link_again error again text (Some at) ≡ Stands at (is_root at)
+named_turn error again text at none named =
+    cond-false (not (error == 0)) (Unmade error) _ (zero_error error none)
+    ∙ cond-true (is_named again (bytes_of text at)) (Stands at (is_root at)) (Unmade EAGAIN) named
+
+link_tells : (facts : Facts) (place : List ℕ) (link : Exchange) → is_top place ≡ false → ends_as_gone place ≡ false
+    → Worked LinkAgain link → length link.text ≤ TEXT_MAX → is_named link.text place ≡ true → LastTells facts place link
+link_tells facts place link top there worked size named t next at told part gone is h =
+    let own : is_root at ≡ false = sym (ap (λ n. n == 1) (part_size t.text place at.start at.length part)) ∙ top in
+    let g = subst (λ (n : Turn). Goes facts t n (link ∷ []) (Else place)) (is ∙ link_turn facts at own (gone ∙ there)) h in
+    let a = answered LinkAgain facts t link [] (Else place) worked.0 g.1 in
+    let t' = keep LinkAgain link.text t in
+    let f = found_there t'.text (place_before facts t') a.1.0 place a.1.1 (told_before facts t place told) in
+    let fine = link_fine link.answer.error link.text worked.1 size in
+    let its : is_named link.text (bytes_of t.text f.0) ≡ true =
+    subst (λ (p : List ℕ). is_named link.text p ≡ true) (sym f.2.bytes) named in
+    let e : a.0 ≡ Stands f.0 (is_root f.0) =
+    a.1.2 ∙ (ap (after_link_again (link_error link.answer.error link.text) link.text t.text) f.1
+    ∙ named_turn (link_error link.answer.error link.text) link.text t.text f.0 fine its) in
+    ended place t' a.0 f.0 e f.2 a.2
+
+root_again_tells : (facts : Facts) (place : List ℕ) (t : Texts) (next : Turn) (again last : Exchange)
+    → facts.jailed ≡ false → facts.second ≡ false → Worked RootAgain again → length again.text ≤ TEXT_MAX
+    → place_between t.root t.text again.text ≡ Some place → LastTells facts place last → next ≡ Ask RootAgain
+    → Goes facts t next (again ∷ last ∷ []) (Else place) → ⊥
+root_again_tells facts place t next again last jailed second worked size told tells is h =
+    let g = subst (λ (n : Turn). Goes facts t n (again ∷ last ∷ []) (Else place)) is h in
+    let a = answered RootAgain facts t again (last ∷ []) (Else place) worked.0 g.1 in
     let t' = keep RootAgain again.text t in
     let here = place_alone facts t' place jailed second told in
     let f = found_there t'.text (place_of facts t') a.1.0 place a.1.1 here in
+    let error = link_error again.answer.error again.text in
     let fine = link_fine again.answer.error again.text worked.1 size in
-    let own : is_root f.0 ≡ true = sym (ap (λ n. n == 1) (part_size t'.text place f.0.start f.0.length f.2)) ∙ top in
-    let e : a.0 ≡ Ask IsRoot =
-    a.1.2 ∙ (ap (after_root_again facts (link_error again.answer.error again.text)) f.1
-    ∙ (cond-true (link_error again.answer.error again.text == 0) (confirm_place facts f.0) _ (eq-eqb (link_error again.answer.error again.text) 0 fine)
-    ∙ alone_turn facts f.0 jailed second own)) in
-    which_tells facts place t' a.0 which here finds e a.2
+    let e : a.0 ≡ confirm_alone facts f.0 =
+    a.1.2 ∙ (ap (after_root_again facts error) f.1
+    ∙ (cond-true (error == 0) (confirm_place facts f.0) (Unmade error) (eq-eqb error 0 fine)
+    ∙ cond-true (not facts.second) (confirm_alone facts f.0) _ (ap not second))) in
+    tells t' a.0 f.0 here f.2 f.3 e a.2
 
-own_tells : (facts : Facts) (place : List ℕ) (t : Texts) (next : Turn) (own again which : Exchange)
-    → facts.jailed ≡ false → facts.second ≡ false → is_top place ≡ true → own.question ≡ OwnRoot → own.answer.yes ≡ true
-    → Worked RootAgain again → length again.text ≤ TEXT_MAX → place_between t.root t.text again.text ≡ Some place → FindsRoot which
-    → next ≡ Ask OwnRoot → Goes facts t next (own ∷ again ∷ which ∷ []) (Else place) → ⊥
-own_tells facts place t next own again which jailed second top q own_yes worked size told finds is h =
-    let g = subst (λ (n : Turn). Goes facts t n (own ∷ again ∷ which ∷ []) (Else place)) is h in
-    let a = answered OwnRoot facts t own (again ∷ which ∷ []) (Else place) q g.1 in
+own_tells : (facts : Facts) (place : List ℕ) (t : Texts) (next : Turn) (own again last : Exchange)
+    → facts.jailed ≡ false → facts.second ≡ false → own.question ≡ OwnRoot → own.answer.yes ≡ true
+    → Worked RootAgain again → length again.text ≤ TEXT_MAX → place_between t.root t.text again.text ≡ Some place
+    → LastTells facts place last → next ≡ Ask OwnRoot → Goes facts t next (own ∷ again ∷ last ∷ []) (Else place) → ⊥
+own_tells facts place t next own again last jailed second q own_yes worked size told tells is h =
+    let g = subst (λ (n : Turn). Goes facts t n (own ∷ again ∷ last ∷ []) (Else place)) is h in
+    let a = answered OwnRoot facts t own (again ∷ last ∷ []) (Else place) q g.1 in
     let e : a.0 ≡ Ask RootAgain = a.1 ∙ cond-true own.answer.yes (Ask RootAgain) _ own_yes in
-    root_again_tells facts place t a.0 again which jailed second top worked size told finds e a.2
+    root_again_tells facts place t a.0 again last jailed second worked size told tells e a.2
 
-object_alone_tells : (facts : Facts) (place : List ℕ) (t : Texts) (next : Turn) (object own again which : Exchange)
-    → facts.jailed ≡ false → facts.second ≡ false → is_top place ≡ true → Worked ObjectLink object
+object_alone_tells : (facts : Facts) (place : List ℕ) (t : Texts) (next : Turn) (object own again last : Exchange)
+    → facts.jailed ≡ false → facts.second ≡ false → Worked ObjectLink object
     → own.question ≡ OwnRoot → own.answer.yes ≡ true → Worked RootAgain again → length again.text ≤ TEXT_MAX
-    → place_between t.root object.text again.text ≡ Some place → FindsRoot which
-    → next ≡ Ask ObjectLink → Goes facts t next (object ∷ own ∷ again ∷ which ∷ []) (Else place) → ⊥
-object_alone_tells facts place t next object own again which jailed second top read q own_yes worked size told finds is h =
-    let g = subst (λ (n : Turn). Goes facts t n (object ∷ own ∷ again ∷ which ∷ []) (Else place)) is h in
-    let a = answered ObjectLink facts t object (own ∷ again ∷ which ∷ []) (Else place) read.0 g.1 in
+    → place_between t.root object.text again.text ≡ Some place → LastTells facts place last
+    → next ≡ Ask ObjectLink → Goes facts t next (object ∷ own ∷ again ∷ last ∷ []) (Else place) → ⊥
+object_alone_tells facts place t next object own again last jailed second read q own_yes worked size told tells is h =
+    let g = subst (λ (n : Turn). Goes facts t n (object ∷ own ∷ again ∷ last ∷ []) (Else place)) is h in
+    let a = answered ObjectLink facts t object (own ∷ again ∷ last ∷ []) (Else place) read.0 g.1 in
     let error = link_error object.answer.error object.text in
     let fine = link_fine object.answer.error object.text read.1 (short t.root object.text again.text place told) in
     let e : a.0 ≡ Ask OwnRoot =
     a.1.2 ∙ (cond-false (not (error == 0)) (Unmade error) _ (zero_error error fine)
     ∙ cond-false (facts.jailed || facts.second) (confirm facts a.1.0) (Ask OwnRoot) (or_none facts.jailed facts.second jailed second)) in
-    own_tells facts place (keep ObjectLink object.text t) a.0 own again which jailed second top q own_yes worked size told finds e a.2
+    own_tells facts place (keep ObjectLink object.text t) a.0 own again last jailed second q own_yes worked size told tells e a.2
 
-root_alone_tells : (facts : Facts) (kept place : List ℕ) (root object own again which : Exchange)
-    → facts.jailed ≡ false → facts.second ≡ false → is_top place ≡ true
+alone_tells : (facts : Facts) (kept place : List ℕ) (root object own again last : Exchange)
+    → facts.jailed ≡ false → facts.second ≡ false
     → Worked RootLink root → length root.text ≤ TEXT_MAX → Worked ObjectLink object
     → own.question ≡ OwnRoot → own.answer.yes ≡ true → Worked RootAgain again → length again.text ≤ TEXT_MAX
-    → place_between root.text object.text again.text ≡ Some place → FindsRoot which
-    → Conversation facts kept (root ∷ object ∷ own ∷ again ∷ which ∷ []) (Else place) → ⊥
-root_alone_tells facts kept place root object own again which jailed second top read size object_read q own_yes worked again_size told finds h =
+    → place_between root.text object.text again.text ≡ Some place → LastTells facts place last
+    → Conversation facts kept (root ∷ object ∷ own ∷ again ∷ last ∷ []) (Else place) → ⊥
+alone_tells facts kept place root object own again last jailed second read size object_read q own_yes worked again_size told tells h =
     let t = texts_of kept [] [] in
-    let a = answered RootLink facts t root (object ∷ own ∷ again ∷ which ∷ []) (Else place) read.0 h.1 in
+    let a = answered RootLink facts t root (object ∷ own ∷ again ∷ last ∷ []) (Else place) read.0 h.1 in
     let fine = link_fine root.answer.error root.text read.1 size in
     let e : a.0 ≡ Ask ObjectLink =
     a.1 ∙ cond-true (link_error root.answer.error root.text == 0) (Ask ObjectLink) _ (eq-eqb (link_error root.answer.error root.text) 0 fine) in
-    object_alone_tells facts place (keep RootLink root.text t) a.0 object own again which jailed second top object_read q own_yes worked again_size told finds e a.2
+    object_alone_tells facts place (keep RootLink root.text t) a.0 object own again last jailed second object_read q own_yes worked again_size told tells e a.2
 
 pub agreeing-witnesses-are-told : AgreeingWitnessesAreTold
-agreeing-witnesses-are-told = (root_tells, enter_tells, root_alone_tells)
+agreeing-witnesses-are-told = (
+  root_tells,
+  enter_tells,
+  (λ facts kept place root object own again which jailed second top read size object_read q yes worked again_size told finds.
+      alone_tells facts kept place root object own again which jailed second read size object_read q yes worked again_size told
+      (which_tells facts place which jailed top finds)),
+  (λ facts kept place root object own again link jailed second top there read size object_read q yes worked again_size told
+      link_read link_size named.
+      alone_tells facts kept place root object own again link jailed second read size object_read q yes worked again_size told
+      (link_tells facts place link top there link_read link_size named)),
+)

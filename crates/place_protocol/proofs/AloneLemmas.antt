@@ -2,18 +2,18 @@
 use Rattle.std.proofs.Common.{◌≡◌, ◌==◌, ◌&&◌, ◌||◌, ℕ, Bool, true, false, not, cond, List, [], ◌∷◌, Option, Some, None, refl, sym, ap, subst, ◌∙◌, inl, inr}
 use Rattle.std.proofs.lemmas.Bool.{eqb-true, not-true, or_left, true≢false, false≢true}
 use Rattle.path_text.specs.declared.name.TheConstants.{SLASH}
-use Rattle.kernel_text.specs.Place.{place_between, IsPart}
+use Rattle.kernel_text.specs.Place.{ends_as_gone, is_named, place_between, IsPart}
 use Rattle.kernel_text.specs.declared.place.Place.{Place}
 use Rattle.system_calls.specs.Objects.{is_same_object}
 use Rattle.place_protocol.specs.Conversation.{Comes, Exchange, StandsAt, keep}
-use Rattle.place_protocol.specs.Texts.{Texts, Finds, place_of}
-use Rattle.place_protocol.specs.Turns.{after_dead, after_is_root, after_object, after_root_again, confirm, confirm_alone, is_root, link_error, look_up_error, EAGAIN, EOPNOTSUPP}
-use Rattle.place_protocol.specs.Witness.{FindsRoot, IsThere, RootStayed, TextTells, Worked, is_top}
+use Rattle.place_protocol.specs.Texts.{Texts, Finds, bytes_of, place_before, place_of}
+use Rattle.place_protocol.specs.Turns.{after_dead, after_is_root, after_link_again, after_object, after_root_again, confirm, confirm_alone, is_root, link_error, look_up_error, EAGAIN, EOPNOTSUPP}
+use Rattle.place_protocol.specs.Witness.{FindsRoot, IsThere, NamedAgain, RootStayed, TextTells, Worked, is_top}
 use Rattle.place_protocol.specs.declared.questions.Facts.{Facts}
-use Rattle.place_protocol.specs.declared.questions.Question.TheVariants.{RootLink, ObjectLink, OwnRoot, RootAgain, Dead, IsRoot}
+use Rattle.place_protocol.specs.declared.questions.Question.TheVariants.{RootLink, ObjectLink, OwnRoot, RootAgain, LinkAgain, Dead, IsRoot}
 use Rattle.place_protocol.specs.declared.turns.Turn.TheVariants.{Ask, Stands, Unmade}
 use Rattle.place_protocol.proofs.GoesLemmas.{Ends, asked, both, either, if_not, if_so, link_worked, no_error, not_so, so, stood, turned, unmade}
-use Rattle.place_protocol.proofs.TextLemmas.{found_part, or_none, part_size, some_found, told_alone, told_in_jail}
+use Rattle.place_protocol.proofs.TextLemmas.{found_part, is_found, or_none, part_size, some_found, told_alone, told_before, told_in_jail}
 
 -- ---- whether the directory is dead
 
@@ -32,6 +32,40 @@ dead place r facts t [] h = absurd h
 dead place r facts t (e ∷ es) h =
     let a = asked Dead facts t e es (StandsAt place r) h in
     dead_of place r facts t e es a.1.1.0 a.0 a.1.1.1 (turned place r facts t a.1.0 _ es a.1.1.2 a.1.2)
+
+-- ---- the link, once more
+
+link_again_of : (place : List ℕ) (r : Bool) (facts : Facts) (t : Texts) (e : Exchange) (es : List Exchange) (found : Option Place)
+    → e.question ≡ LinkAgain → Finds t.text (place_before facts t) found
+    → Ends place r facts t (after_link_again (link_error e.answer.error e.text) e.text t.text found) es
+    → NamedAgain place (e ∷ es) × (place_before facts t ≡ Some place)
+link_again_of place r facts t e es None q finds h =
+    let n = if_not place r facts t (not (link_error e.answer.error e.text == 0)) (Unmade EAGAIN) (link_error e.answer.error e.text) es h in
+    absurd (unmade place r facts t EAGAIN es n.1)
+link_again_of place r facts t e es (Some found) q finds h =
+    let n = if_not place r facts t (not (link_error e.answer.error e.text == 0)) _ (link_error e.answer.error e.text) es h in
+    let worked = link_worked e.answer.error e.text (no_error (link_error e.answer.error e.text) n.0) in
+    let m = if_so place r facts t (is_named e.text (bytes_of t.text found)) (Stands found (is_root found)) EAGAIN es n.1 in
+    let part = stood place r facts t found (is_root found) es m.1 in
+    let s = some_found t.text (place_before facts t) found place finds part in
+    (inl ((q, worked), subst (λ (p : List ℕ). is_named e.text p ≡ true) part.bytes m.0), s.0)
+
+pub link_again : (place : List ℕ) (r : Bool) (facts : Facts) (t : Texts) (es : List Exchange) → Ends place r facts t (Ask LinkAgain) es
+    → NamedAgain place es × (place_before facts t ≡ Some place)
+link_again place r facts t [] h = absurd h
+link_again place r facts t (e ∷ es) h =
+    let a = asked LinkAgain facts t e es (StandsAt place r) h in
+    link_again_of place r facts (keep LinkAgain e.text t) e es a.1.1.0 a.0 a.1.1.1
+    (turned place r facts (keep LinkAgain e.text t) a.1.0 _ es a.1.1.2 a.1.2)
+
+-- it tells just the place that was found by then
+same_place : (place : List ℕ) (facts : Facts) (t : Texts) (found : Place) → Finds t.text (place_of facts t) (Some found)
+    → place_before facts t ≡ Some place → (place_of facts t ≡ Some place) × (found.gone ≡ ends_as_gone place)
+same_place place facts t found finds before =
+    let p = is_found t.text (place_of facts t) found finds in
+    let same : Some p.0 ≡ Some place = sym (told_before facts t p.0 p.1) ∙ before in
+    let told = p.1 ∙ same in
+    (told, (found_part t.text (place_of facts t) found place finds told).1)
 
 -- ---- whether it is the root itself
 
@@ -80,15 +114,17 @@ as_plain There es false e c = c
 
 alone_gone : (place : List ℕ) (r : Bool) (facts : Facts) (t : Texts) (es : List Exchange) (found : Place) (gone : Bool)
     → found.gone ≡ gone → Finds t.text (place_of facts t) (Some found)
-    → Ends place r facts t (cond (not gone) (Stands found false) (cond facts.directory (Ask Dead) (Unmade EAGAIN))) es
+    → Ends place r facts t (cond (not gone) (Ask LinkAgain) (cond facts.directory (Ask Dead) (Unmade EAGAIN))) es
     → IsThere facts place es × (place_of facts t ≡ Some place)
 alone_gone place r facts t es found false is finds h =
-    let s = some_found t.text (place_of facts t) found place finds (stood place r facts t found false es h) in
-    (inl (sym s.1 ∙ is), s.0)
+    let a = link_again place r facts t es h in
+    let s = same_place place facts t found finds a.1 in
+    (inl (sym s.1 ∙ is, a.0), s.0)
 alone_gone place r facts t es found true is finds h =
     let n = if_so place r facts t facts.directory (Ask Dead) EAGAIN es h in
     let d = dead place r facts t es n.1 in
-    (inr (n.0, d.0), d.1)
+    let part = found_part t.text (place_of facts t) found place finds d.1 in
+    (inr (sym part.1 ∙ is, n.0, d.0), d.1)
 
 -- in a jail no place is the root's own
 alone_jailed : (place : List ℕ) (r : Bool) (facts : Facts) (t : Texts) (es : List Exchange) (found : Place)

@@ -2,19 +2,19 @@
 use Rattle.std.proofs.Common.{◌≡◌, ◌==◌, ◌&&◌, ◌||◌, ℕ, Bool, true, false, not, cond, List, [], ◌∷◌, length, nat_lt, Option, Some, None, refl, sym, ap, subst, ◌∙◌, ◌⊎◌, inl, inr}
 use Rattle.std.proofs.lemmas.Bool.{cond-false, eqb-true, not-false, not-true, ltb-true}
 use Rattle.path_text.specs.declared.name.TheConstants.{SLASH}
-use Rattle.kernel_text.specs.Place.{is_named, place_between, IsPart}
+use Rattle.kernel_text.specs.Place.{place_between, IsPart}
 use Rattle.kernel_text.specs.declared.place.Place.{Place}
 use Rattle.system_calls.specs.Objects.{is_same_object}
 use Rattle.place_protocol.specs.Conversation.{Comes, Exchange, StandsAt, keep}
-use Rattle.place_protocol.specs.Texts.{Texts, Finds, bytes_of, path_of_root, place_of}
-use Rattle.place_protocol.specs.Turns.{after_found, after_link_again, after_look_up, after_object, confirm, confirm_alone, confirm_place, facts_after, first_link, has_found, is_root, link_error, look_up_error, without_second, EAGAIN}
-use Rattle.place_protocol.specs.Witness.{IsThere, RootStayed, SecondWitness, TextTells, WasThere, Worked, is_top}
+use Rattle.place_protocol.specs.Texts.{Texts, Finds, path_of_root, place_of, texts_of}
+use Rattle.place_protocol.specs.Turns.{after_found, after_look_up, after_object, confirm, confirm_alone, confirm_place, facts_after, first_link, has_found, is_root, link_error, look_up_error, without_second, EAGAIN}
+use Rattle.place_protocol.specs.Witness.{IsThere, NamedAgain, RootStayed, SecondWitness, TextTells, WasThere, Worked, is_top}
 use Rattle.place_protocol.specs.declared.questions.Facts.{Facts}
 use Rattle.place_protocol.specs.declared.questions.Question.{Question}
 use Rattle.place_protocol.specs.declared.questions.Question.TheVariants.{RootLink, ObjectLink, OwnRoot, LookUp, LinkAgain}
 use Rattle.place_protocol.specs.declared.turns.Turn.{Turn}
 use Rattle.place_protocol.specs.declared.turns.Turn.TheVariants.{Ask, Look, Stands, Unmade}
-use Rattle.place_protocol.proofs.AloneLemmas.{Confirmed, jail_alone, root_stayed, top_of}
+use Rattle.place_protocol.proofs.AloneLemmas.{Confirmed, jail_alone, link_again, root_stayed, top_of}
 use Rattle.place_protocol.proofs.GoesLemmas.{Ends, answered, asked, both, either, if_not, if_so, link_worked, no_error, not_so, so, stood, turned, unmade}
 use Rattle.place_protocol.proofs.TextLemmas.{found_part, is_found, or_second, part_size, place_with_second, some_found, told_with_second}
 
@@ -24,29 +24,11 @@ Told facts t place = place_between (path_of_root facts t.root) t.text (path_of_r
 
 -- ---- the link, once more
 
-again_of : (place : List ℕ) (r : Bool) (facts : Facts) (t : Texts) (e : Exchange) (es : List Exchange) (found : Option Place)
-    → facts.second ≡ true → e.question ≡ LinkAgain → Finds t.text (place_of facts t) found
-    → Ends place r facts t (after_link_again (link_error e.answer.error e.text) e.text t.text found) es
-    → Comes (λ e _. Worked LinkAgain e × (is_named e.text place ≡ true)) (e ∷ es) × Told facts t place
-again_of place r facts t e es None second q finds h =
-    let n = if_not place r facts t (not (link_error e.answer.error e.text == 0)) (Unmade EAGAIN) (link_error e.answer.error e.text) es h in
-    absurd (unmade place r facts t EAGAIN es n.1)
-again_of place r facts t e es (Some found) second q finds h =
-    let n = if_not place r facts t (not (link_error e.answer.error e.text == 0)) _ (link_error e.answer.error e.text) es h in
-    let worked = link_worked e.answer.error e.text (no_error (link_error e.answer.error e.text) n.0) in
-    let m = if_so place r facts t (is_named e.text (bytes_of t.text found)) (Stands found (is_root found)) EAGAIN es n.1 in
-    let part = stood place r facts t found (is_root found) es m.1 in
-    let s = some_found t.text (place_of facts t) found place finds part in
-    (inl ((q, worked), subst (λ (p : List ℕ). is_named e.text p ≡ true) part.bytes m.0), told_with_second facts t place second s.0)
-
 again : (place : List ℕ) (r : Bool) (facts : Facts) (t : Texts) (es : List Exchange) → facts.second ≡ true
-    → Ends place r facts t (Ask LinkAgain) es
-    → Comes (λ e _. Worked LinkAgain e × (is_named e.text place ≡ true)) es × Told facts t place
-again place r facts t [] second h = absurd h
-again place r facts t (e ∷ es) second h =
-    let a = asked LinkAgain facts t e es (StandsAt place r) h in
-    let t' = keep LinkAgain e.text t in
-    again_of place r facts t' e es a.1.1.0 second a.0 a.1.1.1 (turned place r facts t' a.1.0 _ es a.1.1.2 a.1.2)
+    → Ends place r facts t (Ask LinkAgain) es → NamedAgain place es × Told facts t place
+again place r facts t es second h =
+    let a = link_again place r facts t es h in
+    (a.0, told_with_second facts (texts_of t.root t.text t.root) place second a.1)
 
 -- ---- the look-up
 

@@ -10,31 +10,33 @@ use Rattle.kernel_text.specs.Place.{behind, ends_as_gone, place_below, place_bet
 use Rattle.place_protocol.specs.Conversation.{Comes, Exchange}
 use Rattle.place_protocol.specs.Moments.{AreAnswers, IsAnswer, PlacesStood, PlacesWerePassed, ReadsLink, StaysGone, TextsTell, World}
 use Rattle.place_protocol.specs.Turns.{has_path}
-use Rattle.place_protocol.specs.Witness.{DirectoryTells, FindsObject, FindsRoot, FirstWitness, below_slash, below_kept, below_link, HasNoSecond, IsThere, IsWitnessed, by_directory, by_both, by_seen, in_old_jail, by_text, root_itself, RootStayed, SecondWitness, TextTells, Worked, is_top}
+use Rattle.place_protocol.specs.Witness.{DirectoryTells, FindsObject, FindsRoot, FirstWitness, below_slash, below_kept, below_link, HasNoSecond, IsThere, IsWitnessed, by_directory, by_both, by_seen, in_old_jail, by_text, root_itself, NamedAgain, RootStayed, SecondWitness, TextTells, WasThere, Worked, is_top}
 use Rattle.place_protocol.specs.declared.questions.Facts.{Facts}
 use Rattle.place_protocol.specs.declared.questions.Question.{Question}
 use Rattle.place_protocol.specs.declared.questions.Question.TheVariants.{CwdAgain, KeptLink, RootLink, ObjectLink, LookUp}
 use Rattle.place_protocol.proofs.GoesLemmas.{both}
+use Rattle.place_protocol.proofs.TextLemmas.{named_there}
 use Rattle.place_protocol.proofs.WitnessLemmas.{places-are-witnessed}
 
 -- ---- the moment of an exchange
 
-record At (P : Exchange → List Exchange → Type 0) (w : World) (n : ℕ) (es : List Exchange) : Type 0 where
+record At (P : Exchange → List Exchange → Type 0) (w : World) (facts : Facts) (n : ℕ) (es : List Exchange) : Type 0 where
   k : ℕ
   e : Exchange
   later : List Exchange
   is : P e later
-  answer : IsAnswer w k e
-  rest : AreAnswers w (k + 1) later
+  answer : IsAnswer w facts k e
+  rest : AreAnswers w facts (k + 1) later
   size : k + 1 + length later ≡ n + length es
   from : n ≤ k
 
-at : (P : Exchange → List Exchange → Type 0) (w : World) (n : ℕ) (es : List Exchange) → Comes P es → AreAnswers w n es → At P w n es
-at P w n [] c a = absurd c
-at P w n (x ∷ xs) (inl p) a =
+at : (P : Exchange → List Exchange → Type 0) (w : World) (facts : Facts) (n : ℕ) (es : List Exchange) → Comes P es
+    → AreAnswers w facts n es → At P w facts n es
+at P w facts n [] c a = absurd c
+at P w facts n (x ∷ xs) (inl p) a =
     record { k = n; e = x; later = xs; is = p; answer = a.0; rest = a.1; size = omega arith; from = omega arith }
-at P w n (x ∷ xs) (inr c) a =
-    let r = at P w (n + 1) xs c a.1 in
+at P w facts n (x ∷ xs) (inr c) a =
+    let r = at P w facts (n + 1) xs c a.1 in
     record {
       k = r.k;
       e = r.e;
@@ -65,85 +67,145 @@ abbrev Stood : World → Facts → List ℕ → ℕ → Type 0
 Stood w facts place end =
     (n : ℕ) × (n < end) × ((w.stands n place ≡ true) ⊎ ((facts.seen ≡ true) × (w.gone n ≡ true)))
 
-gone_before : (w : World) (facts : Facts) (place : List ℕ) (k end : ℕ) (later : List Exchange) → StaysGone w → k < end
-    → AreAnswers w (k + 1) later → w.gone k ≡ true
-    → (facts.seen ≡ true) ⊎ Comes (λ a _. (a.question ≡ CwdAgain) × (has_path a.answer.error ≡ true)) later → Stood w facts place end
-gone_before w facts place k end later stays within rest gone (inl seen) = (k, within, inr (seen, gone))
-gone_before w facts place k end later stays within rest gone (inr c) =
-    let r = at _ w (k + 1) later c rest in
-    let there = r.answer.again r.is.0 r.is.1 in
-    let still = still_gone w k (r.k - k) stays gone in
-    let is : k + (r.k - k) ≡ r.k = omega (arith, r.from) in
-    absurd (both_ways (w.gone r.k) there (subst (λ (n : ℕ). w.gone n ≡ true) is still))
+-- it wasn't gone by then, or later
+abbrev There : World → ℕ → Type 0
+There w k = (m : ℕ) × (k ≤ m) × (w.gone m ≡ false)
 
-directory : (w : World) (facts : Facts) (place : List ℕ) (es : List Exchange) → StaysGone w → AreAnswers w 0 es
+not_gone : (w : World) (k : ℕ) → StaysGone w → There w k → w.gone k ≡ true → ⊥
+not_gone w k stays there gone =
+    let is : k + (there.0 - k) ≡ there.0 = omega (arith, there.1) in
+    let still = subst (λ (n : ℕ). w.gone n ≡ true) is (still_gone w k (there.0 - k) stays gone) in
+    both_ways (w.gone there.0) there.2 still
+
+-- names were told of it, and it was seen before or wasn't gone
+settled : (w : World) (facts : Facts) (place : List ℕ) (k end : ℕ) → StaysGone w → k < end
+    → (w.gone k ≡ true) ⊎ (w.stands k place ≡ true) → (facts.seen ≡ true) ⊎ There w k → Stood w facts place end
+settled w facts place k end stays within (inr stands) there = (k, within, inl stands)
+settled w facts place k end stays within (inl gone) (inl seen) = (k, within, inr (seen, gone))
+settled w facts place k end stays within (inl gone) (inr there) = absurd (not_gone w k stays there gone)
+
+earlier : (w : World) (facts : Facts) (j k : ℕ) → j ≤ k → (facts.seen ≡ true) ⊎ There w k → (facts.seen ≡ true) ⊎ There w j
+earlier w facts j k before (inl seen) = inl seen
+earlier w facts j k before (inr there) = inr (there.0, omega (arith, there.1, before), there.2)
+
+cwd_there : (w : World) (facts : Facts) (k : ℕ) (later : List Exchange) → AreAnswers w facts (k + 1) later
+    → (facts.seen ≡ true) ⊎ Comes (λ a _. (a.question ≡ CwdAgain) × (has_path a.answer.error ≡ true)) later
+    → (facts.seen ≡ true) ⊎ There w k
+cwd_there w facts k later rest (inl seen) = inl seen
+cwd_there w facts k later rest (inr c) =
+    let r = at _ w facts (k + 1) later c rest in inr (r.k, omega (arith, r.from), r.answer.again r.is.0 r.is.1)
+
+directory : (w : World) (facts : Facts) (place : List ℕ) (es : List Exchange) → StaysGone w → AreAnswers w facts 0 es
     → DirectoryTells facts place es → Stood w facts place (length es)
 directory w facts place es stays answers c =
-    let r = at _ w 0 es c answers in
-    let within : r.k < length es = omega (arith, r.size) in
-    elim (r.answer.cwd place r.is.0 r.is.1) [
-      | inl gone ↦ gone_before w facts place r.k (length es) r.later stays within r.rest gone r.is.2
-      | inr stands ↦ (r.k, within, inl stands)
-    ]
+    let r = at _ w facts 0 es c answers in
+    settled w facts place r.k (length es) stays (omega (arith, r.size)) (r.answer.cwd place r.is.0 r.is.1)
+    (cwd_there w facts r.k r.later r.rest r.is.2)
+
+-- ---- what comes behind a text
+
+-- it settles that the object wasn't gone, or was seen before
+abbrev Settles : World → Facts → (List Exchange → Type 0) → Type 0
+Settles w facts After =
+    (k : ℕ) (later : List Exchange) → AreAnswers w facts (k + 1) later → After later → (facts.seen ≡ true) ⊎ There w k
+
+named_settles : (w : World) (facts : Facts) (place : List ℕ) (k : ℕ) (later : List Exchange) → ends_as_gone place ≡ false
+    → AreAnswers w facts (k + 1) later → NamedAgain place later → There w k
+named_settles w facts place k later named rest c =
+    let r = at _ w facts (k + 1) later c rest in
+    (r.k, omega (arith, r.from), r.answer.link_again r.is.0 (named_there r.e.text place r.is.1 named))
+
+there_settles : (w : World) (facts : Facts) (place : List ℕ) → ends_as_gone place ≡ false → Settles w facts (IsThere facts place)
+there_settles w facts place named k later rest (inl c) = inr (named_settles w facts place k later named rest c.1)
+there_settles w facts place named k later rest (inr c) = absurd (both_ways (ends_as_gone place) named c.0)
+
+was_there : (w : World) (facts : Facts) (place : List ℕ) (k : ℕ) (look : Exchange) (later : List Exchange)
+    → ends_as_gone place ≡ false → IsAnswer w facts k look → FindsObject place look → AreAnswers w facts (k + 1) later
+    → WasThere facts place look later → There w k
+was_there w facts place k look later named answer finds rest (inl c) = (k, omega arith, answer.links place c.0 finds c.1)
+was_there w facts place k look later named answer finds rest (inr c) = named_settles w facts place k later named rest c
+
+second_settles : (w : World) (facts : Facts) (place : List ℕ) → ends_as_gone place ≡ false
+    → Settles w facts (SecondWitness facts place)
+second_settles w facts place named k later rest c =
+    let r = at _ w facts (k + 1) later c rest in
+    let there = was_there w facts place r.k r.e r.later named r.answer r.is.0 r.rest r.is.1 in
+    inr (there.0, omega (arith, there.1, r.from), there.2)
+
+seen_settles : (w : World) (facts : Facts) → facts.seen ≡ true → Settles w facts (λ later. Unit {0})
+seen_settles w facts seen k later rest c = inl seen
 
 -- ---- texts
 
+-- What is known where a text of the object is read: texts tell inside from outside, and what comes behind it settles
+-- that the object wasn't gone.
+record Reads (w : World) (facts : Facts) (kept place : List ℕ) (After : List Exchange → Type 0) : Type 0 where
+  stays : StaysGone w
+  tell : TextsTell w facts kept
+  top : is_top place ≡ false
+  named : ends_as_gone place ≡ false
+  settles : Settles w facts After
+
 -- a text of the object's link tells the place
 text_stood : (link : Question) (w : World) (facts : Facts) (kept place : List ℕ) (n : ℕ) (es : List Exchange)
-    (After : List Exchange → Type 0) → ((k : ℕ) (e : Exchange) → IsAnswer w k e → Worked link e → e.text ≡ w.object k)
-    → (tell : TextsTell w facts kept) → is_top place ≡ false → ends_as_gone place ≡ false → AreAnswers w n es
-    → TextTells link tell.path place After es → Stood w facts place (n + length es)
-text_stood link w facts kept place n es After says tell top named answers c =
-    let r = at _ w n es c answers in
+    (After : List Exchange → Type 0) → ((k : ℕ) (e : Exchange) → IsAnswer w facts k e → Worked link e → e.text ≡ w.object k)
+    → (reads : Reads w facts kept place After) → AreAnswers w facts n es
+    → TextTells link reads.tell.path place After es → Stood w facts place (n + length es)
+text_stood link w facts kept place n es After says reads answers c =
+    let r = at _ w facts n es c answers in
+    let path = reads.tell.path in
     let text = says r.k r.e r.answer r.is.0 in
-    let told = sym (ap (λ x. place_between tell.path x tell.path) text) ∙ r.is.1 in
-    (r.k, omega (arith, r.size), inl (tell.below r.k place told top named))
+    let told = sym (ap (λ x. place_between path x path) text) ∙ r.is.1 in
+    settled w facts place r.k (n + length es) reads.stays (omega (arith, r.size))
+    (reads.tell.below r.k place told reads.top reads.named) (reads.settles r.k r.later r.rest r.is.2)
 
-object_says : (w : World) (k : ℕ) (e : Exchange) → IsAnswer w k e → Worked ObjectLink e → e.text ≡ w.object k
-object_says w k e a = a.object_link
+object_says : (w : World) (facts : Facts) (k : ℕ) (e : Exchange) → IsAnswer w facts k e → Worked ObjectLink e → e.text ≡ w.object k
+object_says w facts k e a = a.object_link
 
-kept_says : (w : World) (k : ℕ) (e : Exchange) → IsAnswer w k e → Worked KeptLink e → e.text ≡ w.object k
-kept_says w k e a = a.kept_link
+kept_says : (w : World) (facts : Facts) (k : ℕ) (e : Exchange) → IsAnswer w facts k e → Worked KeptLink e → e.text ≡ w.object k
+kept_says w facts k e a = a.kept_link
 
 -- where the root's link told its path
 link_stood : (w : World) (facts : Facts) (kept place : List ℕ) (es : List Exchange) (After : List Exchange → Type 0)
-    → (tell : TextsTell w facts kept) → is_top place ≡ false → ends_as_gone place ≡ false → AreAnswers w 0 es
+    → (reads : Reads w facts kept place After) → AreAnswers w facts 0 es
     → Comes (λ e later. Worked RootLink e × TextTells ObjectLink e.text place After later) es → Stood w facts place (length es)
-link_stood w facts kept place es After tell top named answers c =
-    let r = at _ w 0 es c answers in
-    let path = r.answer.root_link r.is.0 ∙ tell.stays r.k in
+link_stood w facts kept place es After reads answers c =
+    let r = at _ w facts 0 es c answers in
+    let path = r.answer.root_link r.is.0 ∙ reads.tell.stays r.k in
     let told = subst (λ (p : List ℕ). TextTells ObjectLink p place After r.later) path r.is.1 in
-    let s = text_stood ObjectLink w facts kept place (r.k + 1) r.later After (object_says w) tell top named r.rest told in
+    let s = text_stood ObjectLink w facts kept place (r.k + 1) r.later After (object_says w facts) reads r.rest told in
     (s.0, omega (arith, s.1, r.size), s.2)
 
 first_stood : (w : World) (facts : Facts) (kept place : List ℕ) (es : List Exchange) (After : List Exchange → Type 0)
-    → (tell : TextsTell w facts kept) → is_top place ≡ false → ends_as_gone place ≡ false → AreAnswers w 0 es
+    → (reads : Reads w facts kept place After) → AreAnswers w facts 0 es
     → FirstWitness facts kept place After es → Stood w facts place (length es)
-first_stood w facts kept place es After tell top named answers (below_slash j c) =
-    let s = text_stood ObjectLink w facts kept place 0 es After (object_says w) tell top named answers
-    (subst (λ (p : List ℕ). TextTells ObjectLink p place After es) (sym (tell.jailed j)) c) in
+first_stood w facts kept place es After reads answers (below_slash j c) =
+    let s = text_stood ObjectLink w facts kept place 0 es After (object_says w facts) reads answers
+    (subst (λ (p : List ℕ). TextTells ObjectLink p place After es) (sym (reads.tell.jailed j)) c) in
     (s.0, omega (arith, s.1), s.2)
-first_stood w facts kept place es After tell top named answers (below_kept j k c) =
-    let s = text_stood KeptLink w facts kept place 0 es After (kept_says w) tell top named answers
-    (subst (λ (p : List ℕ). TextTells KeptLink p place After es) (sym (tell.kept_path k)) c) in
+first_stood w facts kept place es After reads answers (below_kept j k c) =
+    let s = text_stood KeptLink w facts kept place 0 es After (kept_says w facts) reads answers
+    (subst (λ (p : List ℕ). TextTells KeptLink p place After es) (sym (reads.tell.kept_path k)) c) in
     (s.0, omega (arith, s.1), s.2)
-first_stood w facts kept place es After tell top named answers (below_link j c) =
-    link_stood w facts kept place es After tell top named answers c
+first_stood w facts kept place es After reads answers (below_link j c) = link_stood w facts kept place es After reads answers c
 
 -- without openat2(2)
-alone_stood : (w : World) (facts : Facts) (kept place : List ℕ) (es : List Exchange) → (tell : TextsTell w facts kept)
-    → is_top place ≡ false → ends_as_gone place ≡ false → AreAnswers w 0 es → RootStayed place (IsThere facts place) es
+alone_stood : (w : World) (facts : Facts) (kept place : List ℕ) (es : List Exchange)
+    → Reads w facts kept place (IsThere facts place) → AreAnswers w facts 0 es → RootStayed place (IsThere facts place) es
     → Stood w facts place (length es)
-alone_stood w facts kept place es tell top named answers c =
-    let r = at _ w 0 es c answers in
-    let o = at _ w (r.k + 1) r.later r.is.1 r.rest in
-    let m = at _ w (o.k + 1) o.later o.is.1 o.rest in
-    let a = at _ w (m.k + 1) m.later m.is.2 m.rest in
-    let before = r.answer.root_link r.is.0 ∙ tell.stays r.k in
-    let after = a.answer.root_again a.is.0 ∙ tell.stays a.k in
+alone_stood w facts kept place es reads answers c =
+    let r = at _ w facts 0 es c answers in
+    let o = at _ w facts (r.k + 1) r.later r.is.1 r.rest in
+    let m = at _ w facts (o.k + 1) o.later o.is.1 o.rest in
+    let a = at _ w facts (m.k + 1) m.later m.is.2 m.rest in
+    let path = reads.tell.path in
+    let before = r.answer.root_link r.is.0 ∙ reads.tell.stays r.k in
+    let after = a.answer.root_again a.is.0 ∙ reads.tell.stays a.k in
     let text = o.answer.object_link o.is.0 in
-    let told = sym (ap (λ x. place_between x o.e.text a.e.text) before ∙ (ap (λ x. place_between tell.path x a.e.text) text ∙ ap (λ x. place_between tell.path (w.object o.k) x) after)) ∙ a.is.1 in
-    (o.k, omega (arith, o.size, r.size), inl (tell.below o.k place told top named))
+    let told = sym (ap (λ x. place_between x o.e.text a.e.text) before ∙ (ap (λ x. place_between path x a.e.text) text ∙ ap (λ x. place_between path (w.object o.k) x) after)) ∙ a.is.1 in
+    settled w facts place o.k (length es) reads.stays (omega (arith, o.size, r.size))
+    (reads.tell.below o.k place told reads.top reads.named)
+    (earlier w facts o.k a.k (omega (arith, a.from, m.from)) (reads.settles a.k a.later a.rest a.is.2))
 
 -- ---- the root itself
 
@@ -197,14 +259,14 @@ first_slash facts kept place After es (below_kept j k c) top = text_slash KeptLi
 first_slash facts kept place After es (below_link j c) top = link_slash place After es c top
 
 -- which objects both are was asked last
-root_stood : (w : World) (facts : Facts) (place : List ℕ) (es : List Exchange) → is_top place ≡ true → AreAnswers w 0 es
+root_stood : (w : World) (facts : Facts) (place : List ℕ) (es : List Exchange) → is_top place ≡ true → AreAnswers w facts 0 es
     → RootStayed place (Comes (λ e _. FindsRoot e)) es → Stood w facts place (length es)
 root_stood w facts place es top answers c =
-    let r = at _ w 0 es c answers in
-    let o = at _ w (r.k + 1) r.later r.is.1 r.rest in
-    let m = at _ w (o.k + 1) o.later o.is.1 o.rest in
-    let a = at _ w (m.k + 1) m.later m.is.2 m.rest in
-    let f = at _ w (a.k + 1) a.later a.is.2 a.rest in
+    let r = at _ w facts 0 es c answers in
+    let o = at _ w facts (r.k + 1) r.later r.is.1 r.rest in
+    let m = at _ w facts (o.k + 1) o.later o.is.1 o.rest in
+    let a = at _ w facts (m.k + 1) m.later m.is.2 m.rest in
+    let f = at _ w facts (a.k + 1) a.later a.is.2 a.rest in
     let is = slash r.e.text o.e.text a.e.text place a.is.1 top in (
       f.k,
       omega (arith, f.size, a.size, m.size, o.size, r.size),
@@ -237,33 +299,33 @@ abbrev Once : (ℕ → Type 0) → ℕ → Type 0
 Once P end = (n : ℕ) × (n < end) × P n
 
 -- each look-up that finds the object says it
-abbrev Says : World → List ℕ → (ℕ → Type 0) → Type 0
-Says w place P = (k : ℕ) (e : Exchange) → IsAnswer w k e → FindsObject place e → P k
+abbrev Says : World → Facts → List ℕ → (ℕ → Type 0) → Type 0
+Says w facts place P = (k : ℕ) (e : Exchange) → IsAnswer w facts k e → FindsObject place e → P k
 
-second_says : (P : ℕ → Type 0) (w : World) (facts : Facts) (place : List ℕ) (n : ℕ) (es : List Exchange) → Says w place P
-    → AreAnswers w n es → SecondWitness facts place es → Once P (n + length es)
+second_says : (P : ℕ → Type 0) (w : World) (facts : Facts) (place : List ℕ) (n : ℕ) (es : List Exchange) → Says w facts place P
+    → AreAnswers w facts n es → SecondWitness facts place es → Once P (n + length es)
 second_says P w facts place n es says answers c =
-    let r = at _ w n es c answers in
+    let r = at _ w facts n es c answers in
     (r.k, omega (arith, r.size), says r.k r.e r.answer r.is.0)
 
 text_says : (P : ℕ → Type 0) (link : Question) (w : World) (facts : Facts) (root place : List ℕ) (n : ℕ) (es : List Exchange)
-    → Says w place P → AreAnswers w n es → TextTells link root place (SecondWitness facts place) es → Once P (n + length es)
+    → Says w facts place P → AreAnswers w facts n es → TextTells link root place (SecondWitness facts place) es → Once P (n + length es)
 text_says P link w facts root place n es says answers c =
-    let r = at _ w n es c answers in
+    let r = at _ w facts n es c answers in
     let s = second_says P w facts place (r.k + 1) r.later says r.rest r.is.2 in
     (s.0, omega (arith, s.1, r.size), s.2)
 
-link_says : (P : ℕ → Type 0) (w : World) (facts : Facts) (place : List ℕ) (n : ℕ) (es : List Exchange) → Says w place P
-    → AreAnswers w n es
+link_says : (P : ℕ → Type 0) (w : World) (facts : Facts) (place : List ℕ) (n : ℕ) (es : List Exchange) → Says w facts place P
+    → AreAnswers w facts n es
     → Comes (λ e later. Worked RootLink e × TextTells ObjectLink e.text place (SecondWitness facts place) later) es
     → Once P (n + length es)
 link_says P w facts place n es says answers c =
-    let r = at _ w n es c answers in
+    let r = at _ w facts n es c answers in
     let s = text_says P ObjectLink w facts r.e.text place (r.k + 1) r.later says r.rest r.is.1 in
     (s.0, omega (arith, s.1, r.size), s.2)
 
-first_says : (P : ℕ → Type 0) (w : World) (facts : Facts) (kept place : List ℕ) (n : ℕ) (es : List Exchange) → Says w place P
-    → AreAnswers w n es → FirstWitness facts kept place (SecondWitness facts place) es → Once P (n + length es)
+first_says : (P : ℕ → Type 0) (w : World) (facts : Facts) (kept place : List ℕ) (n : ℕ) (es : List Exchange) → Says w facts place P
+    → AreAnswers w facts n es → FirstWitness facts kept place (SecondWitness facts place) es → Once P (n + length es)
 first_says P w facts kept place n es says answers (below_slash j c) =
     text_says P ObjectLink w facts (SLASH ∷ []) place n es says answers c
 first_says P w facts kept place n es says answers (below_kept j k c) = text_says P KeptLink w facts kept place n es says answers c
@@ -272,31 +334,42 @@ first_says P w facts kept place n es says answers (below_link j c) = link_says P
 -- ---- where it stood
 
 -- the root itself was looked up by no names; any other object has its own text
-both_stood : (w : World) (facts : Facts) (kept place : List ℕ) (es : List Exchange) → (tell : TextsTell w facts kept)
-    → ends_as_gone place ≡ false → AreAnswers w 0 es → FirstWitness facts kept place (SecondWitness facts place) es
+both_stood : (w : World) (facts : Facts) (kept place : List ℕ) (es : List Exchange) → StaysGone w → (tell : TextsTell w facts kept)
+    → ends_as_gone place ≡ false → AreAnswers w facts 0 es → FirstWitness facts kept place (SecondWitness facts place) es
     → (top : Bool) → is_top place ≡ top → Stood w facts place (length es)
-both_stood w facts kept place es tell named answers f true top =
+both_stood w facts kept place es stays tell named answers f true top =
     let is = first_slash facts kept place (SecondWitness facts place) es f top in
-    let says : Says w place (λ n. w.stands n place ≡ true) =
+    let says : Says w facts place (λ n. w.stands n place ≡ true) =
     λ k e a finds. ap (w.stands k) is ∙ a.looked_root (subst (λ (p : List ℕ). FindsObject p e) is finds) in
     let s = first_says (λ n. w.stands n place ≡ true) w facts kept place 0 es says answers f in
     (s.0, omega (arith, s.1), inl s.2)
-both_stood w facts kept place es tell named answers f false top =
-    first_stood w facts kept place es (SecondWitness facts place) tell top named answers f
+both_stood w facts kept place es stays tell named answers f false top =
+    let reads : Reads w facts kept place (SecondWitness facts place) =
+    record { stays = stays; tell = tell; top = top; named = named; settles = second_settles w facts place named } in
+    first_stood w facts kept place es (SecondWitness facts place) reads answers f
 
-witnessed_stood : (w : World) (facts : Facts) (kept place : List ℕ) (es : List Exchange) → StaysGone w → AreAnswers w 0 es
+witnessed_stood : (w : World) (facts : Facts) (kept place : List ℕ) (es : List Exchange) → StaysGone w → AreAnswers w facts 0 es
     → (ReadsLink es → TextsTell w facts kept) → ends_as_gone place ≡ false → IsWitnessed facts kept es place
     → Stood w facts place (length es)
 witnessed_stood w facts kept place es stays answers tell named (by_directory j d c) = directory w facts place es stays answers c
 witnessed_stood w facts kept place es stays answers tell named (by_both s f) =
-    both_stood w facts kept place es (tell (first_read facts kept place es (SecondWitness facts place) f)) named answers f (is_top place) refl
+    both_stood w facts kept place es stays (tell (first_read facts kept place es (SecondWitness facts place) f)) named answers f (is_top place) refl
 witnessed_stood w facts kept place es stays answers tell named (by_seen s v top f) =
-    first_stood w facts kept place es (λ later. Unit {0}) (tell (first_read facts kept place es (λ later. Unit {0}) f)) top named answers f
+    let told = tell (first_read facts kept place es (λ later. Unit {0}) f) in
+    let reads : Reads w facts kept place (λ later. Unit {0}) =
+    record { stays = stays; tell = told; top = top; named = named; settles = seen_settles w facts v } in
+    first_stood w facts kept place es (λ later. Unit {0}) reads answers f
 witnessed_stood w facts kept place es stays answers tell named (in_old_jail n j top c) =
     let f = below_slash j c in
-    first_stood w facts kept place es (IsThere facts place) (tell (first_read facts kept place es (IsThere facts place) f)) top named answers f
+    let told = tell (first_read facts kept place es (IsThere facts place) f) in
+    let reads : Reads w facts kept place (IsThere facts place) =
+    record { stays = stays; tell = told; top = top; named = named; settles = there_settles w facts place named } in
+    first_stood w facts kept place es (IsThere facts place) reads answers f
 witnessed_stood w facts kept place es stays answers tell named (by_text n j top c) =
-    alone_stood w facts kept place es (tell (alone_read place (IsThere facts place) es c)) top named answers c
+    let told = tell (alone_read place (IsThere facts place) es c) in
+    let reads : Reads w facts kept place (IsThere facts place) =
+    record { stays = stays; tell = told; top = top; named = named; settles = there_settles w facts place named } in
+    alone_stood w facts kept place es reads answers c
 witnessed_stood w facts kept place es stays answers tell named (root_itself n j top c) = root_stood w facts place es top answers c
 
 pub places-stood : PlacesStood
@@ -314,7 +387,7 @@ has_second : (facts : Facts) (es : List Exchange) → facts.second ≡ true
 has_second facts es second keeps (inl lacks) = both_ways facts.second lacks second
 has_second facts es second keeps (inr c) = keeps c
 
-witnessed_passed : (w : World) (facts : Facts) (kept place : List ℕ) (es : List Exchange) → AreAnswers w 0 es
+witnessed_passed : (w : World) (facts : Facts) (kept place : List ℕ) (es : List Exchange) → AreAnswers w facts 0 es
     → (facts.jailed && facts.directory) ≡ false → facts.second ≡ true → facts.seen ≡ false
     → (Comes (λ e _. (e.question ≡ LookUp) × (e.answer.yes ≡ true)) es → ⊥) → IsWitnessed facts kept es place
     → Passed w place (length es)

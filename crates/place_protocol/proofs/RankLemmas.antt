@@ -68,7 +68,7 @@ alone_below : (facts : Facts) (found : Place) → Below false 2 (confirm_alone f
 alone_below facts found =
     cond_both (is_root found) _ _ (Below false 2)
     (λ _. cond_both facts.jailed (Unmade EAGAIN) (Ask IsRoot) (Below false 2) (λ _. lit< tt) (λ _. lit< tt))
-    (λ _. cond_both (not found.gone) (Stands found false) _ (Below false 2) (λ _. lit< tt)
+    (λ _. cond_both (not found.gone) (Ask LinkAgain) _ (Below false 2) (λ _. lit< tt)
     (λ _. cond_both facts.directory (Ask Dead) (Unmade EAGAIN) (Below false 2) (λ _. lit< tt) (λ _. lit< tt)))
 
 place_below : (s : Bool) (facts : Facts) (found : Place) → facts.second ≡ s → Below s (cond s 7 2) (confirm_place facts found)

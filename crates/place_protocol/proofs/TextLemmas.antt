@@ -1,15 +1,18 @@
 -- The place that a text tells, and where it lies in it.
-use Rattle.std.proofs.Common.{◌≡◌, ◌+◌, ◌-◌, ◌≤◌, ◌==◌, ◌&&◌, ◌||◌, ℕ, Bool, true, false, not, List, [], ◌∷◌, length, take, drop, Option, Some, None, IsSomeAnd, nat_lt, nat_eq, refl, sym, ap, subst, ◌∙◌, arith}
-use Rattle.std.specs.List.{ends_with}
-use Rattle.std.proofs.lemmas.Bool.{cond-true, cond-false, cond_both, eq-eqb, eqb-true, true≢false, or_left}
+use Rattle.std.proofs.Common.{◌≡◌, ◌+◌, ◌-◌, ◌≤◌, ◌==◌, ◌&&◌, ◌||◌, ℕ, suc, Bool, true, false, not, cond, List, [], ◌∷◌, length, take, drop, Option, Some, None, IsSomeAnd, nat_lt, nat_eq, refl, sym, ap, subst, ◌∙◌, arith}
+use Rattle.std.specs.List.{ends_with, list_any}
+use Rattle.std.specs.Prelude.{codes}
+use Rattle.std.specs.Cmp.Derive.{both_true}
+use Rattle.std.specs.Cmp.Lexicographic.{same_text}
+use Rattle.std.proofs.lemmas.Bool.{both_ways, cond-true, cond-false, cond_both, eq-eqb, eqb-true, false≢true, ltb-false, ltb-true, true≢false, or_left}
 use Rattle.std.proofs.lemmas.List.{drop-take, length-drop, length-take-le, take-take}
 use Rattle.path_text.specs.Name.{NUL, same_bytes}
 use Rattle.path_text.specs.Text.{begins_with_slash}
 use Rattle.path_text.specs.declared.name.TheConstants.{SLASH}
 use Rattle.path_text.specs.declared.path.TheConstants.{TEXT_MAX}
-use Rattle.kernel_text.specs.Place.{behind, but_last, ends_as_gone, place_below, place_between, place_of_cwd, IsPart, TellsPlace}
+use Rattle.kernel_text.specs.Place.{behind, but_last, ends_as_gone, is_named, last_part, place_below, place_between, place_of_cwd, IsPart, TellsPlace}
 use Rattle.kernel_text.specs.declared.place.Place.{Place}
-use Rattle.place_protocol.specs.Texts.{Texts, Finds, IsWithin, as_found, path_after, path_of_root, place_of, texts_of}
+use Rattle.place_protocol.specs.Texts.{Texts, Finds, IsWithin, as_found, path_after, path_of_root, place_before, place_of, texts_of}
 use Rattle.place_protocol.specs.declared.questions.Facts.{Facts}
 
 -- ---- a place has bytes
@@ -193,3 +196,88 @@ told_alone facts t place jailed second told =
     let after : path_after facts t.root t.again ≡ t.again =
     cond-false (facts.jailed || facts.second) (path_of_root facts t.root) t.again (or_none facts.jailed facts.second jailed second) in
     sym (ap (λ p. place_between p t.text (path_after facts t.root t.again)) root ∙ ap (λ p. place_between t.root t.text p) after) ∙ told
+
+-- ---- the root's text, once
+
+same_self : (xs : List ℕ) → same_bytes xs xs ≡ true
+same_self [] = refl
+same_self (x ∷ xs) = both_true (eq-eqb x x refl) (same_self xs)
+
+or_first : (x y : Bool) → (x || y) ≡ false → x ≡ false
+or_first true y e = e
+or_first false y e = refl
+
+between_once : (before path after place : List ℕ) → place_between before path after ≡ Some place
+    → place_between before path before ≡ Some place
+between_once before path after place =
+    cond_both (nat_lt TEXT_MAX (length path) || not (same_bytes before after)) None (place_below before path)
+    (λ o. o ≡ Some place → place_between before path before ≡ Some place) (λ _ e. absurd cc)
+    (λ none e.
+    cond-false (nat_lt TEXT_MAX (length path) || not (same_bytes before before)) None (place_below before path)
+    (or_none (nat_lt TEXT_MAX (length path)) (not (same_bytes before before)) (or_first _ _ none) (ap not (same_self before)))
+    ∙ e)
+
+once : (x y : Bool) (slash root : List ℕ) → cond (x || y) (cond x slash root) root ≡ cond x slash root
+once true y slash root = refl
+once false true slash root = refl
+once false false slash root = refl
+
+-- the text told the place between both texts of the root, so it tells it by the first
+pub told_before : (facts : Facts) (t : Texts) (place : List ℕ) → place_of facts t ≡ Some place
+    → place_before facts t ≡ Some place
+told_before facts t place told =
+    let path = path_of_root facts t.root in
+    ap (λ p. place_between path t.text p) (once facts.jailed facts.second (SLASH ∷ []) t.root)
+    ∙ between_once path t.text (path_after facts t.root t.again) place told
+
+-- ---- what is called deleted
+
+deleted_end : (text : List ℕ) → ends_as_gone text ≡ true → codes " (deleted)" ≡ drop (length text - 10) text
+deleted_end text e = same_text (codes " (deleted)") (drop (length text - 10) text) (sym e)
+
+deleted_size : (text : List ℕ) → ends_as_gone text ≡ true → 10 ≤ length text
+deleted_size text e =
+    let size : 10 ≡ length (drop (length text - 10) text) = ap length (deleted_end text e) in
+    omega (arith, size, length-drop (length text - 10) text)
+
+-- by the bytes behind the first one, where these are enough
+behind_first : (b : ℕ) (bs : List ℕ) → 10 ≤ length bs → ends_as_gone (b ∷ bs) ≡ ends_as_gone bs
+behind_first b bs size =
+    let at : suc (length bs) - 10 ≡ suc (length bs - 10) = omega (arith, size) in
+    ap (λ k. same_bytes (codes " (deleted)") (drop k (b ∷ bs))) at
+
+-- else it is these words, which have no slash
+no_slash : (text : List ℕ) → ends_as_gone text ≡ true → length text ≡ 10 → list_any (λ b. b == SLASH) text ≡ true → ⊥
+no_slash text e size some =
+    let first : length text - 10 ≡ 0 = omega (arith, size) in
+    let is : codes " (deleted)" ≡ text = deleted_end text e ∙ ap (λ k. drop k text) first in
+    false≢true (subst (λ (x : List ℕ). list_any (λ b. b == SLASH) x ≡ true) (sym is) some)
+
+deleted_part : (text : List ℕ) → ends_as_gone text ≡ true → ends_as_gone (last_part text) ≡ true
+deleted_part [] e = e
+deleted_part (b ∷ bs) e =
+    cond_both (list_any (λ c. c == SLASH) (b ∷ bs)) (last_part bs) (b ∷ bs) (λ x. ends_as_gone x ≡ true)
+    (λ some. cond_both (nat_lt (length bs) 10) 0 0 (λ (n : ℕ). ends_as_gone (last_part bs) ≡ true)
+    (λ short. absurd (no_slash (b ∷ bs) e (omega (arith, deleted_size (b ∷ bs) e, ltb-true (length bs) 10 short)) some))
+    (λ long. deleted_part bs (sym (behind_first b bs (ltb-false (length bs) 10 long)) ∙ e)))
+    (λ none. e)
+
+part_deleted : (text : List ℕ) → ends_as_gone (last_part text) ≡ true → ends_as_gone text ≡ true
+part_deleted [] e = e
+part_deleted (b ∷ bs) e =
+    cond_both (list_any (λ c. c == SLASH) (b ∷ bs)) (last_part bs) (b ∷ bs)
+    (λ x. ends_as_gone x ≡ true → ends_as_gone (b ∷ bs) ≡ true)
+    (λ some f. let below = part_deleted bs f in behind_first b bs (deleted_size bs below) ∙ below) (λ none f. f) e
+
+there_by : (again place : List ℕ) (gone : Bool) → ends_as_gone again ≡ gone
+    → (not gone || same_bytes (last_part again) (last_part place)) ≡ true → ends_as_gone place ≡ false → gone ≡ false
+there_by again place true is named there =
+    let same = same_text (last_part again) (last_part place) (sym named) in
+    let part = subst (λ (x : List ℕ). ends_as_gone x ≡ true) same (deleted_part again is) in
+    absurd (both_ways (ends_as_gone place) there (part_deleted place part))
+there_by again place false is named there = refl
+
+-- what is named as a place that isn't called deleted isn't called so either
+pub named_there : (again place : List ℕ) → is_named again place ≡ true → ends_as_gone place ≡ false
+    → ends_as_gone again ≡ false
+named_there again place named there = there_by again place (ends_as_gone again) refl named there

@@ -7,14 +7,16 @@ use Rattle.place_protocol.specs.Conversation.{Comes, Conversation, Exchange, Sta
 use Rattle.place_protocol.specs.Turns.{has_path}
 use Rattle.place_protocol.specs.Witness.{FindsObject, FindsRoot, Worked, is_top}
 use Rattle.place_protocol.specs.declared.questions.Facts.{Facts}
-use Rattle.place_protocol.specs.declared.questions.Question.TheVariants.{Cwd, CwdAgain, KeptLink, RootLink, ObjectLink, RootAgain, LookUp}
+use Rattle.place_protocol.specs.declared.questions.Question.TheVariants.{Cwd, CwdAgain, KeptLink, RootLink, ObjectLink, RootAgain, LookUp, LinkAgain}
 
--- One object and one root, moment by moment. The n-th answer of a conversation is of the moment n; what others do comes
--- between two moments.
+-- One object and one root, moment by moment. The n-th answer of a conversation is of the moment n, which is in its
+-- system calls: of a text, that of its names; of a look-up, that at which statx(2) looks at what was found; of what is
+-- read again (LinkAgain, CwdAgain), that at which the kernel looks whether it is gone. What others do comes between two
+-- moments.
 pub record World : Type 0 where
   -- these names led from the root to the object, all at this moment
   pub stands : ℕ → List ℕ → Bool
-  -- the object had been removed
+  -- the object had been removed: its entry, by which the descriptor is open
   pub gone : ℕ → Bool
   -- the kernel has passed these names from the root, one after another, to the object, and then saw it below the root
   pub passed : ℕ → List ℕ → Bool
@@ -22,16 +24,19 @@ pub record World : Type 0 where
   pub root : ℕ → List ℕ
   pub object : ℕ → List ℕ
 
--- rmdir(2): what was removed stays so
+-- rmdir(2), unlink(2), rename(2): what was removed stays so
 abbrev pub StaysGone : World → Type 0
 StaysGone w = (n : ℕ) → w.gone n ≡ true → w.gone (n + 1) ≡ true
 
-pub record IsAnswer (w : World) (n : ℕ) (e : Exchange) : Type 0 where
+pub record IsAnswer (w : World) (facts : Facts) (n : ℕ) (e : Exchange) : Type 0 where
   -- getcwd(2): the names of one moment, but whether the directory is gone is asked before
   pub cwd : (place : List ℕ) → Worked Cwd e → place_of_cwd e.text ≡ Some place
       → (w.gone n ≡ true) ⊎ (w.stands n place ≡ true)
   -- getcwd(2): it has a path only where it hasn't been unlinked (ENOENT)
   pub again : e.question ≡ CwdAgain → has_path e.answer.error ≡ true → w.gone n ≡ false
+  -- proc(5): the text of a link is called deleted if the object is gone, which the kernel looks at first (`d_path` in
+  -- fs/d_path.c)
+  pub link_again : Worked LinkAgain e → ends_as_gone e.text ≡ false → w.gone n ≡ false
   -- proc(5): a link's text is the path
   pub kept_link : Worked KeptLink e → e.text ≡ w.object n
   pub object_link : Worked ObjectLink e → e.text ≡ w.object n
@@ -39,40 +44,44 @@ pub record IsAnswer (w : World) (n : ℕ) (e : Exchange) : Type 0 where
   pub root_again : Worked RootAgain e → e.text ≡ w.root n
   -- openat2(2), RESOLVE_BENEATH; statx(2): the same device, inode and mount are the same object
   pub look_up : (place : List ℕ) → FindsObject place e → w.passed n place ≡ true
+  -- statx(2), rmdir(2): a directory that is removed has no link. The file system takes its links before the kernel takes
+  -- the entry (`vfs_rmdir`, `vfs_rename` in fs/namei.c). Overlayfs keeps them of a removed directory of a lower layer.
+  pub links : (place : List ℕ) → facts.directory ≡ true → FindsObject place e → 0 < e.answer.links → w.gone n ≡ false
   -- statx(2), fstat(2): the same device and inode are the same object, while both are open. So this is the root itself,
   -- which a look-up of no names finds.
   pub looked_root : FindsObject (SLASH ∷ []) e → w.stands n (SLASH ∷ []) ≡ true
   pub is_root : FindsRoot e → w.stands n (SLASH ∷ []) ≡ true
 
-abbrev pub AreAnswers : World → ℕ → List Exchange → Type 0
-AreAnswers w n [] = Unit {0}
-AreAnswers w n (e ∷ es) = IsAnswer w n e × AreAnswers w (n + 1) es
+abbrev pub AreAnswers : World → Facts → ℕ → List Exchange → Type 0
+AreAnswers w facts n [] = Unit {0}
+AreAnswers w facts n (e ∷ es) = IsAnswer w facts n e × AreAnswers w facts (n + 1) es
 
 -- The root stays at its path, which is a slash in a jail, or what is kept of it. And texts tell inside from outside
 -- (proc(5), /proc/pid/fd), since the thread's own root directory is a mount's, the root hasn't left its own mount, and
 -- no mount with the object is taken off (umount2(2), MNT_DETACH): an object whose path lies below the root's, and isn't
--- called deleted, stands at the rest. Of a slash alone that isn't so: the kernel also writes it of an object that was
--- moved out of the mount by which it was opened, and so has no path any more (getcwd(2) writes `(unreachable)` before
--- it, a link in /proc doesn't: `prepend_path` in fs/d_path.c).
+-- called deleted, stands at the rest, or is gone by then: the kernel looks whether it is gone, and takes the names
+-- after that, all at one moment (`d_path` in fs/d_path.c). If it was removed in between, and its directory moved, the
+-- text has names at which it never stood. Of a slash alone that isn't so: the kernel also writes it of an object that
+-- was moved out of the mount by which it was opened, and so has no path any more (getcwd(2) writes `(unreachable)`
+-- before it, a link in /proc doesn't: `prepend_path`).
 pub record TextsTell (w : World) (facts : Facts) (kept : List ℕ) : Type 0 where
   pub path : List ℕ
   pub stays : (n : ℕ) → w.root n ≡ path
   pub jailed : facts.jailed ≡ true → path ≡ SLASH ∷ []
   pub kept_path : facts.kept ≡ true → path ≡ kept
   pub below : (n : ℕ) (place : List ℕ) → place_between path (w.object n) path ≡ Some place → is_top place ≡ false
-      → ends_as_gone place ≡ false → w.stands n place ≡ true
+      → ends_as_gone place ≡ false → (w.gone n ≡ true) ⊎ (w.stands n place ≡ true)
 
 -- a link of the object was read
 abbrev pub ReadsLink : List Exchange → Type 0
 ReadsLink = Comes (λ e _. Worked ObjectLink e ⊎ Worked KeptLink e)
 
 -- A place is told that isn't called deleted. Then at the moment of an answer the object stood there. Texts of links
--- must tell that where one was read; and a directory in a jail which the kernel had seen below the root right before
--- may have been removed.
+-- must tell that where one was read; and what the kernel had seen below the root right before may have been removed.
 abbrev pub PlacesStood : Type 0
 PlacesStood =
     (w : World) (facts : Facts) (kept : List ℕ) (es : List Exchange) (place : List ℕ) (is_root : Bool)
-    → StaysGone w → AreAnswers w 0 es → (ReadsLink es → TextsTell w facts kept)
+    → StaysGone w → AreAnswers w facts 0 es → (ReadsLink es → TextsTell w facts kept)
     → Conversation facts kept es (StandsAt place is_root) → ends_as_gone place ≡ false
     → (n : ℕ) × (n < length es) × ((w.stands n place ≡ true) ⊎ ((facts.seen ≡ true) × (w.gone n ≡ true)))
 
@@ -82,7 +91,7 @@ PlacesStood =
 abbrev pub PlacesWerePassed : Type 0
 PlacesWerePassed =
     (w : World) (facts : Facts) (kept : List ℕ) (es : List Exchange) (place : List ℕ) (is_root : Bool)
-    → AreAnswers w 0 es → Conversation facts kept es (StandsAt place is_root)
+    → AreAnswers w facts 0 es → Conversation facts kept es (StandsAt place is_root)
     → (facts.jailed && facts.directory) ≡ false → facts.second ≡ true → facts.seen ≡ false
     → (Comes (λ e _. (e.question ≡ LookUp) × (e.answer.yes ≡ true)) es → ⊥)
     → (n : ℕ) × (n < length es) × (w.passed n place ≡ true)

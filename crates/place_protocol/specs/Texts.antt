@@ -27,6 +27,10 @@ abbrev pub place_of : Facts → Texts → Option (List ℕ)
 place_of facts texts =
     place_between (path_of_root facts texts.root) texts.text (path_after facts texts.root texts.again)
 
+-- the same once the link was read again, in the place of the root's second text, which was the first by then
+abbrev pub place_before : Facts → Texts → Option (List ℕ)
+place_before facts texts = place_of facts (texts_of texts.root texts.text texts.root)
+
 -- a place of no bytes is none
 abbrev pub as_found : Place → Option Place
 as_found place = if place.length == 0 then None else Some place

@@ -5,7 +5,7 @@ use Rattle.path_text.specs.declared.path.TheConstants.{TEXT_MAX}
 use Rattle.kernel_text.specs.Place.{is_named, place_of_cwd}
 use Rattle.kernel_text.specs.declared.place.Place.{Place}
 use Rattle.system_calls.specs.Objects.{is_elsewhere, is_same_object}
-use Rattle.place_protocol.specs.Texts.{Texts, Finds, bytes_of, place_of}
+use Rattle.place_protocol.specs.Texts.{Texts, Finds, bytes_of, place_before, place_of}
 use Rattle.place_protocol.specs.declared.questions.Answer.{Answer}
 use Rattle.place_protocol.specs.declared.questions.Facts.{Facts}
 use Rattle.place_protocol.specs.declared.questions.Question.{Question}
@@ -73,11 +73,12 @@ abbrev pub after_cwd_again : ℕ → Option Place → Turn
 after_cwd_again error place =
     if has_path error then in_jail place else (if error == ENOENT then Nowhere else Unmade error)
 
--- Without the second witness. A slash alone is the text of the root itself, and of what has left its mount.
+-- Without the second witness. A slash alone is the text of the root itself, and of what has left its mount. What isn't
+-- called deleted may be so all the same: the link is read again.
 abbrev pub confirm_alone : Facts → Place → Turn
 confirm_alone facts place =
     if is_root place then (if facts.jailed then Unmade EAGAIN else Ask IsRoot)
-    else (if not place.gone then Stands place false else (if facts.directory then Ask Dead else Unmade EAGAIN))
+    else (if not place.gone then Ask LinkAgain else (if facts.directory then Ask Dead else Unmade EAGAIN))
 
 abbrev pub confirm_place : Facts → Place → Turn
 confirm_place facts place =
@@ -162,7 +163,7 @@ Follows facts RootAgain a t turn =
     WithPlace t.text (place_of facts t) (after_root_again facts (link_error a.error t.again)) turn
 Follows facts LookUp a t turn = WithPlace t.text (place_of facts t) (after_look_up facts a) turn
 Follows facts LinkAgain a t turn =
-    WithPlace t.text (place_of facts t) (after_link_again (link_error a.error t.again) t.again t.text) turn
+    WithPlace t.text (place_before facts t) (after_link_again (link_error a.error t.again) t.again t.text) turn
 Follows facts Dead a t turn = WithPlace t.text (place_of facts t) (after_dead a.yes) turn
 Follows facts IsRoot a t turn = WithPlace t.text (place_of facts t) (after_is_root a) turn
 

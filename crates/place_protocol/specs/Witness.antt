@@ -44,11 +44,14 @@ abbrev pub FindsObject : List ℕ → Exchange → Type 0
 FindsObject place e =
     Worked LookUp e × (e.names ≡ place) × (is_same_object e.answer.held e.answer.found (is_top place) ≡ true)
 
+-- The object's own link was read again, and had that name still.
+abbrev pub NamedAgain : List ℕ → List Exchange → Type 0
+NamedAgain place = Comes (λ e _. Worked LinkAgain e × (is_named e.text place ≡ true))
+
 -- What was found wasn't gone by then: it is a directory with links; or its own link had that name still, later.
 abbrev pub WasThere : Facts → List ℕ → Exchange → List Exchange → Type 0
 WasThere facts place look later =
-    ((facts.directory ≡ true) × (0 < look.answer.links))
-    ⊎ Comes (λ e _. Worked LinkAgain e × (is_named e.text place ≡ true)) later
+    ((facts.directory ≡ true) × (0 < look.answer.links)) ⊎ NamedAgain place later
 
 abbrev pub SecondWitness : Facts → List ℕ → List Exchange → Type 0
 SecondWitness facts place = Comes (λ e later. FindsObject place e × WasThere facts place e later)
@@ -62,11 +65,13 @@ DirectoryTells facts place =
     Comes (λ e later. Worked Cwd e × (place_of_cwd e.text ≡ Some place)
     × ((facts.seen ≡ true) ⊎ Comes (λ a _. (a.question ≡ CwdAgain) × (has_path a.answer.error ≡ true)) later))
 
--- The place doesn't end as of what was removed; or the object is a directory that turned out not to be removed.
+-- The place doesn't end as of what was removed, and the link, read again, has that name; or it ends so, and the object
+-- is a directory that turned out not to be removed.
 abbrev pub IsThere : Facts → List ℕ → List Exchange → Type 0
 IsThere facts place later =
-    (ends_as_gone place ≡ false)
-    ⊎ ((facts.directory ≡ true) × Comes (λ e _. (e.question ≡ Dead) × (e.answer.yes ≡ false)) later)
+    ((ends_as_gone place ≡ false) × NamedAgain place later)
+    ⊎ ((ends_as_gone place ≡ true) × (facts.directory ≡ true)
+    × Comes (λ e _. (e.question ≡ Dead) × (e.answer.yes ≡ false)) later)
 
 -- The object is the root itself: statx(2) or fstat(2) gave the same device and inode of both.
 abbrev pub FindsRoot : Exchange → Type 0
@@ -119,8 +124,8 @@ PlacesAreWitnessed =
     → Conversation facts kept es (StandsAt place is_root) → IsWitnessed facts kept es place
 
 -- Agreeing answers tell the place, of a directory. Below a root that isn't kept: the root's link, the object's, and a
--- look-up that finds the object, with links. In a jail: getcwd(2), and once more. And the root itself, without
--- openat2(2): the root's link, the object's, the root's again, and the same device and inode.
+-- look-up that finds the object, with links. In a jail: getcwd(2), and once more. Without openat2(2): the root's link,
+-- the object's, the root's again, and of the root itself the same device and inode, of any other the object's again.
 abbrev pub AgreeingWitnessesAreTold : Type 0
 AgreeingWitnessesAreTold =
     ((facts : Facts) (kept place : List ℕ) (root object look : Exchange)
@@ -140,6 +145,15 @@ AgreeingWitnessesAreTold =
     → own.question ≡ OwnRoot → own.answer.yes ≡ true → Worked RootAgain again → length again.text ≤ TEXT_MAX
     → place_between root.text object.text again.text ≡ Some place → FindsRoot which
     → Conversation facts kept (root ∷ object ∷ own ∷ again ∷ which ∷ [])
+    (λ t turn. StandsAt place (is_top place) t turn → ⊥)
+    → ⊥)
+    × ((facts : Facts) (kept place : List ℕ) (root object own again link : Exchange)
+    → facts.jailed ≡ false → facts.second ≡ false → is_top place ≡ false → ends_as_gone place ≡ false
+    → Worked RootLink root → length root.text ≤ TEXT_MAX → Worked ObjectLink object
+    → own.question ≡ OwnRoot → own.answer.yes ≡ true → Worked RootAgain again → length again.text ≤ TEXT_MAX
+    → place_between root.text object.text again.text ≡ Some place
+    → Worked LinkAgain link → length link.text ≤ TEXT_MAX → is_named link.text place ≡ true
+    → Conversation facts kept (root ∷ object ∷ own ∷ again ∷ link ∷ [])
     (λ t turn. StandsAt place (is_top place) t turn → ⊥)
     → ⊥)
 

@@ -10,7 +10,8 @@ pub fn places_are_witnessed()
 
 /// Where a text of the object tells a place below the root, and the look-up finds the object with links, a directory's
 /// conversation tells just that place. So does a directory's in a jail, where getcwd(2) tells it, and then that there
-/// is a path still; and without openat2(2) the root's own, where both texts are the same and so are device and inode.
+/// is a path still. Without openat2(2) so does any conversation whose texts agree, where the link has its name still;
+/// and the root's own, where device and inode are the same.
 pub fn agreeing_witnesses_are_told()
     ensures { AgreeingWitnessesAreTold }
 {}
@@ -23,7 +24,7 @@ pub fn questions_come_to_an_end()
 /// What answers of Linux say of the file system, each at its moment, is a premise (getcwd(2), proc(5), rmdir(2)). With
 /// it: where a place is told, the object stood there at the moment of an answer. If a link's text was read, texts must
 /// tell inside from outside, but for a slash alone, and the root must stay at its path. Of a directory in a jail that
-/// is no premise; if the kernel had seen it below the root right before, it may also have been removed by then.
+/// is no premise. What the kernel had seen below the root right before may also have been removed by then.
 pub fn places_stood()
     ensures { PlacesStood }
 {}

@@ -142,7 +142,8 @@ fn after_cwd_again(error: u32, place: Option<Place>) -> Turn
 // ---- by links in /proc
 
 // Without the second witness. A slash alone is the text of the root, and of what has left its mount. In a jail no
-// object that goes by its link is the root. What is gone is called so; a directory that isn't dead has that name.
+// object that goes by its link is the root. The kernel looks whether the object is gone before it takes the names. So
+// what isn't called so is read again; a directory that is called so and isn't dead has that name.
 fn confirm_alone(facts: &Facts, place: Place) -> Turn
     ensures { result ≡ confirm_alone facts.now place }
 {
@@ -153,7 +154,7 @@ fn confirm_alone(facts: &Facts, place: Place) -> Turn
             Turn::Ask(Question::IsRoot)
         }
     } else if !place.gone {
-        Turn::Stands(place, false)
+        Turn::Ask(Question::LinkAgain)
     } else if facts.directory {
         Turn::Ask(Question::Dead)
     } else {
@@ -288,7 +289,7 @@ fn after_look_up(facts: &Facts, answer: &Answer, place: Option<Place>) -> Turn
     }
 }
 
-// The kernel may find what is removed before it looks where that is. So the link must have the name still.
+// Text and look-up may tell where a removed object would be. So the link must have the name still.
 fn after_link_again(error: u32, again: &[u8], text: &[u8], place: Option<Place>) -> Turn
     requires { IsWithin text.now place }
     ensures { result ≡ after_link_again error again.now text.now place }
@@ -363,11 +364,12 @@ pub(crate) fn follow(
             )
         }
         Question::LookUp => after_look_up(facts, answer, found(facts, root, text, again)),
+        // This text has taken the place of the root's second one, which was the same as the first.
         Question::LinkAgain => after_link_again(
             link_error(error, again),
             again,
             text,
-            found(facts, root, text, again),
+            found(facts, root, text, root),
         ),
         Question::Dead => after_dead(answer.yes, found(facts, root, text, again)),
         Question::IsRoot => after_is_root(answer, found(facts, root, text, again)),
