@@ -339,6 +339,16 @@ static void tries(void)
     is_taken = false;
 }
 
+/* By /proc, without openat2(2): the links of the root and of the object are read twice. */
+static void count_alone(const char *path, unsigned most)
+{
+    made = 0;
+    int fd = inroot_open(at, path, 0);
+    gives_most(made, most, "open %s without openat2(2): system calls", path);
+    gives_fd(fd, "%s", path);
+    close(fd);
+}
+
 /* Where openat2(2) is missing, or refused, a thread tries it once, and the calls give what they give with it. */
 static void *without_openat2(void *unused)
 {
@@ -355,6 +365,8 @@ static void *without_openat2(void *unused)
         gives_mode(about.st_mode & S_IFMT, S_IFDIR, "many directories: its kind");
     }
     gives(runs, 1, "tries of openat2(2)");
+    count_alone("f", 8);
+    count_alone("a/b", 10);
     return unused;
 }
 

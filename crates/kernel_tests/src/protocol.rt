@@ -235,7 +235,12 @@ fn a_text_alone_is_read_between_two(rt: HostRuntime) -> Result<(), Fail> {
             11
         )
     );
-    assert!(rt; is_unmade(end_of(FILE_ALONE, "", &[ROOT, gone, (7, YES, ""), AGAIN]), 11));
+    assert!(rt;
+        is_unmade(
+            end_of(FILE_ALONE, "", &[ROOT, gone, (7, YES, ""), AGAIN]),
+            11
+        )
+    );
     Ok(())
 }
 

@@ -44,8 +44,9 @@ pub record IsAnswer (w : World) (facts : Facts) (n : ℕ) (e : Exchange) : Type 
   pub root_again : Worked RootAgain e → e.text ≡ w.root n
   -- openat2(2), RESOLVE_BENEATH; statx(2): the same device, inode and mount are the same object
   pub look_up : (place : List ℕ) → FindsObject place e → w.passed n place ≡ true
-  -- statx(2), rmdir(2): a directory that is removed has no link. The file system takes its links before the kernel takes
-  -- the entry (`vfs_rmdir`, `vfs_rename` in fs/namei.c). Overlayfs keeps them of a removed directory of a lower layer.
+  -- statx(2), rmdir(2): a directory that is removed has no link. The file system takes its links before the kernel
+  -- takes the entry (`vfs_rmdir`, `vfs_rename` in fs/namei.c). Overlayfs keeps them of a removed directory of a lower
+  -- layer, and cgroup2 those of each.
   pub links : (place : List ℕ) → facts.directory ≡ true → FindsObject place e → 0 < e.answer.links → w.gone n ≡ false
   -- statx(2), fstat(2): the same device and inode are the same object, while both are open. So this is the root itself,
   -- which a look-up of no names finds.
