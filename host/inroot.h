@@ -52,7 +52,7 @@
  * call finds that as without it. Without openat2(2) the flag changes nothing. A call may open an object whose entry
  * somebody removes just while the kernel looks it up, as openat2(2) itself may: to the kernel a removed entry is below
  * the directory that had it, and if that was outside meanwhile, the object never was below the root by a name. A call
- * without the flag refuses what the kernel says was removed. It can't tell that of a name which ends in ` (deleted)`
+ * without the flag refuses what the kernel says was removed. It can't see that of a name which ends in ` (deleted)`
  * itself, if the entry got the name without this ending before it was removed: that one it may open, too.
  *
  * INROOT_TRUST_PROC is of inroot_jail_with() and inroot_root_open(), INROOT_ROOT_STAYS of the latter alone.
