@@ -258,18 +258,24 @@ struct inroot_sorted {
 void inroot_sort_names(const unsigned char *text, size_t text_length, unsigned char *room, size_t size,
                        struct inroot_sorted *sorted);
 
-/* ---- what mountinfo says of the root directory (proc(5)). These take no memory. */
+/* ---- whether a mount stands at the root directory, by two texts of proc(5). These take no memory. */
 
-/* What was read of it so far. A driver reads whether the line of a mount at the root directory was FOUND, and leaves the others alone. */
+/* What was read of mountinfo so far. A driver reads whether the line of the mount was FOUND, and leaves the others alone. */
 struct inroot_mounts {
-    uint8_t fields, field;
-    bool found;
+    size_t at;
+    uint8_t fields;
+    bool holds, found;
 };
 
 void inroot_mounts_begin(struct inroot_mounts *mounts);
 
-/* Reads the bytes that come next. */
-void inroot_mounts_read(const unsigned char *part, size_t length, struct inroot_mounts *mounts);
+/*
+ * Reads the bytes of mountinfo that come next. `found`: a whole line so far begins with the number that FDINFO has behind `mnt_id:`
+ * and a tab, and its fifth field is a slash alone. FDINFO is what proc(5) has of a descriptor of the root directory, the same in each
+ * call. What is mounted over that directory has another number.
+ */
+void inroot_mounts_read(const unsigned char *fdinfo, size_t fdinfo_length, const unsigned char *part, size_t length,
+                        struct inroot_mounts *mounts);
 
 /* ---- what is asked of Linux, and what its answers mean, by numbers alone. These take no memory, and need no call under way. */
 

@@ -9,74 +9,37 @@
 #include <errno.h>
 #include <fcntl.h>
 #include <stdio.h>
-#include <stdlib.h>
-#include <string.h>
 #include <sys/stat.h>
 #include <unistd.h>
 
-/* Where a line of mountinfo is being read: its first field, the mount's number, as far as it has come, and the one that is wanted. */
-struct line {
-    long long number, wanted;
-    bool is_behind;
-};
-
-/* Whether the next byte is of the wanted mount's line, behind its number. */
-static bool is_wanted(struct line *line, char byte)
+/* What proc(5) has of a descriptor of the thread's root directory, with the number of its mount (Linux 3.15): how many bytes. */
+static size_t read_about_root(int proc, unsigned char *about, size_t size)
 {
-    if (byte == ' ')
-        line->is_behind = true;
-    else if (!line->is_behind)
-        line->number = line->number * 10 + (byte - '0');
-    const bool is_wanted = line->is_behind && line->number == line->wanted;
-    if (byte == '\n')
-        *line = (struct line){.wanted = line->wanted};
-    return is_wanted;
-}
-
-/* Keeps those bytes of a part of the text alone. How many there are. */
-static size_t keep(char *part, ssize_t length, struct line *line)
-{
-    size_t kept = 0;
-    for (ssize_t at = 0; at < length; at++)
-        if (is_wanted(line, part[at]))
-            part[kept++] = part[at];
-    return kept;
-}
-
-/* The number of the mount that the thread's root directory is on, which proc(5) has of each descriptor (Linux 3.15); or -1. */
-static long long mount_of_root(int proc)
-{
-    static const char field[] = "mnt_id:";
-    char name[INROOT_PROC_NAME], about[256];
+    char name[INROOT_PROC_NAME];
     int fd = open("/", O_PATH | O_DIRECTORY | O_CLOEXEC);
     if (fd < 0)
-        return -1;
+        return 0;
     snprintf(name, sizeof name, "thread-self/fdinfo/%d", fd);
     int info = openat(proc, name, O_RDONLY | O_CLOEXEC);
-    ssize_t got = info < 0 ? -1 : read(info, about, sizeof about - 1);
-    about[got > 0 ? got : 0] = 0;
+    ssize_t got = info < 0 ? 0 : read(info, about, size);
     if (info >= 0)
         close(info);
     close(fd);
-    const char *line = strstr(about, field);
-    return line == NULL ? -1 : strtoll(line + sizeof field - 1, NULL, 10);
+    return got > 0 ? (size_t)got : 0;
 }
 
-/*
- * By the mounts that the thread sees (proc(5)): before Linux 5.8 nothing else tells. What is mounted over a directory has the path
- * of that, too: so it must be the mount on which the root directory is. What can't be read tells of none.
- */
+/* By the mounts that the thread sees (proc(5)): before Linux 5.8 nothing else tells. What can't be read tells of none. */
 static bool is_mounted(int proc)
 {
-    char part[1024];
+    unsigned char about[256], part[1024];
     struct inroot_mounts mounts;
-    struct line line = {.wanted = mount_of_root(proc)};
+    size_t known = read_about_root(proc, about, sizeof about);
     int fd = openat(proc, "thread-self/mountinfo", O_RDONLY | O_CLOEXEC);
     if (fd < 0)
         return false;
     inroot_mounts_begin(&mounts);
     for (ssize_t got; !mounts.found && ((got = read(fd, part, sizeof part)) > 0 || (got < 0 && errno == EINTR));)
-        inroot_mounts_read((const unsigned char *)part, keep(part, got, &line), &mounts);
+        inroot_mounts_read(about, known, part, got > 0 ? (size_t)got : 0, &mounts);
     close(fd);
     return mounts.found;
 }

@@ -144,36 +144,47 @@ static void places(size_t size, const uint8_t *bytes, size_t length)
     free(path);
 }
 
-/* Whether a line has a slash alone for its fifth word, and something behind it. */
+/* Whether a whole line has `a` for its first word, and a slash alone for its fifth. */
 static bool has_root(const unsigned char *text, size_t length)
 {
     size_t words = 0, begin = 0;
+    bool is_mount = false, is_root = false;
     for (size_t at = 0; at < length; at++) {
         if (text[at] != ' ' && text[at] != '\n')
             continue;
-        if (words == 4 && at == begin + 1 && text[begin] == '/')
+        const bool is_one = at == begin + 1;
+        if (words == 0)
+            is_mount = is_one && text[begin] == 'a';
+        if (words == 4)
+            is_root = is_one && text[begin] == '/';
+        words++;
+        if (text[at] == '\n' && words > 4 && is_mount && is_root)
             return true;
-        words = text[at] == '\n' ? 0 : words + 1;
+        words = text[at] == '\n' ? 0 : words;
         begin = at + 1;
     }
     return false;
 }
 
-/* Mountinfo, in two parts; few bytes, so that lines come about. */
+/* Mountinfo, in two parts; few bytes, so that lines come about. A text without `mnt_id:` names no mount. */
 static void mounts(size_t size, const uint8_t *bytes, size_t length)
 {
-    struct inroot_mounts all, parts;
+    static const unsigned char about[] = "pos:\t0\nmnt_id:\ta\n";
+    struct inroot_mounts all, parts, none;
     const size_t first = size < length ? size : length;
     unsigned char *text = copy_of(bytes, length);
     for (size_t at = 0; at < length; at++)
-        text[at] = (unsigned char)"/ \na / / "[bytes[at] % 9];
+        text[at] = (unsigned char)"/ \na / a "[bytes[at] % 9];
     inroot_mounts_begin(&all);
     inroot_mounts_begin(&parts);
-    inroot_mounts_read(text, length, &all);
-    inroot_mounts_read(text, first, &parts);
+    inroot_mounts_begin(&none);
+    inroot_mounts_read(about, sizeof about - 1, text, length, &all);
+    inroot_mounts_read(about, sizeof about - 1, text, first, &parts);
     MUST(parts.found == has_root(text, first));
-    inroot_mounts_read(text + first, length - first, &parts);
+    inroot_mounts_read(about, sizeof about - 1, text + first, length - first, &parts);
     MUST(all.found == has_root(text, length) && parts.found == all.found);
+    inroot_mounts_read(text, length, (const unsigned char *)"a 1 1 / /\n", 10, &none);
+    MUST(!none.found);
     free(text);
 }
 

@@ -1,6 +1,9 @@
-//! What mountinfo says of the root directory, by lines as proc(5) has them, and by others.
-use kernel_text::{begin_mounts, read_mounts, root_mounts_are_told};
+//! What mountinfo says of the root directory's mount, by texts as proc(5) has them, and by others.
+use kernel_text::{begin_mounts, read_mounts};
 use std::test::Fail;
+
+// fdinfo as the kernel writes it of a directory on the mount 22.
+const ABOUT: &str = "pos:\t0\nflags:\t012200000\nmnt_id:\t22\nino:\t2\n";
 
 // The example of proc(5), and a root directory's line.
 const BELOW: &str =
@@ -8,24 +11,28 @@ const BELOW: &str =
 
 const ROOT: &str = "22 1 254:1 / / rw,relatime shared:1 - ext4 /dev/vda1 rw\n";
 
+fn tells_of(about: &str, text: &str) -> bool {
+    read_mounts(about.as_bytes(), begin_mounts(), text.as_bytes()).found
+}
+
 fn tells(text: &str) -> bool {
-    read_mounts(begin_mounts(), text.as_bytes()).found
+    tells_of(ABOUT, text)
 }
 
 fn tells_by_two(first: &str, second: &str) -> bool {
-    read_mounts(
-        read_mounts(begin_mounts(), first.as_bytes()),
-        second.as_bytes(),
-    )
-    .found
+    let about = ABOUT.as_bytes();
+    let so_far = read_mounts(about, begin_mounts(), first.as_bytes());
+    read_mounts(about, so_far, second.as_bytes()).found
 }
 
 #[test]
 fn a_mount_at_the_root_is_told(rt: HostRuntime) -> Result<(), Fail> {
     assert!(rt; tells(ROOT));
     assert!(rt; tells_by_two(BELOW, ROOT) && tells_by_two(ROOT, BELOW));
+    assert!(rt; tells_by_two("2", "2 1 254:1 / / rw,relatime - ext4 /dev/vda1 rw\n"));
     assert!(rt; tells_by_two("22 1 254:1 /srv ", "/ rw,relatime - ext4 /dev/vda1 rw\n"));
     assert!(rt; tells_by_two("22 1 254:1 /srv /", " rw,relatime - ext4 /dev/vda1 rw\n"));
+    assert!(rt; tells_by_two("22 1 254:1 /srv / rw - ext4 / ", "/\n"));
     assert!(rt; tells("22 1 254:1 /srv /\n"));
     Ok(())
 }
@@ -37,14 +44,29 @@ fn no_other_mount_is_one_at_the_root(rt: HostRuntime) -> Result<(), Fail> {
     assert!(rt; !tells("22 1 254:1 / /srv rw - ext4 /dev/vda1 rw\n"));
     assert!(rt; !tells("22 1 254:1 / /srv/ rw - ext4 / /\n"));
     assert!(rt; !tells("22 1 254:1 / /\\040 rw - ext4 /dev/vda1 rw\n"));
-    // A field that hasn't ended may go on.
-    assert!(rt; !tells("22 1 254:1 / /"));
+    // A line that hasn't ended is none yet.
+    assert!(rt; !tells("22 1 254:1 / /") && !tells("22 1 254:1 / / rw"));
     assert!(rt; !tells_by_two("22 1 254:1 / /", "srv rw\n"));
     assert!(rt; !tells("22 1 254:1\n/ / rw\n"));
     Ok(())
 }
 
 #[test]
-fn law_of_mounts() {
-    root_mounts_are_told();
+fn what_covers_the_root_is_another_mount(rt: HostRuntime) -> Result<(), Fail> {
+    assert!(rt; !tells("23 22 0:31 / / rw - tmpfs none rw\n"));
+    assert!(rt;
+        !tells("2 1 254:1 / / rw\n") && !tells("222 1 254:1 / / rw\n") && !tells(" 22 1 / / rw\n")
+    );
+    assert!(rt; tells_by_two("23 22 0:31 / / rw - tmpfs none rw\n", ROOT));
+    Ok(())
+}
+
+#[test]
+fn a_mounts_number_is_read_in_a_line_of_its_own(rt: HostRuntime) -> Result<(), Fail> {
+    assert!(rt; tells_of("mnt_id:\t22\n", ROOT) && tells_of("\nmnt_id:\t22\nmnt_id:\t3\n", ROOT));
+    // Before Linux 3.15 there is no such line; and the text may be cut off.
+    assert!(rt; !tells_of("pos:\t0\nflags:\t012200000\n", ROOT) && !tells_of("", ROOT));
+    assert!(rt; !tells_of("mnt_id:\t22", ROOT) && !tells_of("mnt_id:\t2\n", ROOT));
+    assert!(rt; !tells_of("x mnt_id:\t22\n", ROOT) && !tells_of("mnt_id: 22\n", ROOT));
+    Ok(())
 }

@@ -1,286 +1,337 @@
--- A mountinfo that is read byte by byte tells whether something is mounted at the root directory.
-use Rattle.std.proofs.Common.{◌≡◌, ◌⊎◌, inl, inr, ℕ, ◌+◌, ◌≤◌, suc, List, [], ◌∷◌, ◌++◌, Bool, true, false, if◌then◌else◌, ◌&&◌, ◌||◌, refl, sym, ap, subst, ◌∙◌, arith, append_assoc}
-use Rattle.std.specs.Prelude.{◌==◌, nat_lt}
-use Rattle.std.specs.List.{fold, list_any}
-use Rattle.std.proofs.lemmas.Bool.{eqb-true, false≢true, ltb-false}
-use Rattle.std.proofs.lemmas.List.{append-nil}
-use Rattle.std.proofs.lemmas.List.Folds.{list_any-append}
-use Rattle.std.proofs.lemmas.List.Sums.{fold-append}
+-- A mountinfo that is read byte by byte tells which of its lines count.
+use Rattle.std.proofs.Common.{◌≡◌, ℕ, ◌+◌, ◌-◌, ◌≤◌, ◌<◌, suc, List, [], ◌∷◌, ◌++◌, Bool, true, false, if◌then◌else◌, ◌&&◌, ◌||◌, refl, sym, ap, subst, ◌∙◌, arith, length, take, drop, Option, Some, None}
+use Rattle.std.specs.Prelude.{⊤, zero, ◌==◌, nat_lt, nat_le, nat_eq, slice_get, cond}
+use Rattle.std.specs.List.{fold, list_any, onto_first, position, position_or_len, slice_split}
+use Rattle.std.specs.Option.{option_map}
+use Rattle.std.proofs.lemmas.Bool.{false≢true, ne_eqb, ltb-true, ltb-false, lt-ltb, le-ltb, cond-true, cond-false}
+use Rattle.std.proofs.Math.Dec.{leb-zero, leb-suc-zero, leb-suc-suc}
+use Rattle.std.proofs.lemmas.List.{length-drop, take_all}
+use Rattle.std.proofs.lemmas.List.Elements.{All-from_get_or}
+use Rattle.std.proofs.lemmas.List.Sums.{fails_before_first}
+use Rattle.std.proofs.lemmas.List.Splits.{slice_split_first, slice_split_none, slice_split-cons_yes, slice_split-cons_no}
+use Rattle.path_text.specs.Name.{same_bytes}
 use Rattle.path_text.specs.declared.name.TheConstants.{SLASH}
 use Rattle.kernel_text.specs.declared.mounts.Mounts.{Mounts}
-use Rattle.kernel_text.specs.Mounts.{after_byte, at_first, ended, has_newline, one_more, spaces, ALONE, EMPTY, EndsIn, HasRootMount, NEWLINE, OTHER, SPACE, TellsRootMount}
+use Rattle.kernel_text.specs.Mounts.{after_byte, at_first, but_last_part, field_ended, fields, goes_on, has_root_line, is_all, is_byte, is_whole, line_ended, lines, one_more, stands_at_root, wanted, NEWLINE, SPACE}
 
-if_elim : {A : Type 0} → (P : A → Type 0) → (b : Bool) → (x y : A) → (b ≡ true → P x) → (b ≡ false → P y)
-    → P (if b then x else y)
-if_elim P true x y a c = a refl
-if_elim P false x y a c = c refl
+abbrev is_newline : ℕ → Bool
+is_newline b = b == NEWLINE
 
-both : (a b : Bool) → (a && b) ≡ true → (a ≡ true) × (b ≡ true)
-both true b h = (refl, h)
-both false b h = absurd (false≢true h)
+abbrev is_space : ℕ → Bool
+is_space b = b == SPACE
 
-either : (a b : Bool) → (a || b) ≡ true → (a ≡ true) ⊎ (b ≡ true)
-either true b h = inl refl
-either false b h = inr h
+-- a text has a first part
+record HasFirst (parts : List (List ℕ)) : Type 0 where
+  first : List ℕ
+  more : List (List ℕ)
+  is : parts ≡ first ∷ more
 
-neither : (a b : Bool) → (a || b) ≡ false → a ≡ false
-neither true b h = h
-neither false b h = refl
+onto_has_first : (b : ℕ) (parts : List (List ℕ)) → HasFirst parts → HasFirst (onto_first b parts)
+onto_has_first b parts has = record { first = b ∷ has.first; more = has.more; is = ap (onto_first b) has.is }
 
-or_true : (a : Bool) → (a || true) ≡ true
-or_true true = refl
-or_true false = refl
-
-spaces-append : (xs ys : List ℕ) → spaces (xs ++ ys) ≡ spaces xs + spaces ys
-spaces-append [] ys = omega arith
-spaces-append (x ∷ xs) ys =
-    if_elim (λ (n : ℕ). (if x == SPACE then suc (spaces (xs ++ ys)) else spaces (xs ++ ys)) ≡ n + spaces ys)
-    (x == SPACE) (suc (spaces xs)) (spaces xs)
-    (λ b. ap (λ t. if t then suc (spaces (xs ++ ys)) else spaces (xs ++ ys)) b ∙ omega (arith, spaces-append xs ys))
-    (λ b. ap (λ t. if t then suc (spaces (xs ++ ys)) else spaces (xs ++ ys)) b ∙ spaces-append xs ys)
-
--- ---- what a yes says
-
--- what is known of the line under way
-record Known (text : List ℕ) (m : Mounts) : Type 0 where
-  found : m.found ≡ true → HasRootMount text
-  before : List ℕ
-  line : List ℕ
-  is : text ≡ before ++ line
-  begins : (before ≡ []) ⊎ EndsIn NEWLINE before
-  one_line : has_newline line ≡ false
-  fields : m.fields ≤ 4 → spaces line ≡ m.fields
-  empty : m.field ≡ EMPTY → (line ≡ []) ⊎ EndsIn SPACE line
-  alone : m.field ≡ ALONE → (head : List ℕ) × (line ≡ head ++ SLASH ∷ []) × ((head ≡ []) ⊎ EndsIn SPACE head)
-
-stays : (text : List ℕ) (b : ℕ) → HasRootMount text → HasRootMount (text ++ b ∷ [])
-stays text b has = record {
-  before = has.before;
-  head = has.head;
-  end = has.end;
-  after = has.after ++ b ∷ [];
-  is = ap (λ (l : List ℕ). l ++ b ∷ []) has.is
-      ∙ append_assoc has.before (has.head ++ SLASH ∷ has.end ∷ has.after) (b ∷ [])
-      ∙ ap (λ (l : List ℕ). has.before ++ l) (append_assoc has.head (SLASH ∷ has.end ∷ has.after) (b ∷ []));
-  begins = has.begins;
-  one_line = has.one_line;
-  four = has.four;
-  field = has.field;
-  ends = has.ends;
-}
-
--- the field that ends is the fifth, and a slash alone
-shows : (text : List ℕ) (m : Mounts) (b : ℕ) → Known text m → (b ≡ SPACE) ⊎ (b ≡ NEWLINE)
-    → ((m.fields == 4) && (m.field == ALONE)) ≡ true → HasRootMount (text ++ b ∷ [])
-shows text m b k ends is_root =
-    let parts = both (m.fields == 4) (m.field == ALONE) is_root in
-    let four = eqb-true m.fields 4 parts.0 in
-    let it = k.alone (eqb-true m.field ALONE parts.1) in
-    let head = it.0 in
-    let count : spaces head ≡ 4 =
-    omega (arith, four, k.fields (omega (arith, four)), ap spaces it.1, spaces-append head (SLASH ∷ [])) in
-    record {
-      before = k.before;
-      head = head;
-      end = b;
-      after = [];
-      is = ap (λ (l : List ℕ). l ++ b ∷ []) (k.is ∙ ap (λ (l : List ℕ). k.before ++ l) it.1)
-          ∙ append_assoc k.before (head ++ SLASH ∷ []) (b ∷ [])
-          ∙ ap (λ (l : List ℕ). k.before ++ l) (append_assoc head (SLASH ∷ []) (b ∷ []));
-      begins = k.begins;
-      one_line = neither (has_newline head) (has_newline (SLASH ∷ []))
-          (sym (list_any-append (λ c. c == NEWLINE) head (SLASH ∷ [])) ∙ sym (ap has_newline it.1) ∙ k.one_line);
-      four = count;
-      field = elim it.2 [ inl none ↦ absurd (omega (arith, count, ap spaces none)) | inr some ↦ some ];
-      ends = ends;
-    }
-
-found_more : (text : List ℕ) (m : Mounts) (b : ℕ) → Known text m → (b ≡ SPACE) ⊎ (b ≡ NEWLINE)
-    → (m.found || ((m.fields == 4) && (m.field == ALONE))) ≡ true → HasRootMount (text ++ b ∷ [])
-found_more text m b k ends found =
-    elim (either m.found ((m.fields == 4) && (m.field == ALONE)) found) [
-      | inl was ↦ stays text b (k.found was)
-      | inr now ↦ shows text m b k ends now
-    ]
-
-known_newline : (text : List ℕ) (m : Mounts) (b : ℕ) → Known text m → b ≡ NEWLINE → Known (text ++ b ∷ []) (ended m 0)
-known_newline text m b k is = record {
-  found = found_more text m b k (inr is);
-  before = text ++ b ∷ [];
-  line = [];
-  is = sym (append-nil (text ++ b ∷ []));
-  begins = inr (text, ap (λ (c : ℕ). text ++ c ∷ []) is);
-  one_line = refl;
-  fields = λ few. refl;
-  empty = λ none. inl refl;
-  alone = λ one. absurd (omega (arith, one));
-}
-
-no_newline : (line : List ℕ) (b : ℕ) → has_newline line ≡ false → (b == NEWLINE) ≡ false
-    → has_newline (line ++ b ∷ []) ≡ false
-no_newline line b none other =
-    list_any-append (λ c. c == NEWLINE) line (b ∷ [])
-    ∙ ap (λ t. t || ((b == NEWLINE) || false)) none ∙ ap (λ t. t || false) other
-
-longer : (text before line : List ℕ) (b : ℕ) → text ≡ before ++ line → text ++ b ∷ [] ≡ before ++ (line ++ b ∷ [])
-longer text before line b is = ap (λ (l : List ℕ). l ++ b ∷ []) is ∙ append_assoc before line (b ∷ [])
-
-more_spaces : (n count : ℕ) → (n ≤ 4 → count ≡ n) → one_more n ≤ 4 → count + 1 ≡ one_more n
-more_spaces n count same =
-    if_elim (λ (k : ℕ). k ≤ 4 → count + 1 ≡ k) (nat_lt n 5) (n + 1) n
-    (λ b few. omega (arith, same (omega (arith, few))))
-    (λ b few. absurd (omega (arith, few, ltb-false n 5 b)))
-
-known_space : (text : List ℕ) (m : Mounts) (b : ℕ) → Known text m → (b == NEWLINE) ≡ false → b ≡ SPACE
-    → Known (text ++ b ∷ []) (ended m (one_more m.fields))
-known_space text m b k other is = record {
-  found = found_more text m b k (inl is);
-  before = k.before;
-  line = k.line ++ b ∷ [];
-  is = longer text k.before k.line b k.is;
-  begins = k.begins;
-  one_line = no_newline k.line b k.one_line other;
-  fields = λ few.
-      spaces-append k.line (b ∷ []) ∙ ap (λ (c : ℕ). spaces k.line + spaces (c ∷ [])) is
-      ∙ more_spaces m.fields (spaces k.line) k.fields few;
-  empty = λ none. inr (k.line, ap (λ (c : ℕ). k.line ++ c ∷ []) is);
-  alone = λ one. absurd (omega (arith, one));
-}
-
-no_space : (b : ℕ) → (b == SPACE) ≡ false → spaces (b ∷ []) ≡ 0
-no_space b other = ap (λ t. if t then 1 else 0) other
-
-abbrev field_after : Mounts → ℕ → ℕ
-field_after m b = if (m.field == EMPTY) && (b == SLASH) then ALONE else OTHER
-
-known_other : (text : List ℕ) (m : Mounts) (b : ℕ) → Known text m → (b == NEWLINE) ≡ false → (b == SPACE) ≡ false
-    → Known (text ++ b ∷ []) (record { fields = m.fields; field = field_after m b; found = m.found })
-known_other text m b k other none = record {
-  found = λ was. stays text b (k.found was);
-  before = k.before;
-  line = k.line ++ b ∷ [];
-  is = longer text k.before k.line b k.is;
-  begins = k.begins;
-  one_line = no_newline k.line b k.one_line other;
-  fields = λ few. omega (arith, spaces-append k.line (b ∷ []), no_space b none, k.fields few);
-  empty = if_elim (λ (n : ℕ). n ≡ EMPTY → (k.line ++ b ∷ [] ≡ []) ⊎ EndsIn SPACE (k.line ++ b ∷ []))
-      ((m.field == EMPTY) && (b == SLASH)) ALONE OTHER (λ t n. absurd (omega (arith, n))) (λ t n. absurd (omega (arith, n)));
-  alone = if_elim (λ (n : ℕ). n ≡ ALONE → (head : List ℕ) × (k.line ++ b ∷ [] ≡ head ++ SLASH ∷ []) × ((head ≡ []) ⊎ EndsIn SPACE head))
-      ((m.field == EMPTY) && (b == SLASH)) ALONE OTHER
-      (λ t n. let parts = both (m.field == EMPTY) (b == SLASH) t in
-      (k.line, ap (λ (c : ℕ). k.line ++ c ∷ []) (eqb-true b SLASH parts.1), k.empty (eqb-true m.field EMPTY parts.0)))
-      (λ t n. absurd (omega (arith, n)));
-}
-
-known_more : (text : List ℕ) (m : Mounts) (b : ℕ) → Known text m → Known (text ++ b ∷ []) (after_byte m b)
-known_more text m b k =
-    if_elim (Known (text ++ b ∷ [])) (b == NEWLINE) (ended m 0) _ (λ t. known_newline text m b k (eqb-true b NEWLINE t))
-    (λ t. if_elim (Known (text ++ b ∷ [])) (b == SPACE) (ended m (one_more m.fields))
-    (record { fields = m.fields; field = field_after m b; found = m.found })
-    (λ u. known_space text m b k t (eqb-true b SPACE u)) (λ u. known_other text m b k t u))
-
-known : (text bytes : List ℕ) (m : Mounts) → Known text m → Known (text ++ bytes) (fold after_byte m bytes)
-known text [] m k = subst (λ (l : List ℕ). Known l m) (sym (append-nil text)) k
-known text (b ∷ bytes) m k =
-    subst (λ (l : List ℕ). Known l (fold after_byte (after_byte m b) bytes)) (append_assoc text (b ∷ []) bytes)
-    (known (text ++ b ∷ []) bytes (after_byte m b) (known_more text m b k))
-
-known_first : Known [] at_first
-known_first = record {
-  found = λ h. absurd (false≢true h);
-  before = [];
-  line = [];
-  is = refl;
-  begins = inl refl;
-  one_line = refl;
-  fields = λ few. refl;
-  empty = λ none. inl refl;
-  alone = λ one. absurd (omega (arith, one));
-}
-
--- ---- that it is said
-
-found_stays : (bytes : List ℕ) (m : Mounts) → m.found ≡ true → (fold after_byte m bytes).found ≡ true
-found_stays [] m found = found
-found_stays (b ∷ bytes) m found =
-    let now = ap (λ t. t || ((m.fields == 4) && (m.field == ALONE))) found in
-    found_stays bytes (after_byte m b)
-    (if_elim (λ (n : Mounts). n.found ≡ true) (b == NEWLINE) (ended m 0) _ (λ t. now)
-    (λ t. if_elim (λ (n : Mounts). n.found ≡ true) (b == SPACE) (ended m (one_more m.fields))
-    (record { fields = m.fields; field = field_after m b; found = m.found }) (λ u. now) (λ u. found)))
-
-one_more_is : (n : ℕ) → n ≤ 4 → one_more n ≡ n + 1
-one_more_is n few =
-    if_elim (λ (k : ℕ). k ≡ n + 1) (nat_lt n 5) (n + 1) n (λ b. refl) (λ b. absurd (omega (arith, few, ltb-false n 5 b)))
-
-counts : (head : List ℕ) (m : Mounts) → has_newline head ≡ false → m.fields + spaces head ≤ 4
-    → (fold after_byte m head).fields ≡ m.fields + spaces head
-counts [] m none few = omega arith
-counts (b ∷ bytes) m none few =
-    let other = neither (b == NEWLINE) (has_newline bytes) none in
-    let rest : has_newline bytes ≡ false = ap (λ t. t || has_newline bytes) (sym other) ∙ none in
-    let start : after_byte m b ≡ (if b == SPACE then ended m (one_more m.fields) else record { fields = m.fields; field = field_after m b; found = m.found }) =
-    ap (λ t. if t then ended m 0 else (if b == SPACE then ended m (one_more m.fields) else record { fields = m.fields; field = field_after m b; found = m.found })) other in
-    elim (b == SPACE) as (λ t. (b == SPACE) ≡ t → (fold after_byte (after_byte m b) bytes).fields ≡ m.fields + spaces (b ∷ bytes)) [
-      | true ↦ λ is.
-          let now : after_byte m b ≡ ended m (one_more m.fields) = start ∙ ap (λ t. if t then ended m (one_more m.fields) else record { fields = m.fields; field = field_after m b; found = m.found }) is in
-          let count : spaces (b ∷ bytes) ≡ suc (spaces bytes) = ap (λ t. if t then suc (spaces bytes) else spaces bytes) is in
-          let one = one_more_is m.fields (omega (arith, few, count)) in
-          ap (λ (n : Mounts). (fold after_byte n bytes).fields) now
-          ∙ counts bytes (ended m (one_more m.fields)) rest (omega (arith, few, count, one)) ∙ omega (arith, count, one)
-      | false ↦ λ is.
-          let n : Mounts = record { fields = m.fields; field = field_after m b; found = m.found } in
-          let now : after_byte m b ≡ n = start ∙ ap (λ t. if t then ended m (one_more m.fields) else n) is in
-          let count : spaces (b ∷ bytes) ≡ spaces bytes = ap (λ t. if t then suc (spaces bytes) else spaces bytes) is in
-          ap (λ (k : Mounts). (fold after_byte k bytes).fields) now
-          ∙ counts bytes n rest (omega (arith, few, count)) ∙ omega (arith, count)
+has_first : (p : ℕ → Bool) (bytes : List ℕ) → HasFirst (slice_split p bytes)
+has_first p [] = record { first = []; more = []; is = refl }
+has_first p (b ∷ bytes) =
+    elim (p b) as (λ t. p b ≡ t → HasFirst (slice_split p (b ∷ bytes))) [
+      | true ↦ λ is. record { first = []; more = slice_split p bytes; is = slice_split-cons_yes p b bytes is }
+      | false ↦ λ is. subst HasFirst (sym (slice_split-cons_no p b bytes is)) (onto_has_first b _ (has_first p bytes))
     ] refl
 
-abbrev begins_line : Mounts → Type 0
-begins_line m = (m.fields ≡ 0) × (m.field ≡ EMPTY)
+-- ---- the first line
 
-line_begins : (before : List ℕ) → (before ≡ []) ⊎ EndsIn NEWLINE before → begins_line (fold after_byte at_first before)
-line_begins before begins =
-    elim begins [
-      | inl none ↦ subst (λ (l : List ℕ). begins_line (fold after_byte at_first l)) (sym none) (refl, refl)
-      | inr some ↦ subst (λ (l : List ℕ). begins_line (fold after_byte at_first l)) (sym some.1)
-          (subst begins_line (sym (fold-append after_byte at_first some.0 (NEWLINE ∷ []))) (refl, refl))
+some_same : {x y : ℕ} → Some x ≡ Some y → x ≡ y
+some_same is = ap value is
+  where
+    value : Option ℕ → ℕ
+    value None = 0
+    value (Some n) = n
+
+none_is_not_some : {x : ℕ} → None ≡ Some x → ⊥
+none_is_not_some {x} is = subst (λ (o : Option ℕ). is_none o) is tt
+  where
+    is_none : Option ℕ → Type 0
+    is_none None = ⊤
+    is_none (Some n) = ⊥
+
+first_at : (text : List ℕ) (end : ℕ) → position is_newline text ≡ Some end
+    → (position_or_len is_newline text ≡ end) × (end < length text)
+first_at text end found =
+    elim (nat_lt (position_or_len is_newline text) (length text))
+    as (λ t. nat_lt (position_or_len is_newline text) (length text) ≡ t
+    → cond t (Some (position_or_len is_newline text)) None ≡ Some end
+    → (position_or_len is_newline text ≡ end) × (end < length text)) [
+      | true ↦ λ less is. (some_same is, subst (λ (n : ℕ). n < length text) (some_same is) (ltb-true _ _ less))
+      | false ↦ λ less is. absurd (none_is_not_some is)
+    ] refl found
+
+line_ends : (text : List ℕ) (end : ℕ) → position is_newline text ≡ Some end
+    → lines text ≡ take end text ∷ lines (drop (end + 1) text)
+line_ends text end found =
+    let at = first_at text end found in
+    let parts = slice_split_first is_newline text 0 (subst (λ (n : ℕ). n < length text) (sym at.0) at.1) in
+    let rest = has_first is_newline (drop (end + 1) text) in
+    ap but_last_part (subst (λ (n : ℕ).
+    slice_split is_newline text ≡ take n text ∷ slice_split is_newline (drop (n + 1) text)) at.0 parts)
+    ∙ ap (λ (l : List (List ℕ)). but_last_part (take end text ∷ l)) rest.is
+    ∙ sym (ap (λ (l : List (List ℕ)). take end text ∷ but_last_part l) rest.is)
+
+pub line_parts : (text : List ℕ) (end : ℕ) → position is_newline text ≡ Some end
+    → (lines text ≡ take end text ∷ lines (take (length text - (end + 1)) (drop (end + 1) text)))
+    × (length (take (length text - (end + 1)) (drop (end + 1) text)) < length text)
+line_parts text end found =
+    let rest = take_all (length text - (end + 1)) (drop (end + 1) text) (omega (arith, length-drop (end + 1) text)) in (
+      line_ends text end found ∙ sym (ap (λ (l : List ℕ). take end text ∷ lines l) rest),
+      omega (arith, (first_at text end found).1, length-drop (end + 1) text, ap length rest),
+    )
+
+pub no_line_ends : (text : List ℕ) → position is_newline text ≡ None → lines text ≡ []
+no_line_ends text found =
+    elim (nat_lt (position_or_len is_newline text) (length text))
+    as (λ t. nat_lt (position_or_len is_newline text) (length text) ≡ t
+    → cond t (Some (position_or_len is_newline text)) None ≡ None → lines text ≡ []) [
+      | true ↦ λ less is. absurd (none_is_not_some (sym is))
+      | false ↦ λ less is. ap but_last_part (slice_split_none is_newline text
+          (All-from_get_or (λ b. is_newline b ≡ false) text 0 (λ i within.
+          fails_before_first is_newline text i 0 (omega (arith, within, ltb-false _ _ less)))))
+    ] refl found
+
+-- ---- a line
+
+abbrev ROOT : List ℕ
+ROOT = SLASH ∷ []
+
+-- what the fields behind so many others must be
+abbrev later : ℕ → List (Option (List ℕ))
+later zero = None ∷ None ∷ None ∷ Some ROOT ∷ []
+later (suc zero) = None ∷ None ∷ Some ROOT ∷ []
+later (suc (suc zero)) = None ∷ Some ROOT ∷ []
+later (suc (suc (suc zero))) = Some ROOT ∷ []
+later more = []
+
+abbrev is_field : Option (List ℕ) → List ℕ → Bool
+is_field None field = true
+is_field (Some bytes) field = same_bytes field bytes
+
+abbrev fits : List (Option (List ℕ)) → List (List ℕ) → Bool
+fits [] parts = true
+fits (w ∷ ws) [] = false
+fits (w ∷ ws) (part ∷ parts) = is_field w part && fits ws parts
+
+-- what is left of the line under way makes it count
+abbrev good : List ℕ → Mounts → List (List ℕ) → Bool
+good number m parts = m.holds && fits (option_map (drop m.at) (wanted number m.fields) ∷ later m.fields) parts
+
+byte_at : (bytes : List ℕ) (at b : ℕ) (field : List ℕ)
+    → same_bytes (b ∷ field) (drop at bytes)
+    ≡ (is_byte (slice_get bytes at) b && same_bytes field (drop (suc at) bytes))
+byte_at [] zero b field = refl
+byte_at [] (suc at) b field = refl
+byte_at (c ∷ bytes) zero b field = refl
+byte_at (c ∷ bytes) (suc at) b field = byte_at bytes at b field
+
+byte_next : (bytes : List ℕ) (at b : ℕ) (field : List ℕ)
+    → same_bytes (b ∷ field) (drop at bytes)
+    ≡ (is_byte (slice_get bytes at) b && same_bytes field (drop (at + 1) bytes))
+byte_next bytes at b field =
+    let one : suc at ≡ at + 1 = omega arith in
+    byte_at bytes at b field ∙ ap (λ (n : ℕ). is_byte (slice_get bytes at) b && same_bytes field (drop n bytes)) one
+
+all_of : (bytes : List ℕ) (at : ℕ) → same_bytes [] (drop at bytes) ≡ nat_le (length bytes) at
+all_of [] zero = refl
+all_of [] (suc at) = sym (leb-zero (suc at))
+all_of (c ∷ bytes) zero = sym (leb-suc-zero (length bytes))
+all_of (c ∷ bytes) (suc at) = all_of bytes at ∙ sym (leb-suc-suc (length bytes) at)
+
+is_all_of : (w : Option (List ℕ)) (at : ℕ) → is_field (option_map (drop at) w) [] ≡ is_all w at
+is_all_of None at = refl
+is_all_of (Some bytes) at = all_of bytes at
+
+map_none : (w : Option (List ℕ)) → option_map (drop 0) w ≡ w
+map_none None = refl
+map_none (Some bytes) = refl
+
+and_false : (a : Bool) → (a && false) ≡ false
+and_false true = refl
+and_false false = refl
+
+and_true : (a : Bool) → (a && true) ≡ a
+and_true true = refl
+and_true false = refl
+
+and_assoc : (a b c : Bool) → (a && (b && c)) ≡ ((a && b) && c)
+and_assoc true b c = refl
+and_assoc false b c = refl
+
+and_swap : (a b : Bool) → (a && b) ≡ (b && a)
+and_swap true b = sym (and_true b)
+and_swap false b = sym (and_false b)
+
+or_false : (a : Bool) → (a || false) ≡ a
+or_false true = refl
+or_false false = refl
+
+or_assoc : (a b c : Bool) → (a || (b || c)) ≡ ((a || b) || c)
+or_assoc true b c = refl
+or_assoc false b c = refl
+
+-- a field that ends, and one more that begins
+next_field : (number : List ℕ) (count : ℕ) (part : List ℕ) (parts : List (List ℕ)) → fits (later count) (part ∷ parts)
+    ≡ fits (wanted number (one_more count) ∷ later (one_more count)) (part ∷ parts)
+next_field number zero part parts = refl
+next_field number (suc zero) part parts = refl
+next_field number (suc (suc zero)) part parts = refl
+next_field number (suc (suc (suc zero))) part parts = refl
+next_field number (suc (suc (suc (suc zero)))) part parts = refl
+next_field number (suc (suc (suc (suc (suc more))))) part parts =
+    let count = suc (suc (suc (suc (suc more)))) in
+    let stays : one_more count ≡ count = cond-false (nat_lt count 5) _ _ (le-ltb count 5 (omega arith)) in
+    let any : wanted number count ≡ None =
+    cond-false (count == 0) _ _ (ne_eqb count 0 (λ e. omega (arith, e)))
+    ∙ cond-false (count == 4) _ _ (ne_eqb count 4 (λ e. omega (arith, e))) in
+    sym (ap (λ (n : ℕ). fits (wanted number n ∷ later n) (part ∷ parts)) stays
+    ∙ ap (λ w. fits (w ∷ []) (part ∷ parts)) any)
+
+good_space : (number : List ℕ) (m : Mounts) (parts : List (List ℕ)) → HasFirst parts → good number m ([] ∷ parts)
+    ≡ good number (field_ended number m) parts
+good_space number m parts has =
+    subst (λ (l : List (List ℕ)). good number m ([] ∷ l) ≡ good number (field_ended number m) l)
+    (sym has.is)
+    (ap (λ t. m.holds && (t && fits (later m.fields) (has.first ∷ has.more))) (is_all_of (wanted number m.fields) m.at)
+    ∙ and_assoc m.holds _ _
+    ∙ ap (λ t. is_whole number m && t) (next_field number m.fields has.first has.more
+    ∙ ap (λ w. fits (w ∷ later (one_more m.fields)) (has.first ∷ has.more))
+    (sym (map_none (wanted number (one_more m.fields))))))
+
+good_byte : (number : List ℕ) (m : Mounts) (b : ℕ) (field : List ℕ) (parts : List (List ℕ)) (w : Option (List ℕ))
+    → wanted number m.fields ≡ w → good number m ((b ∷ field) ∷ parts) ≡ good number (goes_on w m b) (field ∷ parts)
+good_byte number m b field parts None is =
+    ap (λ w. m.holds && (is_field (option_map (drop m.at) w) (b ∷ field) && fits (later m.fields) parts)) is
+    ∙ sym (ap (λ w. m.holds && (is_field (option_map (drop m.at) w) field && fits (later m.fields) parts)) is)
+good_byte number m b field parts (Some bytes) is =
+    ap (λ w. m.holds && (is_field (option_map (drop m.at) w) (b ∷ field) && fits (later m.fields) parts)) is
+    ∙ ap (λ t. m.holds && (t && fits (later m.fields) parts)) (byte_next bytes m.at b field)
+    ∙ elim (is_byte (slice_get bytes m.at) b) as (λ t.
+    (m.holds && ((t && same_bytes field (drop (m.at + 1) bytes)) && fits (later m.fields) parts))
+    ≡ good number (if t then record m { at = m.at + 1 } else record m { holds = false }) (field ∷ parts)) [
+      | true ↦ sym (ap (λ w.
+          m.holds && (is_field (option_map (drop (m.at + 1)) w) field && fits (later m.fields) parts)) is)
+      | false ↦ and_false m.holds
     ]
 
-field_begins : (head : List ℕ) (m : Mounts) → EndsIn SPACE head → (fold after_byte m head).field ≡ EMPTY
-field_begins head m some =
-    subst (λ (l : List ℕ). (fold after_byte m l).field ≡ EMPTY) (sym some.1)
-    (ap (λ (n : Mounts). n.field) (fold-append after_byte m some.0 (SPACE ∷ [])))
+-- the line ends
+good_end : (number : List ℕ) (m : Mounts) → good number m ([] ∷ []) ≡ (nat_lt 3 m.fields && is_whole number m)
+good_end number m =
+    ap (λ t. m.holds && (t && fits (later m.fields) [])) (is_all_of (wanted number m.fields) m.at)
+    ∙ and_assoc m.holds _ _ ∙ and_swap (is_whole number m) _ ∙ ap (λ t. t && is_whole number m) (no_more m.fields)
+  where
+    no_more : (count : ℕ) → fits (later count) [] ≡ nat_lt 3 count
+    no_more zero = refl
+    no_more (suc zero) = refl
+    no_more (suc (suc zero)) = refl
+    no_more (suc (suc (suc zero))) = refl
+    no_more (suc (suc (suc (suc more)))) = sym (lt-ltb 3 (suc (suc (suc (suc more)))) (omega arith))
 
-found_now : (m : Mounts) (end : ℕ) → m.fields ≡ 4 → m.field ≡ EMPTY → (end ≡ SPACE) ⊎ (end ≡ NEWLINE)
-    → (after_byte (after_byte m SLASH) end).found ≡ true
-found_now m end four none ends =
-    let alone = after_byte m SLASH in
-    let field : alone.field ≡ ALONE = ap (λ (k : ℕ). if (k == EMPTY) && true then ALONE else OTHER) none in
-    let is : ((alone.fields == 4) && (alone.field == ALONE)) ≡ true =
-    ap (λ (k : ℕ). (k == 4) && (alone.field == ALONE)) four ∙ ap (λ (k : ℕ). k == ALONE) field in
-    let some : (m.found || ((alone.fields == 4) && (alone.field == ALONE))) ≡ true =
-    ap (λ t. m.found || t) is ∙ or_true m.found in
-    elim ends [
-      | inl s ↦ subst (λ (b : ℕ). (after_byte alone b).found ≡ true) (sym s) some
-      | inr n ↦ subst (λ (b : ℕ). (after_byte alone b).found ≡ true) (sym n) some
+good_root : (number : List ℕ) (found : Bool) (parts : List (List ℕ))
+    → good number (record { at = 0; fields = 0; holds = true; found = found }) parts ≡ stands_at_root number parts
+good_root number found [] = refl
+good_root number found (a ∷ []) = and_false (same_bytes a number)
+good_root number found (a ∷ b ∷ []) = and_false (same_bytes a number)
+good_root number found (a ∷ b ∷ c ∷ []) = and_false (same_bytes a number)
+good_root number found (a ∷ b ∷ c ∷ d ∷ []) = and_false (same_bytes a number)
+good_root number found (a ∷ b ∷ c ∷ d ∷ e ∷ others) = ap (λ t. same_bytes a number && t) (and_true (same_bytes e ROOT))
+
+-- ---- the text
+
+abbrev counts : List ℕ → List ℕ → Bool
+counts number line = stands_at_root number (fields line)
+
+abbrev any : List ℕ → List (List ℕ) → Bool
+any number parts = list_any (counts number) (but_last_part parts)
+
+-- a line of the text that is still to come counts, or one was found
+abbrev from : List ℕ → Mounts → List (List ℕ) → Bool
+from number m [] = m.found
+from number m (line ∷ []) = m.found
+from number m (line ∷ next ∷ more) =
+    m.found || (good number m (fields line) || any number (next ∷ more))
+
+from_newline : (number : List ℕ) (m : Mounts) (first : List ℕ) (more : List (List ℕ))
+    → from number m ([] ∷ first ∷ more) ≡ from number (line_ended number m) (first ∷ more)
+from_newline number m first [] = ap (λ t. m.found || t) (or_false (good number m ([] ∷ [])) ∙ good_end number m)
+from_newline number m first (next ∷ more) =
+    let found = m.found || (nat_lt 3 m.fields && is_whole number m) in
+    ap (λ t. m.found || (t || any number (first ∷ next ∷ more))) (good_end number m)
+    ∙ or_assoc m.found (nat_lt 3 m.fields && is_whole number m) _
+    ∙ ap (λ t. found || (t || any number (next ∷ more))) (sym (good_root number found (fields first)))
+
+good_more : (number : List ℕ) (m : Mounts) (b : ℕ) (line : List ℕ) → (b == NEWLINE) ≡ false
+    → good number m (fields (b ∷ line)) ≡ good number (after_byte number m b) (fields line)
+good_more number m b line other =
+    let start = cond-false (b == NEWLINE) (line_ended number m) _ other in
+    let has = has_first is_space line in
+    elim (b == SPACE) as (λ t. (b == SPACE) ≡ t
+    → good number m (fields (b ∷ line)) ≡ good number (after_byte number m b) (fields line)) [
+      | true ↦ λ is. ap (good number m) (slice_split-cons_yes is_space b line is)
+          ∙ good_space number m (fields line) has
+          ∙ sym (ap (λ (n : Mounts). good number n (fields line)) (start ∙ cond-true (b == SPACE) _ _ is))
+      | false ↦ λ is. ap (good number m) (slice_split-cons_no is_space b line is ∙ ap (onto_first b) has.is)
+          ∙ good_byte number m b has.first has.more (wanted number m.fields) refl
+          ∙ sym (ap (good number (goes_on (wanted number m.fields) m b)) has.is)
+          ∙ sym (ap (λ (n : Mounts). good number n (fields line)) (start ∙ cond-false (b == SPACE) _ _ is))
+    ] refl
+
+same_found : (w : Option (List ℕ)) (m : Mounts) (b : ℕ) → (goes_on w m b).found ≡ m.found
+same_found None m b = refl
+same_found (Some bytes) m b =
+    elim (is_byte (slice_get bytes m.at) b)
+    as (λ t. (if t then record m { at = m.at + 1 } else record m { holds = false }).found ≡ m.found)
+    [ true ↦ refl | false ↦ refl ]
+
+found_as_before : (number : List ℕ) (m : Mounts) (b : ℕ) → (b == NEWLINE) ≡ false
+    → (after_byte number m b).found ≡ m.found
+found_as_before number m b other =
+    ap (λ (n : Mounts). n.found) (cond-false (b == NEWLINE) _ _ other)
+    ∙ elim (b == SPACE) as (λ t.
+    (if t then field_ended number m else goes_on (wanted number m.fields) m b).found ≡ m.found) [
+      | true ↦ refl
+      | false ↦ same_found (wanted number m.fields) m b
     ]
 
-is_found : (text : List ℕ) → HasRootMount text → (fold after_byte at_first text).found ≡ true
-is_found text has =
-    let m = fold after_byte at_first has.before in
-    let new = line_begins has.before has.begins in
-    let n = fold after_byte m has.head in
-    let four : n.fields ≡ 4 = counts has.head m has.one_line (omega (arith, new.0, has.four)) ∙ omega (arith, new.0, has.four) in
-    let now = found_now n has.end four (field_begins has.head m has.field) has.ends in
-    subst (λ (l : List ℕ). (fold after_byte at_first l).found ≡ true) (sym has.is)
-    (subst (λ (k : Mounts). k.found ≡ true)
-    (sym (fold-append after_byte at_first has.before (has.head ++ SLASH ∷ has.end ∷ has.after)))
-    (subst (λ (k : Mounts). k.found ≡ true) (sym (fold-append after_byte m has.head (SLASH ∷ has.end ∷ has.after)))
-    (found_stays has.after (after_byte (after_byte n SLASH) has.end) now)))
+from_other : (number : List ℕ) (m : Mounts) (b : ℕ) (first : List ℕ) (more : List (List ℕ)) → (b == NEWLINE) ≡ false
+    → from number m ((b ∷ first) ∷ more) ≡ from number (after_byte number m b) (first ∷ more)
+from_other number m b first [] other = sym (found_as_before number m b other)
+from_other number m b first (next ∷ more) other =
+    ap (λ t. m.found || (t || any number (next ∷ more))) (good_more number m b first other)
+    ∙ ap (λ t. t || (good number (after_byte number m b) (fields first) || any number (next ∷ more)))
+    (sym (found_as_before number m b other))
 
-pub tells-root-mount : TellsRootMount
-tells-root-mount text m is = (
-  (λ found. (known [] text at_first known_first).found (ap (λ (k : Mounts). k.found) (sym is) ∙ found)),
-  (λ has. ap (λ (k : Mounts). k.found) is ∙ is_found text has),
-)
+one_byte : (number : List ℕ) (m : Mounts) (b : ℕ) (text : List ℕ) → from number m (slice_split is_newline (b ∷ text))
+    ≡ from number (after_byte number m b) (slice_split is_newline text)
+one_byte number m b text =
+    let has = has_first is_newline text in
+    elim (b == NEWLINE) as (λ t. (b == NEWLINE) ≡ t → from number m (slice_split is_newline (b ∷ text))
+    ≡ from number (after_byte number m b) (slice_split is_newline text)) [
+      | true ↦ λ is. ap (from number m) (slice_split-cons_yes is_newline b text is ∙ ap (λ l. [] ∷ l) has.is)
+          ∙ from_newline number m has.first has.more
+          ∙ sym (ap (λ (n : Mounts). from number n (has.first ∷ has.more)) (cond-true (b == NEWLINE) _ _ is))
+          ∙ sym (ap (from number (after_byte number m b)) has.is)
+      | false ↦ λ is. ap (from number m) (slice_split-cons_no is_newline b text is ∙ ap (onto_first b) has.is)
+          ∙ from_other number m b has.first has.more is ∙ sym (ap (from number (after_byte number m b)) has.is)
+    ] refl
+
+all_bytes : (number text : List ℕ) (m : Mounts)
+    → from number m (slice_split is_newline text) ≡ (fold (after_byte number) m text).found
+all_bytes number [] m = refl
+all_bytes number (b ∷ text) m = one_byte number m b text ∙ all_bytes number text (after_byte number m b)
+
+at_beginning : (number : List ℕ) (parts : List (List ℕ))
+    → from number at_first parts ≡ any number parts
+at_beginning number [] = refl
+at_beginning number (line ∷ []) = refl
+at_beginning number (line ∷ next ∷ more) =
+    ap (λ t. t || any number (next ∷ more)) (good_root number false (fields line))
+
+-- what was read says just whether a line counts
+pub found_is : (number text : List ℕ)
+    → (fold (after_byte number) at_first text).found ≡ has_root_line (Some number) text
+found_is number text = sym (all_bytes number text at_first) ∙ at_beginning number (slice_split is_newline text)

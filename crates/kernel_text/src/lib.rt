@@ -1,5 +1,5 @@
 //! What the kernel's texts say: where an object stands, by the path that a link in /proc or getcwd(2) tells, which
-//! names the records of getdents64(2) have, and whether something is mounted at a process's root directory, by its
+//! names the records of getdents64(2) have, and whether a mount stands at a process's root directory, by its fdinfo and
 //! mountinfo.
 //!
 //! Each function takes bytes as a system call wrote them. None of them makes one.
@@ -11,6 +11,6 @@ mod place;
 mod records;
 
 pub use listing::{Sorted, sort_names};
-pub use mounts::{Mounts, begin_mounts, read_mounts, root_mounts_are_told};
+pub use mounts::{Mounts, begin_mounts, read_mounts};
 pub use place::{Place, is_named, place_between, place_of_cwd};
 pub use records::{Taken, take_names};

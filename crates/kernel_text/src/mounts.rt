@@ -1,6 +1,7 @@
-//! Whether a process's root directory is where something is mounted, by the text of its mountinfo.
-ghost use Rattle.std.specs.Prelude.{◌≡◌, ◌++◌, List, ℕ, []};
-ghost use Rattle.kernel_text.specs.Mounts.{after_byte, ended, one_more, IsRead, TellsRootMount};
+//! Whether a process's root directory is where a mount stands, by the texts of its fdinfo and its mountinfo.
+ghost use Rattle.std.specs.Prelude.{◌≡◌, ◌<◌, ◌++◌, ◌∷◌, List, ℕ, [], length, option_copied, MatchOption};
+ghost use Rattle.std.specs.List.{fold};
+ghost use Rattle.kernel_text.specs.Mounts.{after_byte, goes_on, has_root_mount, is_whole, lines, mount_number, one_more, wanted, IsRead};
 
 use path_text::SLASH;
 
@@ -8,23 +9,54 @@ const NEWLINE: u8 = b'\n';
 
 const SPACE: u8 = b' ';
 
-// What a field is so far.
-const EMPTY: u8 = 0;
-
-const ALONE: u8 = 1;
-
-const OTHER: u8 = 2;
-
 /// What was read of /proc/pid/mountinfo (proc(5)) so far.
 #[repr(C)]
 #[derive(Clone, Copy, Debug, PartialEq, Eq)]
 pub struct Mounts {
+    /// How many bytes of the field under way are as they must be for the line to count.
+    pub at: usize,
     /// How many fields of the line under way have ended; 5 where more than four have.
     pub fields: u8,
-    /// What the field under way is: 0 empty, 1 a slash alone, 2 anything else.
-    pub field: u8,
-    /// Whether a line says that something is mounted at the process's root directory.
+    /// Whether the line under way was so far as it must be to count.
+    pub holds: bool,
+    /// Whether a line says that the mount stands at the process's root directory.
     pub found: bool,
+}
+
+// The first line, and what comes behind it.
+fn first_line(text: &[u8]) -> Option<(&[u8], &[u8])>
+    ensures { MatchOption result (lines text.now ≡ [])
+        (λ cut. (lines text.now ≡ cut.0.now ∷ lines cut.1.now) × (length cut.1.now < length text.now)) }
+{
+    match text.iter().position(|byte| *byte == NEWLINE) {
+        Some(end) => Some((&text[..end], &text[end + 1..])),
+        None => None,
+    }
+}
+
+// The number of the mount in fdinfo.
+fn mount_number(fdinfo: &[u8]) -> Option<&[u8]>
+    ensures { option_copied result ≡ mount_number fdinfo.now }
+{
+    let mut rest = fdinfo;
+    while let Some((line, more)) = first_line(rest) {
+        if let Some(number) = line.strip_prefix(b"mnt_id:\t".as_slice()) {
+            return Some(number);
+        }
+        rest = more;
+    }
+    None
+}
+
+// What the field of a line must be, behind so many others; or none, where it may be anything.
+fn wanted(number: &[u8], fields: u8) -> Option<&[u8]>
+    ensures { option_copied result ≡ wanted number.now fields }
+{
+    match fields {
+        0 => Some(number),
+        4 => Some(b"/".as_slice()),
+        _ => None,
+    }
 }
 
 fn one_more(fields: u8) -> u8
@@ -33,59 +65,94 @@ fn one_more(fields: u8) -> u8
     if fields < 5 { fields + 1 } else { fields }
 }
 
-fn ended(mounts: Mounts, fields: u8) -> Mounts
-    ensures { result ≡ ended mounts fields }
+fn is_whole(number: &[u8], mounts: Mounts) -> bool
+    ensures { result ≡ is_whole number.now mounts }
 {
-    Mounts {
-        fields,
-        field: EMPTY,
-        found: mounts.found || (mounts.fields == 4 && mounts.field == ALONE),
-    }
+    mounts.holds
+        && match wanted(number, mounts.fields) {
+            None => true,
+            Some(bytes) => bytes.len() <= mounts.at,
+        }
 }
 
-fn after_byte(mounts: Mounts, byte: u8) -> Mounts
-    ensures { result ≡ after_byte mounts byte }
+fn goes_on(number: &[u8], mounts: Mounts, byte: u8) -> Mounts
+    ensures { result ≡ goes_on (wanted number.now mounts.fields) mounts byte }
 {
-    if byte == NEWLINE {
-        ended(mounts, 0)
-    } else if byte == SPACE {
-        ended(mounts, one_more(mounts.fields))
-    } else {
-        let is_alone = mounts.field == EMPTY && byte == SLASH;
-        Mounts {
-            fields: mounts.fields,
-            field: if is_alone { ALONE } else { OTHER },
-            found: mounts.found,
+    match wanted(number, mounts.fields) {
+        None => mounts,
+        Some(bytes) => {
+            if mounts.at < bytes.len() && byte == bytes[mounts.at] {
+                Mounts {
+                    at: mounts.at + 1,
+                    ..mounts
+                }
+            } else {
+                Mounts {
+                    holds: false,
+                    ..mounts
+                }
+            }
         }
     }
 }
 
+fn after_byte(number: &[u8], mounts: Mounts, byte: u8) -> Mounts
+    ensures { result ≡ after_byte number.now mounts byte }
+{
+    match byte {
+        NEWLINE => Mounts {
+            at: 0,
+            fields: 0,
+            holds: true,
+            found: mounts.found || (mounts.fields > 3 && is_whole(number, mounts)),
+        },
+        SPACE => Mounts {
+            at: 0,
+            fields: one_more(mounts.fields),
+            holds: is_whole(number, mounts),
+            found: mounts.found,
+        },
+        _ => goes_on(number, mounts, byte),
+    }
+}
+
+fn read_on(number: &[u8], mounts: Mounts, part: &[u8]) -> Mounts
+    ensures { result ≡ fold (after_byte number.now) mounts part.now }
+{
+    let mut so_far = mounts;
+    for byte in part {
+        so_far = after_byte(number, so_far, *byte);
+    }
+    so_far
+}
+
 /// Begins to read a mountinfo. Takes no memory.
 pub fn begin_mounts() -> Mounts
-    ensures { IsRead [] result }
+    ensures { (fdinfo : List ℕ) → IsRead fdinfo [] result }
 {
     Mounts {
+        at: 0,
         fields: 0,
-        field: EMPTY,
+        holds: true,
         found: false,
     }
 }
 
 /// Reads on in a mountinfo, of which `mounts` is what was read so far and `part` are the bytes that come next. The text
-/// may be cut into parts anywhere. What `found` says of it then is the law `root_mounts_are_told`. Takes no memory.
-pub fn read_mounts(mounts: Mounts, part: &[u8]) -> Mounts
-    ensures { (text : List ℕ) → IsRead text mounts → IsRead (text ++ part.now) result }
+/// may be cut into parts anywhere. `fdinfo` is what proc(5) has of a descriptor of the process's root directory, the
+/// same in each call.
+///
+/// `found` says whether the mount on which the root directory is stands at that directory: a whole line of the text so
+/// far has the number for its first field that fdinfo has behind `mnt_id:` and a tab, and a slash alone for its fifth.
+/// What is mounted over the root directory is another mount, and a directory that is no mount's has no such line. If
+/// fdinfo has no such number, nothing is found. Takes no memory.
+pub fn read_mounts(fdinfo: &[u8], mounts: Mounts, part: &[u8]) -> Mounts
+    ensures reads { (text : List ℕ) → IsRead fdinfo.now text mounts → IsRead fdinfo.now (text ++ part.now) result }
+    ensures found { (text : List ℕ) → IsRead fdinfo.now text mounts
+        → result.found ≡ has_root_mount fdinfo.now (text ++ part.now) }
 {
-    let mut so_far = mounts;
-    for byte in part {
-        so_far = after_byte(so_far, *byte);
+    match mount_number(fdinfo) {
+        None => mounts,
+        Some(number) => read_on(number, mounts, part),
     }
-    so_far
 }
-
-/// What was read says that something is mounted at the process's root directory just where a line of the text has a
-/// slash alone for its fifth field, as proc(5) describes it, and that field has ended. So a text that was cut off says
-/// no more than its whole lines, and the fields that ended in the last one.
-pub fn root_mounts_are_told()
-    ensures { TellsRootMount }
-{}
