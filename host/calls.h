@@ -287,9 +287,8 @@ struct inroot_machine_flags {
 /*
  * What a call on a path does by flags of open(2): an error, and nothing else; or 0, and what is done. `finds`: what is there is
  * looked for; `makes`: what is missing is made, and must be missing where nothing is looked for. `follows` a link at the end. The
- * kind of what was found matters (`asks_kind`), since a `directory` is wanted, or none; then there is an error of a directory, or
- * of all else. What was found is given by O_PATH (`by_path`), or opened by `found_flags`, or a `nameless` file is made in it by
- * these. What is missing is made by `made_flags`.
+ * kind of what was found matters (`asks_kind`), since a `directory` is wanted, or none. What was found is only named (`by_path`), and
+ * else used as `inroot_use_of` says. What is missing is made by `made_flags`. A driver leaves the others alone.
  */
 struct inroot_opening {
     uint8_t error;
@@ -300,6 +299,18 @@ struct inroot_opening {
 
 /* EINVAL of flags that the call doesn't have, or that contradict each other, and of a mode that doesn't fit them. */
 void inroot_opening_of(const struct inroot_machine_flags *machine, uint32_t flags, uint32_t mode, struct inroot_opening *opening);
+
+/* The one thing that is done with what was found: the call fails; its descriptor is the reply; it is opened once more; a file is made. */
+enum inroot_use_what { INROOT_USE_FAILS, INROOT_USE_GIVES, INROOT_USE_REOPENS, INROOT_USE_MAKES };
+
+/* It is opened once more by these flags, or a file without a name is made in it by them. */
+struct inroot_use {
+    uint32_t flags;
+    uint8_t what, error;
+};
+
+/* By an opening that was taken, and the kind of what was found (`enum inroot_kind`), which may be any if the opening doesn't ask. */
+void inroot_use_of(const struct inroot_opening *opening, uint8_t kind, struct inroot_use *use);
 
 /* The flags by which what is open is opened once more; or 0, where these are refused by EINVAL. */
 uint32_t inroot_reopen_flags(const struct inroot_machine_flags *machine, uint32_t flags);

@@ -56,19 +56,18 @@ static int reopened(int fd, uint32_t flags)
     return (int)inroot_by_proc(fd, open_by_name, &how);
 }
 
-/* Opens by the descriptor that was found; it is that one where nothing is to be read or written. */
+/* Does the one thing that is due: the reply is the descriptor that was found, another one, or -errno. */
 static int use_found(int fd, enum inroot_kind kind, const struct use *use)
 {
-    const struct inroot_opening *how = &use->how;
-    int error = kind == INROOT_KIND_DIR ? how->directory_error : how->other_error;
-    if (error)
-        return -error;
-    if (how->by_path)
-        return fd;
-    if (!how->nameless)
-        return reopened(fd, how->found_flags);
-    int made = openat(fd, ".", (int)how->found_flags, use->mode);
-    return made < 0 ? -errno : made;
+    int made;
+    struct inroot_use now;
+    inroot_use_of(&use->how, (uint8_t)kind, &now);
+    switch (now.what) {
+    case INROOT_USE_FAILS: return -now.error;
+    case INROOT_USE_GIVES: return fd;
+    case INROOT_USE_REOPENS: return reopened(fd, now.flags);
+    default: made = openat(fd, ".", (int)now.flags, use->mode); return made < 0 ? -errno : made;
+    }
 }
 
 static int open_found(int root, const struct use *use)

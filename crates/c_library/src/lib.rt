@@ -26,6 +26,7 @@ ghost use Rattle.make_through_links.specs.History.{asked_of as making_asked, is_
 ghost use Rattle.make_through_links.specs.Making.{exchange as making_exchange, IsAt as IsMakingAt, IsWithin};
 ghost use Rattle.system_calls.specs.Objects.{is_node, is_same_object, kind_of};
 ghost use Rattle.system_calls.specs.Opening.{opening_of, reopen_flags};
+ghost use Rattle.system_calls.specs.Uses.{use_of};
 
 mod askings;
 mod calls;
@@ -43,7 +44,7 @@ use make_through_links::{Making, Outcome};
 use open_or_make::Course;
 use place_protocol::{Answer, Facts};
 use std::alloc::Global;
-use system_calls::{MachineFlags, Object, Opening};
+use system_calls::{MachineFlags, Object, Opening, Use};
 
 /// Begins a call, and tells its first step or its reply: `c_protocol::begin`.
 #[unsafe(no_mangle)]
@@ -209,6 +210,14 @@ pub extern "C" fn inroot_opening_of(
     ensures { opening.new ≡ opening_of machine.now flags mode }
 {
     *opening = system_calls::opening_of(machine, flags, mode);
+}
+
+/// What is done with what was found: `system_calls::use_of`.
+#[unsafe(no_mangle)]
+pub extern "C" fn inroot_use_of(opening: &Opening, kind: u8, found: &mut Use)
+    ensures { found.new ≡ use_of opening.now kind }
+{
+    *found = system_calls::use_of(opening, kind);
 }
 
 /// The flags by which what is open is opened once more, or 0: `system_calls::reopen_flags`.

@@ -1,6 +1,9 @@
 //! What a call does by flags of open(2), by their numbers on both machines.
 use std::test::Fail;
-use system_calls::{MachineFlags, Opening, opening_of, reopen_flags};
+use system_calls::{
+    MachineFlags, Opening, USE_FAILS, USE_GIVES, USE_MAKES, USE_REOPENS, Use, opening_of,
+    reopen_flags, use_of,
+};
 
 const X86_64: MachineFlags = MachineFlags {
     directory: 0o200000,
@@ -130,6 +133,46 @@ fn reads_the_numbers_of_arm64(rt: HostRuntime) -> Result<(), Fail> {
     assert!(rt; opening_of(&ARM64, 0o40100, 0o644).error == EINVAL);
     assert!(rt; opening_of(&ARM64, 0o20040002, 0o600).nameless);
     assert!(rt; opening_of(&ARM64, 0o600000, 0).error == 0);
+    Ok(())
+}
+
+const DIRECTORY: u8 = 1;
+
+const FILE: u8 = 2;
+
+fn uses(flags: u32, mode: u32, kind: u8) -> Use {
+    use_of(&on_x86_64(flags, mode), kind)
+}
+
+fn does(found: Use, what: u8, flags: u32) -> bool {
+    found.what == what && found.flags == flags && found.error == 0
+}
+
+#[test]
+fn does_one_thing_with_what_is_there(rt: HostRuntime) -> Result<(), Fail> {
+    // O_RDWR, and O_CREAT of a file.
+    assert!(rt; does(uses(0o2, 0, FILE), USE_REOPENS, 0o2000402));
+    assert!(rt; does(uses(0o102, 0o644, FILE), USE_REOPENS, 0o2000402));
+    // O_DIRECTORY: the kernel refuses a file as it opens.
+    assert!(rt; does(uses(0o200000, 0, FILE), USE_REOPENS, 0o2200400));
+    // O_PATH: the descriptor itself.
+    assert!(rt;
+        does(uses(0o10000000, 0, FILE), USE_GIVES, 0)
+            && does(uses(0o10200000, 0, DIRECTORY), USE_GIVES, 0)
+    );
+    // O_TMPFILE and O_EXCL.
+    assert!(rt; does(uses(0o20600201, 0o600, DIRECTORY), USE_MAKES, 0o22200601));
+    Ok(())
+}
+
+#[test]
+fn refuses_what_is_there_by_its_kind(rt: HostRuntime) -> Result<(), Fail> {
+    let created = uses(0o102, 0o644, DIRECTORY);
+    assert!(rt; created.what == USE_FAILS && created.error == 21 && created.flags == 0);
+    let named = uses(0o10000100, 0o644, DIRECTORY);
+    assert!(rt; named.what == USE_FAILS && named.error == 21);
+    let directory = uses(0o10200000, 0, FILE);
+    assert!(rt; directory.what == USE_FAILS && directory.error == 20 && directory.flags == 0);
     Ok(())
 }
 

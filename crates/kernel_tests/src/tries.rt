@@ -2,7 +2,7 @@
 use std::test::Fail;
 use system_calls::{
     contradictions_are_refused, kinds_are_asked_for, next_try, pauses_add_up,
-    what_is_found_is_only_opened, what_is_made_is_new,
+    what_is_found_is_only_opened, what_is_found_is_used_so, what_is_made_is_new,
 };
 
 const EAGAIN: u32 = 11;
@@ -51,5 +51,6 @@ fn laws_are_at_hand() {
     kinds_are_asked_for();
     pauses_add_up();
     what_is_found_is_only_opened();
+    what_is_found_is_used_so();
     what_is_made_is_new();
 }

@@ -1,11 +1,15 @@
 -- What the flags are by which a call opens what it found, and makes what is missing.
-use Rattle.std.proofs.Common.{◌≡◌, ℕ, ◌+◌, Bool, true, false, not, ◌&&◌, ◌||◌, if◌then◌else◌, bit_and, bit_or, refl, sym, subst, ap, ◌∙◌}
+use Rattle.std.proofs.Common.{◌≡◌, ◌==◌, ℕ, ◌+◌, Bool, true, false, not, ◌&&◌, ◌||◌, if◌then◌else◌, bit_and, bit_or, refl, sym, subst, ap, ◌∙◌}
 use Rattle.std.specs.Int.Bits.{and_zero_r}
 use Rattle.std.proofs.lemmas.Bool.{eq-eqb, false≢true}
 use Rattle.std.proofs.lemmas.Nat.{and_assoc, and_or_apart, and_or_self}
 use Rattle.system_calls.specs.declared.opening.MachineFlags.{MachineFlags}
+use Rattle.system_calls.specs.declared.opening.Opening.{Opening}
+use Rattle.system_calls.specs.declared.uses.TheConstants.{USE_GIVES, USE_MAKES, USE_REOPENS}
+use Rattle.system_calls.specs.declared.uses.Use.{Use}
+use Rattle.system_calls.specs.Uses.{does, fails, use_by, use_of, DIRECTORY}
 use Rattle.system_calls.specs.OpenFlags.{has, o_tmpfile, IsOfMachine, on_x86_64, on_x86_64_large, on_arm64, on_arm64_large, O_CREAT, O_EXCL, O_PATH}
-use Rattle.system_calls.specs.Opening.{contradict, done, found_flags, opening_of, opens, refused, use_flags, ALWAYS, EISDIR, ENOTDIR}
+use Rattle.system_calls.specs.Opening.{contradict, done, found_flags, is_nameless, opening_of, opens, refused, use_flags, ALWAYS, EISDIR, ENOTDIR}
 
 -- ---- what contradicts
 
@@ -68,22 +72,81 @@ pub made-new : (machine : MachineFlags) (flags mode : ℕ) → (opening_of machi
     → has (opening_of machine flags mode).made_flags (bit_or (O_CREAT + O_EXCL + ALWAYS) machine.nofollow) ≡ true
 made-new machine flags mode h = made_in machine flags (opens machine flags mode) h
 
--- ---- kinds
+-- ---- what is done with what was found
 
-by_kind : (creates directory path : Bool) → (creates || directory) ≡ false
-    → ((if creates then EISDIR else 0) ≡ 0) × ((if path && directory then ENOTDIR else 0) ≡ 0)
-by_kind true directory path h = elim (false≢true (sym h)) [ ]
-by_kind false true path h = elim (false≢true (sym h)) [ ]
-by_kind false false true h = (refl, refl)
-by_kind false false false h = (refl, refl)
+abbrev pub same_uses : Opening → Type 0
+same_uses opening = (kind other : ℕ) → use_of opening kind ≡ use_of opening other
+
+abbrev by_kind : MachineFlags → ℕ → ℕ → ℕ → Bool → Use
+by_kind machine flags dir none is_dir =
+    let error = if is_dir then dir else none in
+    if not (error == 0) then fails error
+    else (if has flags O_PATH then does USE_GIVES 0
+    else (if is_nameless machine flags then does USE_MAKES (found_flags machine flags)
+    else does USE_REOPENS (found_flags machine flags)))
+
+same_by : (machine : MachineFlags) (flags : ℕ) (creates directory path : Bool) → (creates || directory) ≡ false
+    → (a b : Bool) → by_kind machine flags (if creates then EISDIR else 0) (if path && directory then ENOTDIR else 0) a
+    ≡ by_kind machine flags (if creates then EISDIR else 0) (if path && directory then ENOTDIR else 0) b
+same_by machine flags true directory path h a b = elim (false≢true (sym h)) [ ]
+same_by machine flags false true path h a b = elim (false≢true (sym h)) [ ]
+same_by machine flags false false true h true true = refl
+same_by machine flags false false true h true false = refl
+same_by machine flags false false true h false true = refl
+same_by machine flags false false true h false false = refl
+same_by machine flags false false false h true true = refl
+same_by machine flags false false false h true false = refl
+same_by machine flags false false false h false true = refl
+same_by machine flags false false false h false false = refl
 
 kind_in : (machine : MachineFlags) (flags : ℕ) (taken : Bool)
     → (if taken then done machine flags else refused).asks_kind ≡ false
-    → ((if taken then done machine flags else refused).directory_error ≡ 0)
-    × ((if taken then done machine flags else refused).other_error ≡ 0)
-kind_in machine flags true h = by_kind (has flags O_CREAT) (has flags machine.directory) (has flags O_PATH) h
-kind_in machine flags false h = (refl, refl)
+    → same_uses (if taken then done machine flags else refused)
+kind_in machine flags true h = λ kind other.
+    same_by machine flags (has flags O_CREAT) (has flags machine.directory) (has flags O_PATH) h
+    (kind == DIRECTORY) (other == DIRECTORY)
+kind_in machine flags false h = λ kind other. none (kind == DIRECTORY) (other == DIRECTORY)
+  where
+    none : (a b : Bool) → (if not ((if a then 0 else 0) == 0) then fails (if a then 0 else 0) else does USE_REOPENS 0)
+        ≡ (if not ((if b then 0 else 0) == 0) then fails (if b then 0 else 0) else does USE_REOPENS 0)
+    none true true = refl
+    none true false = refl
+    none false true = refl
+    none false false = refl
 
 pub kind-asked : (machine : MachineFlags) (flags mode : ℕ) → (opening_of machine flags mode).asks_kind ≡ false
-    → ((opening_of machine flags mode).directory_error ≡ 0) × ((opening_of machine flags mode).other_error ≡ 0)
+    → same_uses (opening_of machine flags mode)
 kind-asked machine flags mode h = kind_in machine flags (opens machine flags mode) h
+
+used_so : (machine : MachineFlags) (flags : ℕ) (creates directory path is_dir : Bool)
+    → (if not ((if is_dir then (if creates then EISDIR else 0) else (if path && directory then ENOTDIR else 0)) == 0)
+    then fails (if is_dir then (if creates then EISDIR else 0) else (if path && directory then ENOTDIR else 0))
+    else (if path then does USE_GIVES 0
+    else (if is_nameless machine flags then does USE_MAKES (found_flags machine flags)
+    else does USE_REOPENS (found_flags machine flags))))
+    ≡ (if creates && is_dir then fails EISDIR
+    else (if path then (if directory && not is_dir then fails ENOTDIR else does USE_GIVES 0)
+    else (if is_nameless machine flags then does USE_MAKES (found_flags machine flags)
+    else does USE_REOPENS (found_flags machine flags))))
+used_so machine flags true true true true = refl
+used_so machine flags true true true false = refl
+used_so machine flags true true false true = refl
+used_so machine flags true true false false = refl
+used_so machine flags true false true true = refl
+used_so machine flags true false true false = refl
+used_so machine flags true false false true = refl
+used_so machine flags true false false false = refl
+used_so machine flags false true true true = refl
+used_so machine flags false true true false = refl
+used_so machine flags false true false true = refl
+used_so machine flags false true false false = refl
+used_so machine flags false false true true = refl
+used_so machine flags false false true false = refl
+used_so machine flags false false false true = refl
+used_so machine flags false false false false = refl
+
+pub found-used : (machine : MachineFlags) (flags mode kind : ℕ) → opens machine flags mode ≡ true
+    → use_of (opening_of machine flags mode) kind ≡ use_by machine flags kind
+found-used machine flags mode kind taken =
+    ap (λ t. use_of (if t then done machine flags else refused) kind) taken
+    ∙ used_so machine flags (has flags O_CREAT) (has flags machine.directory) (has flags O_PATH) (kind == DIRECTORY)

@@ -2,3 +2,4 @@ pub mod Objects
 pub mod OpenFlags
 pub mod Opening
 pub mod Tries
+pub mod Uses

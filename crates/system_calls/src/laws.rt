@@ -2,8 +2,9 @@
 ghost use Rattle.std.specs.Prelude.{◌≡◌, ℕ, ◌+◌, bit_and, bit_or, true, false};
 ghost use Rattle.system_calls.specs.declared.opening.MachineFlags.{MachineFlags};
 ghost use Rattle.system_calls.specs.OpenFlags.{has, IsOfMachine, O_CREAT, O_EXCL};
-ghost use Rattle.system_calls.specs.Opening.{contradict, opening_of, refused, ALWAYS};
+ghost use Rattle.system_calls.specs.Opening.{contradict, opening_of, opens, refused, ALWAYS};
 ghost use Rattle.system_calls.specs.Tries.{PausesAddUp};
+ghost use Rattle.system_calls.specs.Uses.{use_by, use_of};
 
 /// Flags that contradict each other are refused, whatever else is asked.
 pub fn contradictions_are_refused()
@@ -26,10 +27,17 @@ pub fn what_is_made_is_new()
         → has (opening_of machine flags mode).made_flags (bit_or (O_CREAT + O_EXCL + ALWAYS) machine.nofollow) ≡ true }
 {}
 
-/// What was found is refused for its kind only where the kind is asked for.
+/// The kind of what was found decides something only where it is asked for.
 pub fn kinds_are_asked_for()
     ensures { (machine : MachineFlags) (flags mode : ℕ) → (opening_of machine flags mode).asks_kind ≡ false
-        → ((opening_of machine flags mode).directory_error ≡ 0) × ((opening_of machine flags mode).other_error ≡ 0) }
+        → (kind other : ℕ)
+        → use_of (opening_of machine flags mode) kind ≡ use_of (opening_of machine flags mode) other }
+{}
+
+/// What is done with what was found is what open(2) means by the flags, where these are taken.
+pub fn what_is_found_is_used_so()
+    ensures { (machine : MachineFlags) (flags mode kind : ℕ) → opens machine flags mode ≡ true
+        → use_of (opening_of machine flags mode) kind ≡ use_by machine flags kind }
 {}
 
 /// All pauses of a call together, where each try but the last one is followed by another: 18,270,000 nanoseconds.
