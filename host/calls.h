@@ -1,8 +1,8 @@
 /*
  * calls.h: the proved library's functions, and what passes between it and a driver. The numbers and bytes are those
  * of crates/c_protocol, step_calls, place_protocol, open_or_make, make_through_links, remove_by_calls, look_ups,
- * list_directory, call_course, ask_place, give_entry, open_partial, open_at_once, enter_directory, kernel_text and system_calls,
- * whose contracts say what they stand for. A program that makes calls includes inroot.h, and not this.
+ * list_directory, call_course, ask_place, give_entry, open_partial, open_at_once, open_through_links, enter_directory, kernel_text and
+ * system_calls, whose contracts say what they stand for. A program that makes calls includes inroot.h, and not this.
  */
 #ifndef INROOT_CALLS_H
 #define INROOT_CALLS_H
@@ -731,6 +731,63 @@ struct inroot_way_course {
 
 void inroot_way_begin(const struct inroot_way_facts *facts, struct inroot_way_course *way);
 void inroot_way_next(const struct inroot_way_facts *facts, const struct inroot_way_answer *answer, struct inroot_way_course *way);
+
+/* ---- which call comes next, as a path is opened through links that are known. These take no memory. */
+
+/*
+ * A call BEGINS so on this path (inroot_begins_through). What comes next on it: AHEAD. The names before a link are looked up in the
+ * directory that is held, through no link, and what they lead to is held: ENTER. The link is READ by its name there: readlinkat(2). Its
+ * mount's flags, by which it FOLLOWS links or not: fstatfs(2) of that directory. The call GOES on with the text (inroot_goes_through); if
+ * that begins with a slash, the root is held: TO_ROOT. `..` of what is held IS_ROOT, by statx(2) of both: then the root is held, TO_TOP,
+ * whose place is a slash alone. Else the directory ABOVE: openat2(2) of the names passed less the last one, from the root with
+ * RESOLVE_BENEATH; it is held if `..` is the same (statx(2)). Or the PARENT: openat(2) of `..`. Its place: PLACE_ABOVE. The call RISES
+ * (inroot_rises_through).
+ *
+ * The object: names are looked up FROM_TOP, in the root, which is held; the whole path FROM_ROOT: both openat2(2) with RESOLVE_BENEATH.
+ * statx(2) of that and of the last name in what is held: COMPARE. The names ahead are looked up FROM_HERE, in what is held: openat2(2).
+ * Its KIND, and KIND_HERE of the last: fstat(2). The whole path, as FROM_ROOT, which must be the object and takes its place: WITNESS. The
+ * object's PLACE. The call ENDS with it (inroot_ends_through). SHUT: it is closed, if it is open, and so is what is held. LET_GO: what is
+ * held is closed. Then it OPENS what the call gives; or the STEPS decide.
+ */
+enum inroot_through_turn {
+    INROOT_THROUGH_BEGINS = 1, INROOT_THROUGH_AHEAD, INROOT_THROUGH_ENTER, INROOT_THROUGH_READ, INROOT_THROUGH_FOLLOWS,
+    INROOT_THROUGH_GOES, INROOT_THROUGH_TO_ROOT, INROOT_THROUGH_IS_ROOT, INROOT_THROUGH_TO_TOP, INROOT_THROUGH_ABOVE,
+    INROOT_THROUGH_PARENT, INROOT_THROUGH_PLACE_ABOVE, INROOT_THROUGH_RISES, INROOT_THROUGH_FROM_TOP, INROOT_THROUGH_FROM_ROOT,
+    INROOT_THROUGH_COMPARE, INROOT_THROUGH_FROM_HERE, INROOT_THROUGH_KIND, INROOT_THROUGH_KIND_HERE, INROOT_THROUGH_WITNESS,
+    INROOT_THROUGH_PLACE, INROOT_THROUGH_ENDS, INROOT_THROUGH_SHUT, INROOT_THROUGH_LET_GO, INROOT_THROUGH_OPENS,
+    INROOT_THROUGH_STEPS,
+};
+
+/* Names alone to the path's end; a name that was a link last, behind names or none; `..`; or what is left to the steps. */
+enum inroot_comes { INROOT_COMES_END, INROOT_COMES_LINK, INROOT_COMES_UP, INROOT_COMES_LEFT };
+
+/* The root is the thread's own root directory; only a directory is wanted; somebody asks of which kind the object is. */
+struct inroot_through_facts {
+    bool jailed, directory, asks_kind;
+};
+
+/*
+ * The NUMBER of bytes that were READ, or a mount's flags. AHEAD: how many names were PASSED, how many are AHEAD, before a link or to
+ * the end; and what comes. The error is 0 where a call worked, or the answer is yes. Of which kind the object is. At GOES: the text
+ * begins with a slash.
+ */
+struct inroot_through_answer {
+    uint64_t number;
+    size_t passed, ahead;
+    uint32_t error;
+    uint8_t comes, kind;
+    bool absolute;
+};
+
+/* A driver reads how many links were followed, and what comes NEXT. It leaves both alone. */
+struct inroot_passage {
+    uint32_t links;
+    uint8_t next;
+};
+
+void inroot_through_begin(struct inroot_passage *passage);
+void inroot_through_next(const struct inroot_through_facts *facts, const struct inroot_through_answer *answer,
+                         struct inroot_passage *passage);
 
 /* ---- which call comes next, as a walk goes into a directory. These take no memory. */
 

@@ -178,9 +178,6 @@ struct inroot_driver {
     char rest[INROOT_TEXT_MAX];
 };
 
-/* Of Linux 5.10; the C library's headers don't have it. */
-enum { INROOT_NOSYMFOLLOW = 0x2000 };
-
 #pragma GCC visibility push(hidden)
 
 /* handles.c */
@@ -262,8 +259,8 @@ uint32_t inroot_followed_read(struct inroot_driver *d, uint64_t handle, int dir,
 /* Asks that link's file system and mount, as fstatfs(2) does. Gives 0 or an error's number. */
 struct statfs;
 int inroot_followed_ask(struct inroot_driver *d, struct statfs *about);
-/* Whether no link in that directory is followed by its mount, or nobody can say. */
-bool inroot_followed_may_be_kept(int dir);
+/* Asks the flags of a directory's mount (statfs(2)). Gives 0 or an error's number. */
+uint32_t inroot_followed_mount(int dir, uint64_t *flags);
 /* Reads a name in a directory as a link: how long its text is, or -1. */
 ssize_t inroot_followed_text(int dir, const char *name, size_t length, char *text);
 /* Opens a directory by one name in another, or gives -1. */

@@ -94,8 +94,10 @@ int inroot_followed_ask(struct inroot_driver *d, struct statfs *about)
     return lost ? lost : ask_in(dir, about);
 }
 
-bool inroot_followed_may_be_kept(int dir)
+uint32_t inroot_followed_mount(int dir, uint64_t *flags)
 {
-    struct statfs about;
-    return ask_in(dir, &about) != 0 || about.f_flags & INROOT_NOSYMFOLLOW;
+    struct statfs about = {0};
+    int failed = ask_in(dir, &about);
+    *flags = (uint64_t)about.f_flags;
+    return (uint32_t)failed;
 }

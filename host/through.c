@@ -1,8 +1,9 @@
 /*
  * through.c: a path with links, on which the driver takes no turn. Each link is read by its name in the directory that is held, and
  * its text is put in its place; what the last one leads to is looked up from the root. After each link, after each `..`, and at the
- * end the proved library says whether a call with these answers to its steps would go on so, and reply so. Where it says no, or
- * a system call fails, the steps decide. docs/HOST-WHY.md has the argument.
+ * end the proved library says whether a call with these answers to its steps would go on so, and reply so. Which call comes next it
+ * says, too (crates/open_through_links). Where it says no, or a system call fails, the steps decide. docs/HOST-WHY.md has the
+ * argument.
  */
 #define _GNU_SOURCE
 #include "driver.h"
@@ -12,17 +13,21 @@
 #include <string.h>
 #include <unistd.h>
 
-/* How far the call has come. */
+/* A call, how far it has come, and what is open. */
 struct walk {
     struct inroot_driver *d;
     const struct inroot_asked *numbers;
+    struct inroot_passage course;
     int root, dir;                 /* the root; the directory that is held, or the root */
-    size_t links;                  /* so many were followed */
+    enum inroot_way way;           /* how `..` led to it */
+    struct inroot_slot slot;       /* the object, or none yet */
     size_t link;                   /* the next one begins there */
+    bool is_known;                 /* `link` is, as the call begins */
     size_t at;                     /* so many bytes of the path are the names passed */
     size_t length;
     char *path, *then;             /* the path from the root, a slash before each part, and a NUL; a room for what it is next */
-    char *text;                    /* a room for what is read */
+    char *text;                    /* a room for what is read: a link's text, behind the first byte; a place */
+    size_t told;                   /* so long that is */
 };
 
 /* ---- the directory that is held */
@@ -34,24 +39,25 @@ static void hold(struct walk *w, int dir)
     w->dir = dir;
 }
 
-/* Goes down to the directory that has what begins here, by the names before that. Whether it could. */
-static bool enter(struct walk *w, size_t start)
+/* Holds what was opened. Gives whether nothing was. */
+static uint32_t held(struct walk *w, int fd)
 {
-    if (start == w->at)
-        return true;
-    const char *names = w->path + w->at + 1;
-    const size_t length = start - w->at - 1;
-    int fd;
-    if (memchr(names, '/', length) == NULL) {
-        fd = inroot_followed_enter(w->dir, names, length);
-    } else {
-        w->path[start] = 0;
-        fd = inroot_look_up(w->d, w->dir, names, O_DIRECTORY, 0);
-        w->path[start] = '/';
-    }
     if (fd >= 0)
         hold(w, fd);
-    return fd >= 0;
+    return fd < 0;
+}
+
+/* Goes down to the directory that has the link. */
+static uint32_t enter(struct walk *w)
+{
+    const char *names = w->path + w->at + 1;
+    const size_t length = w->link - w->at - 1;
+    if (memchr(names, '/', length) == NULL)
+        return held(w, inroot_followed_enter(w->dir, names, length));
+    w->path[w->link] = 0;
+    int fd = inroot_look_up(w->d, w->dir, names, O_DIRECTORY, 0);
+    w->path[w->link] = '/';
+    return held(w, fd);
 }
 
 /* ---- the path */
@@ -82,13 +88,12 @@ static void go_on(struct walk *w, size_t at, size_t length)
     w->length = length;
 }
 
-/* ---- a link */
-
-static size_t names_passed(const struct walk *w)
+/* How many names begin between these places. */
+static size_t names_in(const struct walk *w, size_t from, size_t to)
 {
     size_t names = 0;
-    for (size_t at = 0; at < w->at; at++)
-        names += w->path[at] == '/';
+    for (; from < to; from++)
+        names += w->path[from] == '/';
     return names;
 }
 
@@ -101,52 +106,8 @@ static bool is_for_steps(const struct walk *w)
         up++;
     const size_t left = strlen(rest);
     const bool goes_up = strstr(rest, "/../") != NULL || (left >= 3 && strcmp(rest + left - 3, "/..") == 0);
-    return left == 0 || goes_up || (up > 0 && up > names_passed(w));
+    return left == 0 || goes_up || (up > 0 && up > names_in(w, 0, w->at));
 }
-
-/* Reads the link as one in the directory that is held. Gives how long its text is, behind the first byte of the room; or zero. */
-static size_t read_link(struct walk *w, size_t end)
-{
-    ssize_t got = inroot_followed_text(w->dir, w->path + w->link + 1, end - w->link - 1, w->text + 1);
-    if (got < 0)
-        inroot_hints_leave(w->d, w->path, end, false);
-    return got <= 0 || inroot_followed_may_be_kept(w->dir) ? 0 : (size_t)got;
-}
-
-/* Puts the text of the link in its place. Whether the call goes on so. */
-static bool follow_text(struct walk *w, size_t end, size_t length)
-{
-    size_t whole;
-    const bool absolute = w->text[1] == '/';
-    const size_t at = absolute ? 0 : w->link;
-    /* A slash comes before a text that has none. */
-    w->text[0] = '/';
-    if (!put(w, at, w->text + absolute, length + !absolute, end, &whole) ||
-        !inroot_goes_through(w->numbers, w->links, bytes(w->path), w->length, w->at, w->link, end, bytes(w->text + 1), length,
-                             bytes(w->then), whole))
-        return false;
-    if (absolute)
-        hold(w, w->root);
-    w->links++;
-    go_on(w, at, whole);
-    return !is_for_steps(w);
-}
-
-/* Follows the link that comes next. Whether the call goes on so. One that the steps follow is left to them from now on. */
-static bool follow(struct walk *w)
-{
-    const size_t end = w->link + 1 + strcspn(w->path + w->link + 1, "/");
-    size_t length = enter(w, w->link) ? read_link(w, end) : 0;
-    if (length == 0)
-        return false;
-    const size_t links = w->links;
-    if (follow_text(w, end, length))
-        return true;
-    inroot_hints_leave(w->d, w->links == links ? w->path : w->then, end, true);
-    return false;
-}
-
-/* ---- `..` */
 
 static bool comes_up(const struct walk *w)
 {
@@ -154,40 +115,101 @@ static bool comes_up(const struct walk *w)
     return strncmp(part, "/..", 3) == 0 && (part[3] == 0 || part[3] == '/');
 }
 
-/* Opens the directory above, at so many bytes of the path. */
-static bool open_above(struct walk *w, size_t length, struct inroot_slot *slot)
+/* Says what comes next: a link that is hinted at, `..`, or names alone. */
+static uint32_t look_ahead(struct walk *w, struct inroot_through_answer *answer)
 {
-    slot->fd = inroot_above_look(w->d, w->root, w->dir, w->path, length);
-    slot->way = INROOT_SEEN_BELOW;
-    if (slot->fd < 0 && w->root == INROOT_JAILED) {
-        slot->fd = inroot_parent_of(w->d, w->dir);
-        slot->way = INROOT_BY_PARENT;
-    }
-    return slot->fd >= 0;
+    bool by_steps = false;
+    if (!w->is_known)
+        w->link = inroot_hints_in(w->d, w->path, w->at, w->length, &by_steps);
+    w->is_known = false;
+    const bool is_link = w->link != INROOT_NO_HINT;
+    answer->passed = names_in(w, 0, w->at);
+    answer->ahead = names_in(w, w->at, is_link ? w->link : w->length);
+    answer->comes = by_steps ? INROOT_COMES_LEFT : comes_up(w) ? INROOT_COMES_UP : is_link ? INROOT_COMES_LINK : INROOT_COMES_END;
+    return 0;
 }
 
-/* Goes up. Whether the call goes on so. */
-static bool rise(struct walk *w)
+/* ---- a link */
+
+static size_t end_of(const struct walk *w)
 {
-    size_t whole, upper = w->at, told = 1;
-    struct inroot_slot slot = {.kind = INROOT_KIND_DIR};
+    return w->link + 1 + strcspn(w->path + w->link + 1, "/");
+}
+
+static uint32_t read_link(struct walk *w, struct inroot_through_answer *answer)
+{
+    const size_t end = end_of(w);
+    ssize_t got = inroot_followed_text(w->dir, w->path + w->link + 1, end - w->link - 1, w->text + 1);
+    if (got < 0)
+        inroot_hints_leave(w->d, w->path, end, false);
+    w->told = answer->number = got < 0 ? 0 : (uint64_t)got;
+    return got < 0;
+}
+
+/* Puts the text of the link in its place. Whether the call goes on so. A link that the steps follow is left to them from now on. */
+static bool goes(struct walk *w, bool absolute)
+{
+    size_t whole;
+    char *before = w->path;
+    const size_t end = end_of(w), at = absolute ? 0 : w->link;
+    /* A slash comes before a text that has none. */
+    w->text[0] = '/';
+    const bool goes_on = put(w, at, w->text + absolute, w->told + !absolute, end, &whole) &&
+                         inroot_goes_through(w->numbers, w->course.links, bytes(w->path), w->length, w->at, w->link, end,
+                                             bytes(w->text + 1), w->told, bytes(w->then), whole);
+    if (goes_on)
+        go_on(w, at, whole);
+    if (goes_on && !is_for_steps(w))
+        return true;
+    inroot_hints_leave(w->d, before, end, true);
+    return false;
+}
+
+/* ---- `..` */
+
+/* How long the names passed are without the last one. */
+static size_t upper_of(const struct walk *w)
+{
+    size_t upper = w->at;
     while (w->path[--upper] != '/')
         ;
+    return upper;
+}
+
+static uint32_t open_above(struct walk *w, int fd, enum inroot_way way)
+{
+    w->way = way;
+    return held(w, fd);
+}
+
+static bool find_place(struct walk *w, struct inroot_slot *slot)
+{
+    return inroot_find_place(w->d, w->root, slot, w->text, &w->told).what == INROOT_ANSWER_NAMES;
+}
+
+static bool find_above(struct walk *w)
+{
+    struct inroot_slot slot = {.fd = w->dir, .kind = INROOT_KIND_DIR, .way = (uint8_t)w->way};
+    const bool found = find_place(w, &slot);
+    w->dir = slot.fd;
+    return found;
+}
+
+/* The root's own place needs no question. */
+static uint32_t hold_top(struct walk *w)
+{
+    hold(w, w->root);
     w->text[0] = '/';
-    if (upper == 0 && inroot_above_is_root(w->root, w->dir)) {
-        /* The root's own place needs no question. */
-        hold(w, w->root);
-    } else {
-        if (!open_above(w, upper, &slot))
-            return false;
-        hold(w, slot.fd);
-        struct inroot_result place = inroot_find_place(w->d, w->root, &slot, w->text, &told);
-        w->dir = slot.fd;
-        if (place.what != INROOT_ANSWER_NAMES)
-            return false;
-    }
+    w->told = 1;
+    return 0;
+}
+
+static bool rises(struct walk *w)
+{
+    size_t whole;
+    const size_t upper = upper_of(w);
     if (!put(w, upper, "", 0, w->at + 3, &whole) ||
-        !inroot_rises_through(bytes(w->path), w->length, w->at, bytes(w->text), told, bytes(w->then), whole))
+        !inroot_rises_through(bytes(w->path), w->length, w->at, bytes(w->text), w->told, bytes(w->then), whole))
         return false;
     go_on(w, upper, whole);
     return true;
@@ -195,99 +217,103 @@ static bool rise(struct walk *w)
 
 /* ---- the end */
 
-/* Opens what one name in the directory that is held leads to, from the root, and sees that it is that one. */
-static bool look_from_root(struct walk *w, struct inroot_slot *slot, uint64_t flags)
+static uint32_t open_object(struct walk *w, int dir, const char *names, uint64_t resolve)
+{
+    const bool directory = w->d->asked->directory;
+    w->slot.kind = directory ? INROOT_KIND_DIR : INROOT_KIND_FILE;
+    w->slot.way = resolve & RESOLVE_BENEATH ? INROOT_SEEN_BELOW : INROOT_BY_NAME;
+    w->slot.fd = inroot_look_up(w->d, dir, names, directory ? O_DIRECTORY : 0, resolve);
+    return w->slot.fd < 0;
+}
+
+static bool compare(struct walk *w)
 {
     enum inroot_kind kind;
-    /* The root itself may be held. */
-    slot->fd = inroot_look_up(w->d, w->at == 0 ? w->dir : w->root, w->path + 1, flags, RESOLVE_BENEATH);
-    if (slot->fd < 0 || w->at == 0)
-        return slot->fd >= 0;
-    if (!inroot_is_entry(w->dir, w->path + w->at + 1, slot->fd, &kind))
-        return false;
-    slot->kind = (uint8_t)kind;
-    return true;
+    const bool same = inroot_is_entry(w->dir, w->path + w->at + 1, w->slot.fd, &kind);
+    if (same)
+        w->slot.kind = (uint8_t)kind;
+    return same;
 }
 
-/*
- * Opens what the names lead to in the directory that is held, and looks it up from the root. In a jail getcwd(2) alone tells
- * a directory's place.
- */
-static bool look_from_here(struct walk *w, struct inroot_slot *slot, uint64_t flags)
-{
-    enum inroot_kind kind = (enum inroot_kind)slot->kind;
-    const bool jailed = w->root == INROOT_JAILED;
-    slot->way = INROOT_BY_NAME;
-    slot->fd = inroot_look_up(w->d, w->dir, w->path + w->at + 1, flags, 0);
-    if (slot->fd < 0 || (jailed && !w->d->asked->directory && !inroot_kind(slot->fd, &kind)))
-        return false;
-    slot->kind = (uint8_t)kind;
-    return (jailed && kind == INROOT_KIND_DIR) || inroot_look_first(w->d, w->root, slot, w->path);
-}
-
-/* Finds of what kind it is, where somebody asks. */
-static bool find_kind(const struct walk *w, struct inroot_slot *slot)
+static uint32_t find_kind(struct walk *w, struct inroot_through_answer *answer)
 {
     enum inroot_kind kind;
-    const struct inroot_request *asked = w->d->asked;
-    /* What was compared with a name is known. */
-    if (w->at > 0 || asked->directory || (w->root != INROOT_JAILED && asked->opened == NULL))
-        return true;
-    if (!inroot_kind(slot->fd, &kind))
-        return false;
-    slot->kind = (uint8_t)kind;
-    return true;
+    if (!inroot_kind(w->slot.fd, &kind))
+        return 1;
+    answer->kind = w->slot.kind = (uint8_t)kind;
+    return 0;
 }
 
-/* The object that the path leads to: whether the call replies that it opened that one. */
-static bool finish(struct walk *w, struct inroot_slot *slot)
+static uint32_t shut(struct walk *w)
 {
-    size_t told;
-    const struct inroot_request *asked = w->d->asked;
-    const uint64_t flags = asked->directory ? O_DIRECTORY : 0;
-    const bool is_single = strchr(w->path + w->at + 1, '/') == NULL;
-    slot->kind = asked->directory ? INROOT_KIND_DIR : INROOT_KIND_FILE;
-    slot->way = INROOT_SEEN_BELOW;
-    if (!(w->at == 0 || is_single ? look_from_root(w, slot, flags) : look_from_here(w, slot, flags)) || !find_kind(w, slot))
-        return false;
-    if (inroot_find_place(w->d, w->root, slot, w->text, &told).what != INROOT_ANSWER_NAMES ||
-        !inroot_ends_through(bytes(w->path), w->length, w->at, slot->kind, bytes(w->text), told))
-        return false;
-    if (asked->opened != NULL)
-        *asked->opened = (enum inroot_kind)slot->kind;
-    return true;
+    hold(w, w->root);
+    if (w->slot.fd >= 0)
+        close(w->slot.fd);
+    w->slot.fd = INROOT_NONE;
+    w->d->unmade = 0;
+    return 0;
 }
 
 /* ---- */
 
-/* Follows links as long as one is hinted at. */
-static bool come_to_end(struct walk *w)
+static bool begins(const struct walk *w)
 {
-    bool by_steps = false;
-    while (w->link != INROOT_NO_HINT || comes_up(w)) {
-        if (by_steps || !(comes_up(w) ? rise(w) : follow(w)))
-            return false;
-        w->link = inroot_hints_in(w->d, w->path, w->at, w->length, &by_steps);
+    const struct inroot_driver *d = w->d;
+    return !is_for_steps(w) &&
+           inroot_begins_through(w->numbers, bytes(d->asked->first), d->first_length, bytes(w->path), w->length);
+}
+
+/* Makes the call that comes next, or answers the question. Gives 0 where it worked, or the answer is yes. */
+static uint32_t turn(struct walk *w, struct inroot_through_answer *answer)
+{
+    switch (w->course.next) {
+    case INROOT_THROUGH_BEGINS: return !begins(w);
+    case INROOT_THROUGH_AHEAD: return look_ahead(w, answer);
+    case INROOT_THROUGH_ENTER: return enter(w);
+    case INROOT_THROUGH_READ: return read_link(w, answer);
+    case INROOT_THROUGH_FOLLOWS: return inroot_followed_mount(w->dir, &answer->number);
+    case INROOT_THROUGH_GOES: return !goes(w, answer->absolute = w->text[1] == '/');
+    case INROOT_THROUGH_TO_ROOT: hold(w, w->root); return 0;
+    case INROOT_THROUGH_IS_ROOT: return !inroot_above_is_root(w->root, w->dir);
+    case INROOT_THROUGH_TO_TOP: return hold_top(w);
+    case INROOT_THROUGH_ABOVE:
+        return open_above(w, inroot_above_look(w->d, w->root, w->dir, w->path, upper_of(w)), INROOT_SEEN_BELOW);
+    case INROOT_THROUGH_PARENT: return open_above(w, inroot_parent_of(w->d, w->dir), INROOT_BY_PARENT);
+    case INROOT_THROUGH_PLACE_ABOVE: return !find_above(w);
+    case INROOT_THROUGH_RISES: return !rises(w);
+    case INROOT_THROUGH_FROM_TOP: return open_object(w, w->dir, w->path + 1, RESOLVE_BENEATH);
+    case INROOT_THROUGH_FROM_ROOT: return open_object(w, w->root, w->path + 1, RESOLVE_BENEATH);
+    case INROOT_THROUGH_COMPARE: return !compare(w);
+    case INROOT_THROUGH_FROM_HERE: return open_object(w, w->dir, w->path + w->at + 1, 0);
+    case INROOT_THROUGH_KIND: case INROOT_THROUGH_KIND_HERE: return find_kind(w, answer);
+    case INROOT_THROUGH_WITNESS: return !inroot_look_first(w->d, w->root, &w->slot, w->path);
+    case INROOT_THROUGH_PLACE: return !find_place(w, &w->slot);
+    case INROOT_THROUGH_ENDS:
+        return !inroot_ends_through(bytes(w->path), w->length, w->at, w->slot.kind, bytes(w->text), w->told);
+    case INROOT_THROUGH_SHUT: return shut(w);
+    default: hold(w, w->root); return 0;
     }
-    return true;
 }
 
 int inroot_through(struct inroot_driver *d, int root, const struct inroot_asked *numbers, char *path, size_t length, size_t link,
                    char *text)
 {
     char other[INROOT_TEXT_MAX + 1];
-    struct walk w = {
-        .d = d, .numbers = numbers, .root = root, .dir = root, .link = link, .length = length, .path = path, .then = other, .text = text,
+    const struct inroot_request *asked = d->asked;
+    const struct inroot_through_facts facts = {
+        .jailed = root == INROOT_JAILED, .directory = asked->directory, .asks_kind = asked->opened != NULL,
     };
-    struct inroot_slot slot = {.fd = INROOT_NONE};
-    if (is_for_steps(&w) || !inroot_begins_through(numbers, bytes(d->asked->first), d->first_length, bytes(path), length))
-        return INROOT_NONE;
-    bool is_reply = come_to_end(&w) && finish(&w, &slot);
-    hold(&w, root);
-    if (is_reply)
-        return slot.fd;
-    if (slot.fd >= 0)
-        close(slot.fd);
-    d->unmade = 0;
-    return INROOT_NONE;
+    struct walk w = {
+        .d = d, .numbers = numbers, .root = root, .dir = root, .slot = {.fd = INROOT_NONE}, .link = link, .is_known = true,
+        .length = length, .path = path, .then = other, .text = text,
+    };
+    inroot_through_begin(&w.course);
+    while (w.course.next < INROOT_THROUGH_OPENS) {
+        struct inroot_through_answer answer = {0};
+        answer.error = turn(&w, &answer);
+        inroot_through_next(&facts, &answer, &w.course);
+    }
+    if (w.course.next == INROOT_THROUGH_OPENS && asked->opened != NULL)
+        *asked->opened = (enum inroot_kind)w.slot.kind;
+    return w.slot.fd;
 }

@@ -84,6 +84,16 @@ fn laws_of_paths_at_once() {
 }
 
 #[test]
+fn laws_of_paths_through_links() {
+    open_through_links::where_it_opens_all_said_yes();
+    open_through_links::what_is_given_was_seen();
+    open_through_links::nothing_is_opened_above_before_its_place();
+    open_through_links::links_are_followed_by_leave();
+    open_through_links::each_descriptor_is_closed_or_given();
+    open_through_links::calls_are_few();
+}
+
+#[test]
 fn laws_of_single_steps() {
     step_calls::opens_stood();
     step_calls::parents_stood();

@@ -31,6 +31,8 @@ mod objects;
 #[cfg(test)]
 mod openings;
 #[cfg(test)]
+mod passages;
+#[cfg(test)]
 mod places;
 #[cfg(test)]
 mod protocol;

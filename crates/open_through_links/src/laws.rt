@@ -1,0 +1,54 @@
+//! What holds of every history, as laws over its exchanges: each function's contract is one, and its body is empty.
+ghost use Rattle.std.specs.Prelude.{◌≡◌, ◌≤◌, ◌+◌, ◌*◌, true, false, List, length};
+ghost use Rattle.open_through_links.specs.History.{next_after, Exchange, IsHistory};
+ghost use Rattle.open_through_links.specs.Promises.{all_yes, is_held, is_known, is_open, is_placed, is_said, is_seen, looks_up, may_be_followed, needs_open, rises_in};
+ghost use Rattle.open_through_links.specs.declared.passage.Facts.{Facts};
+ghost use Rattle.open_through_links.specs.declared.passage.TheConstants.{GOES, OPENS, PLACE, SHUT, STEPS};
+
+/// Where the object is given, every call worked and every question was answered by yes, in the order in which
+/// `c_protocol` asks for the answers: the first said that the call begins so, each link and each `..` that it goes on.
+pub fn where_it_opens_all_said_yes()
+    ensures { (f : Facts) (history : List Exchange) → IsHistory f history → (next_after f history).next ≡ OPENS
+        → all_yes history ≡ true }
+{}
+
+/// The object that is given, the kernel has seen below the root, and it was the one at the names in the directory that
+/// was held; or it is a directory in a jail. After that its place was asked for, and after that the library said that
+/// the call replies so.
+pub fn what_is_given_was_seen()
+    ensures asked { (f : Facts) (history : List Exchange) → IsHistory f history → (next_after f history).next ≡ PLACE
+        → is_seen f history ≡ true }
+    ensures given { (f : Facts) (history : List Exchange) → IsHistory f history → (next_after f history).next ≡ OPENS
+        → (is_seen f history ≡ true) × (is_placed history ≡ true) × (is_said history ≡ true) }
+{}
+
+/// Nothing is looked up or read in a directory to which `..` led, before it is known at which names it stands.
+pub fn nothing_is_opened_above_before_its_place()
+    ensures { (f : Facts) (history : List Exchange) → IsHistory f history
+        → looks_up (next_after f history).next ≡ true → is_known history ≡ true }
+{}
+
+/// Whether the call goes on with a link's text is asked only right after the link was read, and its mount said that it
+/// has links followed.
+pub fn links_are_followed_by_leave()
+    ensures { (f : Facts) (history : List Exchange) → IsHistory f history → (next_after f history).next ≡ GOES
+        → may_be_followed history ≡ true }
+{}
+
+/// The object is open where it is asked about, and where it is given. Where the steps decide, it was closed, if it was
+/// opened. In the end no directory is held but the root.
+pub fn each_descriptor_is_closed_or_given()
+    ensures object { (f : Facts) (history : List Exchange) → IsHistory f history
+        → needs_open (next_after f history).next ≡ true → is_open history ≡ true }
+    ensures shut { (f : Facts) (history : List Exchange) → IsHistory f history → (next_after f history).next ≡ STEPS
+        → (is_open history ≡ false) × (is_held history ≡ false) }
+    ensures given { (f : Facts) (history : List Exchange) → IsHistory f history → (next_after f history).next ≡ OPENS
+        → is_held history ≡ false }
+{}
+
+/// At most 40 links are followed. There are 248 exchanges at most, and five for each `..` on the way.
+pub fn calls_are_few()
+    ensures links { (f : Facts) (history : List Exchange) → IsHistory f history → (next_after f history).links ≤ 40 }
+    ensures all { (f : Facts) (history : List Exchange) → IsHistory f history
+        → length history ≤ 5 * rises_in history + 248 }
+{}
