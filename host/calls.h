@@ -500,13 +500,14 @@ enum inroot_making_next {
 /*
  * How far it has come. A driver reads what comes next, after a PAUSE of so many nanoseconds; what of the room it is about, SIZE
  * bytes from START on, an empty part of MAKE_ABOVE or PARTIAL being `.`; and FROM, the directory at which that begins: its
- * descriptor's number and one, or 0 for the root. Two directories stay open, BASE and FROM. If it ends, GIVES is the descriptor
- * that is the reply, in the same way, or 0 where the last call's error is. If it fails, the bytes are what the error is about, with
- * its step (INROOT_STEP_..), or 0. A driver leaves all of it alone between two turns.
+ * descriptor's number and one, or 0 for the root. A driver closes each of CLOSES_BASE, CLOSES_FROM and CLOSES_GIVEN, which are such
+ * numbers, too, but for 0. If it ends, GIVES is the descriptor that is the reply, in the same way, or 0 where the last call's error
+ * is. If it fails, the bytes are what the error is about, with its step (INROOT_STEP_..), or 0. A driver leaves all of it alone
+ * between two turns.
  */
 struct inroot_making {
     size_t length, above, cut, start, size;
-    uint32_t base, from, gives, error, pause, links, between;
+    uint32_t base, from, gives, closes_base, closes_from, closes_given, error, pause, links, between;
     uint8_t next, step;
     bool file, follows, may_retry;
 };

@@ -1,6 +1,6 @@
 /*
  * make_all.c: makes all missing parts of a path, and gives the object at its end. Proved calls say which call comes next, where its
- * path begins, and which directories stay open.
+ * path begins, and what is closed before.
  */
 #define _GNU_SOURCE
 #include "driver.h"
@@ -104,10 +104,9 @@ static struct inroot_outcome call(struct work *w, char *text, size_t *text_lengt
     }
 }
 
-/* Closes a directory that was open, or what the last call gave, unless it is to stay open. */
-static void let_go(const struct inroot_making *now, uint32_t held)
+static void let_go(uint32_t held)
 {
-    if (held != 0 && held != now->base && held != now->from && held != now->gives)
+    if (held != 0)
         close((int)held - 1);
 }
 
@@ -121,14 +120,12 @@ static void turn(struct work *w)
 {
     char text[INROOT_ROOM];
     size_t text_length = 0;
-    const struct inroot_making before = w->making;
-    inroot_wait(before.pause);
+    inroot_wait(w->making.pause);
     const struct inroot_outcome outcome = call(w, text, &text_length);
     inroot_making_next(&w->making, &outcome, (const unsigned char *)text, text_length, (unsigned char *)w->path, INROOT_TEXT_MAX);
-    let_go(&w->making, before.base);
-    if (before.from != before.base)
-        let_go(&w->making, before.from);
-    let_go(&w->making, outcome.descriptor);
+    let_go(w->making.closes_base);
+    let_go(w->making.closes_from);
+    let_go(w->making.closes_given);
     w->error = outcome.error;
     set_part(w);
 }

@@ -235,6 +235,28 @@ static size_t led(const struct inroot_making *was, const unsigned char *path, co
     return length + 1 + was->length - at;
 }
 
+/* How often it is among what is closed. */
+static int times_closed(const struct inroot_making *now, uint32_t held)
+{
+    return (now->closes_base == held) + (now->closes_from == held) + (now->closes_given == held);
+}
+
+static bool is_named(const struct inroot_making *now, uint32_t held)
+{
+    return held == now->base || held == now->from || held == now->gives;
+}
+
+/* What was open, or was given, is closed once or stays open, and nothing else is closed. */
+static void must_close(const struct inroot_making *was, const struct inroot_making *now, uint32_t number)
+{
+    const uint32_t open[] = {was->base, was->from, number};
+    for (int at = 0; at < 3; at++)
+        MUST(open[at] == 0 || times_closed(now, open[at]) == (is_named(now, open[at]) ? 0 : 1));
+    MUST(now->closes_base == 0 || now->closes_base == was->base);
+    MUST(now->closes_from == 0 || now->closes_from == was->from);
+    MUST(now->closes_given == 0 || now->closes_given == number);
+}
+
 /* What is due is within the path, and names just what was open or has just been given. */
 static void must_go_on(const struct inroot_making *was, const struct inroot_making *now, uint32_t number)
 {
@@ -268,6 +290,7 @@ static void makings(size_t asked, const uint8_t *bytes, size_t length)
         memcpy(before, room, PATH);
         inroot_making_next(&now, &outcome, text, text_length, room, PATH);
         must_go_on(&was, &now, outcome.descriptor);
+        must_close(&was, &now, outcome.descriptor);
         if (now.links > was.links)
             MUST(led(&was, before, text, text_length, wanted) == now.length && memcmp(room, wanted, now.length) == 0);
         else

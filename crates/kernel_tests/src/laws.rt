@@ -20,6 +20,7 @@ fn laws_of_missing_parts() {
     make_through_links::each_call_walks_its_part();
     make_through_links::links_are_followed_in_turn();
     make_through_links::no_link_is_followed_without_leave();
+    make_through_links::each_descriptor_is_closed_once();
     make_through_links::what_is_missing_is_made();
     make_through_links::why_it_fails();
     make_through_links::calls_are_few();

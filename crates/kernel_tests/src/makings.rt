@@ -364,3 +364,56 @@ fn makes_one_try_if_told_so(rt: HostRuntime) -> Result<(), Fail> {
     assert!(rt; fails(&end, &room, EAGAIN, 8, b"d"));
     Ok(())
 }
+
+// What is closed: the directory at which the path began, that at which the call began, and what the call gave.
+fn closes(making: &Making, base: u32, from: u32, given: u32) -> bool {
+    making.closes_base == base && making.closes_from == from && making.closes_given == given
+}
+
+#[test]
+fn closes_what_is_named_no_more(rt: HostRuntime) -> Result<(), Fail> {
+    let mut room = [0; ROOM];
+    laid(b"a/l/f", &mut room);
+    let reads = stands(begin(5, true, true, true), 4, &mut room);
+    assert!(rt; closes(&reads, 0, 0, 0));
+    // The link's directory, 8, is where its text begins.
+    let led = after(reads, opened(0), b"x/y", &mut room);
+    assert!(rt; led.base == 8 && closes(&led, 0, 0, 0));
+    assert!(rt; closes(&after(led, opened(5), b"", &mut room), 8, 0, 0));
+    // Behind it, in 9, a file is made; 8 and 9 are closed, and the file is given.
+    let above = after(
+        after(led, failed(ENOENT), b"", &mut room),
+        parted(2),
+        b"",
+        &mut room,
+    );
+    let creates = after(above, opened(9), b"", &mut room);
+    assert!(rt; creates.base == 8 && creates.from == 9 && closes(&creates, 0, 0, 0));
+    let made = after(creates, opened(5), b"", &mut room);
+    assert!(rt; ends(&made, 5) && closes(&made, 8, 9, 0));
+    // Another link stands there: it is read in 9, and 8 isn't needed any more.
+    let further = after(
+        after(creates, failed(EEXIST), b"", &mut room),
+        opened(0),
+        b"z",
+        &mut room,
+    );
+    assert!(rt; further.base == 9 && closes(&further, 8, 0, 0));
+    Ok(())
+}
+
+#[test]
+fn closes_what_was_found_and_is_not_given(rt: HostRuntime) -> Result<(), Fail> {
+    let mut room = [b'a'; ROOM];
+    let found = Outcome {
+        directory: true,
+        ..opened(6)
+    };
+    let end = after(begin(1, true, true, true), found, b"", &mut room);
+    assert!(rt; end.next == FAILS && closes(&end, 0, 0, 6));
+    // The whole path is there by now, and is walked again.
+    let gone = after(begin(1, false, true, true), failed(ENOENT), b"", &mut room);
+    let again = after(gone, partly(7, 1), b"", &mut room);
+    assert!(rt; again.next == MAKE && closes(&again, 0, 0, 7));
+    Ok(())
+}

@@ -1,3 +1,4 @@
+pub mod ClosingLemmas
 pub mod FailureLemmas
 pub mod HistoryLemmas
 pub mod MakingLemmas

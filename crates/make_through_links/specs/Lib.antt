@@ -1,3 +1,4 @@
+pub mod Closing
 pub mod History
 pub mod Making
 pub mod Paths

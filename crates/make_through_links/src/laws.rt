@@ -1,11 +1,12 @@
 //! What holds of every call, as laws over the calls that it made: each function's contract is one, and its body is
 //! empty.
-ghost use Rattle.std.specs.Prelude.{◌≡◌, ◌≢◌, ◌<◌, ◌≤◌, ◌+◌, ◌++◌, ◌⊎◌, List, [], ◌∷◌, false, true, length, take, drop, if◌then◌else◌};
+ghost use Rattle.std.specs.Prelude.{◌≡◌, ℕ, ◌≢◌, ◌<◌, ◌≤◌, ◌+◌, ◌++◌, ◌⊎◌, List, [], ◌∷◌, false, true, length, take, drop, if◌then◌else◌};
 ghost use Rattle.std.specs.List.{AllByRecursion};
 ghost use Rattle.path_text.specs.declared.path.TheConstants.{TEXT_MAX};
 ghost use Rattle.system_calls.specs.Tries.{EAGAIN};
 ghost use Rattle.open_or_make.specs.History.{EEXIST, ELOOP, ENAMETOOLONG, ENOENT, LINKS, STEP_MAKE_FILE, STEP_READ_LINK};
-ghost use Rattle.make_through_links.specs.History.{asks, due_after, ends, fails, makes, met_of, stand_after, whole, Asked, Exchange, IsHistory, EISDIR, NO_STEP, STEP_MAKE_DIR};
+ghost use Rattle.make_through_links.specs.Closing.{is, is_named, one, times_closed};
+ghost use Rattle.make_through_links.specs.History.{asks, due_after, ends, fails, is_call, makes, met_of, stand_after, whole, Asked, Exchange, IsHistory, EISDIR, NO_STEP, STEP_MAKE_DIR};
 ghost use Rattle.make_through_links.specs.Promises.{is_followed, part_for, tried_path, IsGiven, IsLastTry, IsOneTooMany, IsPathOf, IsTooLong, IsWhy, CALLS_MAX};
 ghost use Rattle.make_through_links.specs.declared.meets.TheConstants.{CREATE, ENDS, FAILS, FIND, MAKE, MAKE_ABOVE, PARTIAL, READ_END, READ_LINK, SPLIT};
 ghost use Rattle.make_through_links.specs.declared.meets.Met.TheVariants.{Above, Directory, Gone, Link, LinkAtEnd, Missing, NoText, Parted, Partly, Refused, Stands, Unfollowed};
@@ -115,4 +116,21 @@ pub fn why_it_fails()
 /// A call asks 360 calls at most.
 pub fn calls_are_few()
     ensures { (asked : Asked) (history : List Exchange) → IsHistory asked history → length history ≤ CALLS_MAX }
+{}
+
+/// What comes next names no descriptor but those that were open, and the one that the last call gave. If the kernel
+/// gives none the number of an open one (open(2)), each of these is closed once, or it is named and stays open. So in
+/// the end all are closed but the one that is given.
+pub fn each_descriptor_is_closed_once()
+    ensures named { (asked : Asked) (e : Exchange) (older : List Exchange) → IsHistory asked (e ∷ older) → (held : ℕ)
+        → held ≢ 0 → is_named (due_after asked (e ∷ older)) held ≡ true
+        → (is_named (due_after asked older) held ≡ true) ⊎ (held ≡ e.gave) }
+    ensures once { (asked : Asked) (e : Exchange) (older : List Exchange) → IsHistory asked (e ∷ older)
+        → (e.gave ≢ 0 → is_named (due_after asked older) e.gave ≡ false) → (held : ℕ) → held ≢ 0
+        → times_closed (due_after asked older) e.gave (due_after asked (e ∷ older)) held
+        + one (is_named (due_after asked (e ∷ older)) held)
+        ≡ one (is_named (due_after asked older) held) + is held e.gave }
+    ensures ended { (asked : Asked) (history : List Exchange) (held : ℕ) → held ≢ 0
+        → is_call (due_after asked history).next ≡ false → is_named (due_after asked history) held ≡ true
+        → held ≡ (due_after asked history).gives }
 {}

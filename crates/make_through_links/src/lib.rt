@@ -10,11 +10,14 @@ mod laws;
 mod making;
 mod meets;
 mod paths;
+mod turns;
 
 pub use laws::{
-    calls_are_few, each_call_walks_its_part, files_are_made_in_the_directory_above,
-    links_are_followed_in_turn, no_link_is_followed_without_leave, what_is_given_was_found_or_made,
-    what_is_missing_is_made, what_is_there_is_given, why_it_fails,
+    calls_are_few, each_call_walks_its_part, each_descriptor_is_closed_once,
+    files_are_made_in_the_directory_above, links_are_followed_in_turn,
+    no_link_is_followed_without_leave, what_is_given_was_found_or_made, what_is_missing_is_made,
+    what_is_there_is_given, why_it_fails,
 };
-pub use making::{Making, Outcome, begin, next};
+pub use making::{Making, Outcome, begin};
 pub use meets::{CREATE, ENDS, FAILS, FIND, MAKE, MAKE_ABOVE, PARTIAL, READ_END, READ_LINK, SPLIT};
+pub use turns::next;

@@ -57,6 +57,11 @@ pub struct Making {
     pub from: u32,
     /// If the next is ENDS, the descriptor that is the reply, in the same way; or 0, if the last call's error is.
     pub gives: u32,
+    /// What is closed before the next call, in the same way: what was `base`, what was `from`, and what the last call
+    /// gave; or 0 for each.
+    pub closes_base: u32,
+    pub closes_from: u32,
+    pub closes_given: u32,
     /// If it is FAILS, the number of the error (errno(3)). Else 0.
     pub error: u32,
     /// So many nanoseconds are waited before the next call.
@@ -434,6 +439,9 @@ pub fn begin(path_length: usize, file: bool, follows: bool, may_retry: bool) -> 
         base: 0,
         from: 0,
         gives: 0,
+        closes_base: 0,
+        closes_from: 0,
+        closes_given: 0,
         error: 0,
         pause: 0,
         links: 0,
@@ -446,25 +454,8 @@ pub fn begin(path_length: usize, file: bool, follows: bool, may_retry: bool) -> 
     }
 }
 
-/// Takes what the last call gave, with a link's text, and says what comes next. The room has the path at its
-/// beginning. It stays as it was where no call comes next. Takes no memory.
-///
-/// The directories of the path are made. If their path leads to what is missing, and links may be followed, as much of
-/// the path as is there is opened, and the link is read that stands there. Its text takes the link's place in the path,
-/// which then begins in the directory of the link. This goes on at most 40 times.
-///
-/// If a file is wanted, it is looked for first. If nothing is there, the last name is taken apart, the directories
-/// above are made, and the file is made in the last of them. If an entry is there by then, it is read as a link, and
-/// followed like that, if it may be.
-///
-/// If somebody came in between, so that what stood there is no link or is gone, the path is walked once more: there
-/// are 32 tries at most.
-///
-/// Errors of its own: EISDIR (21) of a directory where a file is wanted; that of a path without a last name; ENOENT
-/// (2) of a link that isn't to be followed, or has no text; ELOOP (40) of the forty-first link, and then ENAMETOOLONG
-/// (36) of a path over 4,095 bytes to which a link leads; EAGAIN (11) after so many tries. Any other error is the
-/// last call's, and ends it.
-pub fn next(making: Making, outcome: Outcome, text: &[u8], room: &mut [u8]) -> Making
+// What comes next behind what the last call gave.
+pub(crate) fn go_on(making: Making, outcome: Outcome, text: &[u8], room: &mut [u8]) -> Making
     requires within { IsWithin making (length room.old) }
     requires room { TEXT_MAX ≤ length room.old }
     ensures goes { (asked : Asked) (history : List Exchange) → IsAt asked history making room.old

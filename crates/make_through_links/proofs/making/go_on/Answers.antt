@@ -5,7 +5,7 @@ use Rattle.make_through_links.specs.declared.making.Making.{Making}
 use Rattle.make_through_links.specs.declared.meets.Met.TheVariants.{Missing, Parted, Above, Gone, Partly, Link, Between, Stands, LinkAtEnd, BetweenAtEnd, Ended}
 use Rattle.std.proofs.lemmas.Bool.{false≢true}
 use Rattle.make_through_links.proofs.MakingLemmas.{at_next}
-use Rattle.make_through_links.proofs.making.next.Goals as goal
+use Rattle.make_through_links.proofs.making.go_on.Goals as goal
 
 pub returns-in-Missing-clause-goes : goal.returns-in-Missing-clause-goes
 returns-in-Missing-clause-goes c = λ asked history at call.
