@@ -698,34 +698,44 @@ void inroot_giving_next(struct inroot_giving *giving, const struct inroot_giving
 
 /*
  * A question: whether one system call may walk the path WHOLE (inroot_follows_at_once), which has more than slashes. The kernel's
- * WALK: openat2(2) with RESOLVE_IN_ROOT or RESOLVE_BENEATH. A question: what is known of the path's names. Plain NAMES, by openat2(2)
- * with RESOLVE_NO_SYMLINKS. A question: whether there is openat2(2), and the path is FRESH, which didn't fail so before. THROUGH links, which are read by their names. If it OPENS, the last way has opened what the call
- * gives; else the STEPS decide.
+ * WALK: openat2(2) with these RESOLVE bits. The KIND of the object that it came to: fstat(2). SHUT: that is closed. A question: what
+ * HINTS there are of the path's names. A question: whether they are plain NAMES, by which the call may open a directory
+ * (inroot_opens_at_once) and which are looked up at once (inroot_looks_begin). They are looked up so: LOOK_UP. The object's PLACE; or
+ * the PATH is taken for it. A question: whether the call REPLIES so (inroot_opens_at_once). DROP: the object is closed. A question:
+ * whether there is openat2(2), and the path is FRESH, which didn't fail so before. THROUGH links, which are read by their names
+ * (inroot_through_begin). If it OPENS, the last way has opened what the call gives; else the STEPS decide.
  */
 enum inroot_way_next {
-    INROOT_WAY_WHOLE = 1, INROOT_WAY_WALK, INROOT_WAY_HINTS, INROOT_WAY_NAMES, INROOT_WAY_FRESH, INROOT_WAY_THROUGH,
-    INROOT_WAY_OPENS, INROOT_WAY_STEPS,
+    INROOT_WAY_WHOLE = 1, INROOT_WAY_WALK, INROOT_WAY_KIND, INROOT_WAY_SHUT, INROOT_WAY_HINTS, INROOT_WAY_NAMES, INROOT_WAY_LOOK_UP,
+    INROOT_WAY_PLACE, INROOT_WAY_PATH, INROOT_WAY_REPLIES, INROOT_WAY_DROP, INROOT_WAY_FRESH, INROOT_WAY_THROUGH, INROOT_WAY_OPENS,
+    INROOT_WAY_STEPS,
 };
 
 /*
- * What is known of a call: it goes name by name; takes the kernel's word that the object is below the root; its path FITS a room, with
- * a slash before; it is a resolve that follows a link at the end; and it follows no link, or no magic one, or stays on a mount.
+ * What is known of a call: it goes name by name; takes the kernel's word that the object is below the root; refuses what leads out
+ * of the root; its path FITS a room, with a slash before; it is a resolve that follows a link at the end; it follows no link, or no
+ * magic one, or stays on a mount; and somebody asks of which kind the object is.
  */
 struct inroot_way_facts {
-    bool one_by_one, below, fits, resolves, keeps;
+    bool one_by_one, below, beneath, fits, resolves, keeps, asks_kind;
 };
 
 /*
- * The error of the kernel's walk, or 0. YES: one system call may walk the path; it is fresh; a way has opened what the call gives. Of
- * the names: one was a link last; and that one is LEFT to the steps.
+ * The error of the kernel's walk, or of a question for a kind, or 0. YES: one system call may walk the path; the names may be looked
+ * up; they were, and led to an object; its place was found; the call replies so; the path is fresh; links led to what the call gives.
+ * Of the names: one was a link last; and that one is LEFT to the steps.
  */
 struct inroot_way_answer {
     uint32_t error;
     bool yes, linked, left;
 };
 
-/* A driver reads what comes NEXT, and at NAMES the error by which they can't be opened, or 0. It leaves both alone. */
+/*
+ * A driver reads what comes NEXT, at WALK the RESOLVE bits, and at LOOK_UP the error by which the names can't be opened, or 0. It
+ * leaves all of it alone.
+ */
 struct inroot_way_course {
+    uint64_t resolve;
     uint32_t failed;
     uint8_t next;
 };

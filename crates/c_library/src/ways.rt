@@ -1,9 +1,9 @@
 //! By which way a path is opened, and which call comes next as one is opened through links.
 ghost use Rattle.std.specs.Prelude.{◌≡◌, ◌∷◌, [], List, true, false};
 ghost use Rattle.open_at_once.specs.History.{is_question, Exchange};
-ghost use Rattle.open_at_once.specs.Ways.{exchange, IsAt};
+ghost use Rattle.open_at_once.specs.Ways.{exchange_of, IsAt};
 ghost use Rattle.open_through_links.specs.History.{is_question as is_through_question, Exchange as ThroughExchange};
-ghost use Rattle.open_through_links.specs.Passage.{exchange_of, IsAt as IsThroughAt};
+ghost use Rattle.open_through_links.specs.Passage.{exchange_of as through_exchange, IsAt as IsThroughAt};
 ghost use Rattle.open_through_links.specs.declared.passage.Facts.{Facts as ThroughFacts};
 
 use open_at_once::{Answer, Facts, Way};
@@ -21,7 +21,7 @@ pub extern "C" fn inroot_way_begin(facts: &Facts, way: &mut Way)
 #[unsafe(no_mangle)]
 pub extern "C" fn inroot_way_next(facts: &Facts, answer: &Answer, way: &mut Way)
     ensures goes { (history : List Exchange) → IsAt facts.now history way.old → is_question way.old.next ≡ true
-        → IsAt facts.now (exchange way.old answer.now ∷ history) way.new }
+        → IsAt facts.now (exchange_of way.old.next answer.now ∷ history) way.new }
     ensures over { is_question way.old.next ≡ false → way.new ≡ way.old }
 {
     *way = open_at_once::next(facts, *way, answer);
@@ -45,7 +45,7 @@ pub extern "C" fn inroot_through_next(
 )
     ensures goes { (history : List ThroughExchange) → IsThroughAt facts.now history passage.old
         → is_through_question passage.old.next ≡ true
-        → IsThroughAt facts.now (exchange_of passage.old.next answer.now ∷ history) passage.new }
+        → IsThroughAt facts.now (through_exchange passage.old.next answer.now ∷ history) passage.new }
     ensures over { is_through_question passage.old.next ≡ false → passage.new ≡ passage.old }
 {
     *passage = open_through_links::next(facts, *passage, answer);

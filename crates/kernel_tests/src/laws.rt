@@ -80,6 +80,7 @@ fn laws_of_walks_into_directories() {
 fn laws_of_paths_at_once() {
     open_at_once::a_way_is_tried_by_leave();
     open_at_once::what_is_given_was_opened();
+    open_at_once::each_object_is_closed_or_given();
     open_at_once::plain_names_are_known_to_fail();
     open_at_once::tries_are_few();
 }

@@ -1,6 +1,7 @@
 //! By which way a path is opened, by what was known and what the ways before gave.
 use open_at_once::{
-    Answer, FRESH, Facts, HINTS, NAMES, OPENS, STEPS, THROUGH, WALK, WHOLE, Way, begin, next,
+    Answer, DROP, FRESH, Facts, HINTS, KIND, LOOK_UP, NAMES, OPENS, PATH, PLACE, REPLIES, SHUT,
+    STEPS, THROUGH, WALK, WHOLE, Way, begin, next,
 };
 use std::test::Fail;
 
@@ -8,13 +9,28 @@ const ENOENT: u32 = 2;
 
 const EXDEV: u32 = 18;
 
+const NO_XDEV: u64 = 1;
+
+const NO_MAGICLINKS: u64 = 2;
+
+const BENEATH: u64 = 8;
+
+const IN_ROOT: u64 = 16;
+
 // A resolve with no flags.
 const RESOLVE: Facts = Facts {
     one_by_one: false,
     below: false,
+    beneath: false,
     fits: true,
     resolves: true,
     keeps: false,
+    asks_kind: false,
+};
+
+const BELOW: Facts = Facts {
+    below: true,
+    ..RESOLVE
 };
 
 const NO: Answer = Answer {
@@ -24,79 +40,105 @@ const NO: Answer = Answer {
     left: false,
 };
 
-fn then(facts: &Facts, way: Way, answer: &Answer) -> Way {
-    next(facts, way, answer)
-}
+const YES: Answer = Answer { yes: true, ..NO };
 
-fn says_yes() -> Answer {
-    Answer { yes: true, ..NO }
-}
+const LINKED: Answer = Answer { linked: true, ..NO };
 
-fn says_linked() -> Answer {
-    Answer { linked: true, ..NO }
+// What comes after these answers.
+fn after(facts: &Facts, answers: &[Answer]) -> Way {
+    let mut now = begin(facts);
+    for answer in answers {
+        now = next(facts, now, answer);
+    }
+    now
 }
 
 #[test]
 fn plain_names_are_opened_at_once(rt: HostRuntime) -> Result<(), Fail> {
-    let hints = begin(&RESOLVE);
-    assert!(rt; hints.next == HINTS);
-    let names = then(&RESOLVE, hints, &NO);
-    assert!(rt; names.next == NAMES && names.failed == 0);
-    let opened = then(&RESOLVE, names, &says_yes());
-    assert!(rt; opened.next == OPENS && then(&RESOLVE, names, &NO).next == STEPS);
-    assert!(rt; then(&RESOLVE, opened, &NO) == opened);
+    assert!(rt; begin(&RESOLVE).next == HINTS && after(&RESOLVE, &[NO]).next == NAMES);
+    assert!(rt; after(&RESOLVE, &[NO, NO]).next == STEPS);
+    let looks = after(&RESOLVE, &[NO, YES]);
+    assert!(rt; looks.next == LOOK_UP && looks.failed == 0);
+    assert!(rt; after(&RESOLVE, &[NO, YES, NO]).next == STEPS);
+    assert!(rt; after(&RESOLVE, &[NO, YES, YES]).next == PLACE);
+    assert!(rt; after(&RESOLVE, &[NO, YES, YES, NO]).next == DROP);
+    assert!(rt; after(&RESOLVE, &[NO, YES, YES, YES]).next == REPLIES);
+    assert!(rt; after(&RESOLVE, &[NO, YES, YES, YES, NO]).next == DROP);
+    assert!(rt; after(&RESOLVE, &[NO, YES, YES, YES, NO, NO]).next == STEPS);
+    let opened = after(&RESOLVE, &[NO, YES, YES, YES, YES]);
+    assert!(rt; opened.next == OPENS && next(&RESOLVE, opened, &NO) == opened);
     Ok(())
 }
 
 #[test]
 fn links_that_are_known_are_read(rt: HostRuntime) -> Result<(), Fail> {
-    let fresh = then(&RESOLVE, begin(&RESOLVE), &says_linked());
-    assert!(rt; fresh.next == FRESH && then(&RESOLVE, fresh, &NO).next == STEPS);
-    let through = then(&RESOLVE, fresh, &says_yes());
-    assert!(rt; through.next == THROUGH && then(&RESOLVE, through, &says_yes()).next == OPENS);
-    assert!(rt; then(&RESOLVE, through, &NO).next == STEPS);
+    assert!(rt;
+        after(&RESOLVE, &[LINKED]).next == FRESH && after(&RESOLVE, &[LINKED, NO]).next == STEPS
+    );
+    assert!(rt; after(&RESOLVE, &[LINKED, YES]).next == THROUGH);
+    assert!(rt; after(&RESOLVE, &[LINKED, YES, YES]).next == OPENS);
+    assert!(rt; after(&RESOLVE, &[LINKED, YES, NO]).next == STEPS);
     let left = Answer {
         left: true,
-        ..says_linked()
+        ..LINKED
     };
-    assert!(rt; then(&RESOLVE, begin(&RESOLVE), &left).next == STEPS);
+    assert!(rt; after(&RESOLVE, &[left]).next == STEPS);
     // A call that follows no link, or that is no resolve, tries the names.
     let keeps = Facts {
         keeps: true,
         ..RESOLVE
     };
-    assert!(rt; then(&keeps, begin(&keeps), &says_linked()).next == NAMES);
+    assert!(rt; after(&keeps, &[LINKED]).next == NAMES);
     let other = Facts {
         resolves: false,
         ..RESOLVE
     };
-    assert!(rt; then(&other, begin(&other), &says_linked()).next == NAMES);
+    assert!(rt; after(&other, &[LINKED]).next == NAMES);
     Ok(())
 }
 
 #[test]
 fn the_kernels_walk_is_first_where_it_may(rt: HostRuntime) -> Result<(), Fail> {
-    let below = Facts {
-        below: true,
-        ..RESOLVE
+    assert!(rt; begin(&BELOW).next == WHOLE && after(&BELOW, &[NO]).next == HINTS);
+    let walk = after(&BELOW, &[YES]);
+    assert!(rt; walk.next == WALK && walk.resolve == IN_ROOT + NO_XDEV + NO_MAGICLINKS);
+    let beneath = Facts {
+        beneath: true,
+        ..BELOW
     };
-    let whole = begin(&below);
-    assert!(rt; whole.next == WHOLE && then(&below, whole, &NO).next == HINTS);
-    let walk = then(&below, whole, &says_yes());
-    assert!(rt; walk.next == WALK && then(&below, walk, &NO).next == OPENS);
-    let missing = then(
-        &below,
-        walk,
-        &Answer {
-            error: ENOENT,
-            ..NO
-        },
-    );
-    assert!(rt; missing.next == HINTS && missing.failed == ENOENT);
-    let names = then(&below, missing, &says_linked());
-    assert!(rt; names.next == NAMES && names.failed == ENOENT);
-    let other = then(&below, walk, &Answer { error: EXDEV, ..NO });
+    assert!(rt; after(&beneath, &[YES]).resolve == BENEATH + NO_XDEV + NO_MAGICLINKS);
+    assert!(rt; after(&BELOW, &[YES, NO]).next == OPENS);
+    let missing = Answer {
+        error: ENOENT,
+        ..NO
+    };
+    let hints = after(&BELOW, &[YES, missing]);
+    assert!(rt; hints.next == HINTS && hints.failed == ENOENT);
+    let looks = after(&BELOW, &[YES, missing, LINKED, YES]);
+    assert!(rt; looks.next == LOOK_UP && looks.failed == ENOENT);
+    let other = after(&BELOW, &[YES, Answer { error: EXDEV, ..NO }]);
     assert!(rt; other.next == HINTS && other.failed == 0);
+    // Whoever takes the kernel's word asks for no place.
+    assert!(rt; after(&BELOW, &[NO, NO, YES, YES]).next == PATH);
+    assert!(rt; after(&BELOW, &[NO, NO, YES, YES, NO]).next == REPLIES);
+    Ok(())
+}
+
+#[test]
+fn a_kind_is_asked_for_where_somebody_asks(rt: HostRuntime) -> Result<(), Fail> {
+    let asks = Facts {
+        asks_kind: true,
+        ..BELOW
+    };
+    assert!(rt;
+        after(&asks, &[YES, NO]).next == KIND && after(&asks, &[YES, NO, NO]).next == OPENS
+    );
+    let failed = Answer {
+        error: ENOENT,
+        ..NO
+    };
+    assert!(rt; after(&asks, &[YES, NO, failed]).next == SHUT);
+    assert!(rt; after(&asks, &[YES, NO, failed, NO]).next == HINTS);
     Ok(())
 }
 
@@ -104,8 +146,7 @@ fn the_kernels_walk_is_first_where_it_may(rt: HostRuntime) -> Result<(), Fail> {
 fn name_by_name_goes_by_steps(rt: HostRuntime) -> Result<(), Fail> {
     let single = Facts {
         one_by_one: true,
-        below: true,
-        ..RESOLVE
+        ..BELOW
     };
     assert!(rt; begin(&single).next == STEPS);
     let long = Facts {
