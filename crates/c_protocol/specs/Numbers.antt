@@ -12,6 +12,7 @@ use Rattle.tree_model.specs.declared.step.Mode.{Mode}
 use Rattle.tree_model.specs.declared.step.Mode.TheVariants.{Plain, NoReplace, Exchange}
 use Rattle.tree_model.specs.StepWith.{StepWith}
 use Rattle.tree_model.specs.declared.step.StepOf.TheVariants as steps
+use Rattle.step_calls.specs.Moments.{number_of_kind}
 use Rattle.handles.specs.declared.owner.Owner.{Owner}
 use Rattle.root_ops.specs.declared.below.Below.{Below}
 use Rattle.root_ops.specs.declared.op.Op.{Op}
@@ -23,11 +24,6 @@ use Rattle.c_protocol.specs.declared.numbers.Asked.{Asked}
 use Rattle.c_protocol.specs.declared.numbers.Told.{Told}
 
 -- ---- kinds, modes and errors
-
-abbrev pub kind_number : Kind → ℕ
-kind_number Dir = 1
-kind_number File = 2
-kind_number Link = 3
 
 -- what is neither a directory nor a link counts as a file
 abbrev pub kind_of : ℕ → Kind
@@ -151,7 +147,7 @@ step_bytes (steps.Rename h n k m mode) = ended n ++ ended m
 
 -- a reply: what was opened with its place, a text, that it is done, a count, or the error
 abbrev pub reply_told : Reply → Told
-reply_told (replies.Opened standing) = due_told 32 standing.handle standing.node 0 0 (kind_number standing.kind)
+reply_told (replies.Opened standing) = due_told 32 standing.handle standing.node 0 0 (number_of_kind standing.kind)
 reply_told (replies.Text text) = due_told 33 0 0 (length text) 0 0
 reply_told replies.Done = due_told 34 0 0 0 0 0
 reply_told (replies.Count n) = due_told 35 n 0 0 0 0

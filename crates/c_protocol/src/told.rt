@@ -1,7 +1,8 @@
 //! What is told of a turn: the step that is due, or the reply.
 ghost use Rattle.std.specs.Prelude.{◌≡◌, ◌≤◌, ◌+◌, ◌++◌, length, take, drop, nat_le};
 ghost use Rattle.path_text.specs.Print.{after_slashes, printed};
-ghost use Rattle.c_protocol.specs.Numbers.{due_told, ended, kind_number, mode_number, reply_bytes, reply_told, step_bytes, step_told};
+ghost use Rattle.step_calls.specs.Moments.{number_of_kind};
+ghost use Rattle.c_protocol.specs.Numbers.{due_told, ended, mode_number, reply_bytes, reply_told, step_bytes, step_told};
 ghost use Rattle.c_protocol.specs.Turns.{fits, laid, LaidOut};
 
 use crate::numbers::Told;
@@ -9,8 +10,8 @@ use path_text::Names;
 use root_ops::Reply;
 use tree_model::{Kind, LentStep, Mode, StepOf};
 
-fn kind_number(kind: Kind) -> u8
-    ensures { result ≡ kind_number kind }
+fn number_of_kind(kind: Kind) -> u8
+    ensures { result ≡ number_of_kind kind }
 {
     match kind {
         Kind::Dir => 1,
@@ -89,7 +90,7 @@ fn reply_told(reply: &Reply) -> Told
             standing.node().number(),
             0,
             0,
-            kind_number(standing.kind()),
+            number_of_kind(standing.kind()),
         ),
         Reply::Text(text) => due_told(33, 0, 0, text.as_slice().len(), 0, 0),
         Reply::Done => due_told(34, 0, 0, 0, 0, 0),

@@ -1,14 +1,14 @@
 -- Which descriptors are open, from what is kept of a call.
-use Rattle.std.proofs.Common.{◌≡◌, ◌+◌, ◌-◌, ℕ, List, [], ◌∷◌, ◌++◌, length, Bool, true, false, refl, ap, sym, subst, arith}
+use Rattle.std.proofs.Common.{◌≡◌, ◌-◌, ℕ, List, [], ◌∷◌, ◌++◌, Bool, true, false, refl, sym, subst, arith}
 use Rattle.std.specs.Prelude.{◌==◌, if◌then◌else◌}
+use Rattle.system_calls.proofs.HeldLemmas.{without_held}
 use Rattle.call_course.specs.Turns.{gains, lacks, noted, start}
 use Rattle.call_course.specs.History.{exchange, next_after, Exchange, IsHistory}
-use Rattle.call_course.specs.Promises.{closed_by, open_after, opened_by, without}
+use Rattle.call_course.specs.Promises.{closed_by, open_after, opened_by}
 use Rattle.call_course.specs.declared.calling.Calling.{Calling}
 use Rattle.call_course.specs.declared.calling.Answer.{Answer}
 use Rattle.call_course.specs.declared.calling.Facts.{Facts}
 use Rattle.call_course.specs.declared.calling.TheConstants.{CLOSE}
-use Rattle.std.proofs.lemmas.Bool.{eqb-true}
 use Rattle.call_course.proofs.Leads.{Leads, Turn, to_proc, to_close, to_home, to_root, to_end, to_again, to_fail, t_begin, t_join, t_join_held, t_no_join, t_once, t_not_once, t_not_once_held, t_own_place, t_own_walk, t_own_given, t_no_own, t_place, t_no_place, t_opened, t_text, t_cut, t_done, t_made, t_lost, t_unopened, t_count, t_fault, t_took, t_not_took, t_let_go, t_close_made, t_closed, t_closed_stuck, t_same_proc, t_lost_proc, t_another, t_no_other, t_proc_closed, t_home, t_stuck_holds, t_stuck, t_root, t_bad_root}
 use Rattle.call_course.proofs.Sound.{error_ok, holds_ok, made_ok, stuck_ok}
 use Rattle.call_course.proofs.Rule.{always, sound_error, sound_holds, sound_made, sound_stuck}
@@ -37,18 +37,6 @@ together_leads seen may c n l =
       | to_again p0 p1 p2 p3 p4 p5 ↦ subst (λ m. together m ≡ held c) (sym p5) refl
       | to_fail p0 p1 p2 p3 p4 ↦ subst (λ m. together m ≡ held c) (sym p4) refl
     ]
-
-without_one : (same : Bool) (v a : ℕ) → (v == a) ≡ same → (if same then a ∷ [] else v ∷ []) ≡ v ∷ []
-without_one true v a is = ap (λ n. n ∷ []) (sym (eqb-true v a is))
-without_one false v a is = refl
-
-without_itself : (a : ℕ) → without a (a ∷ []) ≡ []
-without_itself a = grind arith
-
-pub without_held : (holds : Bool) (v a : ℕ)
-    → without a ((if holds then v ∷ [] else []) ++ (a ∷ [])) ≡ (if holds then v ∷ [] else [])
-without_held true v a = grind (arith, without_itself a, without_one (v == a) v a refl)
-without_held false v a = without_itself a
 
 open_turn : (c : Calling) (a : Answer) (n : Calling) (was : List ℕ) → holds_ok c ≡ true → made_ok c ≡ true
     → error_ok c ≡ true → stuck_ok c ≡ true → was ≡ together c → Turn c a n

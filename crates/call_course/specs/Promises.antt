@@ -1,12 +1,13 @@
 -- What holds of every history.
-use Rattle.std.specs.Prelude.{◌≡◌, ◌≢◌, ℕ, suc, ◌+◌, ◌-◌, List, [], ◌∷◌, ◌++◌, ◌==◌, ◌⊎◌, Bool, true, false, ◌&&◌, ◌||◌, not, if◌then◌else◌, nat_le}
+use Rattle.std.specs.Prelude.{◌≡◌, ℕ, suc, ◌+◌, ◌-◌, List, [], ◌∷◌, ◌++◌, ◌==◌, ◌⊎◌, Bool, true, false, ◌&&◌, ◌||◌, not, if◌then◌else◌, nat_le}
+use Rattle.system_calls.specs.Held.{without}
 use Rattle.system_calls.specs.Tries.{EAGAIN}
 use Rattle.call_course.specs.Turns.{reply_error, root_error, COUNT, DONE, ENOMEM, OPENED, TEXT}
 use Rattle.call_course.specs.History.{Exchange}
 use Rattle.call_course.specs.declared.calling.Answer.{Answer}
 use Rattle.call_course.specs.declared.calling.Calling.{Calling}
 use Rattle.call_course.specs.declared.calling.Facts.{Facts}
-use Rattle.call_course.specs.declared.calling.TheConstants.{BEGIN, JOIN, AT_ONCE, OWN_ROOT, PLACE, CONVERSE, TAKE, LET_GO, CLOSE, LOOK_AT_PROC, ANOTHER_PROC, CLOSE_PROC, GO_HOME, LOOK_AT_ROOT}
+use Rattle.call_course.specs.declared.calling.TheConstants.{BEGIN, JOIN, AT_ONCE, OWN_ROOT, PLACE, CONVERSE, TAKE, CLOSE, ANOTHER_PROC, CLOSE_PROC, GO_HOME, LOOK_AT_ROOT}
 
 -- what a try does: its answers say what is known of the try
 abbrev pub is_walk : ℕ → Bool
@@ -22,10 +23,6 @@ abbrev pub opened_by : Exchange → List ℕ
 opened_by e =
     if went_well AT_ONCE e || went_well TAKE e then e.gave.value ∷ []
     else (if (e.asked == CONVERSE) && not (e.gave.made == 0) then (e.gave.made - 1) ∷ [] else [])
-
-abbrev pub without : ℕ → List ℕ → List ℕ
-without one [] = []
-without one (d ∷ ds) = if d == one then ds else d ∷ without one ds
 
 abbrev pub closed_by : Exchange → List ℕ → List ℕ
 closed_by e held = if e.asked == CLOSE then without e.about held else held

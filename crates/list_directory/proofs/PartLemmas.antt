@@ -3,7 +3,7 @@ use Rattle.std.proofs.Common.{◌≡◌, ◌≤◌, ◌+◌, ◌-◌, ◌*◌, �
 use Rattle.std.specs.Prelude.{◌==◌, sum}
 use Rattle.std.proofs.lemmas.Bool.{ltb-true, ltb-false}
 use Rattle.std.proofs.lemmas.List.Sums.{sum_by-cons}
-use Rattle.list_directory.specs.Parts.{beyond_least, held_after, part_size, share, without, Change, EachFits, ALL_NAMES, LEAST_PART, MOST_PART}
+use Rattle.list_directory.specs.Parts.{beyond_least, held_after, part_size, share, without_at, Change, EachFits, ALL_NAMES, LEAST_PART, MOST_PART}
 use Rattle.list_directory.specs.Parts.Change.{reads, lets_go}
 
 size_by : (small large : Bool) (held : ℕ) → nat_lt (share held) LEAST_PART ≡ small
@@ -28,13 +28,13 @@ beyond_less [] = omega arith
 beyond_less (part ∷ parts) = omega (arith, beyond_less parts, sum_more part parts, beyond_more part parts)
 
 fewer_by : (here : Bool) (part place : ℕ) (parts : List ℕ)
-    → beyond_least (without (place - 1) parts) ≤ beyond_least parts
-    → beyond_least (if here then parts else part ∷ without (place - 1) parts) ≤ beyond_least (part ∷ parts)
+    → beyond_least (without_at (place - 1) parts) ≤ beyond_least parts
+    → beyond_least (if here then parts else part ∷ without_at (place - 1) parts) ≤ beyond_least (part ∷ parts)
 fewer_by true part place parts ih = omega (arith, beyond_more part parts)
 fewer_by false part place parts ih =
-    omega (arith, ih, beyond_more part parts, beyond_more part (without (place - 1) parts))
+    omega (arith, ih, beyond_more part parts, beyond_more part (without_at (place - 1) parts))
 
-fewer : (place : ℕ) (parts : List ℕ) → beyond_least (without place parts) ≤ beyond_least parts
+fewer : (place : ℕ) (parts : List ℕ) → beyond_least (without_at place parts) ≤ beyond_least parts
 fewer place [] = omega arith
 fewer place (part ∷ parts) = fewer_by (place == 0) part place parts (fewer (place - 1) parts)
 

@@ -34,14 +34,14 @@ pub data Change : Type 0 where
   lets_go : ℕ → Change
 
 -- without the one at this place
-abbrev pub without : ℕ → List ℕ → List ℕ
-without place [] = []
-without place (part ∷ parts) = if place == 0 then parts else part ∷ without (place - 1) parts
+abbrev pub without_at : ℕ → List ℕ → List ℕ
+without_at place [] = []
+without_at place (part ∷ parts) = if place == 0 then parts else part ∷ without_at (place - 1) parts
 
 -- what is held after these changes, the last one first
 abbrev pub held_by : Change → List ℕ → List ℕ
 held_by (reads used) parts = used ∷ parts
-held_by (lets_go place) parts = without place parts
+held_by (lets_go place) parts = without_at place parts
 
 abbrev pub held_after : List Change → List ℕ
 held_after [] = []

@@ -1,9 +1,10 @@
 -- What holds of every history.
-use Rattle.std.proofs.Common.{◌≡◌, ◌≢◌, ◌<◌, ◌≤◌, ◌+◌, ◌-◌, ◌/◌, ℕ, zero, suc, List, [], ◌∷◌, ◌++◌, Bool, true, false, ◌⊎◌, inl, inr, refl, ap, sym, subst, arith}
+use Rattle.std.proofs.Common.{◌≡◌, ◌≢◌, ◌<◌, ◌≤◌, ◌+◌, ◌-◌, ◌/◌, ℕ, zero, suc, List, [], ◌∷◌, ◌++◌, true, false, ◌⊎◌, inl, inr, refl, sym, subst, arith}
 use Rattle.std.specs.Prelude.{◌==◌, if◌then◌else◌}
-use Rattle.std.proofs.lemmas.Bool.{eqb-true, false≢true}
+use Rattle.std.proofs.lemmas.Bool.{false≢true}
+use Rattle.system_calls.proofs.HeldLemmas.{without_held}
 use Rattle.open_partial.specs.History.{after_exchange, next_after, start, Exchange, IsHistory}
-use Rattle.open_partial.specs.Promises.{closed_by, open_after, opened_by, without, IsClosed, IsFound, IsWhy, Missed, Opened, SomeOf}
+use Rattle.open_partial.specs.Promises.{closed_by, open_after, opened_by, IsClosed, IsFound, IsWhy, Missed, Opened, SomeOf}
 use Rattle.open_partial.specs.declared.search.Search.{Search}
 use Rattle.open_partial.specs.declared.search.TheConstants.{TRY, CLOSE, ENDS, FAILS}
 use Rattle.open_partial.proofs.Turns.{gained, turn, Goes, Turn}
@@ -239,17 +240,6 @@ goes_together s n g =
       | is_done few holds is ↦ subst (λ m. together m ≡ held s) (sym is) refl
       | goes_back few holds is ↦ subst (λ m. together m ≡ held s) (sym is) refl
     ]
-
-without_one : (same : Bool) (v a : ℕ) → (v == a) ≡ same → (if same then a ∷ [] else v ∷ []) ≡ v ∷ []
-without_one true v a is = ap (λ n. n ∷ []) (sym (eqb-true v a is))
-without_one false v a is = refl
-
-without_itself : (a : ℕ) → without a (a ∷ []) ≡ []
-without_itself a = grind arith
-
-without_held : (holds : Bool) (v a : ℕ) → without a ((if holds then v ∷ [] else []) ++ (a ∷ [])) ≡ (if holds then v ∷ [] else [])
-without_held true v a = grind (arith, without_itself a, without_one (v == a) v a refl)
-without_held false v a = without_itself a
 
 open_turn : (e : Exchange) (was : List ℕ) (n : Search) → was ≡ together e.due → Turn e.due e.error e.opened n
     → (opened_by e ++ closed_by e was) ≡ together n

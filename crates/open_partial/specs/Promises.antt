@@ -1,5 +1,6 @@
 -- What holds of every history.
 use Rattle.std.specs.Prelude.{◌≡◌, ℕ, suc, ◌+◌, List, [], ◌∷◌, ◌++◌, ◌==◌, ◌⊎◌, true, false, ◌&&◌, if◌then◌else◌}
+use Rattle.system_calls.specs.Held.{without}
 use Rattle.open_partial.specs.History.{is_missing, Exchange}
 use Rattle.open_partial.specs.declared.search.Search.{Search}
 use Rattle.open_partial.specs.declared.search.TheConstants.{TRY, CLOSE}
@@ -32,10 +33,6 @@ pub record IsFound (pieces : ℕ) (s : Search) (history : List Exchange) : Type 
 
 abbrev pub opened_by : Exchange → List ℕ
 opened_by e = if (e.due.next == TRY) && (e.error == 0) then e.opened ∷ [] else []
-
-abbrev pub without : ℕ → List ℕ → List ℕ
-without one [] = []
-without one (d ∷ ds) = if d == one then ds else d ∷ without one ds
 
 abbrev pub closed_by : Exchange → List ℕ → List ℕ
 closed_by e held = if e.due.next == CLOSE then without e.due.about held else held

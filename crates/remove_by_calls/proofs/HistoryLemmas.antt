@@ -3,8 +3,9 @@ use Rattle.std.proofs.Common.{◌≡◌, ℕ, suc, ◌+◌, ◌<◌, ◌≤◌, 
 use Rattle.std.specs.Prelude.{◌==◌}
 use Rattle.std.specs.List.{AllByRecursion}
 use Rattle.std.proofs.lemmas.Bool.{lt-ltb, false≢true}
+use Rattle.system_calls.specs.Held.{without}
 use Rattle.remove_by_calls.specs.Answers.{met_of}
-use Rattle.remove_by_calls.specs.History.{after_call, after_close, idle_after, is_asked, is_call, is_kept, kept_after, last_answer, without, ComesNext, Exchange, IsDue, IsHistory}
+use Rattle.remove_by_calls.specs.History.{after_call, after_close, idle_after, is_asked, is_call, is_kept, kept_after, last_answer, ComesNext, Exchange, IsDue, IsHistory}
 use Rattle.remove_by_calls.specs.Promises.{goes_on, waits_after, CanBeDone, IsWhole, IsWhy, WentOn}
 use Rattle.remove_by_calls.specs.declared.answers.Answer.{Answer}
 use Rattle.remove_by_calls.specs.declared.answers.Met.{Met}

@@ -2,7 +2,8 @@
 use Rattle.std.proofs.Common.{◌≡◌, ℕ, zero, suc, ◌+◌, ◌-◌, ◌%◌, ◌<◌, List, ◌∷◌, Bool, true, false, ◌||◌, if◌then◌else◌, length, refl, sym, ap, subst, ◌∙◌, arith}
 use Rattle.std.specs.Prelude.{◌==◌}
 use Rattle.std.proofs.lemmas.Bool.{eq-eqb, ne_eqb}
-use Rattle.remove_by_calls.specs.History.{after_call, after_close, in_place, one_closed, is_kept, outermost, without, IsDue}
+use Rattle.system_calls.specs.Held.{without}
+use Rattle.remove_by_calls.specs.History.{after_call, after_close, in_place, one_closed, is_kept, outermost, IsDue}
 use Rattle.remove_by_calls.specs.History.Due.{asks, keeps}
 use Rattle.remove_by_calls.specs.Removal.{demand_of, inner, ring}
 use Rattle.remove_by_calls.specs.declared.answers.Met.{Met}

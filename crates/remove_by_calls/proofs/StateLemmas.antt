@@ -2,8 +2,9 @@
 use Rattle.std.proofs.Common.{◌≡◌, ℕ, suc, ◌+◌, ◌-◌, ◌^◌, ◌%◌, ◌<◌, ◌≤◌, List, ◌∷◌, Bool, true, false, if◌then◌else◌, min, ◌⊎◌, inl, inr, refl, sym, ap, subst, ◌∙◌, arith, nat_lt}
 use Rattle.std.specs.Prelude.{◌==◌}
 use Rattle.std.proofs.lemmas.Bool.{eqb-true, eq-eqb, lt-ltb}
+use Rattle.system_calls.specs.Held.{without}
 use Rattle.remove_by_calls.specs.Answers.{met_of}
-use Rattle.remove_by_calls.specs.History.{after_call, after_close, idle_after, is_asked, kept_after, last_answer, without, ComesNext, Exchange, IsDue}
+use Rattle.remove_by_calls.specs.History.{after_call, after_close, idle_after, is_asked, kept_after, last_answer, ComesNext, Exchange, IsDue}
 use Rattle.remove_by_calls.specs.Removal.{demand_of, exchange, inner, ring, Fits, IsAt, Keeps, Same, Sized}
 use Rattle.remove_by_calls.specs.declared.answers.Answer.{Answer}
 use Rattle.remove_by_calls.specs.declared.removal.Demand.{Demand}

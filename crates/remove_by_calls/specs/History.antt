@@ -1,6 +1,7 @@
 -- What was asked of a driver to remove an entry with all below it, what its calls gave, and what comes next. A
 -- history has the last exchange first.
 use Rattle.std.specs.Prelude.{◌≡◌, ℕ, suc, ◌+◌, ◌<◌, List, [], ◌∷◌, ◌==◌, Bool, true, false, ◌||◌, if◌then◌else◌, nat_lt, length}
+use Rattle.system_calls.specs.Held.{without}
 use Rattle.system_calls.specs.Tries.{is_due, pause_after, EAGAIN}
 use Rattle.remove_by_calls.specs.Answers.{met_of}
 use Rattle.remove_by_calls.specs.declared.answers.Answer.{Answer}
@@ -46,10 +47,6 @@ removed_after [] = 0
 removed_after (e ∷ older) = removed_after older + removed_by e
 
 -- the numbers of the places that are kept, the innermost first
-abbrev pub without : ℕ → List ℕ → List ℕ
-without place [] = []
-without place (p ∷ ps) = if p == place then ps else p ∷ without place ps
-
 abbrev pub kept_by : Demand → List ℕ → List ℕ
 kept_by AtRoot kept = kept
 kept_by (InPlace place) kept = kept

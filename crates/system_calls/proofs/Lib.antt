@@ -1,2 +1,3 @@
+pub mod HeldLemmas
 pub mod OpeningLemmas
 pub mod Pauses

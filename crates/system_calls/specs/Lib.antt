@@ -1,3 +1,4 @@
+pub mod Held
 pub mod Objects
 pub mod OpenFlags
 pub mod Opening
