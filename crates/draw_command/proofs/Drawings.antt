@@ -6,7 +6,7 @@ use Rattle.drawings.specs.declared.picture.Closes.{Closes}
 use Rattle.drawings.specs.declared.picture.PictureFault.{PictureFault}
 use Rattle.drawings.specs.declared.picture.PictureFault.TheVariants as picture_fault
 use Rattle.drawings.specs.Calls.{calls_of}
-use Rattle.drawings.specs.Picture.{Drawn, drawn_of, IsLong, IsPictureFault}
+use Rattle.drawings.specs.Picture.{drawn_of, IsLong, IsPictureFault}
 use Rattle.call_plans.specs.declared.plan.ActorPlan.{ActorPlan}
 use Rattle.race_core.specs.declared.report.Outcome.{Outcome}
 use Rattle.race_core.specs.Opening.{granted}
@@ -15,8 +15,8 @@ use Rattle.tree_model.specs.declared.inode.OpenHandle.{OpenHandle}
 use Rattle.tree_model.specs.State.{State}
 use Rattle.draw_command.specs.declared.drawing.DrawFault.{DrawFault}
 use Rattle.draw_command.specs.declared.drawing.Style.{Style}
-use Rattle.scripts.specs.declared.fault.RunFault.TheVariants.{NoMemory}
-use Rattle.draw_command.specs.Drawing.{drawn, form_text, opened_by, told_of, IsDrawingOf, IsNoDrawing, IsWellFormed}
+use Rattle.draw_command.specs.Drawing.{drawn, form_text, opened_by, told_of}
+use Rattle.draw_command.specs.Drawing.{IsDrawingOf, IsNoDrawing, IsRunFrom, IsWellFormed}
 use Rattle.walk_replay_command.specs.Replay.{IsRunOf}
 use Rattle.scripts.specs.Writing.{tree_of}
 use Rattle.scripts.specs.Scenario.{Said, IsPlayable}
@@ -39,31 +39,34 @@ opening said t tree events replies run h =
     let are : Some t ≡ Some run.opened.roots.tree = sym h ∙ ap opened_by run.opened.are_granted in cc (are)
 
 -- the picture made of it is the run's
-pub made : (closes : Closes) (said : Said) (t tree : State) (calls : List (List (List ℕ))) (events : List Event) (replies : List (List Outcome)) (run : IsRunOf said tree events replies)
-    → opened_by (granted (tree_of said) 0 said.plans) ≡ Some t → calls ≡ calls_of said.plans → drawn_of closes t calls events replies ≡ drawn closes said tree events replies run
-made closes said t tree calls events replies run h are =
-    ap (λ (s : State). drawn_of closes s calls events replies) (opening said t tree events replies run h)
-    ∙ ap (λ (cs : List (List (List ℕ))). drawn_of closes run.opened.roots.tree cs events replies) are
+pub made : (closes : Closes) (said : Said) (t tree : State) (calls : List (List (List ℕ))) (events : List Event)
+    (replies : List (List Outcome)) (ran : IsRunFrom t said tree events replies)
+    → calls ≡ calls_of said.plans → drawn_of closes t calls events replies ≡ drawn closes said tree events replies ran.0
+made closes said t tree calls events replies ran are =
+    ap (λ (s : State). drawn_of closes s calls events replies) ran.1
+    ∙ ap (λ (cs : List (List (List ℕ))). drawn_of closes ran.0.opened.roots.tree cs events replies) are
 
-pub is_drawing : (style : Style) (said : Said) (t tree : State) (calls : List (List (List ℕ))) (events : List Event) (replies : List (List Outcome)) (picture : Drawn) (text : List ℕ)
-    → IsRunOf said tree events replies → opened_by (granted (tree_of said) 0 said.plans) ≡ Some t → calls ≡ calls_of said.plans
-    → picture ≡ drawn_of style.closes t calls events replies → text ≡ form_text style.form picture → IsWellFormed style.form (form_text style.form picture)
+pub is_drawing : (style : Style) (said : Said) (t tree : State) (calls : List (List (List ℕ))) (events : List Event)
+    (replies : List (List Outcome)) (text : List ℕ)
+    → IsRunFrom t said tree events replies → calls ≡ calls_of said.plans
+    → text ≡ form_text style.form (drawn_of style.closes t calls events replies) → IsWellFormed style.form text
     → IsDrawingOf style said text
-is_drawing style said t tree calls events replies picture text run h are drawn_so told well_formed =
+is_drawing style said t tree calls events replies text ran are told well_formed =
     record {
       tree = tree;
       events = events;
       replies = replies;
-      run = run;
-      is = told ∙ ap (form_text style.form) (drawn_so ∙ made style.closes said t tree calls events replies run h are);
-      well_formed = subst (IsWellFormed style.form) (sym told) well_formed;
+      run = ran.0;
+      is = told ∙ ap (form_text style.form) (made style.closes said t tree calls events replies ran are);
+      well_formed = well_formed;
     }
 
 -- and where there is none, it is told why
 pub is_no_drawing : (closes : Closes) (said : Said) (t tree : State) (calls : List (List (List ℕ))) (events : List Event) (replies : List (List Outcome)) (fault : PictureFault) (told : DrawFault)
-    → IsPlayable said → IsRunOf said tree events replies → opened_by (granted (tree_of said) 0 said.plans) ≡ Some t → calls ≡ calls_of said.plans
+    → IsPlayable said → IsRunFrom t said tree events replies → calls ≡ calls_of said.plans
     → (fault ≢ picture_fault.NoMemory → IsPictureFault events (drawn_of closes t calls events replies) fault) → told ≡ told_of fault → IsNoDrawing closes said told
-is_no_drawing closes said t tree calls events replies fault told playable run h are why is = subst (IsNoDrawing closes said) (sym is) (by fault why)
+is_no_drawing closes said t tree calls events replies fault told playable ran are why is = subst
+    (IsNoDrawing closes said) (sym is) (by fault why)
   where
     counted : length calls ≡ length said.plans
     counted = ap length are ∙ length-map said.plans _
@@ -75,7 +78,7 @@ is_no_drawing closes said t tree calls events replies fault told playable run h 
           tree = tree;
           events = events;
           replies = replies;
-          run = run;
-          over = subst (IsLong events) (made closes said t tree calls events replies run h are) (why (λ e. cc (e))).2;
+          run = ran.0;
+          over = subst (IsLong events) (made closes said t tree calls events replies ran are) (why (λ e. cc (e))).2;
         }
     by picture_fault.NoMemory why = tt

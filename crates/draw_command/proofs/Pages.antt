@@ -1,6 +1,6 @@
 -- What is told of a run as JSON, and its page: the tree in which the roots were granted again is the one that it went from.
-use Rattle.std.proofs.Common.{◌≡◌, ◌≢◌, ℕ, List, [], ◌∷◌, ◌++◌, length, sym, ap, ◌∙◌}
-use Rattle.std.specs.Prelude.{Some, codes}
+use Rattle.std.proofs.Common.{◌≡◌, ◌≢◌, ℕ, List, [], ◌∷◌, ◌++◌, length, ap, ◌∙◌}
+use Rattle.std.specs.Prelude.{codes}
 use Rattle.std.specs.List.{flat_map}
 use Rattle.drawings.specs.declared.picture.Closes.{Closes}
 use Rattle.drawings.specs.Calls.{calls_of}
@@ -9,49 +9,61 @@ use Rattle.pages.specs.declared.played.Played.{Played}
 use Rattle.pages.specs.Page.{played_of, text_part, run_part, ending, page_of}
 use Rattle.pages.specs.Run.{opening_part, replies_part, events_part, report_json}
 use Rattle.race_core.specs.declared.report.Outcome.{Outcome}
-use Rattle.race_core.specs.Opening.{granted}
 use Rattle.report_text.specs.Report.{report_text}
 use Rattle.tree_model.specs.declared.answer.Event.{Event}
 use Rattle.tree_model.specs.State.{State}
-use Rattle.draw_command.specs.Drawing.{drawn, opened_by}
+use Rattle.draw_command.specs.Drawing.{IsRunFrom}
 use Rattle.draw_command.specs.Page.{IsJsonOf, IsPageOf, run_json, run_played}
-use Rattle.draw_command.proofs.Drawings.{opening, made}
-use Rattle.walk_replay_command.specs.Replay.{IsRunOf}
-use Rattle.scripts.specs.Writing.{tree_of}
+use Rattle.draw_command.proofs.Drawings.{made}
 use Rattle.scripts.specs.Scenario.{Said}
 use Rattle.scripts.proofs.Texts.{tail_some, front_some}
 use Rattle.pages.specs.Changes.{changes_words}
 
-told_of_run : (said : Said) (t tree : State) (events : List Event) (replies : List (List Outcome)) (run : IsRunOf said tree events replies)
-    → opened_by (granted (tree_of said) 0 said.plans) ≡ Some t → report_json t events replies ≡ run_json said tree events replies run
-told_of_run said t tree events replies run h = ap (λ (s : State). report_json s events replies) (opening said t tree events replies run h)
+told_of_run : (said : Said) (t tree : State) (events : List Event) (replies : List (List Outcome))
+    (ran : IsRunFrom t said tree events replies)
+    → report_json t events replies ≡ run_json said tree events replies ran.0
+told_of_run said t tree events replies ran = ap (λ (s : State). report_json s events replies) ran.1
 
-pub is_json : (said : Said) (t tree : State) (events : List Event) (replies : List (List Outcome)) (text : List ℕ) → IsRunOf said tree events replies
-    → opened_by (granted (tree_of said) 0 said.plans) ≡ Some t → text ≡ report_json t events replies → IsJsonOf said text
-is_json said t tree events replies text run h told =
-    record { tree = tree; events = events; replies = replies; run = run; is = told ∙ told_of_run said t tree events replies run h }
-
--- so is what a page plays
-pub played_so : (closes : Closes) (said : Said) (t tree : State) (calls : List (List (List ℕ))) (events : List Event) (replies : List (List Outcome)) (run : IsRunOf said tree events replies)
-    → opened_by (granted (tree_of said) 0 said.plans) ≡ Some t → calls ≡ calls_of said.plans → played_of closes t calls events replies ≡ run_played closes said tree events replies run
-played_so closes said t tree calls events replies run h are =
-    ap (λ (bs : List ℕ). record { report = bs; picture = drawn_of closes t calls events replies }) (told_of_run said t tree events replies run h)
-    ∙ ap (λ (p : Drawn). record { report = run_json said tree events replies run; picture = p }) (made closes said t tree calls events replies run h are)
-
-pub is_page : (closes : Closes) (said : Said) (t tree : State) (calls : List (List (List ℕ))) (events : List Event) (replies : List (List Outcome)) (played : Played) (text page : List ℕ)
-    → IsRunOf said tree events replies → opened_by (granted (tree_of said) 0 said.plans) ≡ Some t → calls ≡ calls_of said.plans
-    → played ≡ played_of closes t calls events replies → text ≡ report_text events replies tree (length said.plans)
-    → page ≡ page_of text (played ∷ []) → IsPageOf closes said page
-is_page closes said t tree calls events replies played text page run h are played_is text_so is =
+pub is_json : (said : Said) (t tree : State) (events : List Event) (replies : List (List Outcome)) (text : List ℕ)
+    → IsRunFrom t said tree events replies
+    → text ≡ report_json t events replies → IsJsonOf said text
+is_json said t tree events replies text ran told =
     record {
       tree = tree;
       events = events;
       replies = replies;
-      run = run;
+      run = ran.0;
+      is = told
+          ∙ told_of_run said t tree events replies ran;
+    }
+
+-- so is what a page plays
+pub played_so : (closes : Closes) (said : Said) (t tree : State) (calls : List (List (List ℕ))) (events : List Event)
+    (replies : List (List Outcome)) (ran : IsRunFrom t said tree events replies)
+    → calls ≡ calls_of said.plans → played_of closes t calls events replies ≡ run_played closes said tree events
+    replies ran.0
+played_so closes said t tree calls events replies ran are =
+    ap (λ (bs : List ℕ). record { report = bs; picture = drawn_of closes t calls events replies })
+    (told_of_run said t tree events replies ran)
+    ∙ ap (λ (p : Drawn). record { report = run_json said tree events replies ran.0; picture = p })
+    (made closes said t tree calls events replies ran are)
+
+pub is_page : (closes : Closes) (said : Said) (t tree : State) (calls : List (List (List ℕ))) (events : List Event)
+    (replies : List (List Outcome)) (actors : ℕ) (page : List ℕ)
+    → IsRunFrom t said tree events replies → calls ≡ calls_of said.plans → actors ≡ length said.plans
+    → page ≡ page_of (report_text events replies tree actors) (played_of closes t calls events replies ∷ [])
+    → IsPageOf closes said page
+is_page closes said t tree calls events replies actors page ran are all is =
+    record {
+      tree = tree;
+      events = events;
+      replies = replies;
+      run = ran.0;
       is =
-          is ∙ ap (λ bs. page_of bs (played ∷ [])) text_so
+          is ∙ ap (λ (n : ℕ). page_of (report_text events replies tree n)
+          (played_of closes t calls events replies ∷ [])) all
           ∙ ap (λ (p : Played). page_of (report_text events replies tree (length said.plans)) (p ∷ []))
-          (played_is ∙ played_so closes said t tree calls events replies run h are);
+          (played_so closes said t tree calls events replies ran are);
     }
 
 -- ---- neither is empty

@@ -1,5 +1,5 @@
 -- A picture has something in it.
-use Rattle.std.proofs.Common.{◌≢◌, ℕ, List, [], ◌++◌, ◌+◌, ◌*◌, length, sym, ◌∙◌}
+use Rattle.std.proofs.Common.{◌≢◌, ℕ, List, [], ◌++◌, length, sym, ◌∙◌}
 use Rattle.std.specs.Prelude.{codes, Result, Ok, Err, MatchResult, IfOk}
 use Rattle.std.specs.List.{flat_map}
 use Rattle.drawings.specs.Picture.{Drawn, line_count}

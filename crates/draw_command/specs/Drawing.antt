@@ -31,6 +31,11 @@ abbrev pub opened_by : Grants → Option State
 opened_by (Ok granted) = Some granted.tree
 opened_by (Err refusal) = None
 
+-- a run of what is said, which went from this tree, in which its roots were granted
+abbrev pub IsRunFrom : State → Said → State → List Event → List (List Outcome) → Type 0
+IsRunFrom opened said tree events replies =
+    (run : IsRunOf said tree events replies) × (opened ≡ run.opened.roots.tree)
+
 -- the picture of a run, from the tree in which its roots were granted on
 abbrev pub drawn : (closes : Closes) (said : Said) (tree : State) (events : List Event)
     (replies : List (List Outcome)) → IsRunOf said tree events replies → Drawn

@@ -1,6 +1,6 @@
 -- What `inroot replay --json` and `inroot draw --html` write: a report on a run of the world that the script says as
 -- JSON, and a page of it.
-use Rattle.std.specs.Prelude.{⊤, ◌≡◌, ◌≢◌, ◌<◌, ℕ, List, [], ◌∷◌, length, Option, Result, MatchResult, IsOkAnd, IfSome}
+use Rattle.std.specs.Prelude.{◌≡◌, ◌≢◌, ◌<◌, ℕ, List, [], ◌∷◌, length, Option, Result, MatchResult, IsOkAnd, IfSome}
 use Rattle.std.specs.Io.KnownBytes.{Keeps}
 use Rattle.drawings.specs.declared.picture.Closes.{Closes}
 use Rattle.drawings.specs.declared.picture.TheConstants.{ACTORS_MAX}

@@ -1,16 +1,19 @@
 //! A script drawn: its world is run to its end, and a picture of it is written.
-ghost use Rattle.std.specs.Prelude.{◌≡◌, ◌≢◌, ◌≤◌, [], length, Ok, Some, IfOk, IfErr, IfSome, MatchResult, OnOk};
-ghost use Rattle.drawings.specs.Picture.{IsPictureFault};
+ghost use Rattle.std.specs.Prelude.{◌≡◌, ◌≢◌, ◌≤◌, [], length, Some, IfOk, IfErr, MatchResult, OnOk};
+ghost use Rattle.drawings.specs.Picture.{drawn_of, IsPictureFault};
+ghost use Rattle.drawings.specs.declared.picture.PictureFault.TheVariants.{NoMemory as OutOfRoom};
 ghost use Rattle.race_core.specs.Opening.{granted};
 ghost use Rattle.draw_command.specs.declared.drawing.DrawFault.TheVariants as draw_fault;
 ghost use Rattle.scripts.specs.declared.fault.RunFault.TheVariants.{NoMemory as OutOfMemory};
-ghost use Rattle.draw_command.specs.Drawing.{form_text, opened_by, told_of, IsDraw, IsDrawingOf, IsNoDrawing, IsWellFormed};
+ghost use Rattle.draw_command.specs.Drawing.{form_text, opened_by, told_of};
+ghost use Rattle.draw_command.specs.Drawing.{IsDraw, IsDrawingOf, IsNoDrawing, IsRunFrom, IsWellFormed};
 ghost use Rattle.scripts.specs.Scenario.{said_by, IsPlayable};
+ghost use Rattle.scripts.specs.Writing.{IsNoRun};
 ghost use Rattle.step_text.specs.Output.{Gains};
 
-use drawings::{Closes, Look, Picture, PictureFault, calls_of};
+use drawings::{CallWords, Closes, Look, Picture, PictureFault, calls_of};
 use path_text::NoMemory;
-use race_core::ActorPlan;
+use race_core::{ActorPlan, Report};
 use scripts::{ACTORS_MAX, RunFault, Scenario, TurnOrder, read_scene};
 use std::alloc::Global;
 use std::io::{Read, Write};
@@ -18,6 +21,7 @@ use step_text::Output;
 use thiserror::Error;
 use tree_list::ListTree;
 use tree_model::{Actor, Tree};
+use tree_slab::SlabTree;
 use walk_replay_command::report_of;
 
 /// How a picture is written.
@@ -107,6 +111,53 @@ pub fn grant_roots(alloc: Global, tree: &mut ListTree, plans: &[ActorPlan]) -> R
     Ok(())
 }
 
+/// Grants the roots on a scenario's tree, from which its steps can be made again, and runs the scenario to its end.
+/// Errors: those of `report_of`; `NoMemory`.
+pub(crate) fn run_of(
+    alloc: Global,
+    scenario: Scenario,
+    tree: &mut ListTree,
+) -> Result<Report<SlabTree>, RunFault>
+    requires same { tree.old ≡ scenario.tree }
+    requires none { scenario.tree.handles ≡ [] }
+    requires playable { IsPlayable (said_by scenario) }
+    ensures { MatchResult result
+        (λ report. IsRunFrom tree.new (said_by scenario) report.tree report.events.events report.replies.items)
+        (IsNoRun (said_by scenario)) }
+{
+    grant_roots(alloc, tree, &scenario.plans)?;
+    let report = report_of(alloc, scenario)?;
+    Ok(report)
+}
+
+/// The text of a run's picture, from a tree in which its roots are granted. Errors: those of `Picture::of`;
+/// `NoMemory`.
+fn picture_text(
+    alloc: Global,
+    tree: ListTree,
+    calls: &[CallWords],
+    came_to: &Report<SlabTree>,
+    style: Style,
+) -> Result<Output, PictureFault>
+    ensures ok { IfOk result (λ text. text ≡ form_text style.form
+        (drawn_of style.closes tree calls.now came_to.now.events.events came_to.now.replies.items)) }
+    ensures well_formed { IfOk result (IsWellFormed style.form) }
+    ensures err { IfErr result (λ fault. fault ≢ OutOfRoom → IsPictureFault came_to.now.events.events
+        (drawn_of style.closes tree calls.now came_to.now.events.events came_to.now.replies.items) fault) }
+{
+    let picture = Picture::of(
+        alloc,
+        tree,
+        calls,
+        &came_to.events,
+        &came_to.replies,
+        style.closes,
+    )?;
+    let mut text = Output::new(alloc);
+    add_picture(alloc, &mut text, &picture, style.form)?;
+    Ok(text)
+}
+
 /// The drawing of a scenario's run, whose steps are made again on the same tree. Errors: those of `report_of`;
 /// `TooManyActors` over the 4 that a picture has; `NoMemory`; `TooManyLines` over 2,000 events or lines.
 fn drawing_of(
@@ -122,23 +173,12 @@ fn drawing_of(
         (IsNoDrawing style.closes (said_by scenario)) }
     ensures some { IfOk result (λ text. text ≢ []) }
 {
-    grant_roots(alloc, &mut tree, &scenario.plans)?;
     let calls = calls_of(alloc, &scenario.plans)?;
-    let came_to = report_of(alloc, scenario)?;
-    let picture = match Picture::of(
-        alloc,
-        tree,
-        &calls,
-        &came_to.events,
-        &came_to.replies,
-        style.closes,
-    ) {
-        Ok(picture) => picture,
-        Err(fault) => return Err(told_of(fault)),
-    };
-    let mut text = Output::new(alloc);
-    add_picture(alloc, &mut text, &picture, style.form)?;
-    Ok(text)
+    let came_to = run_of(alloc, scenario, &mut tree)?;
+    match picture_text(alloc, tree, &calls, &came_to, style) {
+        Ok(text) => Ok(text),
+        Err(fault) => Err(told_of(fault)),
+    }
 }
 
 /// Reads a script, runs its world in this order of turns, and writes a picture of it: a heading with each actor's

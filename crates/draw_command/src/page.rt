@@ -1,16 +1,20 @@
 //! A script's run as JSON, and as a page that a browser shows.
-ghost use Rattle.std.specs.Prelude.{◌≡◌, ◌≢◌, [], ◌∷◌, IfOk, MatchResult};
+ghost use Rattle.std.specs.Prelude.{◌≡◌, ◌≢◌, [], ◌∷◌, IfOk, IfErr, MatchResult};
+ghost use Rattle.drawings.specs.Picture.{drawn_of, IsPictureFault};
+ghost use Rattle.drawings.specs.declared.picture.PictureFault.TheVariants.{NoMemory as OutOfRoom};
 ghost use Rattle.draw_command.specs.declared.page.JsonFault.TheVariants as json_fault;
 ghost use Rattle.scripts.specs.declared.fault.RunFault.TheVariants.{NoMemory as OutOfMemory};
 ghost use Rattle.draw_command.specs.Drawing.{IsNoDrawing};
 ghost use Rattle.draw_command.specs.Page.{IsJsonOf, IsNoJson, IsJson, IsPageOf, IsPage};
-ghost use Rattle.pages.specs.Page.{page_of};
+ghost use Rattle.pages.specs.Page.{page_of, played_of};
+ghost use Rattle.report_text.specs.Report.{report_text};
 ghost use Rattle.scripts.specs.Scenario.{said_by, IsPlayable};
 
-use crate::drawing::{DrawFault, grant_roots, told_of};
-use drawings::{Closes, calls_of};
+use crate::drawing::{DrawFault, run_of, told_of};
+use drawings::{CallWords, Closes, PictureFault, calls_of};
 use pages::{Played, report_json, runs_page};
 use path_text::NoMemory;
+use race_core::Report;
 use report_text::report;
 use scripts::{RunFault, Scenario, TurnOrder, read_scene};
 use std::alloc::Global;
@@ -18,7 +22,7 @@ use std::io::{Read, Write};
 use step_text::Output;
 use thiserror::Error;
 use tree_list::ListTree;
-use walk_replay_command::report_of;
+use tree_slab::SlabTree;
 
 /// The most events of a run that is told as JSON.
 pub const EVENTS_MAX: usize = 2000;
@@ -58,8 +62,7 @@ fn json_of(alloc: Global, scenario: Scenario, mut tree: ListTree) -> Result<Outp
     ensures told { MatchResult result (IsJsonOf (said_by scenario)) (IsNoJson (said_by scenario)) }
     ensures some { IfOk result (λ text. text ≢ []) }
 {
-    grant_roots(alloc, &mut tree, &scenario.plans)?;
-    let came_to = report_of(alloc, scenario)?;
+    let came_to = run_of(alloc, scenario, &mut tree)?;
     if came_to.events.len() > EVENTS_MAX {
         return Err(JsonFault::TooManyEvents);
     }
@@ -101,6 +104,28 @@ fn page_with(alloc: Global, text: &[u8], run: Played) -> Result<Output, NoMemory
     Ok(whole)
 }
 
+/// The page of a run, from a tree in which its roots are granted. Errors: those of `Played::of`; `NoMemory`.
+fn page_played(
+    alloc: Global,
+    tree: ListTree,
+    calls: &[CallWords],
+    came_to: &Report<SlabTree>,
+    actors: u32,
+    closes: Closes,
+) -> Result<Output, PictureFault>
+    ensures ok { IfOk result (λ page. page ≡ page_of
+        (report_text came_to.now.events.events came_to.now.replies.items came_to.now.tree actors)
+        (played_of closes tree calls.now came_to.now.events.events came_to.now.replies.items ∷ [])) }
+    ensures err { IfErr result (λ fault. fault ≢ OutOfRoom → IsPictureFault came_to.now.events.events
+        (drawn_of closes tree calls.now came_to.now.events.events came_to.now.replies.items) fault) }
+{
+    let (events, replies) = (&came_to.events, &came_to.replies);
+    let run = Played::of(alloc, tree, calls, events, replies, closes)?;
+    let mut text = Output::new(alloc);
+    report(alloc, &mut text, came_to, actors)?;
+    Ok(page_with(alloc, text.as_slice(), run)?)
+}
+
 /// The page of a scenario's run. Errors as of a drawing.
 fn page_of(
     alloc: Global,
@@ -114,18 +139,13 @@ fn page_of(
     ensures shown { MatchResult result (IsPageOf closes (said_by scenario)) (IsNoDrawing closes (said_by scenario)) }
     ensures some { IfOk result (λ text. text ≢ []) }
 {
-    grant_roots(alloc, &mut tree, &scenario.plans)?;
     let calls = calls_of(alloc, &scenario.plans)?;
     let actors = scenario.plans.len() as u32;
-    let came_to = report_of(alloc, scenario)?;
-    let (events, replies) = (&came_to.events, &came_to.replies);
-    let run = match Played::of(alloc, tree, &calls, events, replies, closes) {
-        Ok(run) => run,
-        Err(fault) => return Err(told_of(fault)),
-    };
-    let mut text = Output::new(alloc);
-    report(alloc, &mut text, &came_to, actors)?;
-    Ok(page_with(alloc, text.as_slice(), run)?)
+    let came_to = run_of(alloc, scenario, &mut tree)?;
+    match page_played(alloc, tree, &calls, &came_to, actors, closes) {
+        Ok(page) => Ok(page),
+        Err(fault) => Err(told_of(fault)),
+    }
 }
 
 /// Reads a script, runs its world in this order of turns, and writes a page of HTML that needs nothing beside itself:
