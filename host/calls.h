@@ -373,14 +373,13 @@ struct inroot_place_told {
 
 /*
  * What a question was answered: 0 or an error's number. `yes`: the root directory is a mount's; the directory was removed; or the
- * thread has no openat2(2) any more. Of a look-up: the object, what was found, and how many links that has. Of which objects they
- * are: the object, and the root in the place of what was found.
+ * thread has no openat2(2) any more. Of a look-up: the object, and what was found. Of which objects they are: the object, and the
+ * root in the place of what was found.
  */
 struct inroot_place_answer {
     uint32_t error;
     bool yes;
     struct inroot_object held, found;
-    uint64_t links;
 };
 
 /* The first question. */

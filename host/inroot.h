@@ -52,8 +52,7 @@
  * call finds that as without it. Without openat2(2) the flag changes nothing. A call may open an object whose entry
  * somebody removes just while the kernel looks it up, as openat2(2) itself may: to the kernel a removed entry is below
  * the directory that had it, and if that was outside meanwhile, the object never was below the root by a name. A call
- * without the flag refuses what the kernel says was removed. It can't see that of a name which ends in ` (deleted)`
- * itself, if the entry got the name without this ending before it was removed: that one it may open, too.
+ * without the flag refuses what the kernel says was removed.
  *
  * INROOT_TRUST_PROC is of inroot_jail_with() and inroot_root_open(), INROOT_ROOT_STAYS of the latter alone.
  * INROOT_NOFOLLOW is also of inroot_open_partial().
@@ -103,8 +102,9 @@
  * The other opens for use, as a FIFO. A file system that lets signals interrupt fstat(2), as one of FUSE may, has a call
  * end by EINTR there as well: it has changed nothing then, but that inroot_mkdir_all() and its kin leave what they made.
  *
- * Without openat2(2) a non-directory whose name ends in ` (deleted)` also gives EAGAIN, at every try: the kernel writes
- * just this behind the path of a removed object.
+ * Of a non-directory whose name ends in ` (deleted)` nobody can say that it wasn't removed: the kernel writes just this
+ * behind the path of a removed object. So a call that opens it or looks at it gives EAGAIN, at every try, but for one with
+ * INROOT_BELOW where there is openat2(2). It is made, renamed and removed as any other.
  *
  * A call follows no link on a mount with nosymfollow (mount(8)): ELOOP. The protection of fs.protected_symlinks
  * (proc_sys_fs(5)) doesn't apply: a call follows a link in a sticky directory that all may write to, whoever made it,
@@ -344,9 +344,9 @@ int inroot_open_partial(int root, const char *path, int flags, char *rest, size_
  * moment of the call.
  *
  * EBADF if FD isn't a descriptor comes behind those of the first errors of every call that are about ROOT; ENOENT if
- * the object was removed; EXDEV if it isn't below ROOT at any of eight questions; ERANGE if the text and its NUL don't
- * fit into SIZE bytes. After an error nothing is written. Of an object with several names the text has the one by which
- * FD was opened.
+ * the object was removed; EXDEV if it isn't below ROOT at any of eight questions, or is a non-directory whose name ends
+ * in ` (deleted)`; ERANGE if the text and its NUL don't fit into SIZE bytes. After an error nothing is written. Of an
+ * object with several names the text has the one by which FD was opened.
  */
 ssize_t inroot_place(int root, int fd, char *path, size_t size);
 

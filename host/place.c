@@ -189,7 +189,6 @@ static void compare(struct search *s)
     }
     s->answer.held = held.object;
     s->answer.found = found.object;
-    s->answer.links = found.links;
 }
 
 /* The names are the end of the object's text. */

@@ -113,6 +113,28 @@ static void opened_alone(void)
     close(root);
 }
 
+/* A file that is called so can't be told from one that is gone. It is made, renamed and removed as any other. */
+static void files_called_so(int root)
+{
+    struct stat about;
+    char place[64];
+    const int below = has_openat2() ? 0 : -EAGAIN;
+    int file = sure(openat(root, "g (deleted)", O_PATH | O_CLOEXEC), "openat");
+    gives(inroot_place(root, file, place, sizeof place), -EXDEV, "the place of a file that is called so");
+    close(file);
+    gives(closed(inroot_open(root, "g (deleted)", INROOT_NO_RETRY)), -EAGAIN, "a file that is called so");
+    gives(closed(inroot_open(root, "d/../g (deleted)", INROOT_NO_RETRY)), -EAGAIN, "the same, by steps");
+    gives(closed(inroot_open(root, "g (deleted)", INROOT_NO_RETRY | INROOT_BELOW)), below, "the same by the last check");
+    gives(closed(inroot_openat(root, "g (deleted)", O_RDONLY, 0, INROOT_NO_RETRY)), -EAGAIN, "the same to be read");
+    gives(closed(inroot_openat(root, "g (deleted)", O_RDONLY, 0, INROOT_NO_RETRY | INROOT_BELOW)), below,
+          "the same to be read, by the last check");
+    gives(inroot_stat(root, "g (deleted)", &about, INROOT_NO_RETRY), -EAGAIN, "the same, looked at");
+    gives(inroot_link(root, "g (deleted)", "h", INROOT_NO_RETRY), -EAGAIN, "a name for the same");
+    gives(inroot_mkfile(root, "i (deleted)", 0600, 0), 0, "a new file that is called so");
+    gives(inroot_rename(root, "i (deleted)", "j (deleted)", 0, 0), 0, "a name that ends so for another");
+    gives(inroot_unlink(root, "j (deleted)", 0), 0, "a file that is called so, removed");
+}
+
 /* Names that end as the kernel writes of what is removed. */
 static void deleted_names(void)
 {
@@ -126,10 +148,7 @@ static void deleted_names(void)
     gives(closed(inroot_open(root, "d/..", 0)), 0, "up to a root that is called so");
     gives(closed(inroot_open(root, "e (deleted)", 0)), 0, "a directory that is called so");
     gives(inroot_mkdir(root, "e (deleted)/x", 0755, 0), 0, "in a directory that is called so");
-    /* Without openat2(2) such a file can't be told from one that is gone. */
-    int wanted = has_openat2() ? 0 : -EAGAIN;
-    gives(closed(inroot_open(root, "g (deleted)", INROOT_NO_RETRY)), wanted, "a file that is called so");
-    gives(closed(inroot_open(root, "d/../g (deleted)", INROOT_NO_RETRY)), wanted, "the same, by steps");
+    files_called_so(root);
     gives(closed(inroot_open(root, "d/../e (deleted)", INROOT_NO_RETRY)), 0, "a directory that is called so, by steps");
     gives(inroot_remove_all(root, "e (deleted)", 0), 2, "a tree that is called so");
     /* A root that is gone is below itself still, and has no names below it. */

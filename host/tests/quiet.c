@@ -60,12 +60,29 @@ static void close_both(int one, int other)
         close(other);
 }
 
-/* For a `.` at the end the kernel searches the directory, which it may have no right to; here the path ends at its name. */
+/* What is no directory, and has a name that ends as the kernel writes of what was removed. */
+static bool is_called_so(int fd, const char *path, size_t length)
+{
+    static const char gone[] = " (deleted)";
+    struct stat about;
+    const size_t end = sizeof gone - 1;
+    return fd >= 0 && length >= end && strcmp(path + length - end, gone) == 0 && fstat(fd, &about) == 0 &&
+           !S_ISDIR(about.st_mode);
+}
+
+/*
+ * For a `.` at the end the kernel searches the directory, which it may have no right to; here the path ends at its name. Nor is
+ * a file known to be there that is called so.
+ */
 static int wanted_of(const char *path)
 {
     char text[PATH_MAX];
     size_t length = strlen(path);
     int fd = by_kernel(path);
+    if (is_called_so(fd, path, length)) {
+        close(fd);
+        return -EAGAIN;
+    }
     if (fd != -EACCES || length < 3 || strcmp(path + length - 2, "/.") != 0)
         return fd;
     snprintf(text, sizeof text, "%.*s", (int)length - 2, path);

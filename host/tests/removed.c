@@ -3,10 +3,8 @@
  * kernel asks where the entry stands. A server of FUSE holds its answers back until that is done: the directory `b` stands in
  * the root as it is looked up, and outside as long as the entry is there. So the object never stood in the root. openat2(2)
  * opens it, and so does a call with INROOT_BELOW; the kernel says of that descriptor that its entry was removed. A call
- * without the flag opens nothing.
- *
- * But a call can't tell a name that ends in ` (deleted)` from what the kernel writes behind the name of what was removed: what
- * had such a name as it was looked up, and another one as it was removed, each call opens (docs/LIMITS.md).
+ * without the flag opens nothing, also if the entry has a name that ends in ` (deleted)` as it is looked up, and the name without
+ * that as it is removed: then the kernel says of the removed entry what it said of the one that stood there.
  *
  * usage: removed DIR. Exits 0 where that holds. 77: no openat2(2) here. 78: no right to mount such a file system, or to change
  * a root.
@@ -414,6 +412,7 @@ static const struct object called_so[] = {
     {.name = "a file called so", .path = "d/b/n (deleted)", .entry = "n (deleted)", .last = "n"},
     {.name = "a directory called so", .path = "d/b/n (deleted)", .entry = "n (deleted)", .last = "n", .is_directory = true},
 };
+enum { CALLED_SO = sizeof called_so / sizeof *called_so };
 
 static const struct way by_last_check[] = {
     {"openat2(2), RESOLVE_BENEATH", BY_KERNEL, RESOLVE_BENEATH},
@@ -441,28 +440,21 @@ static const struct way by_witnesses[] = {
     {"from a directory, name by name", FROM_DIRECTORY, INROOT_ONE_BY_ONE},
 };
 
-/*
- * A directory that was removed, a second look-up doesn't find: such a one comes after the text, but where the whole path was
- * looked up from the root before. In a jail getcwd(2) says that it is gone.
- */
-static void each_called_so(const struct way *way)
-{
-    const bool is_whole = way->place == BY_DESCRIPTOR || way->place == IN_CHROOT || way->place == BY_STAYING_ROOT;
-    opens(way, &called_so[0]);
-    (is_whole && !(way->flags & INROOT_ONE_BY_ONE) ? opens : opens_nothing)(way, &called_so[1]);
-}
-
 static void each(void)
 {
-    for (size_t one = 0; one < sizeof by_last_check / sizeof *by_last_check; one++)
+    for (size_t one = 0; one < sizeof by_last_check / sizeof *by_last_check; one++) {
         for (int what = 0; what < UP; what++)
             opens(&by_last_check[one], &plain[what]);
+        for (int what = 0; what < CALLED_SO; what++)
+            opens(&by_last_check[one], &called_so[what]);
+    }
     for (size_t one = 0; one < sizeof by_witnesses / sizeof *by_witnesses; one++)
         for (int what = 0; what < PLAIN; what++)
             if (by_witnesses[one].place != FROM_DIRECTORY || what != LINKED)
                 opens_nothing(&by_witnesses[one], &plain[what]);
     for (size_t one = 0; one < sizeof by_witnesses / sizeof *by_witnesses; one++)
-        each_called_so(&by_witnesses[one]);
+        for (int what = 0; what < CALLED_SO; what++)
+            opens_nothing(&by_witnesses[one], &called_so[what]);
 }
 
 int main(int count, char **words)

@@ -12,6 +12,8 @@
 #include "slow_kernel.h"
 
 #include <pthread.h>
+#include <sched.h>
+#include <sys/mount.h>
 
 /* The inner q is below the root, and the outer ones are outside: at the same path from the top, and in a directory like the root. */
 static int base, root, inner, outer, other, at;
@@ -47,6 +49,35 @@ static void make_deeper(void)
 static void remove_deeper(void)
 {
     sure(unlinkat(outer, "b/y/f", 0), "b/y/f");
+    move_in();
+}
+
+/*
+ * Of a lower layer of overlayfs, and outside as long as it is there. One that is removed keeps its links; then comes the next. It
+ * may be called as the kernel calls what was removed, and loses that ending before it is.
+ */
+enum { LOWER = 5000 };
+static int lower, removed;
+static char lower_name[16] = "0";
+static const char *brought = "b/c";
+
+static void bring_lower(void)
+{
+    move_out();
+    sure(renameat(lower, lower_name, outer, brought), lower_name);
+}
+
+static void take_lower(void)
+{
+    sure(renameat(outer, brought, lower, lower_name), lower_name);
+    move_in();
+}
+
+static void remove_lower(void)
+{
+    sure(renameat(outer, brought, outer, "b/c"), brought);
+    sure(unlinkat(outer, "b/c", AT_REMOVEDIR), "b/c");
+    snprintf(lower_name, sizeof lower_name, "%d", ++removed);
     move_in();
 }
 
@@ -136,6 +167,23 @@ static int attack_twice(const struct attack *a, opener *open_it)
     return fooled;
 }
 
+/* By four moves, the last two one after another, as within one look-up. */
+static int attack_within(const struct attack *a, opener *open_it)
+{
+    const int near = 16;
+    int fooled = is_fooled(a, open_it), last = moment;
+    for (int first = 1; first <= last; first++)
+        for (int rest = 0; rest < near * near; rest++) {
+            moments[0] = first;
+            moments[1] = first + 1 + rest % near;
+            moments[2] = moments[1] + 1 + rest / near;
+            moments[3] = moments[2] + 1;
+            count_of_moments = 4;
+            fooled += is_fooled(a, open_it);
+        }
+    return fooled;
+}
+
 static int open_it(const char *path, int flags)
 {
     return inroot_open(at, path, flags);
@@ -147,6 +195,11 @@ static const struct attack all[] = {
     {"another directory's file", "x/../y/f", {{make_deeper, remove_deeper}, 2}, 0, NULL},
     {"a directory", "c", {{make_outside, remove_outside}, 2}, 0, NULL},
     {"another file", "g", {{exchange_outside, exchange_back}, 2}, 0, &of_g},
+};
+#define LOWER_MOVES {{bring_lower, take_lower, bring_lower, remove_lower}, 4}
+static const struct attack layered[] = {
+    {"a directory of a lower layer", "c", LOWER_MOVES, 0, NULL},
+    {"the same, called so", "c (deleted)", LOWER_MOVES, 0, NULL},
 };
 /* The root is renamed while what was moved out is asked for. */
 static const struct attack beside_renames = {
@@ -197,11 +250,16 @@ static void in_no_jail(void)
     each("by a descriptor, where /proc lies");
 }
 
-static void in_chroot(void)
+static void enter_root(void)
 {
     if (fchdir(root) != 0 || chroot(".") != 0)
         _exit(NO_RIGHT);
     at = root;
+}
+
+static void in_chroot(void)
+{
+    enter_root();
     each("by a descriptor, in a chroot");
     each_twice("by a descriptor, in a chroot");
 }
@@ -271,7 +329,7 @@ static void be_led_out(void)
     }
 }
 
-/* ---- */
+/* ---- what they act on */
 
 /* Directories one in another, the last of which is `q`: a descriptor of it. */
 static int make_all(const char *top)
@@ -309,22 +367,56 @@ static void make_twins(void)
     snprintf(below, sizeof below, "%s/q/b", where + 1);
 }
 
+static void begin_here(void)
+{
+    base = sure(open(where, O_PATH | O_DIRECTORY | O_CLOEXEC), where);
+    make_twins();
+}
+
+/* The same on overlayfs, whose lower layer has what comes from outside. */
+static void on_layers(void)
+{
+    char path[2 * PATH_MAX], options[4 * PATH_MAX];
+    static const char *const dirs[] = {"lower", "lower/p", "upper", "work", "merged"};
+    for (size_t one = 0; one < sizeof dirs / sizeof *dirs; one++)
+        sure(mkdirat(base, dirs[one], 0755), dirs[one]);
+    for (int one = 0; one < LOWER; one++) {
+        snprintf(path, sizeof path, "lower/p/%d", one);
+        sure(mkdirat(base, path, 0755), path);
+    }
+    snprintf(options, sizeof options, "lowerdir=%s/lower,upperdir=%s/upper,workdir=%s/work,redirect_dir=on", where, where,
+             where);
+    strcat(where, "/merged");
+    if (unshare(CLONE_NEWNS) != 0 || mount(NULL, "/", NULL, MS_REC | MS_PRIVATE, NULL) != 0 ||
+        mount("overlay", where, "overlay", 0, options) != 0)
+        _exit(NO_RIGHT);
+    begin_here();
+    lower = sure(openat(base, "p", O_PATH | O_DIRECTORY | O_CLOEXEC), "p");
+    enter_root();
+    for (int one = 0; one < 2; one++) {
+        const int before = removed;
+        brought = one == 0 ? "b/c" : "b/c (deleted)";
+        attack_by("by a descriptor, in a chroot, on overlayfs", &layered[one], INROOT_ONE_BY_ONE, "", attack_within);
+        gives_least(removed - before, 100, "%s: how many were removed", layered[one].name);
+    }
+}
+
 int main(int count, char **words)
 {
     struct open_how how = {.flags = O_PATH | O_CLOEXEC};
     if (count != 2 || realpath(words[1], where) == NULL)
         return 2;
-    base = sure(open(where, O_PATH | O_DIRECTORY | O_CLOEXEC), where);
     proc = sure(open("/proc", O_PATH | O_DIRECTORY | O_CLOEXEC), "/proc");
-    if (__real_syscall(SYS_openat2, base, ".", &how, sizeof how) < 0)
+    if (__real_syscall(SYS_openat2, proc, ".", &how, sizeof how) < 0)
         return NO_OPENAT2;
-    make_twins();
+    begin_here();
     open_proc();
     apart(be_led_out);
     apart(in_no_jail);
     int skipped = apart(in_chroot);
     apart(in_jail);
     apart(in_trusting_jail);
+    skipped |= apart(on_layers);
     printf("twins: %d not as they are to be\n", wrong);
     return wrong != 0 ? 1 : skipped;
 }

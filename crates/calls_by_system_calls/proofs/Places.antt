@@ -31,7 +31,7 @@ pub asked_places_stood : PlacesStood → AskedPlacesStood
 asked_places_stood stood x m calls top node answer linux within asked =
     let w = place_world x m top node asked.passed asked.root asked.object in
     let found = stood w asked.facts asked.kept asked.exchanges asked.place asked.is_root
-    (stays_gone x m top node asked.passed asked.root asked.object within) asked.says asked.texts asked.is asked.not_deleted in
+    (stays_gone x m top node asked.passed asked.root asked.object within) asked.says asked.texts asked.is in
     let before : found.0 < calls = omega (arith, found.1, asked.all) in
     let s = state_at x (m + suc found.0) in
     record {
@@ -39,5 +39,5 @@ asked_places_stood stood x m calls top node answer linux within asked =
       by = omega (arith, before);
       stood = asked.tells ∙ sym (⊎_elim
           (λ is. shown s (names_below s.nodes top node) (names_read asked.place) asked.names asked.reads is)
-          (λ gone. absurd (false≢true (sym (asked.seen gone.0 found.0 before) ∙ gone.1))) found.2);
+          (λ gone. absurd (false≢true (sym (asked.seen gone.0 found.0 before) ∙ gone.2))) found.2);
     }

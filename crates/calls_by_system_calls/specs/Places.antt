@@ -6,7 +6,6 @@ use Rattle.path_text.specs.Print.{names_read}
 use Rattle.tree_model.specs.declared.answer.Answer.{Answer}
 use Rattle.tree_model.specs.declared.answer.Answer.TheVariants.{Names}
 use Rattle.tree_model.specs.State.{State, is_gone, names_below}
-use Rattle.kernel_text.specs.Place.{ends_as_gone}
 use Rattle.place_protocol.specs.Conversation.{Conversation, Exchange, StandsAt}
 use Rattle.place_protocol.specs.Moments.{AreAnswers, ReadsLink, TextsTell, World}
 use Rattle.place_protocol.specs.declared.questions.Facts.{Facts}
@@ -27,13 +26,14 @@ abbrev pub place_world : Linux → ℕ → ℕ → ℕ → (ℕ → List ℕ →
 place_world x m top node passed root object = record {
   stands = λ n place. stands_at (state_at x (m + suc n)) top node place;
   gone = λ n. is_gone (state_at x (m + suc n)).nodes node;
+  before = is_gone (state_at x m).nodes node;
   passed = passed;
   root = root;
   object = object;
 }
 
--- A place was told, that isn't called deleted, and its names are the answer. `places_stood` has an exception: it is
--- supposed not to be met, so what the kernel had seen below the root right before isn't removed.
+-- A place was told, and its names are the answer. `places_stood` has an exception: it is supposed not to be met, so what
+-- the kernel had seen below the root right before isn't removed.
 pub record PlaceIsAsked (x : Linux) (m calls top node : ℕ) (answer : Answer) : Type 0 where
   pub facts : Facts
   pub kept : List ℕ
@@ -47,7 +47,6 @@ pub record PlaceIsAsked (x : Linux) (m calls top node : ℕ) (answer : Answer) :
   pub all : length exchanges ≡ calls
   pub says : AreAnswers (place_world x m top node passed root object) facts 0 exchanges
   pub texts : ReadsLink exchanges → TextsTell (place_world x m top node passed root object) facts kept
-  pub not_deleted : ends_as_gone place ≡ false
   pub seen : facts.seen ≡ true → (n : ℕ) → n < calls → is_gone (state_at x (m + suc n)).nodes node ≡ false
   pub names : List (List ℕ)
   pub reads : names_read place ≡ Some names

@@ -32,7 +32,6 @@ const FINE: Answer = Answer {
     yes: false,
     held: OBJECT,
     found: OBJECT,
-    links: 2,
 };
 
 const YES: Answer = Answer { yes: true, ..FINE };
@@ -78,9 +77,31 @@ const ROOT: Exchange = (5, FINE, "/srv/root");
 
 const TEXT: Exchange = (6, FINE, "/srv/root/a/b");
 
+const FOUND: Exchange = (9, FINE, "");
+
+const LINK: Exchange = (10, FINE, "/srv/root/a/b");
+
+const REMOVED: Exchange = (10, FINE, "/srv/root/a/b (deleted)");
+
 #[test]
-fn both_witnesses_tell_a_directory(rt: HostRuntime) -> Result<(), Fail> {
-    assert!(rt; stands(end_of(FACTS, "", &[ROOT, TEXT, (9, FINE, "")]), 9, 4, false));
+fn both_witnesses_tell_a_place(rt: HostRuntime) -> Result<(), Fail> {
+    let file = Facts {
+        directory: false,
+        ..FACTS
+    };
+    for facts in &[FACTS, file] {
+        let facts = *facts;
+        assert!(rt; stands(end_of(facts, "", &[ROOT, TEXT, FOUND, LINK]), 9, 4, false));
+        assert!(rt; end_of(facts, "", &[ROOT, TEXT, FOUND]).what == 10);
+        // It was removed as it was looked up.
+        assert!(rt; is_unmade(end_of(facts, "", &[ROOT, TEXT, FOUND, REMOVED]), 11));
+        assert!(rt;
+            is_unmade(
+                end_of(facts, "", &[ROOT, TEXT, FOUND, (10, fails(13), "")]),
+                13
+            )
+        );
+    }
     assert!(rt;
         stands(
             end_of(FACTS, "", &[ROOT, (6, FINE, "/srv/root"), (9, FINE, "")]),
@@ -117,47 +138,70 @@ fn another_object_is_none(rt: HostRuntime) -> Result<(), Fail> {
     Ok(())
 }
 
+// A place that ends as that of what was removed: a directory is asked itself, and of anything else nobody knows.
 #[test]
-fn what_has_links_elsewhere_is_asked_once_more(rt: HostRuntime) -> Result<(), Fail> {
+fn what_is_called_deleted_may_have_such_a_name(rt: HostRuntime) -> Result<(), Fail> {
+    let gone = (6, FINE, "/srv/root/a (deleted)");
     let file = Facts {
         directory: false,
         ..FACTS
     };
-    let gone = Answer { links: 0, ..FINE };
+    let seen = Facts {
+        seen: true,
+        ..FACTS
+    };
+    let seen_file = Facts { seen: true, ..file };
     assert!(rt;
         stands(
-            end_of(
-                file,
-                "",
-                &[ROOT, TEXT, (9, FINE, ""), (10, FINE, "/srv/root/a/b")]
-            ),
+            end_of(FACTS, "", &[ROOT, gone, FOUND, (11, FINE, "")]),
             9,
-            4,
+            12,
             false
         )
     );
+    assert!(rt; is_unmade(end_of(FACTS, "", &[ROOT, gone, FOUND, (11, YES, "")]), 11));
+    assert!(rt; is_unmade(end_of(file, "", &[ROOT, gone, FOUND]), 11));
     assert!(rt;
-        is_unmade(
-            end_of(
-                file,
-                "",
-                &[
-                    ROOT,
-                    TEXT,
-                    (9, FINE, ""),
-                    (10, FINE, "/srv/root/a/b (deleted)")
-                ]
-            ),
-            11
+        stands(
+            end_of(seen, "", &[ROOT, gone, (11, FINE, "")]),
+            9,
+            12,
+            false
         )
     );
+    assert!(rt; is_unmade(end_of(seen, "", &[ROOT, gone, (11, YES, "")]), 11));
+    assert!(rt; is_unmade(end_of(seen_file, "", &[ROOT, gone]), 11));
+    let kept = Facts {
+        kept: true,
+        ..seen_file
+    };
+    let by_kept = (4, FINE, "/srv/root/a (deleted)");
+    assert!(rt; is_unmade(end_of(kept, "/srv/root", &[by_kept]), 11));
+    let jailed = Facts {
+        jailed: true,
+        ..seen_file
+    };
+    assert!(rt; is_unmade(end_of(jailed, "", &[(6, FINE, "/a (deleted)")]), 11));
+    // getcwd(2) fails of what was removed: it calls nothing so.
+    let cwd = (2, FINE, "/a (deleted)\0");
     assert!(rt;
-        is_unmade(
-            end_of(file, "", &[ROOT, TEXT, (9, FINE, ""), (10, fails(13), "")]),
-            13
+        stands(
+            end_of(JAIL, "", &[(1, FINE, ""), cwd, (3, fails(34), "")]),
+            0,
+            12,
+            false
         )
     );
-    assert!(rt; end_of(FACTS, "", &[ROOT, TEXT, (9, gone, "")]).what == 10);
+    // The root's own name isn't a place's.
+    let root = (5, FINE, "/srv/r (deleted)");
+    assert!(rt;
+        stands(
+            end_of(FACTS, "", &[root, (6, FINE, "/srv/r (deleted)"), FOUND]),
+            0,
+            1,
+            true
+        )
+    );
     Ok(())
 }
 
@@ -247,14 +291,13 @@ fn a_text_alone_is_read_between_two(rt: HostRuntime) -> Result<(), Fail> {
 // It was removed once the kernel had looked whether it was, and its directory was moved below the root after that.
 #[test]
 fn what_was_removed_as_its_text_was_read_is_none(rt: HostRuntime) -> Result<(), Fail> {
-    let removed = (10, FINE, "/srv/root/a/b (deleted)");
     for facts in &[ALONE, FILE_ALONE] {
         let facts = *facts;
         let begun = [ROOT, TEXT, (7, YES, ""), AGAIN];
         assert!(rt; end_of(facts, "", &begun).what == 10);
         assert!(rt;
             is_unmade(
-                end_of(facts, "", &[ROOT, TEXT, (7, YES, ""), AGAIN, removed]),
+                end_of(facts, "", &[ROOT, TEXT, (7, YES, ""), AGAIN, REMOVED]),
                 11
             )
         );
@@ -484,7 +527,11 @@ fn what_may_not_be_searched_goes_by_its_link(rt: HostRuntime) -> Result<(), Fail
     let text = (6, FINE, "/a/b");
     assert!(rt;
         stands(
-            end_of(JAIL, "", &[(1, fails(13), ""), text, (9, FINE, "")]),
+            end_of(
+                JAIL,
+                "",
+                &[(1, fails(13), ""), text, FOUND, (10, FINE, "/a/b")]
+            ),
             0,
             4,
             false

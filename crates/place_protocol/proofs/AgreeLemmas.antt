@@ -10,7 +10,7 @@ use Rattle.kernel_text.specs.declared.place.Place.{Place}
 use Rattle.system_calls.specs.Objects.{is_same_object}
 use Rattle.place_protocol.specs.Conversation.{Conversation, Exchange, Goes, StandsAt, keep}
 use Rattle.place_protocol.specs.Texts.{Texts, Finds, bytes_of, path_of_root, place_before, place_of, texts_of}
-use Rattle.place_protocol.specs.Turns.{after_cwd, after_cwd_again, after_found, after_is_root, after_link_again, after_look_up, after_object, after_root_again, confirm, confirm_alone, confirm_place, first_link, has_found, has_path, in_jail, is_root, link_error, look_up_error, without_second, EAGAIN, ENAMETOOLONG}
+use Rattle.place_protocol.specs.Turns.{after_cwd, after_cwd_again, after_found, after_is_root, after_link_again, after_look_up, after_object, after_root_again, ask_there, confirm, confirm_alone, confirm_place, facts_after, first_link, has_found, has_path, in_jail, is_root, link_error, look_up_error, without_second, EAGAIN, ENAMETOOLONG}
 use Rattle.place_protocol.specs.Witness.{AgreeingWitnessesAreTold, FindsObject, FindsRoot, Worked, is_top}
 use Rattle.place_protocol.specs.declared.questions.Answer.{Answer}
 use Rattle.place_protocol.specs.declared.questions.Facts.{Facts}
@@ -54,15 +54,16 @@ object_turn facts error at none second seen =
     cond-false (not (error == 0)) (Unmade error) _ (zero_error error none)
     ∙ (cond-true (facts.jailed || facts.second) (confirm_place facts at) (Ask OwnRoot) (or_second facts.jailed facts.second second)
     ∙ (cond-false (not facts.second) (confirm_alone facts at) _ (ap not second)
-    ∙ cond-false (facts.seen && not (is_root at)) (Stands at false) (Look at) (ap (λ s. s && not (is_root at)) seen)))
+    ∙ cond-true (not facts.seen || is_root at) (Look at) _ (ap (λ s. not s || is_root at) seen)))
 
 found_turn : (facts : Facts) (a : Answer) (at : Place) → a.yes ≡ false → a.error ≡ 0
-    → is_same_object a.held a.found (is_root at) ≡ true → facts.directory ≡ true → 0 < a.links
-    → after_look_up facts a (Some at) ≡ Stands at (is_root at)
-found_turn facts a at had none same directory links =
+    → is_same_object a.held a.found (is_root at) ≡ true → is_root at ≡ false → at.gone ≡ false
+    → after_look_up facts a (Some at) ≡ Ask LinkAgain
+found_turn facts a at had none same top there =
     cond-false a.yes (Ask (first_link (without_second facts))) (after_found facts a at) had
     ∙ (cond-false (not (has_found a at)) (Unmade (look_up_error a.error)) _ (ap not (both_true (eq-eqb a.error 0 none) same))
-    ∙ cond-true (facts.directory && nat_lt 0 a.links) (Stands at (is_root at)) (Ask LinkAgain) (both_true directory (lt-ltb 0 a.links links)))
+    ∙ (cond-false (is_root at) (Stands at true) (ask_there facts at) top
+    ∙ cond-true (not at.gone) (Ask LinkAgain) _ (ap not there)))
 
 cwd_turn : (facts : Facts) (error : ℕ) (found : Option Place) → error ≡ 0 → facts.seen ≡ false → after_cwd facts error found ≡ Ask CwdAgain
 cwd_turn facts error found none seen =
@@ -82,52 +83,91 @@ ended : (place : List ℕ) (t : Texts) (next : Turn) (at : Place) → next ≡ S
 ended place t next at e part h =
     subst (λ (n : Turn). Else place t n) e h (part, ap (λ n. n == 1) (sym (part_size t.text place at.start at.length part)))
 
--- both witnesses
-look_tells : (facts : Facts) (place : List ℕ) (t : Texts) (next : Turn) (at : Place) (look : Exchange) → place_of facts t ≡ Some place
-    → facts.directory ≡ true → FindsObject place look → look.answer.yes ≡ false → 0 < look.answer.links → next ≡ Look at
-    → Goes facts t next (look ∷ []) (Else place) → ⊥
-look_tells facts place t next at look told directory finds had links is h =
-    let g = subst (λ (n : Turn). Goes facts t n (look ∷ []) (Else place)) is h in
-    let a = answered LookUp facts t look [] (Else place) g.0.0 g.1 in
+-- the object's link again
+named_turn : (error : ℕ) (again text : List ℕ) (at : Place) → error ≡ 0 → is_named again (bytes_of text at) ≡ true
+    → after_link_again error again text (Some at) ≡ Stands at (is_root at)
+named_turn error again text at none named =
+    cond-false (not (error == 0)) (Unmade error) _ (zero_error error none)
+    ∙ cond-true (is_named again (bytes_of text at)) (Stands at (is_root at)) (Unmade EAGAIN) named
+
+abbrev IsNamed : List ℕ → Exchange → Type 0
+IsNamed place link = Worked LinkAgain link × (length link.text ≤ TEXT_MAX) × (is_named link.text place ≡ true)
+
+named_tells : (facts : Facts) (place : List ℕ) (t : Texts) (next : Turn) (link : Exchange) → place_of facts t ≡ Some place
+    → IsNamed place link → next ≡ Ask LinkAgain → Goes facts t next (link ∷ []) (Else place) → ⊥
+named_tells facts place t next link told named is h =
+    let g = subst (λ (n : Turn). Goes facts t n (link ∷ []) (Else place)) is h in
+    let a = answered LinkAgain facts t link [] (Else place) named.0.0 g.1 in
+    let t' = keep LinkAgain link.text t in
+    let f = found_there t'.text (place_before facts t') a.1.0 place a.1.1 (told_before facts t place told) in
+    let fine = link_fine link.answer.error link.text named.0.1 named.1 in
+    let its : is_named link.text (bytes_of t.text f.0) ≡ true =
+    subst (λ (p : List ℕ). is_named link.text p ≡ true) (sym f.2.bytes) named.2 in
+    let e : a.0 ≡ Stands f.0 (is_root f.0) =
+    a.1.2 ∙ (ap (after_link_again (link_error link.answer.error link.text) link.text t.text) f.1
+    ∙ named_turn (link_error link.answer.error link.text) link.text t.text f.0 fine its) in
+    ended place t' a.0 f.0 e f.2 a.2
+
+-- both witnesses, of any place but the root's own that isn't called deleted
+abbrev IsFound : List ℕ → Exchange → Type 0
+IsFound place look =
+    FindsObject place look × (look.answer.yes ≡ false) × (is_top place ≡ false) × (ends_as_gone place ≡ false)
+
+look_tells : (facts : Facts) (place : List ℕ) (t : Texts) (next : Turn) (at : Place) (look link : Exchange)
+    → place_of facts t ≡ Some place → IsFound place look → IsNamed place link → next ≡ Look at
+    → Goes facts t next (look ∷ link ∷ []) (Else place) → ⊥
+look_tells facts place t next at look link told found named is h =
+    let g = subst (λ (n : Turn). Goes facts t n (look ∷ link ∷ []) (Else place)) is h in
+    let a = answered LookUp facts t look (link ∷ []) (Else place) g.0.0 g.1 in
     let f = found_there t.text (place_of facts t) a.1.0 place a.1.1 told in
     let size = part_size t.text place f.0.start f.0.length f.2 in
-    let same = subst (λ (n : ℕ). is_same_object look.answer.held look.answer.found (n == 1) ≡ true) size finds.2 in
-    let e : a.0 ≡ Stands f.0 (is_root f.0) =
-    a.1.2 ∙ (ap (after_look_up facts look.answer) f.1 ∙ found_turn facts look.answer f.0 had finds.0.1 same directory links) in
-    ended place t a.0 f.0 e f.2 a.2
+    let same = subst (λ (n : ℕ). is_same_object look.answer.held look.answer.found (n == 1) ≡ true) size found.0.2 in
+    let own : is_root f.0 ≡ false = sym (ap (λ n. n == 1) size) ∙ found.2 in
+    let e : a.0 ≡ Ask LinkAgain =
+    a.1.2 ∙ (ap (after_look_up facts look.answer) f.1
+    ∙ found_turn facts look.answer f.0 found.1 found.0.0.1 same own (f.3 ∙ found.3)) in
+    let had : facts_after facts LookUp look.answer ≡ facts =
+    cond-false look.answer.yes (without_second facts) facts found.1 in
+    named_tells facts place t a.0 link told named e
+    (subst (λ (x : Facts). Goes x t a.0 (link ∷ []) (Else place)) had a.2)
 
-object_tells : (facts : Facts) (place : List ℕ) (t : Texts) (next : Turn) (object look : Exchange)
-    → facts.jailed ≡ false → facts.second ≡ true → facts.seen ≡ false → facts.directory ≡ true
+object_tells : (facts : Facts) (place : List ℕ) (t : Texts) (next : Turn) (object look link : Exchange)
+    → facts.jailed ≡ false → facts.second ≡ true → facts.seen ≡ false
     → Worked ObjectLink object → place_between t.root object.text t.root ≡ Some place
-    → FindsObject place look → look.answer.yes ≡ false → 0 < look.answer.links → next ≡ Ask ObjectLink
-    → Goes facts t next (object ∷ look ∷ []) (Else place) → ⊥
-object_tells facts place t next object look jailed second seen directory worked told finds had links is h =
-    let g = subst (λ (n : Turn). Goes facts t n (object ∷ look ∷ []) (Else place)) is h in
-    let a = answered ObjectLink facts t object (look ∷ []) (Else place) worked.0 g.1 in
+    → IsFound place look → IsNamed place link → next ≡ Ask ObjectLink
+    → Goes facts t next (object ∷ look ∷ link ∷ []) (Else place) → ⊥
+object_tells facts place t next object look link jailed second seen worked told found named is h =
+    let g = subst (λ (n : Turn). Goes facts t n (object ∷ look ∷ link ∷ []) (Else place)) is h in
+    let a = answered ObjectLink facts t object (look ∷ link ∷ []) (Else place) worked.0 g.1 in
     let t' = keep ObjectLink object.text t in
     let root : path_of_root facts t.root ≡ t.root = cond-false facts.jailed (SLASH ∷ []) t.root jailed in
     let below : place_between (path_of_root facts t.root) object.text (path_of_root facts t.root) ≡ Some place =
     ap (λ r. place_between r object.text r) root ∙ told in
     let here = place_with_second facts t' place second below in
     let f = found_there object.text (place_of facts t') a.1.0 place a.1.1 here in
+    let error = link_error object.answer.error object.text in
     let fine = link_fine object.answer.error object.text worked.1 (short t.root object.text t.root place told) in
     let e : a.0 ≡ Look f.0 =
-    a.1.2 ∙ (ap (after_object facts (link_error object.answer.error object.text)) f.1 ∙ object_turn facts (link_error object.answer.error object.text) f.0 fine second seen) in
-    look_tells facts place t' a.0 f.0 look here directory finds had links e a.2
+    a.1.2 ∙ (ap (after_object facts error) f.1 ∙ object_turn facts error f.0 fine second seen) in
+    look_tells facts place t' a.0 f.0 look link here found named e a.2
 
-root_tells : (facts : Facts) (kept place : List ℕ) (root object look : Exchange)
-    → facts.jailed ≡ false → facts.second ≡ true → facts.seen ≡ false → facts.kept ≡ false → facts.directory ≡ true
+root_tells : (facts : Facts) (kept place : List ℕ) (root object look link : Exchange)
+    → facts.jailed ≡ false → facts.second ≡ true → facts.seen ≡ false → facts.kept ≡ false
+    → is_top place ≡ false → ends_as_gone place ≡ false
     → Worked RootLink root → length root.text ≤ TEXT_MAX → Worked ObjectLink object
     → place_between root.text object.text root.text ≡ Some place
-    → FindsObject place look → look.answer.yes ≡ false → 0 < look.answer.links
-    → Conversation facts kept (root ∷ object ∷ look ∷ []) (Else place) → ⊥
-root_tells facts kept place root object look jailed second seen keeps directory worked size object_worked told finds had links h =
+    → FindsObject place look → look.answer.yes ≡ false
+    → Worked LinkAgain link → length link.text ≤ TEXT_MAX → is_named link.text place ≡ true
+    → Conversation facts kept (root ∷ object ∷ look ∷ link ∷ []) (Else place) → ⊥
+root_tells facts kept place root object look link jailed second seen keeps top there worked size object_worked told finds had
+    link_worked link_size named h =
     let t = texts_of kept [] [] in
-    let a = answered RootLink facts t root (object ∷ look ∷ []) (Else place) worked.0 h.1 in
+    let a = answered RootLink facts t root (object ∷ look ∷ link ∷ []) (Else place) worked.0 h.1 in
     let fine = link_fine root.answer.error root.text worked.1 size in
     let e : a.0 ≡ Ask ObjectLink =
     a.1 ∙ cond-true (link_error root.answer.error root.text == 0) (Ask ObjectLink) _ (eq-eqb (link_error root.answer.error root.text) 0 fine) in
-    object_tells facts place (keep RootLink root.text t) a.0 object look jailed second seen directory object_worked told finds had links e a.2
+    object_tells facts place (keep RootLink root.text t) a.0 object look link jailed second seen object_worked told
+    (finds, had, top, there) (link_worked, link_size, named) e a.2
 
 -- getcwd(2)
 again_tells : (facts : Facts) (place : List ℕ) (t : Texts) (next : Turn) (again : Exchange) → place_of_cwd t.text ≡ Some place
@@ -189,27 +229,11 @@ link_turn : (facts : Facts) (at : Place) → is_root at ≡ false → at.gone �
 link_turn facts at top there =
     cond-false (is_root at) _ _ top ∙ cond-true (not at.gone) (Ask LinkAgain) _ (ap not there)
 
-named_turn : (error : ℕ) (again text : List ℕ) (at : Place) → error ≡ 0 → is_named again (bytes_of text at) ≡ true
-    → after_link_again error again text (Some at) ≡ Stands at (is_root at)
-named_turn error again text at none named =
-    cond-false (not (error == 0)) (Unmade error) _ (zero_error error none)
-    ∙ cond-true (is_named again (bytes_of text at)) (Stands at (is_root at)) (Unmade EAGAIN) named
-
 link_tells : (facts : Facts) (place : List ℕ) (link : Exchange) → is_top place ≡ false → ends_as_gone place ≡ false
-    → Worked LinkAgain link → length link.text ≤ TEXT_MAX → is_named link.text place ≡ true → LastTells facts place link
-link_tells facts place link top there worked size named t next at told part gone is h =
+    → IsNamed place link → LastTells facts place link
+link_tells facts place link top there named t next at told part gone is h =
     let own : is_root at ≡ false = sym (ap (λ n. n == 1) (part_size t.text place at.start at.length part)) ∙ top in
-    let g = subst (λ (n : Turn). Goes facts t n (link ∷ []) (Else place)) (is ∙ link_turn facts at own (gone ∙ there)) h in
-    let a = answered LinkAgain facts t link [] (Else place) worked.0 g.1 in
-    let t' = keep LinkAgain link.text t in
-    let f = found_there t'.text (place_before facts t') a.1.0 place a.1.1 (told_before facts t place told) in
-    let fine = link_fine link.answer.error link.text worked.1 size in
-    let its : is_named link.text (bytes_of t.text f.0) ≡ true =
-    subst (λ (p : List ℕ). is_named link.text p ≡ true) (sym f.2.bytes) named in
-    let e : a.0 ≡ Stands f.0 (is_root f.0) =
-    a.1.2 ∙ (ap (after_link_again (link_error link.answer.error link.text) link.text t.text) f.1
-    ∙ named_turn (link_error link.answer.error link.text) link.text t.text f.0 fine its) in
-    ended place t' a.0 f.0 e f.2 a.2
+    named_tells facts place t next link told named (is ∙ link_turn facts at own (gone ∙ there)) h
 
 root_again_tells : (facts : Facts) (place : List ℕ) (t : Texts) (next : Turn) (again last : Exchange)
     → facts.jailed ≡ false → facts.second ≡ false → Worked RootAgain again → length again.text ≤ TEXT_MAX
@@ -278,5 +302,5 @@ agreeing-witnesses-are-told = (
   (λ facts kept place root object own again link jailed second top there read size object_read q yes worked again_size told
       link_read link_size named.
       alone_tells facts kept place root object own again link jailed second read size object_read q yes worked again_size told
-      (link_tells facts place link top there link_read link_size named)),
+      (link_tells facts place link top there (link_read, link_size, named))),
 )

@@ -7,8 +7,8 @@ use Rattle.kernel_text.specs.declared.place.Place.{Place}
 use Rattle.system_calls.specs.Objects.{is_same_object}
 use Rattle.place_protocol.specs.Conversation.{Comes, Exchange, StandsAt, keep}
 use Rattle.place_protocol.specs.Texts.{Texts, Finds, bytes_of, place_before, place_of}
-use Rattle.place_protocol.specs.Turns.{after_dead, after_is_root, after_link_again, after_object, after_root_again, confirm, confirm_alone, is_root, link_error, look_up_error, EAGAIN, EOPNOTSUPP}
-use Rattle.place_protocol.specs.Witness.{FindsRoot, IsThere, NamedAgain, RootStayed, TextTells, Worked, is_top}
+use Rattle.place_protocol.specs.Turns.{after_dead, after_is_root, after_link_again, after_object, after_root_again, ask_there, confirm, confirm_alone, is_root, link_error, look_up_error, EAGAIN, EOPNOTSUPP}
+use Rattle.place_protocol.specs.Witness.{FindsRoot, IsAlive, IsThere, NamedAgain, RootStayed, TextTells, Worked, is_top}
 use Rattle.place_protocol.specs.declared.questions.Facts.{Facts}
 use Rattle.place_protocol.specs.declared.questions.Question.TheVariants.{RootLink, ObjectLink, OwnRoot, RootAgain, LinkAgain, Dead, IsRoot}
 use Rattle.place_protocol.specs.declared.turns.Turn.TheVariants.{Ask, Stands, Unmade}
@@ -67,6 +67,28 @@ same_place place facts t found finds before =
     let told = p.1 ∙ same in
     (told, (found_part t.text (place_of facts t) found place finds told).1)
 
+-- ---- whether it was gone
+
+-- of a place that ends as that of what was removed
+pub alive : (place : List ℕ) (r : Bool) (facts : Facts) (t : Texts) (es : List Exchange) (found : Place)
+    → found.gone ≡ true → Finds t.text (place_of facts t) (Some found) → Ends place r facts t (ask_there facts found) es
+    → IsAlive facts place es × (place_of facts t ≡ Some place)
+alive place r facts t es found is finds h =
+    let g = not_so place r facts t (not found.gone) (Ask LinkAgain) _ es (ap not is) h in
+    let n = if_so place r facts t facts.directory (Ask Dead) EAGAIN es g in
+    let d = dead place r facts t es n.1 in
+    let part = found_part t.text (place_of facts t) found place finds d.1 in
+    ((sym part.1 ∙ is, n.0, d.0), d.1)
+
+pub there : (place : List ℕ) (r : Bool) (facts : Facts) (t : Texts) (es : List Exchange) (found : Place) (gone : Bool)
+    → found.gone ≡ gone → Finds t.text (place_of facts t) (Some found) → Ends place r facts t (ask_there facts found) es
+    → IsThere facts place es × (place_of facts t ≡ Some place)
+there place r facts t es found false is finds h =
+    let a = link_again place r facts t es (so place r facts t (not found.gone) (Ask LinkAgain) _ es (ap not is) h) in
+    let s = same_place place facts t found finds a.1 in
+    (inl (sym s.1 ∙ is, a.0), s.0)
+there place r facts t es found true is finds h = let a = alive place r facts t es found is finds h in (inr a.0, a.1)
+
 -- ---- whether it is the root itself
 
 itself_of : (place : List ℕ) (r : Bool) (facts : Facts) (t : Texts) (e : Exchange) (es : List Exchange) (found : Option Place)
@@ -112,20 +134,6 @@ as_plain : (There : List Exchange → Type 0) (es : List Exchange) (top : Bool) 
 as_plain There es true e c = absurd (true≢false e)
 as_plain There es false e c = c
 
-alone_gone : (place : List ℕ) (r : Bool) (facts : Facts) (t : Texts) (es : List Exchange) (found : Place) (gone : Bool)
-    → found.gone ≡ gone → Finds t.text (place_of facts t) (Some found)
-    → Ends place r facts t (cond (not gone) (Ask LinkAgain) (cond facts.directory (Ask Dead) (Unmade EAGAIN))) es
-    → IsThere facts place es × (place_of facts t ≡ Some place)
-alone_gone place r facts t es found false is finds h =
-    let a = link_again place r facts t es h in
-    let s = same_place place facts t found finds a.1 in
-    (inl (sym s.1 ∙ is, a.0), s.0)
-alone_gone place r facts t es found true is finds h =
-    let n = if_so place r facts t facts.directory (Ask Dead) EAGAIN es h in
-    let d = dead place r facts t es n.1 in
-    let part = found_part t.text (place_of facts t) found place finds d.1 in
-    (inr (sym part.1 ∙ is, n.0, d.0), d.1)
-
 -- in a jail no place is the root's own
 alone_jailed : (place : List ℕ) (r : Bool) (facts : Facts) (t : Texts) (es : List Exchange) (found : Place)
     → facts.jailed ≡ true → Finds t.text (place_of facts t) (Some found) → Ends place r facts t (confirm_alone facts found) es
@@ -134,7 +142,7 @@ alone_jailed place r facts t es found jailed finds h =
     elim (either place r facts t (is_root found) _ _ es h) [
       | inl c ↦ absurd (unmade place r facts t EAGAIN es (so place r facts t facts.jailed (Unmade EAGAIN) (Ask IsRoot) es jailed c.1))
       | inr c ↦
-          let s = alone_gone place r facts t es found found.gone refl finds c.1 in
+          let s = there place r facts t es found found.gone refl finds c.1 in
           (top_found facts t place found finds s.1 ∙ c.0, s.0, s.1)
     ]
 
@@ -147,7 +155,7 @@ alone_outside place r facts t es found jailed finds h =
           let s = itself place r facts t es (not_so place r facts t facts.jailed (Unmade EAGAIN) (Ask IsRoot) es jailed c.1) in
           (as_top (IsThere facts place) es (is_top place) (top_found facts t place found finds s.1 ∙ c.0) s.0, s.1)
       | inr c ↦
-          let s = alone_gone place r facts t es found found.gone refl finds c.1 in
+          let s = there place r facts t es found found.gone refl finds c.1 in
           (as_plain (IsThere facts place) es (is_top place) (top_found facts t place found finds s.1 ∙ c.0) s.0, s.1)
     ]
 

@@ -1,34 +1,26 @@
 -- Where the thread has openat2(2).
 use Rattle.std.proofs.Common.{◌≡◌, ◌==◌, ◌&&◌, ◌||◌, ℕ, Bool, true, false, not, cond, List, [], ◌∷◌, length, nat_lt, Option, Some, None, refl, sym, ap, subst, ◌∙◌, ◌⊎◌, inl, inr}
-use Rattle.std.proofs.lemmas.Bool.{cond-false, eqb-true, not-false, not-true, ltb-true}
+use Rattle.std.proofs.lemmas.Bool.{cond-false, eqb-true, not-false, true≢false}
 use Rattle.path_text.specs.declared.name.TheConstants.{SLASH}
 use Rattle.kernel_text.specs.Place.{place_between, IsPart}
 use Rattle.kernel_text.specs.declared.place.Place.{Place}
 use Rattle.system_calls.specs.Objects.{is_same_object}
 use Rattle.place_protocol.specs.Conversation.{Comes, Exchange, StandsAt, keep}
 use Rattle.place_protocol.specs.Texts.{Texts, Finds, path_of_root, place_of, texts_of}
-use Rattle.place_protocol.specs.Turns.{after_found, after_look_up, after_object, confirm, confirm_alone, confirm_place, facts_after, first_link, has_found, is_root, link_error, look_up_error, without_second, EAGAIN}
-use Rattle.place_protocol.specs.Witness.{IsThere, NamedAgain, RootStayed, SecondWitness, TextTells, WasThere, Worked, is_top}
+use Rattle.place_protocol.specs.Turns.{after_found, after_look_up, after_object, ask_there, confirm, confirm_alone, confirm_place, facts_after, first_link, has_found, is_root, link_error, look_up_error, without_second, EAGAIN}
+use Rattle.place_protocol.specs.Witness.{IsThere, RootStayed, SecondWitness, TextTells, WasThere, Worked, is_top}
 use Rattle.place_protocol.specs.declared.questions.Facts.{Facts}
 use Rattle.place_protocol.specs.declared.questions.Question.{Question}
-use Rattle.place_protocol.specs.declared.questions.Question.TheVariants.{RootLink, ObjectLink, OwnRoot, LookUp, LinkAgain}
+use Rattle.place_protocol.specs.declared.questions.Question.TheVariants.{RootLink, ObjectLink, OwnRoot, LookUp}
 use Rattle.place_protocol.specs.declared.turns.Turn.{Turn}
 use Rattle.place_protocol.specs.declared.turns.Turn.TheVariants.{Ask, Look, Stands, Unmade}
-use Rattle.place_protocol.proofs.AloneLemmas.{Confirmed, jail_alone, link_again, root_stayed, top_of}
+use Rattle.place_protocol.proofs.AloneLemmas.{Confirmed, alive, jail_alone, root_stayed, there, top_of}
 use Rattle.place_protocol.proofs.GoesLemmas.{Ends, answered, asked, both, either, if_not, if_so, link_worked, no_error, not_so, so, stood, turned, unmade}
 use Rattle.place_protocol.proofs.TextLemmas.{found_part, is_found, or_second, part_size, place_with_second, some_found, told_with_second}
 
 -- the text tells the place below the root's path that was read last
 abbrev pub Told : Facts → Texts → List ℕ → Type 0
 Told facts t place = place_between (path_of_root facts t.root) t.text (path_of_root facts t.root) ≡ Some place
-
--- ---- the link, once more
-
-again : (place : List ℕ) (r : Bool) (facts : Facts) (t : Texts) (es : List Exchange) → facts.second ≡ true
-    → Ends place r facts t (Ask LinkAgain) es → NamedAgain place es × Told facts t place
-again place r facts t es second h =
-    let a = link_again place r facts t es h in
-    (a.0, told_with_second facts (texts_of t.root t.text t.root) place second a.1)
 
 -- ---- the look-up
 
@@ -58,7 +50,7 @@ lost_of place r facts t es false is h = inr (is, root_stayed place r (without_se
 record Seen (facts : Facts) (t : Texts) (place : List ℕ) (e : Exchange) (es : List Exchange) : Type 0 where
   worked : Worked LookUp e
   same : is_same_object e.answer.held e.answer.found (is_top place) ≡ true
-  there : WasThere facts place e es
+  there : (is_top place ≡ true) ⊎ IsThere facts place es
   told : Told facts t place
 
 same_top : (place : List ℕ) (e : Exchange) (found : Place) → length place ≡ found.length
@@ -74,34 +66,37 @@ found_of place r facts t e es found second q finds h =
     let n = if_not place r facts t (not (has_found e.answer found)) _ (look_up_error e.answer.error) es h in
     let b = both (e.answer.error == 0) (is_same_object e.answer.held e.answer.found (is_root found)) (not-false (has_found e.answer found) n.0) in
     let worked = eqb-true e.answer.error 0 b.0 in
-    elim (either place r facts t (facts.directory && nat_lt 0 e.answer.links) (Stands found (is_root found)) (Ask LinkAgain) es n.1) [
+    elim (either place r facts t (is_root found) (Stands found true) (ask_there facts found) es n.1) [
       | inl c ↦
-          let part = stood place r facts t found (is_root found) es c.1 in
+          let part = stood place r facts t found true es c.1 in
           let s = some_found t.text (place_of facts t) found place finds part in
-          let d = both facts.directory (nat_lt 0 e.answer.links) c.0 in
           record {
             worked = (q, worked);
             same = same_top place e found (part_size t.text place found.start found.length part) b.1;
-            there = inl (d.0, ltb-true 0 e.answer.links d.1);
+            there = inl (top_of t.text place found part ∙ c.0);
             told = told_with_second facts t place second s.0;
           }
       | inr c ↦
-          let a = again place r facts t es second c.1 in
-          let p = found_part t.text (place_of facts t) found place finds (place_with_second facts t place second a.1) in
+          let a = there place r facts t es found found.gone refl finds c.1 in
+          let p = found_part t.text (place_of facts t) found place finds a.1 in
           record {
             worked = (q, worked);
             same = same_top place e found (part_size t.text place found.start found.length p.0) b.1;
             there = inr a.0;
-            told = a.1;
+            told = told_with_second facts t place second a.1;
           }
     ]
+
+neither : (x y : Bool) → (x || y) ≡ false → (x ≡ false) × (y ≡ false)
+neither true y e = absurd (true≢false e)
+neither false y e = (refl, e)
 
 -- ---- to what a conversation comes
 
 -- by both witnesses; by the text of what was seen before; or the second one was lost
 pub data Reached (facts : Facts) (place : List ℕ) (Tells : (List Exchange → Type 0) → List Exchange → Type 0) (es : List Exchange) : Type 0 where
   reached_both : Tells (SecondWitness facts place) es → Reached facts place Tells es
-  reached_seen : facts.seen ≡ true → is_top place ≡ false → Tells (λ later. Unit {0}) es → Reached facts place Tells es
+  reached_seen : facts.seen ≡ true → is_top place ≡ false → Tells (WasThere facts place) es → Reached facts place Tells es
   reached_lost : Lost facts place es → Reached facts place Tells es
 
 abbrev pub TellsNow : Facts → Texts → List ℕ → (List Exchange → Type 0) → List Exchange → Type 0
@@ -142,21 +137,32 @@ look place r facts t (e ∷ es) at p second told part h =
     look_of place r facts t e es a.1.0 p second h.0.0 (sym h.0.1.bytes ∙ part.bytes) told a.1.1
     (turned place r (facts_after facts LookUp e.answer) t a.0 _ es a.1.2 a.2)
 
+-- seen before
+by_seen_place : (place : List ℕ) (r : Bool) (facts : Facts) (t : Texts) (es : List Exchange) (found : Place) (gone : Bool)
+    → found.gone ≡ gone → Finds t.text (place_of facts t) (Some found)
+    → Ends place r facts t (cond gone (ask_there facts found) (Stands found false)) es
+    → WasThere facts place es × (place_of facts t ≡ Some place)
+by_seen_place place r facts t es found true is finds h =
+    let a = alive place r facts t es found is finds h in (inr a.0, a.1)
+by_seen_place place r facts t es found false is finds h =
+    let s = some_found t.text (place_of facts t) found place finds (stood place r facts t found false es h) in
+    (inl (sym s.1 ∙ is), s.0)
+
 pub by_place : (place : List ℕ) (r : Bool) (facts : Facts) (t : Texts) (es : List Exchange) (found : Place)
     → facts.second ≡ true → Finds t.text (place_of facts t) (Some found) → Ends place r facts t (confirm_place facts found) es
     → Reached facts place (TellsNow facts t place) es
 by_place place r facts t es found second finds h =
     let n = not_so place r facts t (not facts.second) (confirm_alone facts found) _ es (ap not second) h in
-    elim (either place r facts t (facts.seen && not (is_root found)) (Stands found false) (Look found) es n) [
+    elim (either place r facts t (not facts.seen || is_root found) (Look found) _ es n) [
       | inl c ↦
-          let part = stood place r facts t found false es c.1 in
-          let s = some_found t.text (place_of facts t) found place finds part in
-          let b = both facts.seen (not (is_root found)) c.0 in
-          let top = top_of t.text place found part ∙ not-true (is_root found) b.1 in
-          reached_seen b.0 top (told_with_second facts t place second s.0, tt)
-      | inr c ↦
           let p = is_found t.text (place_of facts t) found finds in
           look place r facts t es found p.0 second (told_with_second facts t p.0 second p.1) p.2 c.1
+      | inr c ↦
+          let s = by_seen_place place r facts t es found found.gone refl finds c.1 in
+          let b = neither (not facts.seen) (is_root found) c.0 in
+          let part = found_part t.text (place_of facts t) found place finds s.1 in
+          let top = top_of t.text place found part.0 ∙ b.1 in
+          reached_seen (not-false facts.seen b.0) top (told_with_second facts t place second s.1, s.0)
     ]
 
 by_found : (place : List ℕ) (r : Bool) (facts : Facts) (t : Texts) (es : List Exchange) (found : Option Place)

@@ -1,6 +1,6 @@
 -- What answers say of the file system.
 use Rattle.std.proofs.Common.{◌≡◌, ◌+◌, ◌<◌, ◌≤◌, ◌==◌, ◌&&◌, ◌||◌, ℕ, Bool, true, false, not, zero, suc, ◌-◌, List, [], ◌∷◌, length, take, drop, nat_lt, Some, None, refl, sym, ap, subst, ◌∙◌, ◌⊎◌, inl, inr, arith}
-use Rattle.std.proofs.lemmas.Bool.{both_ways, cond_both, eqb-true, false≢true, not-false}
+use Rattle.std.proofs.lemmas.Bool.{both_ways, cond_both, eqb-true, false_from_ne_true, false≢true, not-false}
 use Rattle.std.specs.Cmp.Derive.{both_true}
 use Rattle.path_text.specs.declared.name.TheConstants.{SLASH}
 use Rattle.path_text.specs.Name.{same_bytes}
@@ -10,12 +10,12 @@ use Rattle.kernel_text.specs.Place.{behind, ends_as_gone, place_below, place_bet
 use Rattle.place_protocol.specs.Conversation.{Comes, Exchange}
 use Rattle.place_protocol.specs.Moments.{AreAnswers, IsAnswer, PlacesStood, PlacesWerePassed, ReadsLink, StaysGone, TextsTell, World}
 use Rattle.place_protocol.specs.Turns.{has_path}
-use Rattle.place_protocol.specs.Witness.{DirectoryTells, FindsObject, FindsRoot, FirstWitness, below_slash, below_kept, below_link, HasNoSecond, IsThere, IsWitnessed, by_directory, by_both, by_seen, in_old_jail, by_text, root_itself, NamedAgain, RootStayed, SecondWitness, TextTells, WasThere, Worked, is_top}
+use Rattle.place_protocol.specs.Witness.{DirectoryTells, FindsObject, FindsRoot, FirstWitness, below_slash, below_kept, below_link, HasNoSecond, IsAlive, IsThere, IsWitnessed, by_directory, by_both, by_seen, in_old_jail, by_text, root_itself, NamedAgain, RootStayed, SecondWitness, TextTells, WasThere, Worked, is_top}
 use Rattle.place_protocol.specs.declared.questions.Facts.{Facts}
 use Rattle.place_protocol.specs.declared.questions.Question.{Question}
 use Rattle.place_protocol.specs.declared.questions.Question.TheVariants.{CwdAgain, KeptLink, RootLink, ObjectLink, LookUp}
 use Rattle.place_protocol.proofs.GoesLemmas.{both}
-use Rattle.place_protocol.proofs.TextLemmas.{named_there}
+use Rattle.place_protocol.proofs.TextLemmas.{named_there, not_called}
 use Rattle.place_protocol.proofs.WitnessLemmas.{places-are-witnessed}
 
 -- ---- the moment of an exchange
@@ -65,7 +65,12 @@ still_gone w n (suc m) stays gone =
 -- the object stood there by then, or was seen before
 abbrev Stood : World → Facts → List ℕ → ℕ → Type 0
 Stood w facts place end =
-    (n : ℕ) × (n < end) × ((w.stands n place ≡ true) ⊎ ((facts.seen ≡ true) × (w.gone n ≡ true)))
+    (n : ℕ) × (n < end)
+    × ((w.stands n place ≡ true) ⊎ ((facts.seen ≡ true) × (w.before ≡ false) × (w.gone n ≡ true)))
+
+-- it was seen before, and wasn't gone before the first question
+abbrev Seen : World → Facts → Type 0
+Seen w facts = (facts.seen ≡ true) × (w.before ≡ false)
 
 -- it wasn't gone by then, or later
 abbrev There : World → ℕ → Type 0
@@ -79,20 +84,19 @@ not_gone w k stays there gone =
 
 -- names were told of it, and it was seen before or wasn't gone
 settled : (w : World) (facts : Facts) (place : List ℕ) (k end : ℕ) → StaysGone w → k < end
-    → (w.gone k ≡ true) ⊎ (w.stands k place ≡ true) → (facts.seen ≡ true) ⊎ There w k → Stood w facts place end
+    → (w.gone k ≡ true) ⊎ (w.stands k place ≡ true) → Seen w facts ⊎ There w k → Stood w facts place end
 settled w facts place k end stays within (inr stands) there = (k, within, inl stands)
-settled w facts place k end stays within (inl gone) (inl seen) = (k, within, inr (seen, gone))
+settled w facts place k end stays within (inl gone) (inl seen) = (k, within, inr (seen.0, seen.1, gone))
 settled w facts place k end stays within (inl gone) (inr there) = absurd (not_gone w k stays there gone)
 
-earlier : (w : World) (facts : Facts) (j k : ℕ) → j ≤ k → (facts.seen ≡ true) ⊎ There w k → (facts.seen ≡ true) ⊎ There w j
-earlier w facts j k before (inl seen) = inl seen
-earlier w facts j k before (inr there) = inr (there.0, omega (arith, there.1, before), there.2)
+earlier : (w : World) (j k : ℕ) → j ≤ k → There w k → There w j
+earlier w j k before there = (there.0, omega (arith, there.1, before), there.2)
 
-cwd_there : (w : World) (facts : Facts) (k : ℕ) (later : List Exchange) → AreAnswers w facts (k + 1) later
+cwd_there : (w : World) (facts : Facts) (k : ℕ) (later : List Exchange) → w.before ≡ false → AreAnswers w facts (k + 1) later
     → (facts.seen ≡ true) ⊎ Comes (λ a _. (a.question ≡ CwdAgain) × (has_path a.answer.error ≡ true)) later
-    → (facts.seen ≡ true) ⊎ There w k
-cwd_there w facts k later rest (inl seen) = inl seen
-cwd_there w facts k later rest (inr c) =
+    → Seen w facts ⊎ There w k
+cwd_there w facts k later before rest (inl seen) = inl (seen, before)
+cwd_there w facts k later before rest (inr c) =
     let r = at _ w facts (k + 1) later c rest in inr (r.k, omega (arith, r.from), r.answer.again r.is.0 r.is.1)
 
 directory : (w : World) (facts : Facts) (place : List ℕ) (es : List Exchange) → StaysGone w → AreAnswers w facts 0 es
@@ -100,14 +104,9 @@ directory : (w : World) (facts : Facts) (place : List ℕ) (es : List Exchange) 
 directory w facts place es stays answers c =
     let r = at _ w facts 0 es c answers in
     settled w facts place r.k (length es) stays (omega (arith, r.size)) (r.answer.cwd place r.is.0 r.is.1)
-    (cwd_there w facts r.k r.later r.rest r.is.2)
+    (cwd_there w facts r.k r.later (r.answer.cwd_before r.is.0) r.rest r.is.2)
 
 -- ---- what comes behind a text
-
--- it settles that the object wasn't gone, or was seen before
-abbrev Settles : World → Facts → (List Exchange → Type 0) → Type 0
-Settles w facts After =
-    (k : ℕ) (later : List Exchange) → AreAnswers w facts (k + 1) later → After later → (facts.seen ≡ true) ⊎ There w k
 
 named_settles : (w : World) (facts : Facts) (place : List ℕ) (k : ℕ) (later : List Exchange) → ends_as_gone place ≡ false
     → AreAnswers w facts (k + 1) later → NamedAgain place later → There w k
@@ -115,25 +114,42 @@ named_settles w facts place k later named rest c =
     let r = at _ w facts (k + 1) later c rest in
     (r.k, omega (arith, r.from), r.answer.link_again r.is.0 (named_there r.e.text place r.is.1 named))
 
-there_settles : (w : World) (facts : Facts) (place : List ℕ) → ends_as_gone place ≡ false → Settles w facts (IsThere facts place)
-there_settles w facts place named k later rest (inl c) = inr (named_settles w facts place k later named rest c.1)
-there_settles w facts place named k later rest (inr c) = absurd (both_ways (ends_as_gone place) named c.0)
+alive_settles : (w : World) (facts : Facts) (place : List ℕ) (k : ℕ) (later : List Exchange)
+    → AreAnswers w facts (k + 1) later → IsAlive facts place later → There w k
+alive_settles w facts place k later rest c =
+    let r = at _ w facts (k + 1) later c.2 rest in
+    (r.k, omega (arith, r.from), r.answer.dead c.1 r.is.0 r.is.1)
 
-was_there : (w : World) (facts : Facts) (place : List ℕ) (k : ℕ) (look : Exchange) (later : List Exchange)
-    → ends_as_gone place ≡ false → IsAnswer w facts k look → FindsObject place look → AreAnswers w facts (k + 1) later
-    → WasThere facts place look later → There w k
-was_there w facts place k look later named answer finds rest (inl c) = (k, omega arith, answer.links place c.0 finds c.1)
-was_there w facts place k look later named answer finds rest (inr c) = named_settles w facts place k later named rest c
+there_settles : (w : World) (facts : Facts) (place : List ℕ) (k : ℕ) (later : List Exchange)
+    → AreAnswers w facts (k + 1) later → IsThere facts place later → There w k
+there_settles w facts place k later rest (inl c) = named_settles w facts place k later c.0 rest c.1
+there_settles w facts place k later rest (inr c) = alive_settles w facts place k later rest c
 
-second_settles : (w : World) (facts : Facts) (place : List ℕ) → ends_as_gone place ≡ false
-    → Settles w facts (SecondWitness facts place)
-second_settles w facts place named k later rest c =
+-- It settles that the object wasn't gone, or was seen before. The text with the place is of what is no top.
+abbrev Settles : World → Facts → List ℕ → (List Exchange → Type 0) → Type 0
+Settles w facts place After =
+    (k : ℕ) (e : Exchange) (later : List Exchange) → IsAnswer w facts k e → Worked ObjectLink e ⊎ Worked KeptLink e
+    → (ends_as_gone place ≡ false → ends_as_gone e.text ≡ false) → AreAnswers w facts (k + 1) later → After later
+    → Seen w facts ⊎ There w k
+
+only_there : (w : World) (facts : Facts) (place : List ℕ) → Settles w facts place (IsThere facts place)
+only_there w facts place k e later answer read own rest c = inr (there_settles w facts place k later rest c)
+
+-- of what is no top
+second_settles : (w : World) (facts : Facts) (place : List ℕ) → is_top place ≡ false
+    → Settles w facts place (SecondWitness facts place)
+second_settles w facts place top k e later answer read own rest c =
     let r = at _ w facts (k + 1) later c rest in
-    let there = was_there w facts place r.k r.e r.later named r.answer r.is.0 r.rest r.is.1 in
-    inr (there.0, omega (arith, there.1, r.from), there.2)
+    elim r.is.1 [
+      | inl is ↦ absurd (both_ways (is_top place) top is)
+      | inr is ↦
+          let there = there_settles w facts place r.k r.later r.rest is in
+          inr (there.0, omega (arith, there.1, r.from), there.2)
+    ]
 
-seen_settles : (w : World) (facts : Facts) → facts.seen ≡ true → Settles w facts (λ later. Unit {0})
-seen_settles w facts seen k later rest c = inl seen
+seen_settles : (w : World) (facts : Facts) (place : List ℕ) → facts.seen ≡ true → Settles w facts place (WasThere facts place)
+seen_settles w facts place seen k e later answer read own rest (inl named) = inl (seen, answer.link_before read (own named))
+seen_settles w facts place seen k e later answer read own rest (inr c) = inr (alive_settles w facts place k later rest c)
 
 -- ---- texts
 
@@ -143,27 +159,32 @@ record Reads (w : World) (facts : Facts) (kept place : List ℕ) (After : List E
   stays : StaysGone w
   tell : TextsTell w facts kept
   top : is_top place ≡ false
-  named : ends_as_gone place ≡ false
-  settles : Settles w facts After
+  settles : Settles w facts place After
+
+-- the text is the object's path
+abbrev Read : Question → World → Facts → Type 0
+Read link w facts =
+    (k : ℕ) (e : Exchange) → IsAnswer w facts k e → Worked link e
+    → (e.text ≡ w.object k) × (Worked ObjectLink e ⊎ Worked KeptLink e)
 
 -- a text of the object's link tells the place
 text_stood : (link : Question) (w : World) (facts : Facts) (kept place : List ℕ) (n : ℕ) (es : List Exchange)
-    (After : List Exchange → Type 0) → ((k : ℕ) (e : Exchange) → IsAnswer w facts k e → Worked link e → e.text ≡ w.object k)
-    → (reads : Reads w facts kept place After) → AreAnswers w facts n es
+    (After : List Exchange → Type 0) → Read link w facts → (reads : Reads w facts kept place After) → AreAnswers w facts n es
     → TextTells link reads.tell.path place After es → Stood w facts place (n + length es)
-text_stood link w facts kept place n es After says reads answers c =
+text_stood link w facts kept place n es After read reads answers c =
     let r = at _ w facts n es c answers in
     let path = reads.tell.path in
-    let text = says r.k r.e r.answer r.is.0 in
-    let told = sym (ap (λ x. place_between path x path) text) ∙ r.is.1 in
+    let text = read r.k r.e r.answer r.is.0 in
+    let told = sym (ap (λ x. place_between path x path) text.0) ∙ r.is.1 in
     settled w facts place r.k (n + length es) reads.stays (omega (arith, r.size))
-    (reads.tell.below r.k place told reads.top reads.named) (reads.settles r.k r.later r.rest r.is.2)
+    (reads.tell.below r.k place told reads.top)
+    (reads.settles r.k r.e r.later r.answer text.1 (not_called path r.e.text path place r.is.1 reads.top) r.rest r.is.2)
 
-object_says : (w : World) (facts : Facts) (k : ℕ) (e : Exchange) → IsAnswer w facts k e → Worked ObjectLink e → e.text ≡ w.object k
-object_says w facts k e a = a.object_link
+object_read : (w : World) (facts : Facts) → Read ObjectLink w facts
+object_read w facts k e a worked = (a.object_link worked, inl worked)
 
-kept_says : (w : World) (facts : Facts) (k : ℕ) (e : Exchange) → IsAnswer w facts k e → Worked KeptLink e → e.text ≡ w.object k
-kept_says w facts k e a = a.kept_link
+kept_read : (w : World) (facts : Facts) → Read KeptLink w facts
+kept_read w facts k e a worked = (a.kept_link worked, inr worked)
 
 -- where the root's link told its path
 link_stood : (w : World) (facts : Facts) (kept place : List ℕ) (es : List Exchange) (After : List Exchange → Type 0)
@@ -173,18 +194,18 @@ link_stood w facts kept place es After reads answers c =
     let r = at _ w facts 0 es c answers in
     let path = r.answer.root_link r.is.0 ∙ reads.tell.stays r.k in
     let told = subst (λ (p : List ℕ). TextTells ObjectLink p place After r.later) path r.is.1 in
-    let s = text_stood ObjectLink w facts kept place (r.k + 1) r.later After (object_says w facts) reads r.rest told in
+    let s = text_stood ObjectLink w facts kept place (r.k + 1) r.later After (object_read w facts) reads r.rest told in
     (s.0, omega (arith, s.1, r.size), s.2)
 
 first_stood : (w : World) (facts : Facts) (kept place : List ℕ) (es : List Exchange) (After : List Exchange → Type 0)
     → (reads : Reads w facts kept place After) → AreAnswers w facts 0 es
     → FirstWitness facts kept place After es → Stood w facts place (length es)
 first_stood w facts kept place es After reads answers (below_slash j c) =
-    let s = text_stood ObjectLink w facts kept place 0 es After (object_says w facts) reads answers
+    let s = text_stood ObjectLink w facts kept place 0 es After (object_read w facts) reads answers
     (subst (λ (p : List ℕ). TextTells ObjectLink p place After es) (sym (reads.tell.jailed j)) c) in
     (s.0, omega (arith, s.1), s.2)
 first_stood w facts kept place es After reads answers (below_kept j k c) =
-    let s = text_stood KeptLink w facts kept place 0 es After (kept_says w facts) reads answers
+    let s = text_stood KeptLink w facts kept place 0 es After (kept_read w facts) reads answers
     (subst (λ (p : List ℕ). TextTells KeptLink p place After es) (sym (reads.tell.kept_path k)) c) in
     (s.0, omega (arith, s.1), s.2)
 first_stood w facts kept place es After reads answers (below_link j c) = link_stood w facts kept place es After reads answers c
@@ -204,8 +225,8 @@ alone_stood w facts kept place es reads answers c =
     let text = o.answer.object_link o.is.0 in
     let told = sym (ap (λ x. place_between x o.e.text a.e.text) before ∙ (ap (λ x. place_between path x a.e.text) text ∙ ap (λ x. place_between path (w.object o.k) x) after)) ∙ a.is.1 in
     settled w facts place o.k (length es) reads.stays (omega (arith, o.size, r.size))
-    (reads.tell.below o.k place told reads.top reads.named)
-    (earlier w facts o.k a.k (omega (arith, a.from, m.from)) (reads.settles a.k a.later a.rest a.is.2))
+    (reads.tell.below o.k place told reads.top)
+    (inr (earlier w o.k a.k (omega (arith, a.from, m.from)) (there_settles w facts place a.k a.later a.rest a.is.2)))
 
 -- ---- the root itself
 
@@ -298,15 +319,17 @@ alone_read place After (e ∷ es) (inr c) = inr (alone_read place After es c)
 abbrev Once : (ℕ → Type 0) → ℕ → Type 0
 Once P end = (n : ℕ) × (n < end) × P n
 
--- each look-up that finds the object says it
+-- each look-up that finds the object says it, with what comes behind
 abbrev Says : World → Facts → List ℕ → (ℕ → Type 0) → Type 0
-Says w facts place P = (k : ℕ) (e : Exchange) → IsAnswer w facts k e → FindsObject place e → P k
+Says w facts place P =
+    (k : ℕ) (e : Exchange) (later : List Exchange) → IsAnswer w facts k e → AreAnswers w facts (k + 1) later
+    → FindsObject place e → (is_top place ≡ true) ⊎ IsThere facts place later → P k
 
 second_says : (P : ℕ → Type 0) (w : World) (facts : Facts) (place : List ℕ) (n : ℕ) (es : List Exchange) → Says w facts place P
     → AreAnswers w facts n es → SecondWitness facts place es → Once P (n + length es)
 second_says P w facts place n es says answers c =
     let r = at _ w facts n es c answers in
-    (r.k, omega (arith, r.size), says r.k r.e r.answer r.is.0)
+    (r.k, omega (arith, r.size), says r.k r.e r.later r.answer r.rest r.is.0 r.is.1)
 
 text_says : (P : ℕ → Type 0) (link : Question) (w : World) (facts : Facts) (root place : List ℕ) (n : ℕ) (es : List Exchange)
     → Says w facts place P → AreAnswers w facts n es → TextTells link root place (SecondWitness facts place) es → Once P (n + length es)
@@ -335,51 +358,60 @@ first_says P w facts kept place n es says answers (below_link j c) = link_says P
 
 -- the root itself was looked up by no names; any other object has its own text
 both_stood : (w : World) (facts : Facts) (kept place : List ℕ) (es : List Exchange) → StaysGone w → (tell : TextsTell w facts kept)
-    → ends_as_gone place ≡ false → AreAnswers w facts 0 es → FirstWitness facts kept place (SecondWitness facts place) es
+    → AreAnswers w facts 0 es → FirstWitness facts kept place (SecondWitness facts place) es
     → (top : Bool) → is_top place ≡ top → Stood w facts place (length es)
-both_stood w facts kept place es stays tell named answers f true top =
+both_stood w facts kept place es stays tell answers f true top =
     let is = first_slash facts kept place (SecondWitness facts place) es f top in
     let says : Says w facts place (λ n. w.stands n place ≡ true) =
-    λ k e a finds. ap (w.stands k) is ∙ a.looked_root (subst (λ (p : List ℕ). FindsObject p e) is finds) in
+    λ k e later a rest finds there. ap (w.stands k) is ∙ a.looked_root (subst (λ (p : List ℕ). FindsObject p e) is finds) in
     let s = first_says (λ n. w.stands n place ≡ true) w facts kept place 0 es says answers f in
     (s.0, omega (arith, s.1), inl s.2)
-both_stood w facts kept place es stays tell named answers f false top =
+both_stood w facts kept place es stays tell answers f false top =
     let reads : Reads w facts kept place (SecondWitness facts place) =
-    record { stays = stays; tell = tell; top = top; named = named; settles = second_settles w facts place named } in
+    record { stays = stays; tell = tell; top = top; settles = second_settles w facts place top } in
     first_stood w facts kept place es (SecondWitness facts place) reads answers f
 
 witnessed_stood : (w : World) (facts : Facts) (kept place : List ℕ) (es : List Exchange) → StaysGone w → AreAnswers w facts 0 es
-    → (ReadsLink es → TextsTell w facts kept) → ends_as_gone place ≡ false → IsWitnessed facts kept es place
+    → (ReadsLink es → TextsTell w facts kept) → IsWitnessed facts kept es place
     → Stood w facts place (length es)
-witnessed_stood w facts kept place es stays answers tell named (by_directory j d c) = directory w facts place es stays answers c
-witnessed_stood w facts kept place es stays answers tell named (by_both s f) =
-    both_stood w facts kept place es stays (tell (first_read facts kept place es (SecondWitness facts place) f)) named answers f (is_top place) refl
-witnessed_stood w facts kept place es stays answers tell named (by_seen s v top f) =
-    let told = tell (first_read facts kept place es (λ later. Unit {0}) f) in
-    let reads : Reads w facts kept place (λ later. Unit {0}) =
-    record { stays = stays; tell = told; top = top; named = named; settles = seen_settles w facts v } in
-    first_stood w facts kept place es (λ later. Unit {0}) reads answers f
-witnessed_stood w facts kept place es stays answers tell named (in_old_jail n j top c) =
+witnessed_stood w facts kept place es stays answers tell (by_directory j d c) = directory w facts place es stays answers c
+witnessed_stood w facts kept place es stays answers tell (by_both s f) =
+    both_stood w facts kept place es stays (tell (first_read facts kept place es (SecondWitness facts place) f)) answers f (is_top place) refl
+witnessed_stood w facts kept place es stays answers tell (by_seen s v top f) =
+    let told = tell (first_read facts kept place es (WasThere facts place) f) in
+    let reads : Reads w facts kept place (WasThere facts place) =
+    record { stays = stays; tell = told; top = top; settles = seen_settles w facts place v } in
+    first_stood w facts kept place es (WasThere facts place) reads answers f
+witnessed_stood w facts kept place es stays answers tell (in_old_jail n j top c) =
     let f = below_slash j c in
     let told = tell (first_read facts kept place es (IsThere facts place) f) in
     let reads : Reads w facts kept place (IsThere facts place) =
-    record { stays = stays; tell = told; top = top; named = named; settles = there_settles w facts place named } in
+    record { stays = stays; tell = told; top = top; settles = only_there w facts place } in
     first_stood w facts kept place es (IsThere facts place) reads answers f
-witnessed_stood w facts kept place es stays answers tell named (by_text n j top c) =
+witnessed_stood w facts kept place es stays answers tell (by_text n j top c) =
     let told = tell (alone_read place (IsThere facts place) es c) in
     let reads : Reads w facts kept place (IsThere facts place) =
-    record { stays = stays; tell = told; top = top; named = named; settles = there_settles w facts place named } in
+    record { stays = stays; tell = told; top = top; settles = only_there w facts place } in
     alone_stood w facts kept place es reads answers c
-witnessed_stood w facts kept place es stays answers tell named (root_itself n j top c) = root_stood w facts place es top answers c
+witnessed_stood w facts kept place es stays answers tell (root_itself n j top c) = root_stood w facts place es top answers c
 
 pub places-stood : PlacesStood
-places-stood w facts kept es place r stays answers tell goes named =
-    witnessed_stood w facts kept place es stays answers tell named (places-are-witnessed facts kept es place r goes)
+places-stood w facts kept es place r stays answers tell goes =
+    witnessed_stood w facts kept place es stays answers tell (places-are-witnessed facts kept es place r goes)
 
 -- ---- what was passed
 
+abbrev PassedAt : World → List ℕ → ℕ → Type 0
+PassedAt w place n = (w.passed n place ≡ true) × ((is_top place ≡ true) ⊎ (w.gone n ≡ false))
+
 abbrev Passed : World → List ℕ → ℕ → Type 0
-Passed w place end = Once (λ n. w.passed n place ≡ true) end
+Passed w place end = (n : ℕ) × (n < end) × (w.passed n place ≡ true) × ((is_top place ≡ true) ⊎ (w.gone n ≡ false))
+
+look_passed : (w : World) (facts : Facts) (place : List ℕ) → StaysGone w → Says w facts place (PassedAt w place)
+look_passed w facts place stays k e later a rest finds (inl top) = (a.look_up place finds, inl top)
+look_passed w facts place stays k e later a rest finds (inr there) =
+    let by_then = there_settles w facts place k later rest there in
+    (a.look_up place finds, inr (false_from_ne_true (w.gone k) (not_gone w k stays by_then)))
 
 -- the thread has openat2(2), and keeps it
 has_second : (facts : Facts) (es : List Exchange) → facts.second ≡ true
@@ -387,20 +419,20 @@ has_second : (facts : Facts) (es : List Exchange) → facts.second ≡ true
 has_second facts es second keeps (inl lacks) = both_ways facts.second lacks second
 has_second facts es second keeps (inr c) = keeps c
 
-witnessed_passed : (w : World) (facts : Facts) (kept place : List ℕ) (es : List Exchange) → AreAnswers w facts 0 es
+witnessed_passed : (w : World) (facts : Facts) (kept place : List ℕ) (es : List Exchange) → StaysGone w → AreAnswers w facts 0 es
     → (facts.jailed && facts.directory) ≡ false → facts.second ≡ true → facts.seen ≡ false
     → (Comes (λ e _. (e.question ≡ LookUp) × (e.answer.yes ≡ true)) es → ⊥) → IsWitnessed facts kept es place
     → Passed w place (length es)
-witnessed_passed w facts kept place es answers plain second seen keeps (by_directory j d c) =
+witnessed_passed w facts kept place es stays answers plain second seen keeps (by_directory j d c) =
     absurd (both_ways (facts.jailed && facts.directory) plain (both_true j d))
-witnessed_passed w facts kept place es answers plain second seen keeps (by_both s f) =
-    let p = first_says (λ n. w.passed n place ≡ true) w facts kept place 0 es (λ k e a finds. a.look_up place finds) answers f in
-    (p.0, omega (arith, p.1), p.2)
-witnessed_passed w facts kept place es answers plain second seen keeps (by_seen s v top f) = absurd (both_ways facts.seen seen v)
-witnessed_passed w facts kept place es answers plain second seen keeps (in_old_jail n j top c) = absurd (has_second facts es second keeps n)
-witnessed_passed w facts kept place es answers plain second seen keeps (by_text n j top c) = absurd (has_second facts es second keeps n)
-witnessed_passed w facts kept place es answers plain second seen keeps (root_itself n j top c) = absurd (has_second facts es second keeps n)
+witnessed_passed w facts kept place es stays answers plain second seen keeps (by_both s f) =
+    let p = first_says (PassedAt w place) w facts kept place 0 es (look_passed w facts place stays) answers f in
+    (p.0, omega (arith, p.1), p.2.0, p.2.1)
+witnessed_passed w facts kept place es stays answers plain second seen keeps (by_seen s v top f) = absurd (both_ways facts.seen seen v)
+witnessed_passed w facts kept place es stays answers plain second seen keeps (in_old_jail n j top c) = absurd (has_second facts es second keeps n)
+witnessed_passed w facts kept place es stays answers plain second seen keeps (by_text n j top c) = absurd (has_second facts es second keeps n)
+witnessed_passed w facts kept place es stays answers plain second seen keeps (root_itself n j top c) = absurd (has_second facts es second keeps n)
 
 pub places-were-passed : PlacesWerePassed
-places-were-passed w facts kept es place r answers goes plain second seen keeps =
-    witnessed_passed w facts kept place es answers plain second seen keeps (places-are-witnessed facts kept es place r goes)
+places-were-passed w facts kept es place r stays answers goes plain second seen keeps =
+    witnessed_passed w facts kept place es stays answers plain second seen keeps (places-are-witnessed facts kept es place r goes)

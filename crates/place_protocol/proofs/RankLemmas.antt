@@ -8,7 +8,7 @@ use Rattle.system_calls.specs.Objects.{is_same_object}
 use Rattle.system_calls.specs.declared.objects.Object.{Object}
 use Rattle.place_protocol.specs.Conversation.{Conversation, Exchange, Goes, keep}
 use Rattle.place_protocol.specs.Texts.{Texts, bytes_of, texts_of}
-use Rattle.place_protocol.specs.Turns.{after_dead, after_found, after_is_root, after_kept, after_link_again, after_look_up, after_object, confirm, confirm_alone, confirm_place, facts_after, first, first_link, has_found, has_path, in_jail, is_root, link_error, look_up_error, without_second, Follows, ENOENT, ENOSYS, EAGAIN, EACCES, EOPNOTSUPP}
+use Rattle.place_protocol.specs.Turns.{after_dead, after_found, after_is_root, after_kept, after_link_again, after_look_up, after_object, ask_there, confirm, confirm_alone, confirm_place, facts_after, first, first_link, has_found, has_path, in_jail, is_root, link_error, look_up_error, without_second, Follows, ENOENT, ENOSYS, EAGAIN, EACCES, EOPNOTSUPP}
 use Rattle.place_protocol.specs.Witness.{QuestionsComeToAnEnd}
 use Rattle.place_protocol.specs.declared.questions.Answer.{Answer}
 use Rattle.place_protocol.specs.declared.questions.Facts.{Facts}
@@ -64,18 +64,27 @@ zero_below : (s : Bool) (a b : ℕ) → 0 < a → 0 < b → 0 < cond s a b
 zero_below true a b x y = x
 zero_below false a b x y = y
 
+there_below : (s : Bool) (facts : Facts) (found : Place) → Below s 2 (ask_there facts found)
+there_below s facts found =
+    cond_both (not found.gone) (Ask LinkAgain) _ (Below s 2) (λ _. lit< tt)
+    (λ _. cond_both facts.directory (Ask Dead) (Unmade EAGAIN) (Below s 2) (λ _. lit< tt) (λ _. lit< tt))
+
 alone_below : (facts : Facts) (found : Place) → Below false 2 (confirm_alone facts found)
 alone_below facts found =
     cond_both (is_root found) _ _ (Below false 2)
     (λ _. cond_both facts.jailed (Unmade EAGAIN) (Ask IsRoot) (Below false 2) (λ _. lit< tt) (λ _. lit< tt))
-    (λ _. cond_both (not found.gone) (Ask LinkAgain) _ (Below false 2) (λ _. lit< tt)
-    (λ _. cond_both facts.directory (Ask Dead) (Unmade EAGAIN) (Below false 2) (λ _. lit< tt) (λ _. lit< tt)))
+    (λ _. there_below false facts found)
+
+low_there : (s : Bool) (n : ℕ) (facts : Facts) (found : Place) → 2 ≤ n → Below s n (ask_there facts found)
+low_there s n facts found h = let b = there_below s facts found in omega (arith, b, h)
 
 place_below : (s : Bool) (facts : Facts) (found : Place) → facts.second ≡ s → Below s (cond s 7 2) (confirm_place facts found)
 place_below true facts found is =
     cond_both (not facts.second) (confirm_alone facts found) _ (Below true 7)
     (λ none. absurd (both_ways facts.second (not-true facts.second none) is))
-    (λ _. cond_both (facts.seen && not (is_root found)) (Stands found false) (Look found) (Below true 7) (λ _. lit< tt) (λ _. lit< tt))
+    (λ _. cond_both (not facts.seen || is_root found) (Look found) _ (Below true 7) (λ _. lit< tt)
+    (λ _. cond_both found.gone (ask_there facts found) (Stands found false) (Below true 7)
+    (λ _. low_there true 7 facts found (lit≤ tt)) (λ _. lit< tt)))
 place_below false facts found is =
     cond_both (not facts.second) (confirm_alone facts found) _ (Below false 2) (λ _. alone_below facts found)
     (λ had. absurd (both_ways facts.second is (not-false facts.second had)))
@@ -140,7 +149,8 @@ lost_below false = lit< tt
 found_turn_below : (s : Bool) (facts : Facts) (a : Answer) (found : Place) → Below s 6 (after_found facts a found)
 found_turn_below s facts a found =
     cond_both (not (has_found a found)) (Unmade (look_up_error a.error)) _ (Below s 6) (λ _. lit< tt)
-    (λ _. cond_both (facts.directory && nat_lt 0 a.links) (Stands found (is_root found)) (Ask LinkAgain) (Below s 6) (λ _. lit< tt) (λ _. lit< tt))
+    (λ _. cond_both (is_root found) (Stands found true) (ask_there facts found) (Below s 6) (λ _. lit< tt)
+    (λ _. low_there s 6 facts found (lit≤ tt)))
 
 look_below : (yes : Bool) (facts : Facts) (turn : Turn) → Below facts.second 6 turn
     → rank (cond yes (without_second facts) facts).second (cond yes (Ask (first_link (without_second facts))) turn) < 6
@@ -240,7 +250,7 @@ abbrev thing : Object
 thing = record { device = 0; inode = 1; mount = 0 }
 
 abbrev answer_of : ℕ → Bool → Answer
-answer_of error is = record { error = error; yes = is; held = thing; found = thing; links = 0 }
+answer_of error is = record { error = error; yes = is; held = thing; found = thing }
 
 abbrev slash : List ℕ
 slash = SLASH ∷ []

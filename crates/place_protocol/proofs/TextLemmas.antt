@@ -1,10 +1,10 @@
 -- The place that a text tells, and where it lies in it.
-use Rattle.std.proofs.Common.{◌≡◌, ◌+◌, ◌-◌, ◌≤◌, ◌==◌, ◌&&◌, ◌||◌, ℕ, suc, Bool, true, false, not, cond, List, [], ◌∷◌, length, take, drop, Option, Some, None, IsSomeAnd, nat_lt, nat_eq, refl, sym, ap, subst, ◌∙◌, arith}
+use Rattle.std.proofs.Common.{◌≡◌, ◌+◌, ◌-◌, ◌≤◌, ◌==◌, ◌&&◌, ◌||◌, ℕ, zero, suc, Bool, true, false, not, cond, List, [], ◌∷◌, length, take, drop, Option, Some, None, IsSomeAnd, nat_lt, nat_eq, refl, sym, ap, subst, ◌∙◌, arith}
 use Rattle.std.specs.List.{ends_with, list_any}
 use Rattle.std.specs.Prelude.{codes}
 use Rattle.std.specs.Cmp.Derive.{both_true}
 use Rattle.std.specs.Cmp.Lexicographic.{same_text}
-use Rattle.std.proofs.lemmas.Bool.{both_ways, cond-true, cond-false, cond_both, eq-eqb, eqb-true, false≢true, ltb-false, ltb-true, true≢false, or_left}
+use Rattle.std.proofs.lemmas.Bool.{both_ways, cond-true, cond-false, cond_both, eq-eqb, eqb-true, false_from_ne_true, false≢true, ltb-false, ltb-true, true≢false, or_left}
 use Rattle.std.proofs.lemmas.List.{drop-take, length-drop, length-take-le, take-take}
 use Rattle.path_text.specs.Name.{NUL, same_bytes}
 use Rattle.path_text.specs.Text.{begins_with_slash}
@@ -268,6 +268,60 @@ part_deleted (b ∷ bs) e =
     cond_both (list_any (λ c. c == SLASH) (b ∷ bs)) (last_part bs) (b ∷ bs)
     (λ x. ends_as_gone x ≡ true → ends_as_gone (b ∷ bs) ≡ true)
     (λ some f. let below = part_deleted bs f in behind_first b bs (deleted_size bs below) ∙ below) (λ none f. f) e
+
+-- ---- a place is the end of its text
+
+any_behind : (n : ℕ) (text : List ℕ) → list_any (λ b. b == SLASH) (drop n text) ≡ true
+    → list_any (λ b. b == SLASH) text ≡ true
+any_behind zero text some = some
+any_behind (suc n) [] some = some
+any_behind (suc n) (b ∷ bs) some = or_second (b == SLASH) _ (any_behind n bs some)
+
+part_behind : (n : ℕ) (text : List ℕ) → list_any (λ b. b == SLASH) (drop n text) ≡ true
+    → last_part (drop n text) ≡ last_part text
+part_behind zero text some = refl
+part_behind (suc n) [] some = refl
+part_behind (suc n) (b ∷ bs) some =
+    part_behind n bs some ∙ sym (cond-true (list_any (λ c. c == SLASH) (b ∷ bs)) (last_part bs) (b ∷ bs)
+    (any_behind (suc n) (b ∷ bs) some))
+
+called_behind : (n : ℕ) (text rest place : List ℕ) → rest ≡ drop n text → behind rest ≡ Some place
+    → (length place == 1) ≡ false → ends_as_gone text ≡ true → ends_as_gone place ≡ true
+called_behind n text [] place is e top called =
+    let same : SLASH ∷ [] ≡ place = cc in
+    absurd (true≢false (ap (λ p. length p == 1) same ∙ top))
+called_behind n text (b ∷ bs) place is e top called =
+    cond_both (b == SLASH) (Some (b ∷ bs)) None (λ o. o ≡ Some place → ends_as_gone place ≡ true)
+    (λ slash f.
+    let same : b ∷ bs ≡ place = cc in
+    let some : list_any (λ c. c == SLASH) (drop n text) ≡ true =
+    subst (λ (x : List ℕ). list_any (λ c. c == SLASH) x ≡ true) is (or_left (b == SLASH) _ slash) in
+    let part = part_behind n text some in
+    let last = subst (λ (x : List ℕ). ends_as_gone x ≡ true) (sym part) (deleted_part text called) in
+    subst (λ (x : List ℕ). ends_as_gone x ≡ true) (sym is ∙ same) (part_deleted (drop n text) last))
+    (λ _ f. absurd cc) e
+
+called_below : (root path place : List ℕ) → place_below root path ≡ Some place → (length place == 1) ≡ false
+    → ends_as_gone path ≡ true → ends_as_gone place ≡ true
+called_below root path place e top called =
+    cond_both (not (begins_with_slash root && begins_with_slash path)) None _
+    (λ o. o ≡ Some place → ends_as_gone place ≡ true) (λ _ f. absurd cc)
+    (λ _. cond_both (same_bytes root (SLASH ∷ [])) (Some path) _ (λ o. o ≡ Some place → ends_as_gone place ≡ true)
+    (λ _ f. let same : path ≡ place = cc in subst (λ (x : List ℕ). ends_as_gone x ≡ true) same called)
+    (λ _. cond_both (same_bytes (take (length root) path) root) (behind (drop (length root) path)) None
+    (λ o. o ≡ Some place → ends_as_gone place ≡ true)
+    (λ _ f. called_behind (length root) path (drop (length root) path) place refl f top called) (λ _ f. absurd cc))) e
+
+-- where the place isn't called deleted, the text isn't
+pub not_called : (before path after place : List ℕ) → place_between before path after ≡ Some place
+    → (length place == 1) ≡ false → ends_as_gone place ≡ false → ends_as_gone path ≡ false
+not_called before path after place e top named =
+    cond_both (nat_lt TEXT_MAX (length path) || not (same_bytes before after)) None (place_below before path)
+    (λ o. o ≡ Some place → ends_as_gone path ≡ false) (λ _ f. absurd cc)
+    (λ _ f. false_from_ne_true (ends_as_gone path)
+    (λ called. both_ways (ends_as_gone place) named (called_below before path place f top called))) e
+
+-- ---- what is named
 
 there_by : (again place : List ℕ) (gone : Bool) → ends_as_gone again ≡ gone
     → (not gone || same_bytes (last_part again) (last_part place)) ≡ true → ends_as_gone place ≡ false → gone ≡ false

@@ -7,7 +7,7 @@ use Rattle.kernel_text.specs.declared.place.Place.{Place}
 use Rattle.place_protocol.specs.Conversation.{Comes, Exchange, StandsAt, keep}
 use Rattle.place_protocol.specs.Texts.{Texts, Finds, place_of, texts_of}
 use Rattle.place_protocol.specs.Turns.{after_cwd, after_cwd_again, after_enter, after_kept, confirm_place, first_link, has_path, in_jail, is_root, ENOENT, EACCES}
-use Rattle.place_protocol.specs.Witness.{DirectoryTells, FirstWitness, below_slash, below_kept, below_link, IsWitnessed, by_directory, by_both, by_seen, in_old_jail, by_text, root_itself, HasNoSecond, IsThere, PlacesAreWitnessed, RootStayed, SecondWitness, TextTells, is_top}
+use Rattle.place_protocol.specs.Witness.{DirectoryTells, FirstWitness, below_slash, below_kept, below_link, IsWitnessed, by_directory, by_both, by_seen, in_old_jail, by_text, root_itself, HasNoSecond, IsThere, PlacesAreWitnessed, RootStayed, SecondWitness, TextTells, WasThere, is_top}
 use Rattle.place_protocol.specs.declared.questions.Facts.{Facts}
 use Rattle.place_protocol.specs.declared.questions.Question.TheVariants.{Enter, Cwd, CwdAgain, KeptLink, RootLink, ObjectLink}
 use Rattle.place_protocol.specs.declared.turns.Turn.TheVariants.{Ask, Unmade}
@@ -81,7 +81,7 @@ before : (facts : Facts) (kept : List ℕ) (e : Exchange) (es : List Exchange) (
     → IsWitnessed facts kept (e ∷ es) place
 before facts kept e es place (by_directory j d x) = by_directory j d (inr x)
 before facts kept e es place (by_both s x) = by_both s (first_before facts kept place (SecondWitness facts place) e es x)
-before facts kept e es place (by_seen s w top x) = by_seen s w top (first_before facts kept place (λ later. Unit {0}) e es x)
+before facts kept e es place (by_seen s w top x) = by_seen s w top (first_before facts kept place (WasThere facts place) e es x)
 before facts kept e es place (in_old_jail n j top x) = in_old_jail (still_none facts e es n) j top (inr x)
 before facts kept e es place (by_text n j top x) = by_text (still_none facts e es n) j top (inr x)
 before facts kept e es place (root_itself n j top x) = root_itself (still_none facts e es n) j top (inr x)

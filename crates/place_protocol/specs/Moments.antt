@@ -7,17 +7,20 @@ use Rattle.place_protocol.specs.Conversation.{Comes, Conversation, Exchange, Sta
 use Rattle.place_protocol.specs.Turns.{has_path}
 use Rattle.place_protocol.specs.Witness.{FindsObject, FindsRoot, Worked, is_top}
 use Rattle.place_protocol.specs.declared.questions.Facts.{Facts}
-use Rattle.place_protocol.specs.declared.questions.Question.TheVariants.{Cwd, CwdAgain, KeptLink, RootLink, ObjectLink, RootAgain, LookUp, LinkAgain}
+use Rattle.place_protocol.specs.declared.questions.Question.TheVariants.{Cwd, CwdAgain, KeptLink, RootLink, ObjectLink, RootAgain, LookUp, LinkAgain, Dead}
 
 -- One object and one root, moment by moment. The n-th answer of a conversation is of the moment n, which is in its
 -- system calls: of a text, that of its names; of a look-up, that at which statx(2) looks at what was found; of what is
--- read again (LinkAgain, CwdAgain), that at which the kernel looks whether it is gone. What others do comes between two
--- moments.
+-- asked again (LinkAgain, CwdAgain, Dead), that at which the kernel looks whether it is gone. What others do comes
+-- between two moments.
 pub record World : Type 0 where
   -- these names led from the root to the object, all at this moment
   pub stands : ℕ → List ℕ → Bool
-  -- the object had been removed: its entry, by which the descriptor is open
+  -- The object had been removed: its entry, by which the descriptor is open. What a look-up finds counts as this very
+  -- entry, though a file may have several, with one device and inode (link(2)).
   pub gone : ℕ → Bool
+  -- the same, before the first question
+  pub before : Bool
   -- the kernel has passed these names from the root, one after another, to the object, and then saw it below the root
   pub passed : ℕ → List ℕ → Bool
   -- the paths of the root and of the object, where the texts of links begin
@@ -37,6 +40,12 @@ pub record IsAnswer (w : World) (facts : Facts) (n : ℕ) (e : Exchange) : Type 
   -- proc(5): the text of a link is called deleted if the object is gone, which the kernel looks at first (`d_path` in
   -- fs/d_path.c)
   pub link_again : Worked LinkAgain e → ends_as_gone e.text ≡ false → w.gone n ≡ false
+  -- so it is of each text, and getcwd(2) fails, if it was gone before the first question
+  pub link_before : Worked ObjectLink e ⊎ Worked KeptLink e → ends_as_gone e.text ≡ false → w.before ≡ false
+  pub cwd_before : Worked Cwd e → w.before ≡ false
+  -- statx(2), rmdir(2), getdents64(2): a directory that is removed has no link, or can't be read. A cgroup2 keeps the
+  -- links of each, and renames none.
+  pub dead : facts.directory ≡ true → e.question ≡ Dead → e.answer.yes ≡ false → w.gone n ≡ false
   -- proc(5): a link's text is the path
   pub kept_link : Worked KeptLink e → e.text ≡ w.object n
   pub object_link : Worked ObjectLink e → e.text ≡ w.object n
@@ -44,10 +53,6 @@ pub record IsAnswer (w : World) (facts : Facts) (n : ℕ) (e : Exchange) : Type 
   pub root_again : Worked RootAgain e → e.text ≡ w.root n
   -- openat2(2), RESOLVE_BENEATH; statx(2): the same device, inode and mount are the same object
   pub look_up : (place : List ℕ) → FindsObject place e → w.passed n place ≡ true
-  -- statx(2), rmdir(2): a directory that is removed has no link. The file system takes its links before the kernel
-  -- takes the entry (`vfs_rmdir`, `vfs_rename` in fs/namei.c). Overlayfs keeps them of a removed directory of a lower
-  -- layer, and cgroup2 those of each.
-  pub links : (place : List ℕ) → facts.directory ≡ true → FindsObject place e → 0 < e.answer.links → w.gone n ≡ false
   -- statx(2), fstat(2): the same device and inode are the same object, while both are open. So this is the root itself,
   -- which a look-up of no names finds.
   pub looked_root : FindsObject (SLASH ∷ []) e → w.stands n (SLASH ∷ []) ≡ true
@@ -58,41 +63,45 @@ AreAnswers w facts n [] = Unit {0}
 AreAnswers w facts n (e ∷ es) = IsAnswer w facts n e × AreAnswers w facts (n + 1) es
 
 -- The root stays at its path, which is a slash in a jail, or what is kept of it. And texts tell inside from outside
--- (proc(5), /proc/pid/fd), since the thread's own root directory is a mount's, the root hasn't left its own mount, and
--- no mount with the object is taken off (umount2(2), MNT_DETACH): an object whose path lies below the root's, and isn't
--- called deleted, stands at the rest, or is gone by then: the kernel looks whether it is gone, and takes the names
--- after that, all at one moment (`d_path` in fs/d_path.c). If it was removed in between, and its directory moved, the
--- text has names at which it never stood. Of a slash alone that isn't so: the kernel also writes it of an object that
--- was moved out of the mount by which it was opened, and so has no path any more (getcwd(2) writes `(unreachable)`
--- before it, a link in /proc doesn't: `prepend_path`).
+-- (proc(5), /proc/pid/fd), since the thread's own root directory is a mount's, the root hasn't left its own mount,
+-- and no mount with the object is taken off (umount2(2), MNT_DETACH): an object whose path lies below the root's
+-- stands at the rest, or is gone by then: the kernel looks whether it is gone, which it calls deleted, and takes the
+-- names after that, all at one moment (`d_path` in fs/d_path.c). If it was removed in between, and its directory
+-- moved, the text has names at which it never stood. What the kernel calls deleted is gone, but for a name that its
+-- cache has lost (NFS). Of a slash alone none of this is so: the kernel also writes it of an object that was moved
+-- out of the mount by which it was opened, and so has no path any more (getcwd(2) writes `(unreachable)` before it, a
+-- link in /proc doesn't: `prepend_path`).
 pub record TextsTell (w : World) (facts : Facts) (kept : List ℕ) : Type 0 where
   pub path : List ℕ
   pub stays : (n : ℕ) → w.root n ≡ path
   pub jailed : facts.jailed ≡ true → path ≡ SLASH ∷ []
   pub kept_path : facts.kept ≡ true → path ≡ kept
   pub below : (n : ℕ) (place : List ℕ) → place_between path (w.object n) path ≡ Some place → is_top place ≡ false
-      → ends_as_gone place ≡ false → (w.gone n ≡ true) ⊎ (w.stands n place ≡ true)
+      → (w.gone n ≡ true) ⊎ (w.stands n place ≡ true)
 
 -- a link of the object was read
 abbrev pub ReadsLink : List Exchange → Type 0
 ReadsLink = Comes (λ e _. Worked ObjectLink e ⊎ Worked KeptLink e)
 
--- A place is told that isn't called deleted. Then at the moment of an answer the object stood there. Texts of links
--- must tell that where one was read; and what the kernel had seen below the root right before may have been removed.
+-- A place is told. Then at the moment of an answer the object stood there. Texts of links must tell that where one
+-- was read; and what the kernel had seen below the root right before may have been removed, but not before the first
+-- question.
 abbrev pub PlacesStood : Type 0
 PlacesStood =
     (w : World) (facts : Facts) (kept : List ℕ) (es : List Exchange) (place : List ℕ) (is_root : Bool)
     → StaysGone w → AreAnswers w facts 0 es → (ReadsLink es → TextsTell w facts kept)
-    → Conversation facts kept es (StandsAt place is_root) → ends_as_gone place ≡ false
-    → (n : ℕ) × (n < length es) × ((w.stands n place ≡ true) ⊎ ((facts.seen ≡ true) × (w.gone n ≡ true)))
+    → Conversation facts kept es (StandsAt place is_root)
+    → (n : ℕ) × (n < length es)
+    × ((w.stands n place ≡ true) ⊎ ((facts.seen ≡ true) × (w.before ≡ false) × (w.gone n ≡ true)))
 
--- Wherever the root is moved, and whatever texts say: the kernel has passed the place's names at the moment of an
--- answer, and saw the object below the root. So it is of all but a directory in a jail, if the kernel hadn't seen the
--- object there right before, and openat2(2) wasn't refused.
+-- Wherever the root is moved, and whichever names texts have: the kernel has passed the place's names at the moment
+-- of an answer, and saw the object below the root, which wasn't removed by then. So it is of all but a directory in a
+-- jail, if the kernel hadn't seen the object there right before, and openat2(2) wasn't refused.
 abbrev pub PlacesWerePassed : Type 0
 PlacesWerePassed =
     (w : World) (facts : Facts) (kept : List ℕ) (es : List Exchange) (place : List ℕ) (is_root : Bool)
-    → AreAnswers w facts 0 es → Conversation facts kept es (StandsAt place is_root)
+    → StaysGone w → AreAnswers w facts 0 es → Conversation facts kept es (StandsAt place is_root)
     → (facts.jailed && facts.directory) ≡ false → facts.second ≡ true → facts.seen ≡ false
     → (Comes (λ e _. (e.question ≡ LookUp) × (e.answer.yes ≡ true)) es → ⊥)
-    → (n : ℕ) × (n < length es) × (w.passed n place ≡ true)
+    → (n : ℕ) × (n < length es)
+    × (w.passed n place ≡ true) × ((is_top place ≡ true) ⊎ (w.gone n ≡ false))

@@ -73,17 +73,22 @@ abbrev pub after_cwd_again : ℕ → Option Place → Turn
 after_cwd_again error place =
     if has_path error then in_jail place else (if error == ENOENT then Nowhere else Unmade error)
 
--- Without the second witness. A slash alone is the text of the root itself, and of what has left its mount. What isn't
--- called deleted may be so all the same: the link is read again.
+-- What isn't called deleted may be so all the same: the link is read again. What is called so may have such a name:
+-- that a directory can be asked.
+abbrev pub ask_there : Facts → Place → Turn
+ask_there facts place =
+    if not place.gone then Ask LinkAgain else (if facts.directory then Ask Dead else Unmade EAGAIN)
+
+-- Without the second witness. A slash alone is the text of the root itself, and of what has left its mount.
 abbrev pub confirm_alone : Facts → Place → Turn
 confirm_alone facts place =
-    if is_root place then (if facts.jailed then Unmade EAGAIN else Ask IsRoot)
-    else (if not place.gone then Ask LinkAgain else (if facts.directory then Ask Dead else Unmade EAGAIN))
+    if is_root place then (if facts.jailed then Unmade EAGAIN else Ask IsRoot) else ask_there facts place
 
 abbrev pub confirm_place : Facts → Place → Turn
 confirm_place facts place =
     if not facts.second then confirm_alone facts place
-    else (if facts.seen && not (is_root place) then Stands place false else Look place)
+    else (if not facts.seen || is_root place then Look place
+    else (if place.gone then ask_there facts place else Stands place false))
 
 abbrev pub confirm : Facts → Option Place → Turn
 confirm facts None = Unmade EAGAIN
@@ -118,7 +123,7 @@ look_up_error error = if (error == 0) || is_elsewhere error then EAGAIN else err
 abbrev pub after_found : Facts → Answer → Place → Turn
 after_found facts answer place =
     if not (has_found answer place) then Unmade (look_up_error answer.error)
-    else (if facts.directory && nat_lt 0 answer.links then Stands place (is_root place) else Ask LinkAgain)
+    else (if is_root place then Stands place true else ask_there facts place)
 
 abbrev pub without_second : Facts → Facts
 without_second facts = record facts { second = false }

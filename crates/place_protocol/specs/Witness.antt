@@ -32,6 +32,26 @@ pub data FirstWitness (facts : Facts) (kept place : List ℕ) (After : List Exch
       → Comes (λ e later. Worked RootLink e × TextTells ObjectLink e.text place After later) es
       → FirstWitness facts kept place After es
 
+-- ---- whether the object was gone
+
+-- the object's own link was read again, and had that name still
+abbrev pub NamedAgain : List ℕ → List Exchange → Type 0
+NamedAgain place = Comes (λ e _. Worked LinkAgain e × (is_named e.text place ≡ true))
+
+-- the place ends as of what was removed, and the object is a directory that turned out not to be
+abbrev pub IsAlive : Facts → List ℕ → List Exchange → Type 0
+IsAlive facts place later =
+    (ends_as_gone place ≡ true) × (facts.directory ≡ true)
+    × Comes (λ e _. (e.question ≡ Dead) × (e.answer.yes ≡ false)) later
+
+-- the same, or the place doesn't end so, and the link, read again, has that name
+abbrev pub IsThere : Facts → List ℕ → List Exchange → Type 0
+IsThere facts place later = ((ends_as_gone place ≡ false) × NamedAgain place later) ⊎ IsAlive facts place later
+
+-- the same, or the place doesn't end so: the kernel had looked whether it was removed, and called it not so
+abbrev pub WasThere : Facts → List ℕ → List Exchange → Type 0
+WasThere facts place later = (ends_as_gone place ≡ false) ⊎ IsAlive facts place later
+
 -- ---- the second witness: the kernel's own look-up
 
 -- the place of the root itself: a slash alone
@@ -44,17 +64,10 @@ abbrev pub FindsObject : List ℕ → Exchange → Type 0
 FindsObject place e =
     Worked LookUp e × (e.names ≡ place) × (is_same_object e.answer.held e.answer.found (is_top place) ≡ true)
 
--- The object's own link was read again, and had that name still.
-abbrev pub NamedAgain : List ℕ → List Exchange → Type 0
-NamedAgain place = Comes (λ e _. Worked LinkAgain e × (is_named e.text place ≡ true))
-
--- What was found wasn't gone by then: it is a directory with links; or its own link had that name still, later.
-abbrev pub WasThere : Facts → List ℕ → Exchange → List Exchange → Type 0
-WasThere facts place look later =
-    ((facts.directory ≡ true) × (0 < look.answer.links)) ⊎ NamedAgain place later
-
+-- What was found wasn't gone by then, but if it is the root itself: so says what was asked later.
 abbrev pub SecondWitness : Facts → List ℕ → List Exchange → Type 0
-SecondWitness facts place = Comes (λ e later. FindsObject place e × WasThere facts place e later)
+SecondWitness facts place =
+    Comes (λ e later. FindsObject place e × ((is_top place ≡ true) ⊎ IsThere facts place later))
 
 -- ---- one witness alone
 
@@ -64,14 +77,6 @@ abbrev pub DirectoryTells : Facts → List ℕ → List Exchange → Type 0
 DirectoryTells facts place =
     Comes (λ e later. Worked Cwd e × (place_of_cwd e.text ≡ Some place)
     × ((facts.seen ≡ true) ⊎ Comes (λ a _. (a.question ≡ CwdAgain) × (has_path a.answer.error ≡ true)) later))
-
--- The place doesn't end as of what was removed, and the link, read again, has that name; or it ends so, and the object
--- is a directory that turned out not to be removed.
-abbrev pub IsThere : Facts → List ℕ → List Exchange → Type 0
-IsThere facts place later =
-    ((ends_as_gone place ≡ false) × NamedAgain place later)
-    ⊎ ((ends_as_gone place ≡ true) × (facts.directory ≡ true)
-    × Comes (λ e _. (e.question ≡ Dead) × (e.answer.yes ≡ false)) later)
 
 -- The object is the root itself: statx(2) or fstat(2) gave the same device and inode of both.
 abbrev pub FindsRoot : Exchange → Type 0
@@ -103,9 +108,9 @@ pub data IsWitnessed (facts : Facts) (kept : List ℕ) (es : List Exchange) (pla
   by_both : facts.second ≡ true → FirstWitness facts kept place (SecondWitness facts place) es
       → IsWitnessed facts kept es place
   -- The second witness spoke first, right before the first question. Since then the object may have left its mount, and
-  -- its text is a slash alone: so that is none of the root's own place.
+  -- its text is a slash alone: so that is none of the root's own place. And it wasn't removed as the kernel saw it.
   by_seen : facts.second ≡ true → facts.seen ≡ true → is_top place ≡ false
-      → FirstWitness facts kept place (λ later. Unit {0}) es → IsWitnessed facts kept es place
+      → FirstWitness facts kept place (WasThere facts place) es → IsWitnessed facts kept es place
   -- by the text alone, of any place but the root's own
   in_old_jail : HasNoSecond facts es → facts.jailed ≡ true → is_top place ≡ false
       → TextTells ObjectLink (SLASH ∷ []) place (IsThere facts place) es → IsWitnessed facts kept es place
@@ -123,17 +128,22 @@ PlacesAreWitnessed =
     (facts : Facts) (kept : List ℕ) (es : List Exchange) (place : List ℕ) (is_root : Bool)
     → Conversation facts kept es (StandsAt place is_root) → IsWitnessed facts kept es place
 
--- Agreeing answers tell the place, of a directory. Below a root that isn't kept: the root's link, the object's, and a
--- look-up that finds the object, with links. In a jail: getcwd(2), and once more. Without openat2(2): the root's link,
--- the object's, the root's again, and of the root itself the same device and inode, of any other the object's again.
+-- Agreeing answers tell the place. Below a root that isn't kept: the root's link, the object's, a look-up that finds
+-- the object, and its link again. In a jail, of a directory: getcwd(2), and once more. Without openat2(2): the root's
+-- link, the object's, the root's again, and of the root itself the same device and inode, of any other the object's
+-- again.
 abbrev pub AgreeingWitnessesAreTold : Type 0
 AgreeingWitnessesAreTold =
-    ((facts : Facts) (kept place : List ℕ) (root object look : Exchange)
-    → facts.jailed ≡ false → facts.second ≡ true → facts.seen ≡ false → facts.kept ≡ false → facts.directory ≡ true
+    ((facts : Facts) (kept place : List ℕ) (root object look link : Exchange)
+    → facts.jailed ≡ false → facts.second ≡ true → facts.seen ≡ false → facts.kept ≡ false
+    → is_top place ≡ false → ends_as_gone place ≡ false
     → Worked RootLink root → length root.text ≤ TEXT_MAX → Worked ObjectLink object
     → place_between root.text object.text root.text ≡ Some place
-    → FindsObject place look → look.answer.yes ≡ false → 0 < look.answer.links
-    → Conversation facts kept (root ∷ object ∷ look ∷ []) (λ t turn. StandsAt place (is_top place) t turn → ⊥) → ⊥)
+    → FindsObject place look → look.answer.yes ≡ false
+    → Worked LinkAgain link → length link.text ≤ TEXT_MAX → is_named link.text place ≡ true
+    → Conversation facts kept (root ∷ object ∷ look ∷ link ∷ [])
+    (λ t turn. StandsAt place (is_top place) t turn → ⊥)
+    → ⊥)
     × ((facts : Facts) (kept place : List ℕ) (enter cwd again : Exchange)
     → facts.jailed ≡ true → facts.directory ≡ true → facts.seen ≡ false
     → Worked Enter enter → Worked Cwd cwd → place_of_cwd cwd.text ≡ Some place

@@ -8,10 +8,10 @@ pub fn places_are_witnessed()
     ensures { PlacesAreWitnessed }
 {}
 
-/// Where a text of the object tells a place below the root, and the look-up finds the object with links, a directory's
-/// conversation tells just that place. So does a directory's in a jail, where getcwd(2) tells it, and then that there
-/// is a path still. Without openat2(2) so does any conversation whose texts agree, where the link has its name still;
-/// and the root's own, where device and inode are the same.
+/// Where a text of the object tells a place below the root, the look-up finds the object, and its link has its name
+/// still, the conversation tells just that place. So does a directory's in a jail, where getcwd(2) tells it, and then
+/// that there is a path still. Without openat2(2) so does any conversation whose texts agree, where the link has its
+/// name still; and the root's own, where device and inode are the same.
 pub fn agreeing_witnesses_are_told()
     ensures { AgreeingWitnessesAreTold }
 {}
@@ -21,17 +21,19 @@ pub fn questions_come_to_an_end()
     ensures { QuestionsComeToAnEnd }
 {}
 
-/// What answers of Linux say of the file system, each at its moment, is a premise (getcwd(2), proc(5), rmdir(2)). With
-/// it: where a place is told, the object stood there at the moment of an answer. If a link's text was read, texts must
-/// tell inside from outside, but for a slash alone, and the root must stay at its path. Of a directory in a jail that
-/// is no premise. What the kernel had seen below the root right before may also have been removed by then.
+/// What answers of Linux say of the file system, each at its moment, is a premise (getcwd(2), proc(5), rmdir(2)).
+/// With it: where a place is told, the object stood there at the moment of an answer. If a link's text was read,
+/// texts must tell inside from outside, but for a slash alone, and the root must stay at its path. Of a directory in
+/// a jail that is no premise. What the kernel had seen below the root right before may also have been removed by
+/// then, but not before the first question.
 pub fn places_stood()
     ensures { PlacesStood }
 {}
 
-/// The same by openat2(2) with RESOLVE_BENEATH alone, wherever the root is moved and whatever texts say: at the moment
-/// of an answer the kernel has passed the place's names from the root, and saw the object below it. So it is of all but
-/// directories in a jail and what the kernel had seen there right before, if the thread has openat2(2) and keeps it.
+/// Wherever the root is moved, and whichever names texts have: at the moment of an answer the kernel has passed the
+/// place's names from the root, by openat2(2) with RESOLVE_BENEATH, and saw the object below it, which wasn't removed
+/// by then. So it is of all but directories in a jail and what the kernel had seen there right before, if the thread
+/// has openat2(2) and keeps it. Of the root itself it isn't said that it wasn't removed.
 pub fn places_were_passed()
     ensures { PlacesWerePassed }
 {}

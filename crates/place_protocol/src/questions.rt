@@ -62,6 +62,4 @@ pub struct Answer {
     pub held: Object,
     /// To LookUp: what was found. To IsRoot: the root.
     pub found: Object,
-    /// To LookUp: how many links that has.
-    pub links: u64,
 }

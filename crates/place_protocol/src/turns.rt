@@ -1,7 +1,7 @@
 //! What follows from an answer.
 ghost use Rattle.std.specs.Prelude.{◌≡◌};
 ghost use Rattle.place_protocol.specs.Texts.{texts_of, IsWithin};
-ghost use Rattle.place_protocol.specs.Turns.{after_cwd, after_cwd_again, after_dead, after_enter, after_found, after_is_root, after_kept, after_link_again, after_look_up, after_object, after_own_root, after_root, after_root_again, confirm, confirm_alone, confirm_place, facts_after, first, first_link, has_found, has_path, in_jail, is_root, link_error, look_up_error, without_second, Follows};
+ghost use Rattle.place_protocol.specs.Turns.{after_cwd, after_cwd_again, after_dead, after_enter, after_found, after_is_root, after_kept, after_link_again, after_look_up, after_object, after_own_root, after_root, after_root_again, ask_there, confirm, confirm_alone, confirm_place, facts_after, first, first_link, has_found, has_path, in_jail, is_root, link_error, look_up_error, without_second, Follows};
 
 use crate::questions::{Answer, Facts, Question};
 use crate::texts::{found, found_in_jail};
@@ -141,9 +141,23 @@ fn after_cwd_again(error: u32, place: Option<Place>) -> Turn
 
 // ---- by links in /proc
 
+// Whether the object was gone by then. The kernel looks at that before it takes the names. So the link of what isn't
+// called so is read again. A name of its own may end as the kernel writes of what is gone: a directory that is called
+// so and isn't dead has that name, and of anything else nobody knows.
+fn ask_there(facts: &Facts, place: &Place) -> Turn
+    ensures { result ≡ ask_there facts.now place.now }
+{
+    if !place.gone {
+        Turn::Ask(Question::LinkAgain)
+    } else if facts.directory {
+        Turn::Ask(Question::Dead)
+    } else {
+        Turn::Unmade(EAGAIN)
+    }
+}
+
 // Without the second witness. A slash alone is the text of the root, and of what has left its mount. In a jail no
-// object that goes by its link is the root. The kernel looks whether the object is gone before it takes the names. So
-// what isn't called so is read again; a directory that is called so and isn't dead has that name.
+// object that goes by its link is the root.
 fn confirm_alone(facts: &Facts, place: Place) -> Turn
     ensures { result ≡ confirm_alone facts.now place }
 {
@@ -153,25 +167,23 @@ fn confirm_alone(facts: &Facts, place: Place) -> Turn
         } else {
             Turn::Ask(Question::IsRoot)
         }
-    } else if !place.gone {
-        Turn::Ask(Question::LinkAgain)
-    } else if facts.directory {
-        Turn::Ask(Question::Dead)
     } else {
-        Turn::Unmade(EAGAIN)
+        ask_there(facts, &place)
     }
 }
 
-// What was seen below the root may have left its mount since.
+// What was seen below the root may have left its mount since, or was removed as it was seen.
 fn confirm_place(facts: &Facts, place: Place) -> Turn
     ensures { result ≡ confirm_place facts.now place }
 {
     if !facts.second {
         confirm_alone(facts, place)
-    } else if facts.seen && !is_root(&place) {
-        Turn::Stands(place, false)
-    } else {
+    } else if !facts.seen || is_root(&place) {
         Turn::Look(place)
+    } else if place.gone {
+        ask_there(facts, &place)
+    } else {
+        Turn::Stands(place, false)
     }
 }
 
@@ -260,10 +272,10 @@ fn after_found(facts: &Facts, answer: &Answer, place: Place) -> Turn
 {
     if !has_found(answer, &place) {
         Turn::Unmade(look_up_error(answer.error))
-    } else if facts.directory && answer.links > 0 {
-        Turn::Stands(place, is_root(&place))
+    } else if is_root(&place) {
+        Turn::Stands(place, true)
     } else {
-        Turn::Ask(Question::LinkAgain)
+        ask_there(facts, &place)
     }
 }
 
