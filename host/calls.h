@@ -834,6 +834,37 @@ void inroot_entering_begin(struct inroot_entering *entering);
 /* Takes what the last call gave. AGAIN: the caller lets it try again. */
 void inroot_entering_next(struct inroot_entering *entering, bool again, const struct inroot_entering_answer *answer);
 
+/* ---- how a call begins whose paths begin at a directory below the root. These take no memory. A PLACE has a slash before each name. */
+
+/* Whether a path begins at the directory: it isn't empty, and doesn't begin with a slash. */
+bool inroot_begins_there(const unsigned char *path, size_t length);
+
+size_t inroot_count_names(const unsigned char *place, size_t length);
+
+/* Whether the directory that stood at PLACE stands there still, by where it stands now. */
+bool inroot_is_same_place(const unsigned char *place, size_t length, const unsigned char *again, size_t again_length);
+
+/*
+ * Lays the text that the call walks from the root: if the path begins at the directory, its names, a slash and the path; else the
+ * path. How many bytes that are: at most 4,096, one more than a path has. The room has so many.
+ */
+size_t inroot_join(const unsigned char *place, size_t place_length, const unsigned char *path, size_t path_length,
+                   unsigned char *room, size_t size);
+
+/* What is done with a step: it is made; the names are reported as passed; the place is asked for once more, and they are if it holds. */
+enum inroot_telling_next { INROOT_TELLING_WALKS, INROOT_TELLING_TELLS, INROOT_TELLING_ASKS_AGAIN };
+
+/* Which walks begin with the names, and are still to be begun. */
+struct inroot_telling {
+    bool first, second;
+};
+
+void inroot_telling_begin(const unsigned char *place, size_t place_length, const unsigned char *first, size_t first_length,
+                          const unsigned char *second, size_t second_length, bool is_rename, struct inroot_telling *telling);
+
+/* IN_ROOT: the step is an Open in the root's own handle. PLACED: the step before it was a question for a place. */
+uint8_t inroot_telling_next(struct inroot_telling *telling, bool in_root, bool placed);
+
 /* ---- how much of a path is tried next, as as much as is there is opened. These take no memory. */
 
 /*

@@ -1,7 +1,7 @@
 /*
- * from.c: a call that begins at a directory below the root. The driver asks both witnesses for its place, and puts the
- * names before the call's own paths. So the proved call walks from the root. The driver reports these names to it as
- * passed. The answer for the last one is the directory itself: the kernel's look-up by just these names has found it.
+ * from.c: a call that begins at a directory below the root. The driver asks both witnesses for its place; proved functions put the
+ * names before the call's own paths, and say when they are reported as passed (crates/begin_below). So the proved call walks from
+ * the root. The answer for the last name is the directory itself: the kernel's look-up by just these names has found it.
  */
 #define _GNU_SOURCE
 #include "driver.h"
@@ -10,18 +10,9 @@
 #include <string.h>
 #include <unistd.h>
 
-/* Whether the path begins at the directory. An empty path doesn't: the call tells its own error. */
 static bool begins_there(const char *path)
 {
-    return path[0] != 0 && path[0] != '/';
-}
-
-static int count_names(const char *place)
-{
-    int count = 0;
-    for (const char *at = place; *at != 0; at++)
-        count += *at == '/' && at[1] != 0;
-    return count;
+    return inroot_begins_there((const unsigned char *)path, strlen(path));
 }
 
 /* Finds where the caller's directory stands. Writes the place, and opens the directory again: its length or -errno. */
@@ -31,32 +22,19 @@ static ssize_t find(struct inroot_driver *d, int root, int dir, char *text, stru
     return inroot_ask_place(d, root, dir, &facts, text, slot);
 }
 
-/* Joins the two. What doesn't fit is cut off: what is left is too long for a path, too. */
+/* The names of the place come before a path that begins there. */
 static void join(char to[INROOT_TEXT_MAX + 1], const char *place, const char *path)
 {
-    size_t used = strlen(place), length = strlen(path);
-    memcpy(to, place, used);
-    to[used++] = '/';
-    if (length > INROOT_TEXT_MAX - used)
-        length = INROOT_TEXT_MAX - used;
-    memcpy(to + used, path, length);
-    to[used + length] = 0;
+    size_t length = inroot_join((const unsigned char *)place, strlen(place), (const unsigned char *)path, strlen(path),
+                                (unsigned char *)to, INROOT_TEXT_MAX);
+    to[length] = 0;
 }
 
-/* The paths that begin at the directory get its names, without the slash before the first. */
-static void join_paths(struct inroot_driver *d, struct inroot_joined *joined)
+static void begin_telling(struct inroot_driver *d, const char *place, const struct inroot_request *asked, bool renames)
 {
-    struct inroot_request *request = &joined->request;
-    if (d->from.first)
-        join(joined->first, joined->place + 1, request->first);
-    else
-        strcpy(joined->first, request->first);
-    if (d->from.second)
-        join(joined->second, joined->place + 1, request->second);
-    else
-        strcpy(joined->second, request->second);
-    request->first = joined->first;
-    request->second = joined->second;
+    inroot_telling_begin((const unsigned char *)place, strlen(place), (const unsigned char *)asked->first, strlen(asked->first),
+                         (const unsigned char *)asked->second, strlen(asked->second), renames, &d->from.telling);
+    d->from.unseen = d->from.telling.second;
 }
 
 int inroot_from_join(struct inroot_driver *d, int root, int dir, const struct inroot_request *asked,
@@ -66,20 +44,21 @@ int inroot_from_join(struct inroot_driver *d, int root, int dir, const struct in
     int failed = inroot_check_directory(dir);
     if (failed)
         return failed;
+    const bool renames = asked->op == INROOT_ASK_RENAME;
     joined->request = *asked;
+    joined->request.first = joined->first;
+    joined->request.second = joined->second;
     joined->place[0] = 0;
-    bool first = begins_there(asked->first), second = asked->op == INROOT_ASK_RENAME && begins_there(asked->second);
-    ssize_t length = first || second ? find(d, root, dir, joined->place, &slot) : 0;
+    bool begins = begins_there(asked->first) || (renames && begins_there(asked->second));
+    ssize_t length = begins ? find(d, root, dir, joined->place, &slot) : 0;
     if (length < 0)
         return (int)length;
     d->from.dir = dir;
     d->from.place = joined->place;
     d->from.fd = length > 0 ? slot.fd : INROOT_NONE;
-    /* The root itself stands at no names. */
-    d->from.names = count_names(joined->place);
-    d->from.first = first && d->from.names > 0;
-    d->from.second = second && d->from.names > 0;
-    join_paths(d, joined);
+    begin_telling(d, joined->place, asked, renames);
+    join(joined->first, joined->place, asked->first);
+    join(joined->second, renames ? joined->place : "", asked->second);
     return 0;
 }
 
@@ -96,7 +75,8 @@ static struct inroot_result pass(struct inroot_driver *d, int fd, struct inroot_
     d->run.way = is_seen ? INROOT_SEEN_BELOW : INROOT_BY_NAME;
     d->run.passed = inroot_passed_put(d, told->handle, names, length);
     d->run.ends = false;
-    struct inroot_result result = inroot_run_tell(d, told, room, names, (size_t)d->from.names - 1);
+    size_t count = inroot_count_names((const unsigned char *)names, length);
+    struct inroot_result result = inroot_run_tell(d, told, room, names, count - 1);
     d->from.told = result.handle;
     return result;
 }
@@ -106,7 +86,6 @@ static struct inroot_result pass_first(struct inroot_driver *d, struct inroot_to
 {
     int fd = d->from.fd;
     d->from.fd = INROOT_NONE;
-    d->from.first = false;
     return pass(d, fd, told, room);
 }
 
@@ -118,39 +97,25 @@ static struct inroot_result pass_again(struct inroot_driver *d, struct inroot_to
     if (length < 0)
         return inroot_refused(d, (int)-length);
     text[length] = 0;
-    if (strcmp(text, d->from.place) != 0) {
+    if (!inroot_is_same_place((const unsigned char *)d->from.place, strlen(d->from.place), (const unsigned char *)text,
+                              (size_t)length)) {
         close(slot.fd);
         return inroot_refused(d, EAGAIN);
     }
     struct inroot_result result = pass(d, slot.fd, told, room);
-    d->from.second = result.what != INROOT_ANSWER_OPENED;
+    d->from.unseen = result.what != INROOT_ANSWER_OPENED;
     return result;
-}
-
-/*
- * Whether the second walk begins with an Open in the root's own handle. The first walk has ended by the question for a place.
- * Had it gone on behind that, it would have done so from the handle that the question was for.
- */
-static bool is_second(struct inroot_driver *d)
-{
-    bool is_first_time = !d->from.tried && d->from.second && d->step == INROOT_STEP_NAME_BELOW;
-    d->from.tried |= is_first_time;
-    return is_first_time;
 }
 
 bool inroot_from_begins(struct inroot_driver *d, struct inroot_told *told, char *room, char *text,
                         struct inroot_result *result)
 {
-    bool is_root = (uint32_t)told->handle == 0 && told->handle >> 32 == 1;
-    if (told->what != INROOT_STEP_OPEN || !is_root)
-        return false;
-    if (d->from.first)
-        *result = pass_first(d, told, room);
-    else if (is_second(d))
-        *result = pass_again(d, told, room, text);
-    else
-        return false;
-    return true;
+    bool in_root = told->what == INROOT_STEP_OPEN && (uint32_t)told->handle == 0 && told->handle >> 32 == 1;
+    switch (inroot_telling_next(&d->from.telling, in_root, d->step == INROOT_STEP_NAME_BELOW)) {
+    case INROOT_TELLING_TELLS: *result = pass_first(d, told, room); return true;
+    case INROOT_TELLING_ASKS_AGAIN: *result = pass_again(d, told, room, text); return true;
+    default: return false;
+    }
 }
 
 /* Answers with the driver's last report. It has made no system call since. */

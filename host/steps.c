@@ -360,8 +360,7 @@ static struct inroot_result rename_entry(struct inroot_driver *d, const struct i
     int error = find(d, step->other, name, step->second, &new);
     if (error)
         return inroot_unmade(d, error);
-    /* The second path was to begin at the caller's directory, and nobody has seen that it did. */
-    if (d->from.second)
+    if (d->from.unseen)
         return inroot_unmade(d, EAGAIN);
     /* The modes have the kernel's own numbers. */
     unsigned int mode = step->detail | (d->asked->whiteout ? INROOT_WHITEOUT : 0);

@@ -1,6 +1,7 @@
 //! The functions by which a C program makes calls: a static library of the exports of `c_protocol`, `step_calls`,
 //! `place_protocol`, `open_or_make`, `make_through_links`, `remove_by_calls`, `look_ups`, `list_directory`,
 //! `call_course`, `ask_place`, `give_entry`, `open_partial`, `open_at_once`, `open_through_links`, `enter_directory`,
+//! `begin_below`,
 //! `kernel_text` and `system_calls`.
 //!
 //! Each export is the function of that name of one of these, with its clauses. What a C program owes is said in
@@ -30,6 +31,7 @@ ghost use Rattle.system_calls.specs.Opening.{opening_of, reopen_flags};
 ghost use Rattle.system_calls.specs.Uses.{use_of};
 
 mod askings;
+mod below;
 mod calls;
 mod entries;
 mod listings;
@@ -337,8 +339,8 @@ pub extern "C" fn inroot_making_next(
     ensures goes { (asked : MakingAsked) (history : List MakingExchange) → IsMakingAt asked history making.old room.old
         → is_making_call making.old.next ≡ true
         → IsMakingAt asked (making_exchange making.old room.old outcome.now text.now ∷ history) making.new room.new }
-    ensures within { IsWithin making.new (length room.new) }
     ensures closes { making.new ≡ closing making.old outcome.now.descriptor making.new }
+    ensures within { IsWithin making.new (length room.new) }
     ensures ends { is_making_call making.new.next ≡ false
         → (room.new ≡ room.old) × (making.new.length ≡ making.old.length) }
 {

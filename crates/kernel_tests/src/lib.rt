@@ -5,6 +5,8 @@
 #[cfg(test)]
 mod askings;
 #[cfg(test)]
+mod beginnings;
+#[cfg(test)]
 mod c_paths;
 #[cfg(test)]
 mod c_turns;

@@ -1,0 +1,11 @@
+use Rattle.std.proofs.Common.{rules}
+use Rattle.std.proofs.lemmas.Iterator.Consumers.{count_from_yields_List}
+use borrow.Author.Tests.{tests}
+use Rattle.path_text.proofs.PiecesYielded.{pieces_yielded}
+use Rattle.begin_below.proofs.paths.count_names.Goals as goal
+
+pub returns : goal.returns
+returns c =
+    count_from_yields_List _ _ c.count.ensures.ran
+    (pieces_yielded _ _ c.args.place.now (cc) (cc) (cc) (cc) (λ x b q k. search (rules, tests))
+    (λ x b q k. search (rules, tests)))

@@ -1,0 +1,74 @@
+//! The text that a call walks from the root.
+ghost use Rattle.std.specs.Prelude.{◌≡◌, ◌≤◌, ◌<◌, ◌+◌, ◌-◌, ◌++◌, length, take, drop, min};
+ghost use Rattle.path_text.specs.declared.path.TheConstants.{TEXT_MAX};
+ghost use Rattle.path_text.specs.Name.{same_bytes};
+ghost use Rattle.path_text.specs.Text.{pieces};
+ghost use Rattle.begin_below.specs.Paths.{begins_there, goes_below, joined, IsLaid};
+
+use path_text::{SLASH, TEXT_MAX};
+
+/// Whether a path begins at the directory: it doesn't begin with a slash, and isn't empty. Takes no memory.
+pub fn begins_there(path: &[u8]) -> bool
+    ensures { result ≡ begins_there path.now }
+{
+    match path.first() {
+        None => false,
+        Some(byte) => *byte != SLASH,
+    }
+}
+
+/// How many names a place has: a slash before each, or a slash alone for the root. Takes no memory.
+pub fn count_names(place: &[u8]) -> usize
+    ensures { result ≡ length (pieces place.now) }
+{
+    place
+        .split(|byte| *byte == SLASH)
+        .filter(|piece| !piece.is_empty())
+        .count()
+}
+
+/// Whether a directory that stood at a place stands at the same names still, by where it stands now. Takes no memory.
+pub fn is_same_place(place: &[u8], again: &[u8]) -> bool
+    ensures { result ≡ same_bytes again.now place.now }
+{
+    again == place
+}
+
+// Lays a text behind so many bytes, or as much of it as is still less than two bytes too long for a path.
+fn lay(text: &[u8], at: usize, room: &mut [u8]) -> usize
+    requires at { at ≤ TEXT_MAX + 1 }
+    requires room { TEXT_MAX < length room.old }
+    ensures used { result ≡ at + min (length text.now) (TEXT_MAX + 1 - at) }
+    ensures bytes { room.new ≡ take at room.old
+        ++ (take (min (length text.now) (TEXT_MAX + 1 - at)) text.now ++ drop result room.old) }
+{
+    let size = text.len().min(TEXT_MAX + 1 - at);
+    room[at..at + size].copy_from_slice(&text[..size]);
+    at + size
+}
+
+fn goes_below(place: &[u8], path: &[u8]) -> bool
+    ensures { result ≡ goes_below place.now path.now }
+{
+    begins_there(path) && count_names(place) > 0
+}
+
+/// Lays the text that the call walks from the root at the room's beginning, and tells how many bytes that are. If the
+/// path begins at the directory, it is the names of the directory, a slash, and the path; else the path itself, as also
+/// where the directory is the root. `place` is where the directory stands: a slash before each name.
+///
+/// Of a text that is too long for a path 4,096 bytes are laid, one more than a path has. So a walk refuses it
+/// (ENAMETOOLONG). Takes no memory.
+pub fn join(place: &[u8], path: &[u8], room: &mut [u8]) -> usize
+    requires { TEXT_MAX < length room.old }
+    ensures laid { IsLaid (joined place.now path.now) result room.old room.new }
+    ensures within { result ≤ TEXT_MAX + 1 }
+{
+    if goes_below(place, path) {
+        let names = lay(&place[1..], 0, room);
+        let behind = lay(&[SLASH], names, room);
+        lay(path, behind, room)
+    } else {
+        lay(path, 0, room)
+    }
+}
