@@ -1,10 +1,10 @@
 /*
  * dead: a directory is removed after a call has opened it, and before the call asks for the one above: that one isn't opened, as
  * the kernel opens none of what is gone. On the file system that DIR is on, and on overlayfs, which leaves links to a directory
- * of a lower layer: of one that is there alone, of one that the upper layer has too, of one that was made above. To be linked
- * with --wrap=openat.
+ * of a lower layer: of one that is there alone, of one that the upper layer has too, of one that was made above. And on a cgroup2,
+ * which leaves links to each. To be linked with --wrap=openat.
  *
- * usage: dead DIR. Exits 0 where that holds. 78: no right to mount, so that overlayfs is left out, or to change a root.
+ * usage: dead DIR. Exits 0 where that holds. 78: no right to mount, so that overlayfs or a cgroup2 is left out, or to change a root.
  */
 #define _GNU_SOURCE
 #include "support.h"
@@ -19,7 +19,7 @@
 
 static char where[PATH_MAX];
 static int root, at;
-static const char *removed;
+static const char *removed, *file = "f";
 
 static int my_openat(int dir, const char *name, int flags, mode_t mode)
 {
@@ -36,7 +36,7 @@ INSTEAD_OF_OPENAT(my_openat)
 static void one(const char *what, const char *name)
 {
     char path[64];
-    snprintf(path, sizeof path, "%s/../f", name);
+    snprintf(path, sizeof path, "%s/../%s", name, file);
     int fd = inroot_open(at, path, INROOT_ONE_BY_ONE);
     gives_fd(fd, "%s, %s: what stands", what, name);
     close(fd);
@@ -111,6 +111,31 @@ static void on_overlay(const char *name)
     sure(mknodat(root, "f", S_IFREG | 0600, 0), "f");
 }
 
+/* A new one for the test's own groups, in the control group at its top. */
+static void on_cgroup2(void)
+{
+    char target[2 * PATH_MAX];
+    static const char *const names[] = {"low", "both", "high"};
+    make("five", "");
+    snprintf(target, sizeof target, "%s/five", where);
+    if (unshare(CLONE_NEWNS) != 0 || mount(NULL, "/", NULL, MS_REC | MS_PRIVATE, NULL) != 0 ||
+        mount("none", target, "cgroup2", 0, NULL) != 0)
+        _exit(NO_RIGHT);
+    int top = sure(open(target, O_PATH | O_DIRECTORY | O_CLOEXEC), target);
+    snprintf(target, sizeof target, "inroot_dead_%ld", (long)getpid());
+    if (mkdirat(top, target, 0755) != 0)
+        _exit(NO_RIGHT);
+    root = sure(openat(top, target, O_PATH | O_DIRECTORY | O_CLOEXEC), target);
+    for (size_t one = 0; one < sizeof names / sizeof *names; one++)
+        sure(mkdirat(root, names[one], 0755), names[one]);
+    file = "cgroup.procs";
+    at = root;
+    each("on a cgroup2");
+    for (size_t one = 0; one < sizeof names / sizeof *names; one++)
+        unlinkat(root, names[one], AT_REMOVEDIR);
+    sure(unlinkat(top, target, AT_REMOVEDIR), target);
+}
+
 static void by_proc_on_overlay(void)
 {
     on_overlay("one");
@@ -133,6 +158,10 @@ int main(int count, char **words)
         puts("dead: overlayfs can't be mounted here");
     else
         apart(in_jail_on_overlay);
+    const int no_groups = apart(on_cgroup2);
+    if (no_groups != 0)
+        puts("dead: a cgroup2 can't be mounted here, or has no new groups");
+    skipped |= no_groups;
     here("three");
     apart(by_proc);
     here("four");

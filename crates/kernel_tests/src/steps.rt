@@ -38,6 +38,10 @@ const PROC: u64 = 0x9fa0;
 
 const OVERLAYFS: u64 = 0x794c_7630;
 
+const CGROUP: u64 = 0x0027_e0eb;
+
+const CGROUP2: u64 = 0x6367_7270;
+
 // ST_NOSYMFOLLOW of statfs(2)
 const NOSYMFOLLOW: u64 = 0x2000;
 
@@ -169,6 +173,7 @@ fn removed_directories_have_no_parent(rt: HostRuntime) -> Result<(), Fail> {
     assert!(rt; layers.next == LAYERS && says(&facts, layers, EXT4).next == OPENED);
     let open = says(&facts, layers, OVERLAYFS);
     assert!(rt; open.next == OPEN_TO_READ && fails(&facts, open, EACCES).next == OPENED);
+    assert!(rt; says(&facts, layers, CGROUP) == open && says(&facts, layers, CGROUP2) == open);
     let read = works(&facts, open);
     assert!(rt; read.next == READ);
     let there = works(&facts, read);

@@ -1,9 +1,9 @@
 -- Where a step is made, no error was passed over.
 use Rattle.std.proofs.Common.{◌≡◌, ◌⊎◌, inl, inr, ℕ, List, [], ◌∷◌, Bool, true, false, if◌then◌else◌, ◌&&◌, ◌||◌, not, refl, sym, ap, subst, ◌∙◌}
-use Rattle.std.specs.Prelude.{◌==◌, bit_and}
+use Rattle.std.specs.Prelude.{◌==◌}
 use Rattle.std.specs.List.{AllByRecursion}
 use Rattle.std.proofs.lemmas.Bool.{eqb-true, false≢true}
-use Rattle.step_calls.specs.History.{after_exchange, asked, asks, came_to, ends_by, fails, gone, has_followed, has_magic, is_ordinary, knows, next_after, not_ordinary, not_read, opened, stayed, there, unasked, waits, Exchange, opens_directory, opens_any, spares, asks_mount, asks_kind, asks_holder, asks_magic, asks_links, asks_layers, opens_to_read, reads, closes_read, asks_follow, reads_link, changes, closes, EEXIST, EINTR, ELOOP, ENOENT, ENOTDIR, EXDEV, NOSYMFOLLOW, OVERLAYFS, IsHistory, Next}
+use Rattle.step_calls.specs.History.{after_exchange, asked, asks, came_to, ends_by, fails, gone, has_followed, has_magic, is_ordinary, keeps_links, knows, next_after, not_ordinary, not_read, opened, stayed, there, unasked, waits, Exchange, opens_directory, opens_any, spares, asks_mount, asks_kind, asks_holder, asks_magic, asks_links, asks_layers, opens_to_read, reads, closes_read, asks_follow, reads_link, changes, closes, EEXIST, EINTR, ELOOP, ENOENT, ENOTDIR, EXDEV, IsHistory, Next}
 use Rattle.step_calls.specs.Promises.{is_no_error, is_none_left, NoError}
 use Rattle.step_calls.specs.declared.course.TheConstants.{OPEN_DIRECTORY, OPEN_ANY, MAGIC, LAYERS, OPEN_TO_READ, READ, CLOSE_READ, NO_FOLLOW, READ_LINK, CLOSE, OPENED, TEXT, REFUSED, UNMADE, DONE}
 use Rattle.step_calls.specs.declared.facts.Facts.{Facts}
@@ -92,7 +92,7 @@ well f (asks_links error links) due =
     (λ b. unasked_all P f error (λ x. no_way) (λ x. no_way))
 well f (asks_layers error type) due =
     let P = Well f (asks_layers error type) due in
-    if_elim P ((error == 0) && (type == OVERLAYFS)) (asks OPEN_TO_READ) (there f)
+    if_elim P ((error == 0) && keeps_links type) (asks OPEN_TO_READ) (there f)
     (λ b h. (refl, refl)) (λ b. there_all P f (λ x h. (refl, refl)) (λ x h. (refl, refl)))
 well f (opens_to_read error) due =
     let P = Well f (opens_to_read error) due in

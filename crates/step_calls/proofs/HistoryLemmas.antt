@@ -1,8 +1,8 @@
 -- What holds of every history: descriptors and changes.
 use Rattle.std.proofs.Common.{◌≡◌, ℕ, List, [], ◌∷◌, Bool, true, false, if◌then◌else◌, ◌&&◌, not, refl, sym, ap, subst, ◌∙◌}
-use Rattle.std.specs.Prelude.{◌==◌, bit_and}
+use Rattle.std.specs.Prelude.{◌==◌}
 use Rattle.std.proofs.lemmas.Bool.{eqb-true, false≢true}
-use Rattle.step_calls.specs.History.{after_exchange, asked, asks, came_to, ends_by, fails, first, gone, has_followed, has_magic, is_ordinary, knows, next_after, not_ordinary, not_read, opened, stayed, there, unasked, waits, Exchange, opens_directory, opens_any, spares, asks_mount, asks_kind, asks_holder, asks_magic, asks_links, asks_layers, opens_to_read, reads, closes_read, asks_follow, reads_link, changes, closes, EEXIST, EINTR, ELOOP, ENOENT, ENOTDIR, EXDEV, NOSYMFOLLOW, OVERLAYFS, IsHistory, Next}
+use Rattle.step_calls.specs.History.{after_exchange, asked, asks, came_to, ends_by, fails, first, gone, has_followed, has_magic, is_ordinary, keeps_links, knows, next_after, not_ordinary, not_read, opened, stayed, there, unasked, waits, Exchange, opens_directory, opens_any, spares, asks_mount, asks_kind, asks_holder, asks_magic, asks_links, asks_layers, opens_to_read, reads, closes_read, asks_follow, reads_link, changes, closes, EEXIST, EINTR, ELOOP, ENOENT, ENOTDIR, EXDEV, IsHistory, Next}
 use Rattle.step_calls.specs.Promises.{holds_after, holds_by, needs_opened, needs_read, reads_after, reads_by}
 use Rattle.step_calls.specs.declared.course.TheConstants.{OPEN_DIRECTORY, OPEN_ANY, READ, CLOSE_READ, NO_FOLLOW, LINKS, LAYERS, OPEN_TO_READ, READ_LINK, MAGIC, CHANGE, CLOSE, OPENED, TEXT, DONE, REFUSED, UNMADE}
 use Rattle.step_calls.specs.declared.facts.Facts.{Facts}
@@ -71,7 +71,7 @@ each P f (asks_links error links) due c =
     (λ d. gone_all P f (λ x. c.close REFUSED ENOENT) (λ x. c.refused ENOENT)) (λ d. c.layers))
     (λ b. unasked_all P f error (λ x. c.close UNMADE error) (λ x. c.unmade error))
 each P f (asks_layers error type) due c =
-    if_elim P ((error == 0) && (type == OVERLAYFS)) (asks OPEN_TO_READ) (there f) (λ b. c.to_read)
+    if_elim P ((error == 0) && keeps_links type) (asks OPEN_TO_READ) (there f) (λ b. c.to_read)
     (λ b. there_all P f (λ x. c.is_open DIRECTORY) (λ x. c.done))
 each P f (opens_to_read error) due c =
     if_elim P (error == 0) (asks READ) _ (λ b. c.read)
@@ -216,7 +216,7 @@ holds_step f (asks_links error links) due was is =
     (λ b. if_elim P (links == 0) (gone f) (asks LAYERS) (λ c. gone_holds f was is) (λ c. is))
     (λ b. unasked_holds f was error is)
 holds_step f (asks_layers error type) due was is =
-    if_elim (λ (n : Next). was ≡ needs_opened f n.next) ((error == 0) && (type == OVERLAYFS)) (asks OPEN_TO_READ) (there f)
+    if_elim (λ (n : Next). was ≡ needs_opened f n.next) ((error == 0) && keeps_links type) (asks OPEN_TO_READ) (there f)
     (λ b. is) (λ b. there_holds f was is)
 holds_step f (opens_to_read error) due was is =
     let P = λ (n : Next). was ≡ needs_opened f n.next in
@@ -343,7 +343,7 @@ reads_step f (asks_links error links) due was is =
     (λ b. unasked_all P f error (λ x. is) (λ x. is))
 reads_step f (asks_layers error type) due was is =
     let P = λ (n : Next). was ≡ needs_read n.next in
-    if_elim P ((error == 0) && (type == OVERLAYFS)) (asks OPEN_TO_READ) (there f)
+    if_elim P ((error == 0) && keeps_links type) (asks OPEN_TO_READ) (there f)
     (λ b. is) (λ b. there_all P f (λ x. is) (λ x. is))
 reads_step f (asks_follow error flags) due was is =
     let P = λ (n : Next). was ≡ needs_read n.next in

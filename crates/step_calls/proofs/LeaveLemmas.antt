@@ -1,15 +1,15 @@
 -- A link is followed only by leave.
-use Rattle.std.proofs.Common.{◌≡◌, ℕ, List, [], ◌∷◌, Bool, true, false, if◌then◌else◌, ◌&&◌, ◌||◌, not, refl, sym, ap, subst, ◌∙◌, arith}
+use Rattle.std.proofs.Common.{◌≡◌, ℕ, List, [], ◌∷◌, Bool, true, false, if◌then◌else◌, ◌&&◌, ◌||◌, not, sym, ap, subst, ◌∙◌}
 use Rattle.std.specs.Prelude.{◌==◌, MatchBool}
 use Rattle.std.specs.List.{list_any}
 use Rattle.std.proofs.lemmas.Bool.{false≢true}
-use Rattle.step_calls.specs.History.{after_exchange, asked, asks, came_to, ends_by, fails, first, gone, has_followed, has_magic, is_ordinary, knows, next_after, not_ordinary, not_read, opened, stayed, there, unasked, waits, Exchange, opens_directory, opens_any, spares, asks_mount, asks_kind, asks_holder, asks_magic, asks_links, asks_layers, opens_to_read, reads, closes_read, asks_follow, reads_link, changes, closes, EEXIST, EINTR, ELOOP, ENOENT, ENOTDIR, EXDEV, OVERLAYFS, IsHistory, Next}
+use Rattle.step_calls.specs.History.{after_exchange, asked, asks, came_to, ends_by, fails, first, gone, has_followed, has_magic, is_ordinary, keeps_links, knows, next_after, not_ordinary, not_read, opened, stayed, there, unasked, waits, Exchange, opens_directory, opens_any, spares, asks_mount, asks_kind, asks_holder, asks_magic, asks_links, asks_layers, opens_to_read, reads, closes_read, asks_follow, reads_link, changes, closes, EEXIST, EINTR, ELOOP, ENOENT, ENOTDIR, EXDEV, IsHistory, Next}
 use Rattle.step_calls.specs.Leave.{says_followed, says_ordinary, NoMagicIsOpened, TextsAreFollowed}
 use Rattle.step_calls.specs.declared.course.TheConstants.{OPEN_DIRECTORY, OPEN_ANY, MOUNT, KIND, MAY_HOLD_MAGIC, MAGIC, LAYERS, OPEN_TO_READ, READ, CLOSE_READ, READ_LINK, NO_FOLLOW, CLOSE, OPENED, TEXT, DONE, REFUSED, UNMADE}
 use Rattle.step_calls.specs.declared.facts.Facts.{Facts}
-use Rattle.step_calls.specs.declared.facts.TheConstants.{DIRECTORY, DUP, IS_THERE, LINK, OPEN, PARENT, READ_TEXT}
+use Rattle.step_calls.specs.declared.facts.TheConstants.{DIRECTORY, LINK, OPEN, PARENT, READ_TEXT}
 use Rattle.step_calls.proofs.Ends.{ends_all, gone_all, there_all, unasked_all, unopened_all}
-use Rattle.step_calls.proofs.ErrorLemmas.{first_is, second_is}
+use Rattle.step_calls.proofs.ErrorLemmas.{first_is}
 use Rattle.step_calls.proofs.MomentLemmas.{if_elim}
 
 -- ---- magic links
@@ -74,7 +74,7 @@ magic_step f (asks_links error links) due said above magic =
     (λ b. if_elim P (links == 0) (gone f) (asks LAYERS) (λ c. is_gone f above magic said) (λ c. tt))
     (λ b. unasked_all P f error (λ x. tt) (λ x. tt))
 magic_step f (asks_layers error type) due said above magic =
-    if_elim (Plain said) ((error == 0) && (type == OVERLAYFS)) (asks OPEN_TO_READ) (there f) (λ b. tt)
+    if_elim (Plain said) ((error == 0) && keeps_links type) (asks OPEN_TO_READ) (there f) (λ b. tt)
     (λ b. is_there f above magic said)
 magic_step f (opens_to_read error) due said above magic =
     let P = Plain said in

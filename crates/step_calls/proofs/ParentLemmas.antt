@@ -11,7 +11,7 @@ use Rattle.tree_model.specs.declared.step.StepOf.TheVariants.{Parent}
 use Rattle.tree_model.specs.declared.inode.Place.{Place}
 use Rattle.tree_model.specs.State.{State, TOP, is_dir, is_gone, object_at, parent, place_at}
 use Rattle.tree_model.specs.Steps.{held, is_full, outcome}
-use Rattle.step_calls.specs.History.{after_exchange, after_spare, asks, asked, came_to, ends_by, fails, first, gone, knows, next_after, not_opened, opened, stayed, there, unasked, waits, Exchange, opens_directory, opens_any, spares, asks_mount, asks_kind, asks_holder, asks_magic, asks_links, asks_layers, opens_to_read, reads, closes_read, asks_follow, reads_link, changes, closes, EINTR, ENOENT, ENOTDIR, EMFILE, ENFILE, EXDEV, OVERLAYFS, IsHistory, Next}
+use Rattle.step_calls.specs.History.{after_exchange, after_spare, asks, asked, came_to, ends_by, fails, first, gone, keeps_links, knows, next_after, not_opened, opened, stayed, there, unasked, waits, Exchange, opens_directory, opens_any, spares, asks_mount, asks_kind, asks_holder, asks_magic, asks_links, asks_layers, opens_to_read, reads, closes_read, asks_follow, reads_link, changes, closes, EINTR, ENOENT, ENOTDIR, EMFILE, ENFILE, EXDEV, IsHistory, Next}
 use Rattle.step_calls.specs.Moments.{moment, AreAnswers, CouldNotAsk, IsGone, IsThere, IsWorld, OpensAbove, ParentSays, ParentsStood, Stays, World}
 use Rattle.step_calls.specs.declared.course.TheConstants.{OPEN_DIRECTORY, SPARE, MOUNT, LINKS, LAYERS, OPEN_TO_READ, READ, CLOSE_READ, CLOSE, OPENED, REFUSED, UNMADE}
 use Rattle.step_calls.specs.declared.facts.Facts.{Facts}
@@ -152,7 +152,7 @@ not_zero n is same = absurd (grind (arith, is, same))
 removed_now : (w : World) (now : ℕ) → IsGone w now → WasGone w now
 removed_now w now g = (now, omega arith, g)
 
--- of a file system that isn't overlayfs the number of links is enough
+-- of a file system that keeps no links their number is enough
 other_type : (w : World) (layered : Bool) (n : ℕ) → layered ≡ false → (layered ≡ true) ⊎ IsThere w n → IsThere w n
 other_type w layered n is (inl layers) = absurd (false≢true (sym is ∙ layers))
 other_type w layered n is (inr t) = t
@@ -206,10 +206,10 @@ step w layered f older now (asks_links error links) due parents world says was =
 step w layered f older now (asks_layers error type) due parents world says was =
     let history = asks_layers error type ∷ older in
     let a = later w now world says.0 was.0 in
-    and_elim (Stood w layered f history (suc now)) (error == 0) (type == OVERLAYFS) (asks OPEN_TO_READ) (there f)
+    and_elim (Stood w layered f history (suc now)) (error == 0) (keeps_links type) (asks OPEN_TO_READ) (there f)
     (λ b c. a)
     (λ b c. is_there w layered f history (suc now) parents a
-    (inl (other_type w layered a.n (says.1 (eqb-true error 0 b) (λ same. absurd (grind (arith, c, same)))) was.1)))
+    (inl (other_type w layered a.n (says.1 (eqb-true error 0 b) c) was.1)))
     (λ b. is_there w layered f history (suc now) parents a (inr (inl (not_zero error b))))
 step w layered f older now (opens_to_read error) due parents world says was =
     let history = opens_to_read error ∷ older in

@@ -1,8 +1,8 @@
 -- A step is refused by an error of its own alone.
 use Rattle.std.proofs.Common.{◌≡◌, ◌≢◌, ℕ, List, [], ◌∷◌, true, if◌then◌else◌, ◌&&◌, ◌||◌, not, refl, sym, subst, arith}
-use Rattle.std.specs.Prelude.{◌==◌, bit_and, MatchBool}
+use Rattle.std.specs.Prelude.{◌==◌, MatchBool}
 use Rattle.std.proofs.lemmas.Bool.{eqb-true}
-use Rattle.step_calls.specs.History.{after_exchange, asked, asks, came_to, ends_by, fails, first, gone, has_followed, has_magic, is_ordinary, knows, next_after, not_opened, not_ordinary, not_read, opened, stayed, there, unasked, waits, Exchange, opens_directory, opens_any, spares, asks_mount, asks_kind, asks_holder, asks_magic, asks_links, asks_layers, opens_to_read, reads, closes_read, asks_follow, reads_link, changes, closes, EEXIST, EINTR, ELOOP, EMFILE, ENFILE, ENOENT, ENOTDIR, EXDEV, NOSYMFOLLOW, OVERLAYFS, IsHistory, Next}
+use Rattle.step_calls.specs.History.{after_exchange, asked, asks, came_to, ends_by, fails, first, gone, has_followed, has_magic, is_ordinary, keeps_links, knows, next_after, not_opened, not_ordinary, not_read, opened, stayed, there, unasked, waits, Exchange, opens_directory, opens_any, spares, asks_mount, asks_kind, asks_holder, asks_magic, asks_links, asks_layers, opens_to_read, reads, closes_read, asks_follow, reads_link, changes, closes, EEXIST, EINTR, ELOOP, EMFILE, ENFILE, ENOENT, ENOTDIR, EXDEV, IsHistory, Next}
 use Rattle.step_calls.specs.Promises.{is_about_child, RefusalsAreOwn}
 use Rattle.step_calls.specs.Refusals.{is_refusal}
 use Rattle.step_calls.specs.declared.course.TheConstants.{OPEN_DIRECTORY, OPEN_ANY, SPARE, MOUNT, KIND, MAY_HOLD_MAGIC, MAGIC, LINKS, LAYERS, OPEN_TO_READ, READ, CLOSE_READ, READ_LINK, NO_FOLLOW, CHANGE, CLOSE, OPENED, TEXT, DONE, REFUSED, UNMADE}
@@ -86,7 +86,7 @@ module _ (f : Facts) where
       (λ b. if_elim (Stood f) (links == 0) (gone f) (asks LAYERS) (λ c. is_gone was) (λ c. was))
       (λ b. is_unasked error)
   step (asks_layers error type) due was =
-      if_elim (Stood f) ((error == 0) && (type == OVERLAYFS)) (asks OPEN_TO_READ) (there f) (λ b. was) (λ b. is_there)
+      if_elim (Stood f) ((error == 0) && keeps_links type) (asks OPEN_TO_READ) (there f) (λ b. was) (λ b. is_there)
   step (opens_to_read error) due was =
       if_elim (Stood f) (error == 0) (asks READ) _ (λ b. was)
       (λ b. if_elim (Stood f) (error == EINTR) (asks OPEN_TO_READ) _ (λ c. was)

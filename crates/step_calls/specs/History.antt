@@ -58,6 +58,12 @@ AAFS = 1513908720
 abbrev pub OVERLAYFS : ℕ
 OVERLAYFS = 2035054128
 
+abbrev pub CGROUP : ℕ
+CGROUP = 2613483
+
+abbrev pub CGROUP2 : ℕ
+CGROUP2 = 1667723888
+
 -- ST_NOSYMFOLLOW
 abbrev pub NOSYMFOLLOW : ℕ
 NOSYMFOLLOW = 8192
@@ -218,12 +224,16 @@ there f = if f.what == PARENT then knows OPENED DIRECTORY else asks DONE
 abbrev pub unasked : Facts → ℕ → Next
 unasked f error = if f.what == PARENT then waits CLOSE UNMADE error else fails UNMADE error
 
--- a removed directory has no link (stat(2)); but on overlayfs one of a lower layer keeps some
+-- a removed directory has no link (stat(2)); but on overlayfs one of a lower layer keeps some, and so does a removed
+-- control group (cgroups(7))
+abbrev pub keeps_links : ℕ → Bool
+keeps_links type = (type == OVERLAYFS) || ((type == CGROUP2) || (type == CGROUP))
+
 abbrev pub after_links : Facts → ℕ → ℕ → Next
 after_links f error links = if error == 0 then (if links == 0 then gone f else asks LAYERS) else unasked f error
 
 abbrev pub after_layers : Facts → ℕ → ℕ → Next
-after_layers f error type = if (error == 0) && (type == OVERLAYFS) then asks OPEN_TO_READ else there f
+after_layers f error type = if (error == 0) && keeps_links type then asks OPEN_TO_READ else there f
 
 -- ENOENT is a removed directory's. Of one that may not be read it can't be known.
 abbrev pub after_open_to_read : Facts → ℕ → Next

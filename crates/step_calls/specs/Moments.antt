@@ -12,7 +12,7 @@ use Rattle.tree_model.specs.declared.step.StepOf.TheVariants.{Open, Parent, Read
 use Rattle.tree_model.specs.State.{State, child, is_dir, is_gone, object_at, parent}
 use Rattle.tree_model.specs.Steps.{held, is_full, kind_of, outcome}
 use Rattle.tree_model.specs.StepWith.{StepWith}
-use Rattle.step_calls.specs.History.{next_after, Exchange, opens_directory, opens_any, asks_kind, asks_links, asks_layers, opens_to_read, reads, reads_link, ENOENT, IsHistory, OVERLAYFS}
+use Rattle.step_calls.specs.History.{next_after, Exchange, opens_directory, opens_any, asks_kind, asks_links, asks_layers, opens_to_read, reads, reads_link, keeps_links, ENOENT, IsHistory}
 use Rattle.step_calls.specs.declared.course.TheConstants.{OPENED, TEXT, REFUSED}
 use Rattle.step_calls.specs.declared.facts.Facts.{Facts}
 use Rattle.step_calls.specs.declared.facts.TheConstants.{OPEN, PARENT, READ_TEXT}
@@ -115,24 +115,23 @@ IsGone w n = is_gone (w.states n).nodes w.node ≡ true
 abbrev pub IsThere : World → ℕ → Type 0
 IsThere w n = is_gone (w.states n).nodes w.node ≡ false
 
--- LAYERED: the directory is on overlayfs
+-- LAYERED: the directory is on a file system that keeps the links of a removed one
 abbrev pub ParentSays : World → Bool → ℕ → Exchange → Type 0
 ParentSays w layered n (opens_directory error) =
     (error ≡ 0 → OpensAbove w (suc n)) × (error ≡ ENOENT → IsGone w (suc n))
--- stat(2), rmdir(2): a removed directory has no link, but on overlayfs; one that has none is removed. On a cgroup2 it
--- keeps its links, too: there this premise doesn't hold.
+-- stat(2), rmdir(2): a removed directory has no link, but on such a file system; one that has none is removed
 ParentSays w layered n (asks_links error links) =
     Stays w n × (error ≡ 0 → (links ≡ 0 → IsGone w (suc n))
     × (links ≢ 0 → (layered ≡ true) ⊎ IsThere w (suc n)))
 -- statfs(2): the type of the file system
-ParentSays w layered n (asks_layers error type) = Stays w n × (error ≡ 0 → type ≢ OVERLAYFS → layered ≡ false)
+ParentSays w layered n (asks_layers error type) = Stays w n × (error ≡ 0 → keeps_links type ≡ false → layered ≡ false)
 -- open(2), getdents64(2): ENOENT is a removed directory's; of one that is there something is read
 ParentSays w layered n (opens_to_read error) = Stays w n × (error ≡ ENOENT → IsGone w (suc n))
 ParentSays w layered n (reads error) =
     Stays w n × (error ≡ ENOENT → IsGone w (suc n)) × (error ≡ 0 → IsThere w (suc n))
 ParentSays w layered n _ = Stays w n
 
--- a file system's type, or a directory of overlayfs, could not be asked
+-- a file system's type, or a directory of one that keeps links, could not be asked
 abbrev pub CouldNotAsk : List Exchange → Type 0
 CouldNotAsk [] = ⊥
 CouldNotAsk (asks_layers error type ∷ older) = (error ≢ 0) ⊎ CouldNotAsk older

@@ -52,9 +52,9 @@ needs_read next = (next == READ) || (next == CLOSE_READ)
 abbrev pub is_none_left : ℕ → Bool
 is_none_left error = (error == EMFILE) || (error == ENFILE)
 
--- What isn't the step's error: none; a signal; a descriptor that is to be let go; ENOTDIR of a name that is opened as
--- what it is then; a file system, or a directory of overlayfs, that can't be asked; and an answer that a link is none
--- of the kernel's own.
+-- What isn't the step's error: none; a signal; a descriptor that is to be let go; ENOTDIR of a name that is opened
+-- as what it is then; a file system, or a directory of one that keeps links, that can't be asked; and an answer that a
+-- link is none of the kernel's own.
 abbrev pub is_no_error : Facts → Exchange → Bool
 is_no_error f (opens_directory error) =
     (error == 0) || ((error == EINTR) || (is_none_left error || ((f.what == OPEN) && (error == ENOTDIR))))

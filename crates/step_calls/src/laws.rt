@@ -19,8 +19,8 @@ pub fn opens_stood()
 
 /// The same of the directory above (openat(2), stat(2), rmdir(2)). It may have been open already, since the names
 /// passed led to it: then it is of the moment before the first call. Removal is for good: so the child is asked
-/// afterwards whether it is there. That isn't asked of one that had an entry at the step before. And on overlayfs it
-/// can't be asked of a directory that may not be read.
+/// afterwards whether it is there. That isn't asked of one that had an entry at the step before. And where
+/// removed directories keep links (overlayfs, cgroups) it can't be asked of one that may not be read.
 pub fn parents_stood()
     ensures { ParentsStood }
 {}
@@ -55,8 +55,8 @@ pub fn each_descriptor_is_closed_once()
 {}
 
 /// Where a step is made, nothing met an error but: a signal; that no descriptor was left, after which one was let go;
-/// ENOTDIR of a name that was then opened as what it is; a file system, or a directory of overlayfs, that could not be
-/// asked; and an answer that a link is no magic one (proc(5)).
+/// ENOTDIR of a name that was then opened as what it is; a file system, or a directory of one that keeps links, that
+/// could not be asked; and an answer that a link is no magic one (proc(5)).
 pub fn no_error_is_passed_over()
     ensures { (f : Facts) (history : List Exchange) → IsHistory f history
         → ((next_after f history).next ≡ OPENED)

@@ -1,7 +1,7 @@
 //! What comes after the system calls that look at what is open: whether a directory is there still; a link's text.
 ghost use Rattle.std.specs.Prelude.{◌≡◌};
 ghost use Rattle.step_calls.specs.Course.{due_of};
-ghost use Rattle.step_calls.specs.History.{after_change, after_close, after_close_read, after_follow, after_layers, after_links, after_open_to_read, after_read, after_read_link, gone, has_followed, not_read, there, unasked};
+ghost use Rattle.step_calls.specs.History.{after_change, after_close, after_close_read, after_follow, after_layers, after_links, after_open_to_read, after_read, after_read_link, gone, has_followed, keeps_links, not_read, there, unasked};
 
 use crate::course::{
     CLOSE, CLOSE_READ, Course, DONE, LAYERS, NO_FOLLOW, OPEN_TO_READ, OPENED, READ, READ_LINK,
@@ -20,6 +20,10 @@ const EINVAL: u32 = 22;
 const ELOOP: u32 = 40;
 
 const OVERLAYFS: u64 = 0x794c_7630;
+
+const CGROUP: u64 = 0x0027_e0eb;
+
+const CGROUP2: u64 = 0x6367_7270;
 
 const NOSYMFOLLOW: u64 = 0x2000;
 
@@ -67,10 +71,16 @@ pub(crate) fn after_links(facts: &Facts, error: u32, links: u64) -> Course
     }
 }
 
+fn keeps_links(file_system: u64) -> bool
+    ensures { result ≡ keeps_links file_system }
+{
+    file_system == OVERLAYFS || (file_system == CGROUP2 || file_system == CGROUP)
+}
+
 pub(crate) fn after_layers(facts: &Facts, error: u32, file_system: u64) -> Course
     ensures { due_of result ≡ after_layers facts.now error file_system }
 {
-    if error == 0 && file_system == OVERLAYFS {
+    if error == 0 && keeps_links(file_system) {
         asks(OPEN_TO_READ)
     } else {
         there(facts)
