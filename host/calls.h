@@ -693,6 +693,32 @@ void inroot_giving_next(struct inroot_giving *giving, const struct inroot_giving
                         const struct inroot_giving_answer *answer, const unsigned char *read, size_t read_length,
                         const unsigned char *text, size_t text_length);
 
+/* ---- which system call comes next, as one openat2(2) is made, or it is asked whether the thread has that. These take no memory. */
+
+/*
+ * Where it STARTs: the directory, or a jail's root by a descriptor that the thread keeps or by another way. openat2(2) of the path:
+ * OPEN. Of `.` in the directory -1: PROBE. fcntl(2) of the kept descriptor with F_GETFD: STILL. The thread goes on without it:
+ * FORGET. It GIVES what the openat2(2) has opened; or the answer that there is openat2(2). Or it FAILS.
+ */
+enum inroot_one_look_next {
+    INROOT_ONE_START = 1, INROOT_ONE_OPEN, INROOT_ONE_PROBE, INROOT_ONE_STILL, INROOT_ONE_FORGET, INROOT_ONE_GIVES, INROOT_ONE_FAILS,
+};
+
+/* Whether a thread has openat2(2). */
+enum inroot_openat2_known { INROOT_OPENAT2_UNKNOWN, INROOT_OPENAT2_THERE, INROOT_OPENAT2_MISSING };
+
+/* A driver reads what comes NEXT, the ERROR if it fails, and what is KNOWN in the end, for the thread. It leaves all of it alone. */
+struct inroot_one_look {
+    uint32_t error;
+    uint8_t next, known;
+    bool kept;
+};
+
+/* Begins with what the thread knows. ASKS: it is only asked whether there is openat2(2). */
+void inroot_one_look_begin(uint8_t known, bool asks, struct inroot_one_look *look);
+/* Takes an error, or 0; and at START, whether it began by the descriptor that the thread keeps. */
+void inroot_one_look_next(struct inroot_one_look *look, uint32_t error, bool kept);
+
 /* ---- by which way a path is opened. These take no memory. */
 
 /*

@@ -1,9 +1,10 @@
 //! What passes the names that come next on a path: which system call comes next, and what is reported of them.
-ghost use Rattle.std.specs.Prelude.{◌≡◌, ◌∷◌, [], List, true, false};
+ghost use Rattle.std.specs.Prelude.{◌≡◌, ◌∷◌, [], ℕ, Bool, List, true, false};
 ghost use Rattle.look_ups.specs.declared.look_up.LookUp.{LookUp};
 ghost use Rattle.look_ups.specs.History.{exchange, is_question, Exchange, IsAt, MOST};
+ghost use Rattle.look_ups.specs.OneLook.{is_turn, turn_of, IsOneLook, Turn};
 
-use look_ups::{Coming, LookUp};
+use look_ups::{Coming, LookUp, OneLook};
 
 /// Nothing has failed in a call, or what failed is no longer ahead: `look_ups::fresh`.
 #[unsafe(no_mangle)]
@@ -32,4 +33,23 @@ pub extern "C" fn inroot_looks_next(looks: &mut LookUp, coming: &Coming, error: 
     ensures over { is_question looks.old.next ≡ false → looks.new ≡ looks.old }
 {
     *looks = look_ups::next(*looks, coming, error, linked);
+}
+
+/// Begins one openat2(2), or the question whether there is that: `look_ups::begin_one`.
+#[unsafe(no_mangle)]
+pub extern "C" fn inroot_one_look_begin(known: u8, asks: bool, look: &mut OneLook)
+    ensures { IsOneLook known asks [] look.new }
+{
+    *look = look_ups::begin_one(known, asks);
+}
+
+/// Takes what the last demand gave, and says what comes next: `look_ups::next_one`.
+#[unsafe(no_mangle)]
+pub extern "C" fn inroot_one_look_next(look: &mut OneLook, error: u32, kept: bool)
+    ensures goes { (known : ℕ) (asks : Bool) (history : List Turn) → IsOneLook known asks history look.old
+        → is_turn look.old.next ≡ true
+        → IsOneLook known asks (turn_of look.old.next error kept ∷ history) look.new }
+    ensures over { is_turn look.old.next ≡ false → look.new ≡ look.old }
+{
+    *look = look_ups::next_one(*look, error, kept);
 }

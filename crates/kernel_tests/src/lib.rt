@@ -31,6 +31,8 @@ mod mounts;
 #[cfg(test)]
 mod objects;
 #[cfg(test)]
+mod one_looks;
+#[cfg(test)]
 mod openings;
 #[cfg(test)]
 mod passages;

@@ -2,3 +2,4 @@ pub mod CaseLemmas
 pub mod FewLemmas
 pub mod FoundLemmas
 pub mod HistoryLemmas
+pub mod OneLookLemmas

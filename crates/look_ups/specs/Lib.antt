@@ -1,3 +1,4 @@
 pub mod History
 pub mod Names
+pub mod OneLook
 pub mod Promises

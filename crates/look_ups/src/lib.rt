@@ -7,6 +7,8 @@
 mod coming;
 mod laws;
 mod look_up;
+mod one_look;
+mod one_look_laws;
 
 pub use coming::Coming;
 pub use laws::{
@@ -18,4 +20,11 @@ pub use laws::{
 pub use look_up::{
     ALONE, CLOSE, COMPARE, ENDS, FROM_ROOT, KIND, LINK, LOOK_UP, LookUp, PASSED, READ_FIRST,
     READ_LAST, begin, fresh, next,
+};
+pub use one_look::{
+    FAILS, FORGET, GIVES, MISSING, OPEN, OneLook, PROBE, START, STILL, THERE, UNKNOWN, begin_one,
+    next_one,
+};
+pub use one_look_laws::{
+    an_error_is_the_look_ups_own, openat2_is_missing_by_a_probe, turns_are_few, what_one_look_gives,
 };
