@@ -1,8 +1,10 @@
 -- What stands where in a list, in one with one more at its end, and in a mapped one.
-use Rattle.std.specs.Prelude.{◌≡◌, ◌<◌, ◌≤◌, ◌+◌, ◌⊎◌, ℕ, zero, suc, List, [], ◌∷◌, ◌++◌, length, drop, map, slice_get, Some, refl}
+use Rattle.std.specs.Prelude.{◌≡◌, ◌<◌, ◌≤◌, ◌+◌, ◌⊎◌, ℕ, zero, suc, List, [], ◌∷◌, ◌++◌, length, take, drop, map, slice_get, Some, refl}
+use Rattle.std.specs.Option.{option_map}
 use Rattle.std.proofs.Common.{inl, inr, sym, ap, ◌∙◌, ⊎_elim, arith, get_or}
-use Rattle.std.proofs.lemmas.Option.{same_Some, none-some, slice_get-get_or}
+use Rattle.std.proofs.lemmas.Option.{same_Some, none-some, slice_get-get_or, slice_get-map}
 pub use Rattle.path_text.proofs.Lists.{length-slice_set as length_set}
+pub use Rattle.schedule_graph.proofs.Leading.{plus_swap, few_plus, last_of}
 pub use Rattle.schedule_graph.proofs.Spreading.{get_set}
 
 -- ---- equations with their ends given
@@ -17,9 +19,6 @@ join x y z e e' = e ∙ e'
 
 pub at_or_below : (i n : ℕ) → i < n + 1 → (i < n) ⊎ (i ≡ n)
 at_or_below i n lt = grind arith
-
-pub before_or_not : (m n : ℕ) → (m < n) ⊎ (n ≤ m)
-before_or_not m n = grind arith
 
 pub within_some : {A : Type 0} (xs : List A) (at : ℕ) → at < length xs → (x : A) × (slice_get xs at ≡ Some x)
 within_some [] at h = absurd (omega arith)
@@ -38,15 +37,25 @@ get_push [] y (suc k) x e = absurd (none-some x e)
 get_push (z ∷ zs) y zero x e = inl e
 get_push (z ∷ zs) y (suc k) x e = ⊎_elim (λ h. inl h) (λ h. inr (ap suc h.0, h.1)) (get_push zs y k x e)
 
+pub get_first : {A : Type 0} (xs ys : List A) (k : ℕ) (x : A) → slice_get xs k ≡ Some x
+    → slice_get (xs ++ ys) k ≡ Some x
+get_first [] ys k x e = absurd (none-some x e)
+get_first (z ∷ zs) ys zero x e = e
+get_first (z ∷ zs) ys (suc k) x e = get_first zs ys k x e
+
 pub get_left : {A : Type 0} (xs : List A) (y : A) (k : ℕ) (x : A) → slice_get xs k ≡ Some x
     → slice_get (xs ++ y ∷ []) k ≡ Some x
-get_left [] y k x e = absurd (none-some x e)
-get_left (z ∷ zs) y zero x e = e
-get_left (z ∷ zs) y (suc k) x e = get_left zs y k x e
+get_left xs y = get_first xs (y ∷ [])
 
 pub get_last : {A : Type 0} (xs : List A) (y : A) → slice_get (xs ++ y ∷ []) (length xs) ≡ Some y
 get_last [] y = refl
 get_last (x ∷ xs) y = get_last xs y
+
+pub take_push : {A : Type 0} (xs : List A) (n : ℕ) (x : A) → slice_get xs n ≡ Some x
+    → take (suc n) xs ≡ take n xs ++ x ∷ []
+take_push [] n x e = absurd (none-some x e)
+take_push (y ∷ ys) zero x e = ap (λ z. z ∷ []) (same_Some y x e)
+take_push (y ∷ ys) (suc n) x e = ap (λ zs. y ∷ zs) (take_push ys n x e)
 
 -- ---- the rest of a list
 
@@ -67,9 +76,7 @@ none_left (suc n) (x ∷ xs) e = let le = none_left n xs e in omega arith
 
 pub mapped_to : {A B : Type 0} (f : A → B) (xs : List A) (k : ℕ) (x : A) → slice_get xs k ≡ Some x
     → slice_get (map f xs) k ≡ Some (f x)
-mapped_to f [] k x e = absurd (none-some x e)
-mapped_to f (z ∷ zs) zero x e = ap (λ y. Some (f y)) (same_Some z x e)
-mapped_to f (z ∷ zs) (suc k) x e = mapped_to f zs k x e
+mapped_to f xs k x e = slice_get-map f xs k ∙ ap (option_map f) e
 
 pub mapped_from : {A B : Type 0} (f : A → B) (xs : List A) (k : ℕ) (y : B) → slice_get (map f xs) k ≡ Some y
     → (x : A) × ((slice_get xs k ≡ Some x) × (y ≡ f x))

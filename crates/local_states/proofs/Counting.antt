@@ -2,7 +2,7 @@
 use Rattle.std.specs.Prelude.{◌≡◌, ◌≤◌, ◌<◌, ◌+◌, ℕ, zero, suc, List, [], ◌∷◌, ◌++◌, ◌==◌, ◌&&◌, Bool, true, false, Option, Some, None, Result, Ok, Err, length, nat_lt, slice_get, slice_index_or, refl}
 use Rattle.std.proofs.Common.{sym, ap, ◌∙◌, subst, take, get_or, arith}
 use Rattle.std.proofs.lemmas.Bool.{true≢false}
-use Rattle.std.proofs.lemmas.Option.{none-some, same_Some}
+use Rattle.std.proofs.lemmas.Option.{same_Some}
 use Rattle.std.proofs.lemmas.Bool.Decides.{nat_tests}
 use Rattle.std.proofs.lemmas.List.{length-take-le, length_push}
 use Rattle.path_text.specs.declared.errno.Errno.{Errno}
@@ -18,7 +18,7 @@ use Rattle.tree_model.specs.StepLaws.{only_tells, is_on_entries}
 use Rattle.tree_model.specs.Steps.{Outcome, refused, held, changes, outcome}
 use Rattle.tree_model.proofs.HistoryLaws.{after_events-append}
 use Rattle.tree_model.proofs.StepLaws.{telling_changes_nothing, nodes_are_left, handles_are_left}
-use Rattle.layered_search.proofs.Places.{within_some, get_last}
+use Rattle.layered_search.proofs.Places.{within_some, get_last, few_plus, take_push}
 use Rattle.race_core.specs.declared.seat.Seat.{Seat}
 use Rattle.race_core.specs.Book.{BookedHistory, tree_now, is_done, answer_now, booked}
 use Rattle.local_states.specs.Outside.{plus, changed_by, any_outside, acts_outside, outside_after, outside_from, roots_from, roots_of, outside_of}
@@ -30,15 +30,11 @@ use Rattle.local_states.proofs.Alike.OutsideAlike.{after_push, IsOneOn, as_it_wa
 
 -- ---- no more changes than events
 
-plus_most : (b : Bool) (m n : ℕ) → m ≤ n → plus b m ≤ suc n
-plus_most true m n le = omega arith
-plus_most false m n le = omega arith
-
 pub few_outside : (a : ℕ) (root : Option ℕ) (s : State) (events : List Event)
     → outside_after a root s events ≤ length events
 few_outside a root s [] = omega arith
 few_outside a root s (event ∷ events) =
-    plus_most ((event.actor == a) && acts_outside root s event) (outside_after a root (after_event s event) events)
+    few_plus ((event.actor == a) && acts_outside root s event) (outside_after a root (after_event s event) events)
     (length events)
     (few_outside a root (after_event s event) events)
 
@@ -352,13 +348,6 @@ pub counts_there : (w : WorldView) (tally : TallyView) (counts : List ℕ) → I
     → counts ≡ outside_of tally.told w
 counts_there w tally counts is e = e ∙ is.counted.counts_are ∙ ap (λ roots. outside_from w.book 0 roots) is.roots_are
 
-take_push : {X : Type 0} (xs : List X) (n : ℕ) (x : X) → slice_get xs n ≡ Some x → take (n + 1) xs ≡ take n xs ++ x ∷ []
-take_push [] n x e = absurd (none-some x e)
-take_push (y ∷ ys) zero x e = ap (λ z. z ∷ []) (same_Some y x e)
-take_push (y ∷ ys) (suc n) x e =
-    let q : suc n + 1 ≡ suc (n + 1) = omega arith in
-    subst (λ m. take m (y ∷ ys) ≡ (y ∷ take n ys) ++ x ∷ []) (sym q) (ap (λ zs. y ∷ zs) (take_push ys n x e))
-
 roots_push : (s : State) (a m : ℕ) (seats : List Seat) (seat : Seat) → m ≡ a + length seats
     → roots_from s a (seats ++ seat ∷ []) ≡ roots_from s a seats ++ held s m seat.ledger.root.handle ∷ []
 roots_push s a m [] seat e = let same : a ≡ m = omega (arith, e) in ap (λ k. held s k seat.ledger.root.handle ∷ []) same
@@ -379,11 +368,13 @@ pub roots_more : (w : WorldView) (opening : State) (n : ℕ) (old new : List (Op
     → old ≡ roots_from w.book.opening 0 (take n w.seats) → new ≡ roots_from w.book.opening 0 (take (n + 1) w.seats)
 roots_more w opening n old new root opens none lt is own was =
     let seat = within_some w.seats n lt in
+    let up : suc n ≡ n + 1 = omega arith in
     let tree : opening ≡ w.book.opening = opens ∙ ap (λ events. after_events w.book.opening events) none in
     is ∙ (λ i. was i ++ (own seat.0 seat.1 ∙ ap (λ s. held s n seat.0.ledger.root.handle) tree) i ∷ [])
     ∙ sym (roots_push w.book.opening 0 n (take n w.seats) seat.0
     (let long = length-take-le n w.seats (omega (arith, lt)) in omega (arith, long)))
-    ∙ ap (λ seats. roots_from w.book.opening 0 seats) (sym (take_push w.seats n seat.0 seat.1))
+    ∙ ap (λ seats. roots_from w.book.opening 0 seats)
+    (sym (take_push w.seats n seat.0 seat.1) ∙ ap (λ (k : ℕ). take k w.seats) up)
 
 pub counts_more : (book : BookedHistory) (old new : List (Option ℕ)) (root : Option ℕ) (counts after : List ℕ)
     → book.events ≡ [] → new ≡ old ++ root ∷ []

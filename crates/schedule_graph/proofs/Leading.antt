@@ -116,7 +116,7 @@ led_word layers k s (a ∷ w) class n t e at ends = on (λ (v : Edge) f. led_wor
 
 -- ---- ranks
 
-plus_swap : (a b : Bool) (n : ℕ) → plus a (plus b n) ≡ plus b (plus a n)
+pub plus_swap : (a b : Bool) (n : ℕ) → plus a (plus b n) ≡ plus b (plus a n)
 plus_swap true true n = refl
 plus_swap true false n = refl
 plus_swap false true n = refl
@@ -160,7 +160,7 @@ goes_on layers k s edge by w leads =
     ap (λ m. ranked m (changes layers 0 0 (w ++ edge.label ∷ [])) (w ++ edge.label ∷ [])) (cuts_more layers 0 0 w k s edge.label edge leads.there at by)
     ∙ ap (λ n. ranked (plus edge.cut (cuts layers 0 0 w)) n (w ++ edge.label ∷ [])) (changes_more layers 0 0 w k s edge.label edge leads.there at by)
 
-few_plus : (b : Bool) (m n : ℕ) → m ≤ n → plus b m ≤ suc n
+pub few_plus : (b : Bool) (m n : ℕ) → m ≤ n → plus b m ≤ suc n
 few_plus true m n le = omega arith
 few_plus false m n le = omega arith
 

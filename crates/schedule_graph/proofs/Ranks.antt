@@ -24,10 +24,6 @@ more_cases m n b e = grind (arith, nat_tests)
 
 -- ---- the order of words
 
-not_after_same : (is : List ℕ) → is_not_after is is ≡ true
-not_after_same [] = refl
-not_after_same (i ∷ is) = same_by i (is_not_after is is) (not_after_same is)
-
 not_after_total : (is js : List ℕ) → is_not_after is js ≡ false → is_not_after js is ≡ true
 not_after_total [] js e = absurd (true≢false e)
 not_after_total (i ∷ is) [] e = refl
@@ -52,9 +48,6 @@ not_after_chain (i ∷ is) (j ∷ js) (k ∷ ks) e f =
     chain_less i j k (is_not_after is js) (is_not_after js ks) (is_not_after is ks) (not_after_chain is js ks) e f
 
 -- ---- ranks
-
-pub ranks_same : (a : Rank) → is_at_most a a ≡ true
-ranks_same a = same_by a.cuts _ (same_by a.changes _ (not_after_same a.turns))
 
 total_less : (m n : ℕ) (b c : Bool) → (b ≡ false → c ≡ true) → is_less_or m n b ≡ false → is_less_or n m c ≡ true
 total_less m n b c on e =
@@ -151,10 +144,3 @@ lists_less [] [] = refl
 lists_less [] (j ∷ js) = refl
 lists_less (i ∷ is) [] = refl
 lists_less (i ∷ is) (j ∷ js) = then_less i j (slice_cmp nat_cmp is js) (is_not_after js is) (lists_less is js)
-
-pub lists_not_less : (is js : List ℕ) → not (is_lt (slice_cmp nat_cmp js is)) ≡ is_not_after is js
-lists_not_less is js = ap not (lists_less js is) ∙ twice (is_not_after is js)
-  where
-    twice : (b : Bool) → not (not b) ≡ b
-    twice true = refl
-    twice false = refl

@@ -17,11 +17,6 @@ use Rattle.schedule_graph.proofs.Leading.{edge_in, own_edge, goes_on, cuts_few, 
 
 -- ---- places of a list
 
-pub length_set : {A : Type 0} (xs : List A) (i : ℕ) (x : A) → length (slice_set xs i x) ≡ length xs
-length_set [] i x = refl
-length_set (y ∷ ys) zero x = refl
-length_set (y ∷ ys) (suc i) x = ap suc (length_set ys i x)
-
 -- each place of a list after a write: the one written, or as before
 pub get_set : {A : Type 0} (xs : List A) (i k : ℕ) (x y : A) → slice_get (slice_set xs i x) k ≡ Some y → ((k ≡ i) × (y ≡ x)) ⊎ (((k ≡ i) → ⊥) × (slice_get xs k ≡ Some y))
 get_set [] i k x y e = absurd (none-some y e)

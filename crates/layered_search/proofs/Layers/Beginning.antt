@@ -8,16 +8,10 @@ use Rattle.layered_search.specs.Lists.{cuts}
 use Rattle.layered_search.specs.Asked.{IsWithin, IsOnly, IsTooLong, IsIdle}
 use Rattle.layered_search.specs.Points.{Point, start, along, onward, cost_after, AreWithin}
 use Rattle.layered_search.specs.States.{IsSoFar, IsTakenAt}
-use Rattle.layered_search.proofs.Places.{ap_at}
+use Rattle.layered_search.proofs.Places.{ap_at, take_push}
 use Rattle.layered_search.proofs.Lists.Along.{after_append, along_append, along_state}
 use Rattle.layered_search.proofs.Lists.Turning.{turn_within}
 use Rattle.layered_search.proofs.Layers.SoFar.{list_few, cuts_there, on_so_far}
-
-first_turns : (begin : List ℕ) (at actor : ℕ) → slice_get begin at ≡ Some actor
-    → take (suc at) begin ≡ take at begin ++ actor ∷ []
-first_turns [] at actor there = cc
-first_turns (b ∷ bs) zero actor there = let e : b ≡ actor = cc in ap (λ (x : ℕ). x ∷ []) e
-first_turns (b ∷ bs) (suc at) actor there = ap (λ (xs : List ℕ). b ∷ xs) (first_turns bs at actor there)
 
 pub first_many : (begin : List ℕ) (at : ℕ) → at ≤ length begin → length (take at begin) ≡ at
 first_many [] zero le = refl
@@ -31,7 +25,7 @@ more_turns begin turns more at actor first there is =
     let up : suc at ≡ at + 1 = omega arith in
     is
     ∙ (ap (λ (xs : List ℕ). xs ++ actor ∷ []) first
-    ∙ (sym (first_turns begin at actor there) ∙ ap (λ n. take n begin) up))
+    ∙ (sym (take_push begin at actor there) ∙ ap (λ n. take n begin) up))
 
 -- the key after the turns so far, which is the first one before them
 abbrev pub key_now : {Key : Type 0} → Option Key → Key → Key
@@ -81,7 +75,7 @@ module _ {State : Type 0} (s : System State) (laws : IsSystem s) (scope : ScopeV
           (sym so.cost_are)))
 
       next_turns : take (suc at) begin ≡ is ++ actor ∷ []
-      next_turns = first_turns begin at actor there ∙ ap (λ (js : List ℕ). js ++ actor ∷ []) (sym first)
+      next_turns = take_push begin at actor there ∙ ap (λ (js : List ℕ). js ++ actor ∷ []) (sym first)
 
       -- with the next one there are too many cuts
       pub many_cuts : (after : Cost) → after ≡ cost_after s (state_after s is) cost actor

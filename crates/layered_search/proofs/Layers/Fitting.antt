@@ -2,6 +2,7 @@
 use Rattle.layered_search.specs.Limits.{ScopeView}
 use Rattle.std.specs.Prelude.{◌≡◌, ◌<◌, ◌≤◌, ◌⊎◌, ℕ, suc, List, [], Bool, true, length, slice_get, Option, Some, None, refl}
 use Rattle.std.specs.Global.{Vec}
+use Rattle.std.proofs.lemmas.Bool.{cases_lt}
 use Rattle.smallvec.specs.SmallVec.{SmallVec}
 use Rattle.std.proofs.Common.{sym, ap, ◌∙◌, subst, ⊎_elim, arith}
 use Rattle.std.proofs.lemmas.Option.{same_Some, none-some, slice_get_within}
@@ -19,7 +20,7 @@ use Rattle.layered_search.specs.Points.{no_cost, MayGo}
 use Rattle.layered_search.specs.Merged.{Place, Places, begins, bounded_cuts, MayFollow, IsNextPlace, IsEdge, AreEdges, IsEndOf, IsFit}
 use Rattle.layered_search.specs.Concluded.{AreFound}
 use Rattle.layered_search.specs.Layers.{LayerView, point_at, IsFirst, IsAfter, IsEdgeBy, AreEdgesBy, IsPlaced, IsGraphNode, IsSearched, HasSearched}
-use Rattle.layered_search.proofs.Places.{within_some, ap_at, join, before_or_not}
+use Rattle.layered_search.proofs.Places.{within_some, ap_at, join}
 use Rattle.layered_search.proofs.Counts.Merged.{bounded_within}
 use Rattle.layered_search.proofs.Layers.Reached.{may_some}
 use Rattle.layered_search.proofs.Layers.OnWay.{begin_goes_on}
@@ -178,7 +179,7 @@ module _ {State : Type 0} (s : System State) (scope : ScopeView) where
       is_early : (k m : ℕ) (layer : LayerView) (configuration : Configuration) → slice_get layers k ≡ Some layer
           → slice_get layer.configurations m ≡ Some configuration → k < length graph
       is_early k m layer configuration here there =
-          ⊎_elim (λ lt. lt) (λ le. absurd (late le)) (before_or_not k (length graph))
+          ⊎_elim (λ lt. lt) (λ le. absurd (late le)) (cases_lt k (length graph))
         where
           late : length graph ≤ k → ⊥
           late le =

@@ -22,22 +22,13 @@ use Rattle.layered_search.specs.Points.{Point, cost_after, start, along, MayGo}
 use Rattle.layered_search.specs.Spreading.{AreEdgesOfAll}
 use Rattle.layered_search.specs.States.{IsSoFar, HasConfiguration, AreAllOnWay}
 use Rattle.layered_search.specs.Expanded.{Expansion, AreExpanded}
-use Rattle.layered_search.proofs.Places.{within_some, ap_at}
+use Rattle.layered_search.proofs.Places.{within_some, ap_at, last_of}
 use Rattle.layered_search.proofs.Lists.Along.{after_append, along_append, along_state}
 use Rattle.layered_search.proofs.Counts.Merged.{alike_cut}
 use Rattle.layered_search.proofs.Layers.Kept.{list_at, lists_many}
 use Rattle.layered_search.proofs.Layers.SoFar.{cuts_there, on_so_far}
 
 -- ---- the last turn of a list
-
-pub last_turn : (n : ℕ) (is : List ℕ) → length is ≡ suc n
-    → (js : List ℕ) × ((i : ℕ) × ((is ≡ js ++ i ∷ []) × (length js ≡ n)))
-last_turn n [] e = absurd (omega (arith, e))
-last_turn zero (i ∷ []) e = ([], (i, (refl, refl)))
-last_turn zero (i ∷ j ∷ is) e = absurd (omega (arith, e))
-last_turn (suc n) (i ∷ is) e =
-    let rest = last_turn n is (omega (arith, e)) in
-    (i ∷ rest.0, (rest.1.0, (ap (λ (js : List ℕ). i ∷ js) rest.1.1.0, ap suc rest.1.1.1)))
 
 along_back : (begin js : List ℕ) (i : ℕ) → GoAlong begin (js ++ i ∷ [])
     → GoAlong begin js × IsOnly (slice_get begin (length js)) i
@@ -134,7 +125,7 @@ module _ {State : Type 0} (s : System State) where
       → (js : List ℕ) × (IsOnWay s scope js × (length js ≡ n))
   on_way_front scope n zero is e on = (is, (on, omega (arith, e)))
   on_way_front scope n (suc d) is e on =
-      let back = last_turn (n + d) is (omega (arith, e)) in
+      let back = last_of is (n + d) (omega (arith, e)) in
       on_way_front scope n d back.0 back.1.1.1
       (on_way_back scope back.0 back.1.0 (subst (λ (xs : List ℕ). IsOnWay s scope xs) back.1.1.0 on)).0
 
@@ -181,7 +172,7 @@ module _ {State : Type 0} (s : System State) where
       front = on_way_front scope (suc (length turns)) more.0 scope.begin more.1 begins
 
       last : (ks : List ℕ) × ((i : ℕ) × ((front.0 ≡ ks ++ i ∷ []) × (length ks ≡ length turns)))
-      last = last_turn (length turns) front.0 front.1.1
+      last = last_of front.0 (length turns) front.1.1
 
       ks : List ℕ
       ks = last.0
@@ -362,7 +353,7 @@ module _ {State Memory Key : Type 0} (s : System State) (k : Keys State Memory K
     all_on_way = record {
       each = each_next;
       all = λ is on long.
-          let back = last_turn g.n is (omega (arith, long)) in
+          let back = last_of is g.n (omega (arith, long)) in
           subst (λ (xs : List ℕ). HasConfiguration s k memory (g.n + 1) scope after xs) (sym back.1.1.0)
           (one_next back.0 back.1.0 (subst (λ (xs : List ℕ). IsOnWay s scope xs) back.1.1.0 on) back.1.1.1);
     }

@@ -21,10 +21,6 @@ pub only_one : {A : Type 0} (x : A) (k : ℕ) (y : A) → slice_get (x ∷ []) k
 only_one x zero y e = (refl, sym (same_Some x y e))
 only_one x (suc k) y e = absurd (none-some y e)
 
-pub none_left : {A : Type 0} (xs : List A) → length xs ≡ 0 → xs ≡ []
-none_left [] e = refl
-none_left (x ∷ xs) e = absurd (omega (arith, e))
-
 pub some_left : {A : Type 0} (xs : List A) → (length xs == 0) ≡ false → (x : A) × (slice_get xs 0 ≡ Some x)
 some_left [] e = absurd (true≢false e)
 some_left (x ∷ xs) e = (x, refl)

@@ -20,17 +20,12 @@ use Rattle.layered_search.specs.Points.{no_cost}
 use Rattle.layered_search.specs.Spreading.{AreEdgesOfAll}
 use Rattle.layered_search.specs.States.{AreStatesAmong, IsSoFar, HasConfiguration, AreAllOnWay, AreStatesUpTo, IsCounted}
 use Rattle.layered_search.specs.Expanded.{Expansion, AreExpanded}
-use Rattle.layered_search.proofs.Places.{at_or_below}
+use Rattle.layered_search.proofs.Places.{at_or_below, get_first}
 use Rattle.layered_search.proofs.Layers.Kept.{visited_at, list_at, lists_many}
 use Rattle.layered_search.proofs.Layers.OnWay.{on_way_of, on_way_front, born_on_way, all_on_way}
 use Rattle.layered_search.proofs.Layers.SoFar.{none_so_far, list_few, only}
 
 -- ---- two lists, one after the other
-
-get_first : {A : Type 0} (xs ys : List A) (k : ℕ) (x : A) → slice_get xs k ≡ Some x → slice_get (xs ++ ys) k ≡ Some x
-get_first [] ys k x e = absurd (none-some x e)
-get_first (z ∷ zs) ys zero x e = e
-get_first (z ∷ zs) ys (suc k) x e = get_first zs ys k x e
 
 get_second : {A : Type 0} (xs ys : List A) (k : ℕ) (x : A) → slice_get ys k ≡ Some x
     → slice_get (xs ++ ys) (length xs + k) ≡ Some x

@@ -1,7 +1,7 @@
 -- Chains of places with one fingerprint: how they grow, and what is passed when one is gone along.
 use Rattle.std.specs.Prelude.{◌≡◌, ◌<◌, ◌≤◌, ◌⊎◌, ℕ, ◌+◌, suc, List, [], ◌∷◌, ◌++◌, Bool, true, false, cond, length, nat_eq, Option, Some, None, IfSome, slice_get, refl}
 use Rattle.std.proofs.Common.{sym, ap, ◌∙◌, subst, ⊎_elim, arith, eqb-true, eq-eqb, get_or, length-append}
-use Rattle.std.proofs.lemmas.Bool.{true≢false}
+use Rattle.std.proofs.lemmas.Bool.{true≢false, cases_lt}
 use Rattle.std.proofs.lemmas.Option.{slice_get_read, slice_get_within}
 use Rattle.layered_search.specs.Chained.{IsLastBelow, AreChained}
 use Rattle.layered_search.proofs.Places.{within_some, get_push, get_left, get_last}
@@ -125,9 +125,6 @@ pub record IsAlong (prints : List ℕ) (print : ℕ) (P : ℕ → Type 0) (place
 after_or_at : (k at : ℕ) → k ≤ at → (suc k ≤ at) ⊎ (k ≡ at)
 after_or_at k at le = grind arith
 
-before_or_from : (k at : ℕ) → (at < k) ⊎ (k ≤ at)
-before_or_from k at = grind arith
-
 module _ (prints : List ℕ) (print : ℕ) (P : ℕ → Type 0) where
   pub begins_along : (o : Option ℕ) → IsLastBelow prints (length prints) print o → IsAlong prints print P o
   begins_along None is = record {
@@ -152,12 +149,12 @@ module _ (prints : List ℕ) (print : ℕ) (P : ℕ → Type 0) where
       by None is = record {
         on = tt;
         past = λ at le there p. ⊎_elim (λ lt. is at lt there) (λ from. from_on k along none at from there p)
-            (before_or_from k at);
+            (cases_lt at k);
       }
       by (Some m) is = record {
         on = is.there;
         past = λ at le there p. ⊎_elim (λ lt. is.last at (omega (arith, le)) lt there)
-            (λ from. from_on k along none at from there p) (before_or_from k at);
+            (λ from. from_on k along none at from there p) (cases_lt at k);
       }
 
   pub gone_along : IsAlong prints print P None → (at : ℕ) → slice_get prints at ≡ Some print → P at → ⊥

@@ -21,14 +21,9 @@ use Rattle.race_core.specs.Worlds.{WorldView, turn_of, turn}
 use Rattle.race_core.specs.Renamed.{answer_by}
 use Rattle.race_core.proofs.BookMoves.{turn_keeps_root}
 use Rattle.local_states.specs.Outside.{plus, acts_outside, outside_after, roots_from, roots_of}
+use Rattle.layered_search.proofs.Places.{plus_swap}
 
 -- ---- one event more
-
-plus_swap : (b c : Bool) (n : ℕ) → plus b (plus c n) ≡ plus c (plus b n)
-plus_swap true true n = refl
-plus_swap true false n = refl
-plus_swap false true n = refl
-plus_swap false false n = refl
 
 pub after_push : (a : ℕ) (root : Option ℕ) (s : State) (events : List Event) (last : Event)
     → outside_after a root s (events ++ last ∷ []) ≡ plus

@@ -1,8 +1,9 @@
 -- Handles paired place by place, and what gives a pair one number.
 use Rattle.std.specs.Prelude.{◌≡◌, ◌<◌, ◌⊎◌, ℕ, zero, suc, ◌==◌, ◌&&◌, ◌||◌, List, [], ◌∷◌, Bool, true, false, length, Some, refl, if◌then◌else◌}
+use Rattle.std.proofs.Math.Bool.{or-true}
 use Rattle.std.proofs.Common.{inl, inr, sym, ap, ◌∙◌, subst, ⊎_elim, arith, eq-eqb, eqb-true}
 use Rattle.std.proofs.lemmas.Option.{same_Some, none-some}
-use Rattle.std.proofs.lemmas.Bool.{true≢false, false≢true}
+use Rattle.std.proofs.lemmas.Bool.{true≢false, false≢true, or_cases, and_parts}
 use Rattle.race_core.specs.declared.seat.Seat.{Seat}
 use Rattle.race_core.specs.Renamed.{numbers_by, seat_handles, LikeSeats}
 use Rattle.race_core.proofs.LikeLists.{numbers_length}
@@ -18,18 +19,6 @@ same_numbers s t like =
 
 -- ---- pairs by their places
 
-either : (a b : Bool) → a || b ≡ true → (a ≡ true) ⊎ (b ≡ true)
-either true b e = inl refl
-either false b e = inr e
-
-both : (a b : Bool) → a && b ≡ true → (a ≡ true) × (b ≡ true)
-both true b e = (refl, e)
-both false b e = absurd (false≢true e)
-
-or_right : (a : Bool) → a || true ≡ true
-or_right true = refl
-or_right false = refl
-
 own_pair : (h k : ℕ) (b : Bool) → ((h == h) && (k == k)) || b ≡ true
 own_pair h k b = ap (λ c. (c && (k == k)) || b) (eq-eqb h h refl) ∙ ap (λ c. c || b) (eq-eqb k k refl)
 
@@ -37,10 +26,10 @@ pub at_pair : (hs ks : List ℕ) (h k : ℕ) → pairs_of hs ks h k ≡ true →
 at_pair [] ks h k e = absurd (false≢true e)
 at_pair (i ∷ hs) [] h k e = absurd (false≢true e)
 at_pair (i ∷ hs) (j ∷ ks) h k e =
-    ⊎_elim first (λ p. later (at_pair hs ks h k p)) (either ((i == h) && (j == k)) (pairs_of hs ks h k) e)
+    ⊎_elim first (λ p. later (at_pair hs ks h k p)) (or_cases ((i == h) && (j == k)) (pairs_of hs ks h k) e)
   where
     first : (i == h) && (j == k) ≡ true → (at : ℕ) × AreAt (i ∷ hs) (j ∷ ks) at h k
-    first p = let two = both (i == h) (j == k) p in
+    first p = let two = and_parts (i == h) (j == k) p in
         (0, record { here = ap Some (eqb-true i h two.0); there = ap Some (eqb-true j k two.1) })
 
     later : (at : ℕ) × AreAt hs ks at h k → (at : ℕ) × AreAt (i ∷ hs) (j ∷ ks) at h k
@@ -56,7 +45,7 @@ agree_all f g (h ∷ hs) (k ∷ ks) same agree =
     let one = agree h k (own_pair h k (pairs_of hs ks h k)) in
     let n : length hs ≡ length ks = omega (arith, same) in
     let rest = agree_all f g hs ks n
-    (λ i j p. agree i j (ap (λ c. ((h == i) && (k == j)) || c) p ∙ or_right ((h == i) && (k == j)))) in
+    (λ i j p. agree i j (ap (λ c. ((h == i) && (k == j)) || c) p ∙ or-true ((h == i) && (k == j)))) in
     λ i. one i ∷ rest i
 
 pub below_or : (m n : ℕ) → (m < n) ⊎ ((m ≡ n) ⊎ (n < m))

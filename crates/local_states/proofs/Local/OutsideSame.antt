@@ -1,7 +1,7 @@
 -- Worlds that are the same act outside of their actors' roots alike.
 use Rattle.std.specs.Prelude.{◌≡◌, ◌≤◌, ◌<◌, ℕ, suc, List, [], ◌∷◌, length, Option, refl}
+use Rattle.std.proofs.lemmas.Bool.{cases_lt}
 use Rattle.std.proofs.Common.{sym, ap, ◌∙◌, subst, ⊎_elim}
-use Rattle.layered_search.proofs.Places.{before_or_not}
 use Rattle.race_core.specs.Book.{BookedHistory}
 use Rattle.race_core.specs.Turns.{Luck}
 use Rattle.race_core.specs.Worlds.{WorldView, turn}
@@ -28,7 +28,7 @@ grown_outside b c after others grown a (root ∷ roots) e =
 -- a turn lets both books grow alike
 turns_grow : (w v : WorldView) (luck : Luck) (i : ℕ) → SameParts w v
     → GrownAlike w.book v.book (turn luck w i).book (turn luck v i).book
-turns_grow w v luck i same = ⊎_elim seated beyond (before_or_not i (length w.seats))
+turns_grow w v luck i same = ⊎_elim seated beyond (cases_lt i (length w.seats))
   where
     seated : i < length w.seats → GrownAlike w.book v.book (turn luck w i).book (turn luck v i).book
     seated lt = (turns_are_local w v luck i (same_ground w v same) (same.parts i lt)).grown

@@ -1,13 +1,12 @@
 -- Worlds in which all actors have the same parts go on alike.
-use Rattle.std.specs.Prelude.{◌≡◌, ◌≢◌, ◌≤◌, ◌<◌, ◌⊎◌, ℕ, ◌+◌, ◌-◌, zero, suc, List, [], ◌∷◌, length, nat_lt, nat_le, Some, None, slice_get, refl}
+use Rattle.std.specs.Prelude.{◌≡◌, ◌≢◌, ◌≤◌, ◌<◌, ◌⊎◌, ℕ, ◌+◌, ◌-◌, suc, List, [], ◌∷◌, length, nat_lt, nat_le, Some, slice_get, refl}
 use Rattle.std.proofs.Common.{inl, inr, sym, ap, ◌∙◌, subst, ⊎_elim, arith}
-use Rattle.std.proofs.lemmas.Bool.{cases_eq}
-use Rattle.std.proofs.lemmas.Option.{same_Some, slice_get_within}
+use Rattle.std.proofs.lemmas.Bool.{cases_eq, cases_lt}
+use Rattle.std.proofs.lemmas.Option.{same_Some, slice_get_within, slice_get_past}
 use Rattle.step_resolver.specs.declared.walk.Root.{Root}
 use Rattle.tree_model.specs.declared.tree.TheConstants.{NUMBERS_MAX}
 use Rattle.tree_model.specs.Steps.{held_count}
 use Rattle.tree_model.proofs.StepLaws.{slice_get-set_other}
-use Rattle.layered_search.proofs.Places.{before_or_not}
 use Rattle.race_core.specs.declared.seat.Seat.{Seat}
 use Rattle.race_core.specs.Book.{tree_now}
 use Rattle.race_core.specs.Renamed.{replies_by, LikeSeats}
@@ -20,13 +19,8 @@ use Rattle.local_states.proofs.Local.Parts.{one_actor, part_kept, turned_leaves,
 use Rattle.local_states.proofs.Local.Worlds.{still_within, parts_busy, turns_are_local}
 use Rattle.local_states.proofs.Lists.Runs.{turn_stays}
 
-nobody : {A : Type 0} (xs : List A) (i : ℕ) → length xs ≤ i → slice_get xs i ≡ None
-nobody [] i over = refl
-nobody (x ∷ xs) zero over = absurd (omega arith)
-nobody (x ∷ xs) (suc i) over = nobody xs i (omega arith)
-
 pub no_turn : (luck : Luck) (w : WorldView) (i : ℕ) → length w.seats ≤ i → turn luck w i ≡ w
-no_turn luck w i over = ap (λ seat. turn_of luck w i seat) (nobody w.seats i over)
+no_turn luck w i over = ap (λ seat. turn_of luck w i seat) (slice_get_past w.seats i over)
 
 pub same_ground : (w v : WorldView) → SameParts w v → SameGround w.book v.book
 same_ground w v same = record {
@@ -118,7 +112,7 @@ module _ (w v : WorldView) (luck : Luck) (i : ℕ) (same : SameParts w v) (lt : 
           (other_part at.here at.there at.is_here at.is_there at.part.like j ne (same.parts j lt')))
 
 pub same_turns : SameWorldsTakeSameTurns
-same_turns w v luck i same = ⊎_elim seated beyond (before_or_not i (length w.seats))
+same_turns w v luck i same = ⊎_elim seated beyond (cases_lt i (length w.seats))
   where
     seated : i < length w.seats → SameParts (turn luck w i) (turn luck v i)
     seated lt =
@@ -143,7 +137,7 @@ same_turns w v luck i same = ⊎_elim seated beyond (before_or_not i (length w.s
 -- ---- what they tell
 
 pub busy_alike : SameWorldsAreBusyAlike
-busy_alike w v i same = ⊎_elim seated beyond (before_or_not i (length w.seats))
+busy_alike w v i same = ⊎_elim seated beyond (cases_lt i (length w.seats))
   where
     seated : i < length w.seats
         → (is_busy_in (slice_get w.seats i) ≡ is_busy_in (slice_get v.seats i))
@@ -159,7 +153,7 @@ busy_alike w v i same = ⊎_elim seated beyond (before_or_not i (length w.seats)
         → (is_busy_in (slice_get w.seats i) ≡ is_busy_in (slice_get v.seats i))
         × (is_within_in (slice_get w.seats i) ≡ is_within_in (slice_get v.seats i))
     beyond over =
-        let none = nobody w.seats i over ∙ sym (nobody v.seats i (subst (λ n. n ≤ i) same.seats over)) in
+        let none = slice_get_past w.seats i over ∙ sym (slice_get_past v.seats i (subst (λ n. n ≤ i) same.seats over)) in
         (ap is_busy_in none, ap is_within_in none)
 
 replies_same : (ss ts : List Seat) → length ss ≡ length ts

@@ -1,7 +1,7 @@
 -- An actor that found no memory tells of it in the end; so a run in which nobody does had memory for all.
 use Rattle.std.specs.Prelude.{◌≡◌, ℕ, zero, suc, List, [], ◌∷◌, ◌++◌, Bool, true, false, ◌||◌, Option, Some, None, is_some, slice_get, slice_set, if◌then◌else◌, refl}
 use Rattle.std.proofs.Common.{◌⊎◌, inl, inr, sym, ap, ◌∙◌, subst, ⊎_elim}
-use Rattle.std.proofs.lemmas.Bool.{false≢true, true≢false}
+use Rattle.std.proofs.lemmas.Bool.{false≢true, true≢false, or_left, or_right, or_cases}
 use Rattle.std.proofs.lemmas.Option.{none-some, same_Some}
 use Rattle.path_text.specs.declared.errno.Errno.TheVariants.{NoMemory}
 use Rattle.tree_model.specs.declared.answer.Answer.TheVariants.{Refused}
@@ -22,17 +22,6 @@ use Rattle.local_states.specs.Worlds.{full, after_turns}
 use Rattle.local_states.specs.OutOfMemory.{doing_out_of_memory, reply_out_of_memory, turn_out_of_memory, outcome_out_of_memory, any_out_of_memory, call_out_of_memory, seat_out_of_memory, seats_out_of_memory, replies_out_of_memory, OutOfMemoryIsTold, OutOfMemoryStays, RunsWithoutOutOfMemoryAreFull}
 use Rattle.layered_search.proofs.Places.{ap_at, join}
 use Rattle.local_states.proofs.OutOfMemory.OutOfMemoryCalls.{stays, room_tells, refused_tells, start_tells}
-
-or_left : (b c : Bool) → b ≡ true → (b || c) ≡ true
-or_left b c e = ap (λ b. b || c) e
-
-or_right : (b c : Bool) → c ≡ true → (b || c) ≡ true
-or_right true c e = refl
-or_right false c e = e
-
-or_cases : (b c : Bool) → (b || c) ≡ true → (b ≡ true) ⊎ (c ≡ true)
-or_cases true c e = inl refl
-or_cases false c e = inr e
 
 -- ---- outcomes
 

@@ -1,5 +1,6 @@
 -- The laws of a world as a system.
-use Rattle.std.specs.Prelude.{◌≡◌, ◌<◌, ◌||◌, ℕ, zero, suc, List, [], ◌∷◌, Bool, true, false, is_some, length, Option, Some, None, slice_get, refl}
+use Rattle.std.specs.Prelude.{◌≡◌, ◌<◌, ℕ, zero, suc, List, [], ◌∷◌, Bool, true, false, is_some, length, Option, Some, None, slice_get, refl}
+use Rattle.std.proofs.lemmas.Bool.{or_parts}
 use Rattle.std.proofs.Common.{subst, arith}
 use Rattle.layered_search.specs.System.{IsSystem, AreOutcomes}
 use Rattle.race_core.specs.declared.seat.Seat.{Seat}
@@ -15,14 +16,9 @@ busy_within [] i busy = absurd (cc)
 busy_within (seat ∷ seats) zero busy = omega arith
 busy_within (seat ∷ seats) (suc i) busy = let rest = busy_within seats i busy in omega arith
 
--- who has nothing left to do is within no call
-seat_outside : (doing to_come : Bool) → doing || to_come ≡ false → doing ≡ false
-seat_outside true to_come e = e
-seat_outside false to_come e = refl
-
 idle_outside : (seat : Option Seat) → is_busy_in seat ≡ false → is_within_in seat ≡ false
 idle_outside None idle = refl
-idle_outside (Some seat) idle = seat_outside (is_some seat.doing) (are_some seat.ledger.to_come) idle
+idle_outside (Some seat) idle = (or_parts (is_some seat.doing) (are_some seat.ledger.to_come) idle).0
 
 pub worlds_are_system : (told : Bool) (w : WorldView) → IsSystem (worlds told w)
 worlds_are_system told w = record {

@@ -3,6 +3,7 @@ use Rattle.std.proofs.Common.{◌≡◌, ◌+◌, [], suc, ℕ, List, ◌∙◌,
 use Rattle.std.proofs.lemmas.Bool.{true≢false, eqb-true}
 use Rattle.std.proofs.lemmas.Option.{none-some}
 use Rattle.std.specs.Global.{Vec}
+use Rattle.std.proofs.lemmas.List.{nil_from_length}
 use Rattle.schedule_graph.specs.declared.graph.Node.{Node}
 use Rattle.layered_search.specs.declared.found.Found.{Found}
 use Rattle.layered_search.specs.declared.limits.Bounds.{Bounds}
@@ -13,7 +14,7 @@ use Rattle.layered_search.specs.States.{IsCounted}
 use Rattle.layered_search.specs.Layers.{LayerView, IsPassed, HasSearched}
 use Rattle.layered_search.proofs.Places.{length_push}
 use Rattle.layered_search.proofs.Layers.Kept.{first_is, first_kept}
-use Rattle.layered_search.proofs.Layers.Passing.{passes, begun, first_on, last_on, none_left, some_left}
+use Rattle.layered_search.proofs.Layers.Passing.{passes, begun, first_on, last_on, some_left}
 use Rattle.layered_search.proofs.Layers.States.{first_counted, all_states, left_long}
 use Rattle.layered_search.proofs.searching.layers.Goals as goal
 use Rattle.layered_search.proofs.searching.layers.Goals.{then-layers-test+else-depth-limits, else-layers-test}
@@ -118,7 +119,7 @@ returns-then-is_empty-clause-searched g c =
     eqb-true (vec_len c.layers.layer.configurations) 0 (sym c.is_empty-2.ensures ∙ c.if-is_empty.true) in (
       layer_of c.layers.layer,
       (
-        none_left c.layers.layer.configurations.items (sym c.layers.layer.configurations.ok.0 ∙ over),
+        nil_from_length c.layers.layer.configurations.items (sym c.layers.layer.configurations.ok.0 ∙ over),
         c.layers.invariant.searched,
       ),
     )
@@ -130,5 +131,5 @@ returns-then-is_empty-clause-counted g c =
     eqb-true (vec_len c.layers.layer.configurations) 0 (sym c.is_empty-2.ensures ∙ c.if-is_empty.true) in
     all_states (g.S.TransitionSystem.system v) (scope_of c.args.limits.now.scope) (g.S.TransitionSystem.keys v) c.layers.memory
     (length c.layers.graph) c.layers.states c.layers.layer
-    (none_left c.layers.layer.configurations.items (sym c.layers.layer.configurations.ok.0 ∙ over))
+    (nil_from_length c.layers.layer.configurations.items (sym c.layers.layer.configurations.ok.0 ∙ over))
     c.layers.invariant.counted
