@@ -1,16 +1,12 @@
 -- What was asked of a driver as it asks for an object's place, what that gave, and what comes next. A history has the
 -- last exchange first.
 use Rattle.std.specs.Prelude.{◌≡◌, ℕ, List, [], ◌∷◌, ◌==◌, Bool, true, false, not, ◌&&◌, ◌||◌, if◌then◌else◌}
+use Rattle.system_calls.specs.Errors.{ENOENT, EAGAIN}
 use Rattle.system_calls.specs.Objects.{is_same_object}
-use Rattle.system_calls.specs.Tries.{EAGAIN}
 use Rattle.system_calls.specs.declared.objects.Object.{Object}
 use Rattle.ask_place.specs.declared.asking.Answer.{Answer}
 use Rattle.ask_place.specs.declared.asking.Facts.{Facts}
 use Rattle.ask_place.specs.declared.asking.TheConstants.{LOOK, COPY, FIND, LOOK_UP, DEAD, CLOSE, ENDS, FAILS}
-
--- a number of errno(3)
-abbrev pub ENOENT : ℕ
-ENOENT = 2
 
 -- what was asked for, and what that gave
 pub record Exchange : Type 0 where

@@ -1,9 +1,9 @@
 -- What holds of every history.
 use Rattle.std.specs.Prelude.{◌≡◌, ℕ, List, [], ◌∷◌, ◌==◌, Bool, true, false, not, ◌&&◌, ◌||◌, if◌then◌else◌}
+use Rattle.system_calls.specs.Errors.{ENOENT, EAGAIN}
 use Rattle.system_calls.specs.Objects.{is_same_object}
-use Rattle.system_calls.specs.Tries.{EAGAIN}
 use Rattle.system_calls.specs.declared.objects.Object.{Object}
-use Rattle.ask_place.specs.History.{is_directory_after, is_nameless_after, object_after, Exchange, Next, ENOENT}
+use Rattle.ask_place.specs.History.{is_directory_after, is_nameless_after, object_after, Exchange, Next}
 use Rattle.ask_place.specs.declared.asking.Facts.{Facts}
 use Rattle.ask_place.specs.declared.asking.TheConstants.{LOOK, COPY, FIND, LOOK_UP, DEAD, CLOSE, ENDS, FAILS}
 

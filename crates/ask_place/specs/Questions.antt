@@ -1,18 +1,8 @@
 -- How often a place is asked for, and the error of a descriptor that must be of a directory.
 use Rattle.std.specs.Prelude.{ℕ, ◌==◌, Bool, ◌&&◌, if◌then◌else◌, nat_le, nat_lt}
+use Rattle.system_calls.specs.Errors.{EAGAIN, EXDEV, ENOTDIR, ERANGE}
 use Rattle.system_calls.specs.Objects.{format, S_IFDIR}
-use Rattle.system_calls.specs.Tries.{EAGAIN}
 use Rattle.ask_place.specs.declared.questions.Question.{Question}
-
--- numbers of errno(3)
-abbrev pub EXDEV : ℕ
-EXDEV = 18
-
-abbrev pub ENOTDIR : ℕ
-ENOTDIR = 20
-
-abbrev pub ERANGE : ℕ
-ERANGE = 34
 
 -- so often at most
 abbrev pub MOST : ℕ

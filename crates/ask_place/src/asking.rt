@@ -3,6 +3,7 @@ ghost use Rattle.std.specs.Prelude.{◌≡◌, List, [], ◌∷◌, ◌==◌, tr
 ghost use Rattle.ask_place.specs.History.{after_copy, after_find, after_look, after_look_up, is_question, lost, missing, over, told, Exchange};
 ghost use Rattle.ask_place.specs.Asking.{due_of, exchange, IsAt, Same};
 
+use system_calls::errors::{EAGAIN, ENOENT};
 use system_calls::{Object, is_same_object};
 
 /// The object is looked at: statx(2), or fstat(2).
@@ -28,10 +29,6 @@ pub const ENDS: u8 = 7;
 
 /// Nothing comes: it failed by an error.
 pub const FAILS: u8 = 8;
-
-const ENOENT: u32 = 2;
-
-const EAGAIN: u32 = 11;
 
 /// What is known before the first question.
 #[repr(C)]

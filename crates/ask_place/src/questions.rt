@@ -2,15 +2,8 @@
 ghost use Rattle.std.specs.Prelude.{◌≡◌};
 ghost use Rattle.ask_place.specs.Questions.{directory_error, next_question};
 
+use system_calls::errors::{EAGAIN, ENOTDIR, ERANGE, EXDEV};
 use system_calls::kind_of;
-
-const EAGAIN: u32 = 11;
-
-const EXDEV: u32 = 18;
-
-const ENOTDIR: u32 = 20;
-
-const ERANGE: u32 = 34;
 
 const MOST: u32 = 8;
 

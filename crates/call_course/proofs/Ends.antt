@@ -1,7 +1,7 @@
 -- How a call ends, and why.
 use Rattle.std.proofs.Common.{◌≡◌, ◌≢◌, List, [], ◌∷◌, length, Bool, true, false, not, ◌&&◌, ◌||◌, inl, inr, refl, ap, sym, subst, arith}
 use Rattle.std.specs.Prelude.{◌==◌}
-use Rattle.system_calls.specs.Tries.{EAGAIN}
+use Rattle.system_calls.specs.Errors.{EAGAIN}
 use Rattle.call_course.specs.Turns.{gains, lacks, noted, start}
 use Rattle.call_course.specs.History.{exchange, next_after, Exchange, IsHistory}
 use Rattle.call_course.specs.Promises.{HomeFailed, RootHas}

@@ -1,7 +1,8 @@
 -- The laws, by what is kept of a call.
 use Rattle.std.proofs.Common.{◌≡◌, ◌≢◌, ◌≤◌, ◌<◌, ◌+◌, ◌*◌, ◌-◌, ℕ, List, [], ◌∷◌, ◌++◌, length, Bool, true, false, ◌⊎◌, inl, inr, refl, sym, subst, ◌∙◌, arith}
 use Rattle.std.specs.Prelude.{◌==◌, if◌then◌else◌}
-use Rattle.system_calls.specs.Tries.{EAGAIN, TRIES, pauses_after}
+use Rattle.system_calls.specs.Errors.{EAGAIN}
+use Rattle.system_calls.specs.Tries.{TRIES, pauses_after}
 use Rattle.std.proofs.lemmas.Bool.{eqb-true, false≢true}
 use Rattle.call_course.specs.History.{next_after, Exchange, IsHistory}
 use Rattle.call_course.specs.Promises.{away_after, begun_after, changed_after, given, open_after, owns_after, pauses_of, stepped_after, value_after, why_after, HomeFailed, LastWas}

@@ -1,8 +1,8 @@
 -- What holds of every history.
 use Rattle.std.specs.Prelude.{◌≡◌, ℕ, suc, ◌+◌, ◌-◌, List, [], ◌∷◌, ◌++◌, ◌==◌, ◌⊎◌, Bool, true, false, ◌&&◌, ◌||◌, not, if◌then◌else◌, nat_le}
+use Rattle.system_calls.specs.Errors.{EAGAIN, ENOMEM}
 use Rattle.system_calls.specs.Held.{without}
-use Rattle.system_calls.specs.Tries.{EAGAIN}
-use Rattle.call_course.specs.Turns.{reply_error, root_error, COUNT, DONE, ENOMEM, OPENED, TEXT}
+use Rattle.call_course.specs.Turns.{reply_error, root_error, COUNT, DONE, OPENED, TEXT}
 use Rattle.call_course.specs.History.{Exchange}
 use Rattle.call_course.specs.declared.calling.Answer.{Answer}
 use Rattle.call_course.specs.declared.calling.Calling.{Calling}

@@ -1,25 +1,12 @@
 -- What comes next in a call, by what the last thing gave. The numbers of errors are those of errno(3), and those of
 -- replies and of kinds are those of c_protocol and system_calls.
 use Rattle.std.specs.Prelude.{ℕ, suc, ◌-◌, ◌==◌, Bool, true, false, ◌&&◌, ◌||◌, not, if◌then◌else◌, nat_lt}
-use Rattle.system_calls.specs.Tries.{is_due, pause_after, EAGAIN, TRIES}
+use Rattle.system_calls.specs.Errors.{EIO, EAGAIN, ENOMEM, ENOTDIR, ENOSYS}
+use Rattle.system_calls.specs.Tries.{is_due, pause_after, TRIES}
 use Rattle.call_course.specs.declared.calling.Answer.{Answer}
 use Rattle.call_course.specs.declared.calling.Calling.{Calling}
 use Rattle.call_course.specs.declared.calling.Facts.{Facts}
 use Rattle.call_course.specs.declared.calling.TheConstants.{BEGIN, JOIN, AT_ONCE, OWN_ROOT, PLACE, CONVERSE, TAKE, LET_GO, CLOSE, LOOK_AT_PROC, ANOTHER_PROC, CLOSE_PROC, GO_HOME, LOOK_AT_ROOT, ENDS, FAILS}
-
-abbrev pub EIO : ℕ
-EIO = 5
-
--- the proved call's word for a step that wasn't made
-abbrev pub ENOMEM : ℕ
-ENOMEM = 12
-
-abbrev pub ENOTDIR : ℕ
-ENOTDIR = 20
-
--- there is no /proc (inroot.h)
-abbrev pub ENOSYS : ℕ
-ENOSYS = 38
 
 abbrev pub OPENED : ℕ
 OPENED = 32
@@ -71,7 +58,8 @@ homeward c = if c.moved then asks GO_HOME 0 c else judged c
 abbrev pub after_proc : Calling → Calling
 after_proc c = if c.owns_proc then asks CLOSE_PROC 0 c else homeward c
 
--- It failed as it would without a /proc, changed nothing, and had one that is the library's: the first one of the try.
+-- It failed as it would without a /proc (ENOSYS, ENOTDIR; inroot.h), changed nothing, and had one that is the
+-- library's: the first one of the try.
 abbrev pub may_go_by_another : Calling → Bool
 may_go_by_another c =
     ((c.error == ENOSYS) || (c.error == ENOTDIR))
@@ -143,7 +131,7 @@ placed a c = if a.error == 0 then ended (gains a.length false (noted a c)) else 
 
 -- ---- a reply
 
--- the kernel's own error, where a step wasn't made
+-- the kernel's own error, where a step wasn't made, for which the proved call's word is ENOMEM
 abbrev pub reply_error : Answer → ℕ
 reply_error a = if a.error == 0 then EIO else (if (a.error == ENOMEM) && not (a.unmade == 0) then a.unmade else a.error)
 

@@ -4,6 +4,7 @@ ghost use Rattle.system_calls.specs.Tries.{TRIES};
 ghost use Rattle.call_course.specs.Turns.{after_answer, after_close, after_own_root, after_proc, answered, asks, at_once, began, begun, checked, conversed, directory_error, done, ended, first, gains, homeward, judged, lacks, let_go, looked_at_proc, looked_at_root, may_go_by_another, noted, over, placed, replied, reply_error, start, stuck, took, went_by_another, went_home};
 ghost use Rattle.call_course.specs.History.{exchange, is_question, Exchange, IsAt};
 
+use system_calls::errors::{EAGAIN, EIO, ENOMEM, ENOSYS, ENOTDIR};
 use system_calls::next_try;
 
 /// A try begins, after a pause of so many nanoseconds: nothing is known of it.
@@ -62,16 +63,6 @@ const TEXT: u8 = 33;
 const DONE: u8 = 34;
 
 const COUNT: u8 = 35;
-
-const EIO: u32 = 5;
-
-const EAGAIN: u32 = 11;
-
-const ENOMEM: u32 = 12;
-
-const ENOTDIR: u32 = 20;
-
-const ENOSYS: u32 = 38;
 
 const DIRECTORY: u64 = 1;
 

@@ -1,6 +1,7 @@
 //! What holds of every call, as laws over its exchanges: each function's contract is one, and its body is empty.
 ghost use Rattle.std.specs.Prelude.{◌≡◌, ◌≢◌, ◌≤◌, ◌⊎◌, ◌++◌, ◌+◌, ◌*◌, ℕ, true, false, List, [], ◌∷◌, length};
-ghost use Rattle.system_calls.specs.Tries.{EAGAIN, TRIES};
+ghost use Rattle.system_calls.specs.Errors.{EAGAIN};
+ghost use Rattle.system_calls.specs.Tries.{TRIES};
 ghost use Rattle.call_course.specs.History.{next_after, Exchange, IsHistory};
 ghost use Rattle.call_course.specs.Promises.{away_after, begun_after, changed_after, check_error_after, checked_after, given, is_own_error, is_walk, last_error, open_after, others_after, owns_after, pauses_of, stepped_after, value_after, why_after, HomeFailed, IsChecked, LastWas, RootHas};
 ghost use Rattle.call_course.specs.declared.calling.Facts.{Facts};

@@ -2,8 +2,8 @@
 use Rattle.std.proofs.Common.{◌≡◌, ◌≢◌, ◌≤◌, ◌+◌, ◌*◌, ℕ, List, [], ◌∷◌, length, Bool, true, false, not, ◌&&◌, ◌||◌, ◌⊎◌, inl, inr, refl, ap, sym, ◌∙◌, arith}
 use Rattle.std.specs.Prelude.{◌==◌, if◌then◌else◌}
 use Rattle.std.proofs.lemmas.Bool.{eqb-true, false≢true}
-use Rattle.system_calls.specs.Tries.{EAGAIN}
-use Rattle.enter_directory.specs.History.{after_exchange, is_question, next_after, Exchange, IsHistory, Next, ESTALE}
+use Rattle.system_calls.specs.Errors.{EAGAIN, ESTALE}
+use Rattle.enter_directory.specs.History.{after_exchange, is_question, next_after, Exchange, IsHistory, Next}
 use Rattle.enter_directory.specs.Promises.{error_of, found_by, found_since, is_found, is_opened, is_read, is_signal, lost_since, needs_found, needs_opened, needs_read, opened_by, read_by, read_since, same_since, signals, why_after}
 use Rattle.enter_directory.specs.declared.entering.TheConstants.{OPEN, FIND, COMPARE, OPEN_TO_READ, CLOSE_FOUND, CLOSE, FIND_ABOVE, COMPARE_ABOVE, CLOSE_ABOVE, ENTERS, FAILS, LOSES}
 

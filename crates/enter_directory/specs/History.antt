@@ -1,24 +1,9 @@
 -- What was asked of a driver as a walk goes into a directory, what that gave, and what comes next. A history has the
 -- last exchange first.
 use Rattle.std.specs.Prelude.{◌≡◌, ℕ, ◌+◌, List, [], ◌∷◌, ◌==◌, Bool, true, false, ◌&&◌, ◌||◌, if◌then◌else◌}
-use Rattle.system_calls.specs.Tries.{is_due, pause_after, EAGAIN}
+use Rattle.system_calls.specs.Errors.{ENOENT, EINTR, EAGAIN, ENOTDIR, ELOOP, ESTALE}
+use Rattle.system_calls.specs.Tries.{is_due, pause_after}
 use Rattle.enter_directory.specs.declared.entering.TheConstants.{OPEN, FIND, COMPARE, OPEN_TO_READ, CLOSE_FOUND, CLOSE, FIND_ABOVE, COMPARE_ABOVE, CLOSE_ABOVE, ENTERS, FAILS, LOSES}
-
--- numbers of errno(3)
-abbrev pub ENOENT : ℕ
-ENOENT = 2
-
-abbrev pub EINTR : ℕ
-EINTR = 4
-
-abbrev pub ENOTDIR : ℕ
-ENOTDIR = 20
-
-abbrev pub ELOOP : ℕ
-ELOOP = 40
-
-abbrev pub ESTALE : ℕ
-ESTALE = 116
 
 -- What was asked for, and 0 or the error that this gave; of COMPARE and COMPARE_ABOVE, whether both are one directory.
 pub record Exchange : Type 0 where

@@ -1,7 +1,7 @@
 -- What holds of every history.
 use Rattle.std.specs.Prelude.{ℕ, ◌+◌, List, [], ◌∷◌, ◌==◌, Bool, false, not, ◌&&◌, ◌||◌, if◌then◌else◌}
-use Rattle.system_calls.specs.Tries.{EAGAIN}
-use Rattle.enter_directory.specs.History.{is_elsewhere, Exchange, Next, EINTR, ESTALE}
+use Rattle.system_calls.specs.Errors.{EINTR, EAGAIN, ESTALE}
+use Rattle.enter_directory.specs.History.{is_elsewhere, Exchange, Next}
 use Rattle.enter_directory.specs.declared.entering.TheConstants.{OPEN, FIND, COMPARE, OPEN_TO_READ, CLOSE_FOUND, CLOSE, FIND_ABOVE, COMPARE_ABOVE, CLOSE_ABOVE, ENTERS}
 
 -- ---- descriptors

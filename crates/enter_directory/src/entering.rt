@@ -4,6 +4,7 @@ ghost use Rattle.system_calls.specs.Tries.{is_due, pause_after};
 ghost use Rattle.enter_directory.specs.Entering.{due_of, exchange, IsAt};
 ghost use Rattle.enter_directory.specs.History.{after_close_above, after_compare, after_compare_above, after_find, after_find_above, after_open, after_open_to_read, asks, is_elsewhere, is_moved, is_question, settles, Exchange};
 
+use system_calls::errors::{EAGAIN, EINTR, ELOOP, ENOENT, ENOTDIR, ESTALE};
 use system_calls::next_try;
 
 /// The name is opened in the directory above: openat(2) with O_PATH, O_DIRECTORY, O_NOFOLLOW and O_CLOEXEC.
@@ -41,18 +42,6 @@ pub const FAILS: u8 = 11;
 
 /// The same, and the directory above isn't where it was found: nothing more is gone into there.
 pub const LOSES: u8 = 12;
-
-const ENOENT: u32 = 2;
-
-const EINTR: u32 = 4;
-
-const EAGAIN: u32 = 11;
-
-const ENOTDIR: u32 = 20;
-
-const ELOOP: u32 = 40;
-
-const ESTALE: u32 = 116;
 
 /// What a call gave.
 #[repr(C)]

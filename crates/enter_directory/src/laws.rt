@@ -1,6 +1,6 @@
 //! What holds of every history, as laws over its exchanges: each function's contract is one, and its body is empty.
 ghost use Rattle.std.specs.Prelude.{◌≡◌, ◌≢◌, ◌≤◌, ◌+◌, ◌⊎◌, Bool, true, List, length};
-ghost use Rattle.system_calls.specs.Tries.{EAGAIN};
+ghost use Rattle.system_calls.specs.Errors.{EAGAIN};
 ghost use Rattle.enter_directory.specs.History.{next_after, Exchange, IsHistory};
 ghost use Rattle.enter_directory.specs.Promises.{is_found, is_opened, is_read, lost_since, needs_found, needs_opened, needs_read, read_since, signals, why_after};
 ghost use Rattle.enter_directory.specs.declared.entering.TheConstants.{ENTERS, FAILS, LOSES};

@@ -2,11 +2,11 @@
 use Rattle.std.proofs.Common.{◌≡◌, ◌≢◌, ◌≤◌, ◌+◌, ℕ, List, [], ◌∷◌, length, Bool, true, false, not, ◌&&◌, ◌||◌, ◌⊎◌, inl, inr, refl, ap, sym, subst, ◌∙◌, arith}
 use Rattle.std.specs.Prelude.{◌==◌, if◌then◌else◌}
 use Rattle.std.proofs.lemmas.Bool.{eqb-true, false≢true}
+use Rattle.system_calls.specs.Errors.{ENOENT, EINTR, EAGAIN}
 use Rattle.system_calls.specs.Objects.{is_same_object}
-use Rattle.system_calls.specs.Tries.{EAGAIN}
 use Rattle.system_calls.specs.declared.objects.Object.{Object}
 use Rattle.give_entry.specs.Made.{is_known, is_of_kind, is_read, is_text, Made}
-use Rattle.give_entry.specs.History.{after_exchange, after_look, after_open, after_question, after_seen, asks, ends, is_question, looked_after, next_after, over, refused, Exchange, IsHistory, Next, EINTR, ENOENT}
+use Rattle.give_entry.specs.History.{after_exchange, after_look, after_open, after_question, after_seen, asks, ends, is_question, looked_after, next_after, over, refused, Exchange, IsHistory, Next}
 use Rattle.give_entry.specs.Promises.{has_text_after, is_held_after, is_open_after, is_over, is_same_after, is_seen_after, is_signal, needs_open, open_by, question_error, signals, why_after, IsTheOne}
 use Rattle.give_entry.specs.declared.giving.Facts.{Facts}
 use Rattle.give_entry.specs.declared.giving.TheConstants.{OPEN, LOOK, COMPARE, READ, CLOSE, CLOSE_MADE, GIVES, FAILS}

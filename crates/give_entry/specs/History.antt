@@ -1,19 +1,12 @@
 -- What was asked of a driver as it opens the entry that a call has made, what that gave, and what comes next. A history
 -- has the last exchange first.
 use Rattle.std.specs.Prelude.{◌≡◌, ℕ, List, [], ◌∷◌, ◌==◌, Bool, true, false, ◌||◌, if◌then◌else◌}
+use Rattle.system_calls.specs.Errors.{ENOENT, EINTR, EAGAIN}
 use Rattle.system_calls.specs.Objects.{format, is_same_object, S_IFLNK}
-use Rattle.system_calls.specs.Tries.{EAGAIN}
 use Rattle.system_calls.specs.declared.objects.Object.{Object}
 use Rattle.give_entry.specs.Made.{is_known, is_of_kind, is_text, Made}
 use Rattle.give_entry.specs.declared.giving.Facts.{Facts}
 use Rattle.give_entry.specs.declared.giving.TheConstants.{OPEN, LOOK, COMPARE, READ, CLOSE, CLOSE_MADE, GIVES, FAILS}
-
--- numbers of errno(3)
-abbrev pub ENOENT : ℕ
-ENOENT = 2
-
-abbrev pub EINTR : ℕ
-EINTR = 4
 
 -- What was asked for, and 0 or the error that this gave. Of LOOK and COMPARE, which object it is; of LOOK, its mode and
 -- its device's number; of READ, the text.

@@ -1,9 +1,9 @@
 -- What holds of every history.
 use Rattle.std.specs.Prelude.{◌≡◌, ℕ, ◌+◌, List, [], ◌∷◌, ◌==◌, Bool, true, false, not, ◌&&◌, ◌||◌, if◌then◌else◌}
+use Rattle.system_calls.specs.Errors.{ENOENT, EINTR, EAGAIN}
 use Rattle.system_calls.specs.Objects.{is_same_object}
-use Rattle.system_calls.specs.Tries.{EAGAIN}
 use Rattle.give_entry.specs.Made.{is_known, is_of_kind, is_read, is_text, Made}
-use Rattle.give_entry.specs.History.{looked_after, Exchange, Next, EINTR, ENOENT}
+use Rattle.give_entry.specs.History.{looked_after, Exchange, Next}
 use Rattle.give_entry.specs.declared.giving.Facts.{Facts}
 use Rattle.give_entry.specs.declared.giving.TheConstants.{OPEN, LOOK, COMPARE, READ, CLOSE, CLOSE_MADE, GIVES, FAILS}
 

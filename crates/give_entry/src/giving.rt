@@ -6,6 +6,7 @@ ghost use Rattle.give_entry.specs.Made.{is_known, is_of_kind, is_text, Made};
 ghost use Rattle.give_entry.specs.History.{after_look, after_open, after_question, after_seen, ends, is_question, over, refused, Exchange};
 ghost use Rattle.give_entry.specs.Giving.{due_of, exchange, made_of, IsAt};
 
+use system_calls::errors::{EAGAIN, EINTR, ENOENT};
 use system_calls::{Object, is_same_object};
 
 /// The entry is opened by its name: openat(2) with O_PATH, O_NOFOLLOW and O_CLOEXEC.
@@ -31,12 +32,6 @@ pub const GIVES: u8 = 7;
 
 /// Nothing comes: an error says why there is no descriptor of it.
 pub const FAILS: u8 = 8;
-
-const ENOENT: u32 = 2;
-
-const EINTR: u32 = 4;
-
-const EAGAIN: u32 = 11;
 
 const S_IFMT: u32 = 0o170000;
 

@@ -16,9 +16,10 @@ use Rattle.path_text.specs.declared.errno.Errno.TheVariants.{NoMemory}
 use Rattle.path_text.specs.declared.name.TheConstants.{SLASH}
 use Rattle.path_text.specs.Print.{after_slashes, printed}
 use Rattle.path_text.specs.Text.{between_slashes, is_empty, pieces}
+use Rattle.system_calls.specs.Errors.{ERANGE}
 use Rattle.kernel_text.specs.declared.listing.Sorted.{Sorted}
 use Rattle.kernel_text.specs.declared.records.Step.TheVariants.{Used}
-use Rattle.kernel_text.specs.Listing.{ERANGE, HEAD_SIZE, before_nul, entries_text, is_entry, is_whole, name_error, name_told, size_told, AreInOrder, IsLaidSorted, IsRefused, ReadsTo, Sorts}
+use Rattle.kernel_text.specs.Listing.{HEAD_SIZE, before_nul, entries_text, is_entry, is_whole, name_error, name_told, size_told, AreInOrder, IsLaidSorted, IsRefused, ReadsTo, Sorts}
 use Rattle.kernel_text.specs.Records.{Steps}
 use Rattle.path_text.proofs.Lists.{slashes-append, put, printed_some}
 use Rattle.path_text.proofs.TextLemmas.{starts, starts_bound}

@@ -14,19 +14,13 @@ use Rattle.path_text.specs.Print.{after_slashes, printed}
 use Rattle.path_text.specs.Text.{pieces}
 use Rattle.path_text.specs.declared.errno.Errno.{Errno}
 use Rattle.path_text.specs.declared.errno.Errno.TheVariants.{NoMemory, TooLong}
+use Rattle.system_calls.specs.Errors.{EIO, ERANGE}
 use Rattle.kernel_text.specs.declared.listing.Sorted.{Sorted}
 use Rattle.kernel_text.specs.declared.records.Taken.{Taken}
 
 -- so many bytes of a record come before its name
 abbrev pub HEAD_SIZE : ℕ
 HEAD_SIZE = 19
-
--- numbers of errno(3)
-abbrev pub EIO : ℕ
-EIO = 5
-
-abbrev pub ERANGE : ℕ
-ERANGE = 34
 
 -- the length that a record tells of itself
 abbrev pub size_told : List ℕ → ℕ

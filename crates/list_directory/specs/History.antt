@@ -2,23 +2,10 @@
 -- exchange first.
 use Rattle.std.specs.Prelude.{◌≡◌, ◌≤◌, ℕ, ◌-◌, List, [], ◌∷◌, ◌++◌, ◌==◌, Bool, true, false, ◌&&◌, ◌||◌, if◌then◌else◌, length, MatchBool}
 use Rattle.path_text.specs.Text.{is_empty}
+use Rattle.system_calls.specs.Errors.{ENOENT, EINTR, ENFILE, EMFILE}
 use Rattle.kernel_text.specs.Listing.{entries_text, ReadsTo, Stops}
 use Rattle.list_directory.specs.Parts.{part_size}
 use Rattle.list_directory.specs.declared.listing.TheConstants.{OPEN, SPARE, READ, CLOSE, SORT, ENDS, FAILS}
-
--- numbers of errno(3)
-abbrev pub ENOENT : ℕ
-ENOENT = 2
-
-abbrev pub EINTR : ℕ
-EINTR = 4
-
--- no descriptor is left in the system (open(2)), or for the process
-abbrev pub ENFILE : ℕ
-ENFILE = 23
-
-abbrev pub EMFILE : ℕ
-EMFILE = 24
 
 -- What was asked for, and 0 or the error that this gave. Of READ, the records, the names that were taken of them,
 -- whether there was no room for the next one, and 0 or the error of the record behind them.

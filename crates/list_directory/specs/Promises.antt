@@ -1,8 +1,9 @@
 -- What holds of every history.
 use Rattle.std.specs.Prelude.{◌≡◌, ◌≢◌, ℕ, ◌+◌, List, [], ◌∷◌, ◌==◌, ◌⊎◌, Bool, true, false, ◌&&◌, ◌||◌, not, if◌then◌else◌}
 use Rattle.path_text.specs.Text.{is_empty}
+use Rattle.system_calls.specs.Errors.{ENOENT, EINTR, ENFILE, EMFILE}
 use Rattle.kernel_text.specs.Listing.{entries_text}
-use Rattle.list_directory.specs.History.{Exchange, EINTR, EMFILE, ENFILE, ENOENT}
+use Rattle.list_directory.specs.History.{Exchange}
 use Rattle.list_directory.specs.declared.listing.TheConstants.{OPEN, SPARE, READ, CLOSE, SORT}
 
 -- ---- descriptors

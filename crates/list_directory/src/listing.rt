@@ -6,6 +6,7 @@ ghost use Rattle.list_directory.specs.Listing.{due_of, AnsweredBy, IsAt, Reads, 
 
 use crate::parts::{part_size, records_size};
 use kernel_text::take_names;
+use system_calls::errors::{EINTR, EMFILE, ENFILE, ENOENT};
 
 /// The directory is opened: openat(2) of `.` with O_RDONLY, O_DIRECTORY and O_CLOEXEC.
 pub const OPEN: u8 = 1;
@@ -27,14 +28,6 @@ pub const ENDS: u8 = 6;
 
 /// Nothing comes: it failed by an error.
 pub const FAILS: u8 = 7;
-
-const ENOENT: u32 = 2;
-
-const EINTR: u32 = 4;
-
-const ENFILE: u32 = 23;
-
-const EMFILE: u32 = 24;
 
 /// How far a listing has come. C keeps it, beside a room for names.
 #[repr(C)]

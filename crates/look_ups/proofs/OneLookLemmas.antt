@@ -1,7 +1,8 @@
 -- What holds of each openat2(2), turn by turn.
 use Rattle.std.proofs.Common.{◌≡◌, ◌≢◌, ◌≤◌, ◌+◌, ℕ, List, [], ◌∷◌, length, Bool, true, false, not, ◌&&◌, ◌||◌, ap, arith}
 use Rattle.std.specs.Prelude.{◌==◌, if◌then◌else◌}
-use Rattle.look_ups.specs.OneLook.{after_turn, asked_by, cost_by, costs, first, is_opened, is_probed, one_after, opens_by, refused_by, why_by, why_one, AreTurns, Turn, starts, opens, probes, asks_kept, forgets, ENOSYS}
+use Rattle.system_calls.specs.Errors.{ENOSYS}
+use Rattle.look_ups.specs.OneLook.{after_turn, asked_by, cost_by, costs, first, is_opened, is_probed, one_after, opens_by, refused_by, why_by, why_one, AreTurns, Turn, starts, opens, probes, asks_kept, forgets}
 use Rattle.look_ups.specs.declared.one_look.OneLook.{OneLook}
 use Rattle.look_ups.specs.declared.one_look.TheConstants.{START, OPEN, PROBE, STILL, FORGET, GIVES, FAILS, MISSING}
 

@@ -1,10 +1,11 @@
 -- What was asked of a driver as it passes the names that come next, what that gave, and what comes next. A history has
 -- the last exchange first.
 use Rattle.std.specs.Prelude.{◌≡◌, ℕ, ◌-◌, ◌/◌, List, [], ◌∷◌, ◌==◌, Bool, true, false, ◌&&◌, ◌||◌, not, if◌then◌else◌, nat_lt}
+use Rattle.system_calls.specs.Errors.{ELOOP}
 use Rattle.look_ups.specs.declared.coming.Coming.{Coming}
 use Rattle.look_ups.specs.declared.look_up.LookUp.{LookUp}
 use Rattle.look_ups.specs.declared.look_up.TheConstants.{READ_FIRST, LOOK_UP, FROM_ROOT, KIND, COMPARE, CLOSE, READ_LAST, ALONE, PASSED, LINK, ENDS}
-use Rattle.look_ups.specs.Names.{comes_to_end, count_of, goes_up, is_of_names, is_rest, may_read, opens_directory, opens_itself, resolve_of, ELOOP}
+use Rattle.look_ups.specs.Names.{comes_to_end, count_of, goes_up, is_of_names, is_rest, may_read, opens_directory, opens_itself, resolve_of}
 
 -- a path has fewer names
 abbrev pub MOST : ℕ

@@ -1,23 +1,9 @@
 -- Which of the names that come next are looked up by one openat2(2), and how.
 use Rattle.std.specs.Prelude.{ℕ, ◌+◌, ◌-◌, ◌==◌, Bool, ◌&&◌, ◌||◌, not, if◌then◌else◌, nat_le, nat_lt}
+use Rattle.system_calls.specs.Errors.{ENOENT, EACCES, ENOTDIR, ENAMETOOLONG, ELOOP}
 use Rattle.look_ups.specs.declared.coming.Coming.{Coming}
 
 -- ---- errors (errno(3)), where fewer names may be passed (path_resolution(7))
-
-abbrev pub ENOENT : ℕ
-ENOENT = 2
-
-abbrev pub EACCES : ℕ
-EACCES = 13
-
-abbrev pub ENOTDIR : ℕ
-ENOTDIR = 20
-
-abbrev pub ENAMETOOLONG : ℕ
-ENAMETOOLONG = 36
-
-abbrev pub ELOOP : ℕ
-ELOOP = 40
 
 abbrev pub is_of_names : ℕ → Bool
 is_of_names error =

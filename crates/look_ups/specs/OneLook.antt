@@ -1,21 +1,9 @@
 -- What was asked of a driver as it makes one openat2(2), what that gave, and what comes next. A history has the last
 -- turn first.
 use Rattle.std.specs.Prelude.{◌≡◌, ℕ, ◌+◌, List, [], ◌∷◌, ◌==◌, Bool, true, false, ◌&&◌, ◌||◌, not, if◌then◌else◌, nat_lt}
+use Rattle.system_calls.specs.Errors.{EPERM, EINTR, EBADF, ENOSYS}
 use Rattle.look_ups.specs.declared.one_look.OneLook.{OneLook}
 use Rattle.look_ups.specs.declared.one_look.TheConstants.{START, OPEN, PROBE, STILL, FORGET, GIVES, FAILS, UNKNOWN, THERE, MISSING}
-
--- numbers of errno(3)
-abbrev pub EPERM : ℕ
-EPERM = 1
-
-abbrev pub EINTR : ℕ
-EINTR = 4
-
-abbrev pub EBADF : ℕ
-EBADF = 9
-
-abbrev pub ENOSYS : ℕ
-ENOSYS = 38
 
 -- What was asked for, and 0 or the error that this gave.
 pub data Turn : Type 0 where

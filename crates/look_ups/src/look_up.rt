@@ -7,6 +7,7 @@ use crate::coming::{
     Coming, comes_to_end, count_of, goes_up, is_rest, may_read, opens_directory, opens_itself,
     resolve_of,
 };
+use system_calls::errors::{EACCES, ELOOP, ENAMETOOLONG, ENOENT, ENOTDIR};
 
 /// The first name is read as a link, before any are looked up: readlinkat(2).
 pub const READ_FIRST: u8 = 1;
@@ -42,16 +43,6 @@ pub const LINK: u8 = 10;
 pub const ENDS: u8 = 11;
 
 const MOST: usize = 4096;
-
-const ENOENT: u32 = 2;
-
-const EACCES: u32 = 13;
-
-const ENOTDIR: u32 = 20;
-
-const ENAMETOOLONG: u32 = 36;
-
-const ELOOP: u32 = 40;
 
 /// How far a call has come with the names that come next, and what failed before in this call. C keeps it.
 #[repr(C)]

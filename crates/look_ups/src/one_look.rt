@@ -2,6 +2,8 @@
 ghost use Rattle.std.specs.Prelude.{◌≡◌, ℕ, Bool, List, [], ◌∷◌, true, false};
 ghost use Rattle.look_ups.specs.OneLook.{after_kept, after_open, after_probe, after_start, after_turn, first, goes, is_refused, is_turn, turn_of, IsOneLook, Turn};
 
+use system_calls::errors::{EBADF, EINTR, ENOSYS, EPERM};
+
 /// Where the look-up begins: the directory, or that of a jail, by a descriptor that the thread keeps or by another way.
 pub const START: u8 = 1;
 
@@ -29,14 +31,6 @@ pub const UNKNOWN: u8 = 0;
 pub const THERE: u8 = 1;
 
 pub const MISSING: u8 = 2;
-
-const EPERM: u32 = 1;
-
-const EINTR: u32 = 4;
-
-const EBADF: u32 = 9;
-
-const ENOSYS: u32 = 38;
 
 /// How far one look-up has come. C keeps it.
 #[repr(C)]

@@ -4,8 +4,9 @@ use Rattle.std.specs.Prelude.{◌==◌, ◌||◌}
 use Rattle.std.proofs.lemmas.Bool.{cond-false, cond-true, eqb-true, false≢true, ne_eqb}
 use Rattle.std.proofs.lemmas.Bool.Decides.{eqb_tells}
 use Rattle.path_text.specs.declared.path.TheConstants.{TEXT_MAX}
-use Rattle.system_calls.specs.Tries.{is_due, pause_after, EAGAIN}
-use Rattle.open_or_make.specs.History.{ELOOP, ENAMETOOLONG, LINKS, STEP_READ_LINK}
+use Rattle.system_calls.specs.Errors.{EAGAIN, ENAMETOOLONG, ELOOP}
+use Rattle.system_calls.specs.Tries.{is_due, pause_after}
+use Rattle.open_or_make.specs.History.{LINKS, STEP_READ_LINK}
 use Rattle.make_through_links.specs.Closing.{is, is_named, names, one, times_closed, unused}
 use Rattle.make_through_links.specs.History.{asks, due_after, due_met, fails, follows_link, is_call, makes, met_of, moved, stand_after, tries_again, whole, Asked, Due, Exchange, IsHistory, Stand, STEP_MAKE_DIR}
 use Rattle.make_through_links.specs.declared.meets.TheConstants.{FIND, SPLIT, MAKE_ABOVE, MAKE, PARTIAL, READ_LINK, CREATE, READ_END}

@@ -2,8 +2,9 @@
 use Rattle.std.proofs.Common.{◌≡◌, ◌≢◌, ℕ, ◌+◌, ◌≤◌, ◌<◌, List, ◌∷◌, Bool, true, false, if◌then◌else◌, ◌⊎◌, inl, inr, length, refl, sym, ap, subst, ◌∙◌, arith, nat_lt}
 use Rattle.std.proofs.lemmas.Bool.{cond-false, false≢true, le-ltb, lt-ltb, ltb-false, ltb-true}
 use Rattle.path_text.specs.declared.path.TheConstants.{TEXT_MAX}
-use Rattle.system_calls.specs.Tries.{is_due, pause_after, EAGAIN, TRIES}
-use Rattle.open_or_make.specs.History.{ELOOP, ENAMETOOLONG, LINKS, STEP_READ_LINK}
+use Rattle.system_calls.specs.Errors.{EAGAIN, ENAMETOOLONG, ELOOP}
+use Rattle.system_calls.specs.Tries.{is_due, pause_after, TRIES}
+use Rattle.open_or_make.specs.History.{LINKS, STEP_READ_LINK}
 use Rattle.make_through_links.specs.History.{asks, due_after, due_met, fails, follows_link, makes, met_of, moved, stand_after, whole, Asked, Due, Exchange, IsHistory, Stand, STEP_MAKE_DIR}
 use Rattle.make_through_links.specs.Promises.{is_followed, tried_path, IsLastTry, IsOneTooMany, IsTooLong, IsWhy}
 use Rattle.make_through_links.specs.declared.meets.Met.{Met}

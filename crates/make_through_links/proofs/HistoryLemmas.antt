@@ -4,9 +4,9 @@ use Rattle.std.specs.Prelude.{◌==◌}
 use Rattle.std.proofs.Common.{eq-eqb}
 use Rattle.std.proofs.lemmas.Bool.{and_parts, eqb-true, false≢true, ltb-false, ltb-true}
 use Rattle.path_text.specs.declared.path.TheConstants.{TEXT_MAX}
-use Rattle.system_calls.specs.Opening.{EINVAL}
-use Rattle.system_calls.specs.Tries.{is_due, pause_after, EAGAIN}
-use Rattle.open_or_make.specs.History.{EEXIST, ELOOP, ENAMETOOLONG, ENOENT, LINKS, STEP_READ_LINK}
+use Rattle.system_calls.specs.Errors.{ENOENT, EAGAIN, EEXIST, EINVAL, ENAMETOOLONG, ELOOP}
+use Rattle.system_calls.specs.Tries.{is_due, pause_after}
+use Rattle.open_or_make.specs.History.{LINKS, STEP_READ_LINK}
 use Rattle.make_through_links.specs.History.{asks, due_after, due_met, fails, follows_link, is_call, makes, meets, met_of, moved, seen, stand_after, whole, Asked, Due, Exchange, IsHistory, IsNext, Stand, STEP_MAKE_DIR}
 use Rattle.make_through_links.specs.declared.meets.Seen.{Seen}
 use Rattle.make_through_links.specs.declared.meets.Met.{Met}

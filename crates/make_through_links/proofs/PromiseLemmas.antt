@@ -4,8 +4,9 @@ use Rattle.std.specs.Prelude.{◌==◌}
 use Rattle.std.specs.List.{AllByRecursion}
 use Rattle.std.proofs.lemmas.Bool.{cond-true, false≢true, ltb-false}
 use Rattle.path_text.specs.declared.path.TheConstants.{TEXT_MAX}
-use Rattle.system_calls.specs.Tries.{is_due, pause_after, EAGAIN}
-use Rattle.open_or_make.specs.History.{ELOOP, ENAMETOOLONG, LINKS, STEP_READ_LINK}
+use Rattle.system_calls.specs.Errors.{EAGAIN, ENAMETOOLONG, ELOOP}
+use Rattle.system_calls.specs.Tries.{is_due, pause_after}
+use Rattle.open_or_make.specs.History.{LINKS, STEP_READ_LINK}
 use Rattle.make_through_links.specs.History.{asks, due_after, due_met, fails, follows_link, is_call, makes, met_of, moved, stand_after, whole, Asked, Due, Exchange, IsHistory, IsNext, Stand, STEP_MAKE_DIR}
 use Rattle.make_through_links.specs.Paths.{first_name, name_size, rest_behind, slashes_size}
 use Rattle.make_through_links.specs.Promises.{is_followed, part_for, GaveNone, IsGiven, IsLed, IsPathOf}

@@ -4,9 +4,9 @@ use Rattle.std.specs.Prelude.{◌≡◌, ℕ, ◌+◌, List, [], ◌∷◌, ◌+
 use Rattle.path_text.specs.Text.{is_empty}
 use Rattle.path_text.specs.declared.name.TheConstants.{SLASH}
 use Rattle.path_text.specs.declared.path.TheConstants.{TEXT_MAX}
-use Rattle.system_calls.specs.Opening.{EINVAL}
-use Rattle.system_calls.specs.Tries.{is_due, pause_after, EAGAIN}
-use Rattle.open_or_make.specs.History.{EEXIST, ELOOP, ENAMETOOLONG, ENOENT, LINKS, STEP_MAKE_FILE, STEP_READ_LINK}
+use Rattle.system_calls.specs.Errors.{ENOENT, EAGAIN, EEXIST, EISDIR, EINVAL, ENAMETOOLONG, ELOOP}
+use Rattle.system_calls.specs.Tries.{is_due, pause_after}
+use Rattle.open_or_make.specs.History.{LINKS, STEP_MAKE_FILE, STEP_READ_LINK}
 use Rattle.make_through_links.specs.Paths.{first_name, name_size, rest_behind}
 use Rattle.make_through_links.specs.declared.meets.TheConstants.{FIND, SPLIT, MAKE_ABOVE, MAKE, PARTIAL, READ_LINK, CREATE, READ_END, ENDS, FAILS}
 use Rattle.make_through_links.specs.declared.meets.Met.{Met}
@@ -14,10 +14,6 @@ use Rattle.make_through_links.specs.declared.meets.Met.TheVariants.{Missing, Dir
 use Rattle.make_through_links.specs.declared.meets.Seen.{Seen}
 
 -- ---- numbers; the others are those of open_or_make
-
--- of errno(3)
-abbrev pub EISDIR : ℕ
-EISDIR = 21
 
 -- the step that makes a directory, as c_protocol numbers it
 abbrev pub STEP_MAKE_DIR : ℕ

@@ -3,9 +3,10 @@ use Rattle.std.specs.Prelude.{◌≡◌, ◌≢◌, ◌<◌, ◌≤◌, ℕ, ◌
 use Rattle.std.specs.List.{list_all, AllByRecursion}
 use Rattle.path_text.specs.declared.name.TheConstants.{SLASH}
 use Rattle.path_text.specs.declared.path.TheConstants.{TEXT_MAX}
-use Rattle.system_calls.specs.Tries.{EAGAIN, TRIES}
-use Rattle.open_or_make.specs.History.{ELOOP, ENAMETOOLONG, ENOENT, LINKS, STEP_MAKE_FILE, STEP_READ_LINK}
-use Rattle.make_through_links.specs.History.{due_after, fails, met_of, stand_after, whole, Asked, Due, Exchange, Stand, EISDIR, NO_STEP, STEP_MAKE_DIR}
+use Rattle.system_calls.specs.Errors.{ENOENT, EAGAIN, EISDIR, ENAMETOOLONG, ELOOP}
+use Rattle.system_calls.specs.Tries.{TRIES}
+use Rattle.open_or_make.specs.History.{LINKS, STEP_MAKE_FILE, STEP_READ_LINK}
+use Rattle.make_through_links.specs.History.{due_after, fails, met_of, stand_after, whole, Asked, Due, Exchange, Stand, NO_STEP, STEP_MAKE_DIR}
 use Rattle.make_through_links.specs.Paths.{before_rest, first_name}
 use Rattle.make_through_links.specs.declared.meets.TheConstants.{FIND, SPLIT, MAKE_ABOVE, MAKE, PARTIAL, READ_LINK, CREATE}
 use Rattle.make_through_links.specs.declared.meets.Met.{Met}

@@ -3,10 +3,10 @@
 ghost use Rattle.std.specs.Prelude.{◌≡◌, ℕ, ◌≢◌, ◌<◌, ◌≤◌, ◌+◌, ◌++◌, ◌⊎◌, List, [], ◌∷◌, false, true, length, take, drop, if◌then◌else◌};
 ghost use Rattle.std.specs.List.{AllByRecursion};
 ghost use Rattle.path_text.specs.declared.path.TheConstants.{TEXT_MAX};
-ghost use Rattle.system_calls.specs.Tries.{EAGAIN};
-ghost use Rattle.open_or_make.specs.History.{EEXIST, ELOOP, ENAMETOOLONG, ENOENT, LINKS, STEP_MAKE_FILE, STEP_READ_LINK};
+ghost use Rattle.system_calls.specs.Errors.{ENOENT, EAGAIN, EISDIR, ENAMETOOLONG, ELOOP};
+ghost use Rattle.open_or_make.specs.History.{LINKS, STEP_MAKE_FILE, STEP_READ_LINK};
 ghost use Rattle.make_through_links.specs.Closing.{is, is_named, one, times_closed};
-ghost use Rattle.make_through_links.specs.History.{asks, due_after, ends, fails, is_call, makes, met_of, stand_after, whole, Asked, Exchange, IsHistory, EISDIR, NO_STEP, STEP_MAKE_DIR};
+ghost use Rattle.make_through_links.specs.History.{asks, due_after, ends, fails, is_call, makes, met_of, stand_after, whole, Asked, Exchange, IsHistory, NO_STEP, STEP_MAKE_DIR};
 ghost use Rattle.make_through_links.specs.Promises.{is_followed, part_for, tried_path, IsGiven, IsLastTry, IsOneTooMany, IsPathOf, IsTooLong, IsWhy, CALLS_MAX};
 ghost use Rattle.make_through_links.specs.declared.meets.TheConstants.{CREATE, ENDS, FAILS, FIND, MAKE, MAKE_ABOVE, PARTIAL, READ_END, READ_LINK, SPLIT};
 ghost use Rattle.make_through_links.specs.declared.meets.Met.TheVariants.{Above, Directory, Gone, Link, LinkAtEnd, Missing, NoText, Parted, Partly, Refused, Stands, Unfollowed};

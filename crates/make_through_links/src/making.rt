@@ -1,7 +1,8 @@
 //! How far a call has come, and which call comes next.
 ghost use Rattle.std.specs.Prelude.{◌≡◌, ◌≤◌, ◌<◌, ◌+◌, ◌∷◌, ◌==◌, ℕ, List, [], true, false, length, take, nat_lt, if◌then◌else◌};
-ghost use Rattle.system_calls.specs.Tries.{is_due, pause_after, EAGAIN, TRIES};
-ghost use Rattle.open_or_make.specs.History.{ELOOP, ENAMETOOLONG, LINKS};
+ghost use Rattle.system_calls.specs.Errors.{EAGAIN, ENAMETOOLONG, ELOOP};
+ghost use Rattle.system_calls.specs.Tries.{is_due, pause_after, TRIES};
+ghost use Rattle.open_or_make.specs.History.{LINKS};
 ghost use Rattle.path_text.specs.declared.path.TheConstants.{TEXT_MAX};
 ghost use Rattle.make_through_links.specs.History.{asked_of, asks, due_met, is_call, makes, met_of, moved, whole, Asked, Exchange, Stand};
 ghost use Rattle.make_through_links.specs.Making.{exchange, path_in, IsAt, IsWithin, Keeps, Tells};
@@ -12,20 +13,11 @@ use crate::meets::{
 };
 use crate::paths::{joined_length, lay, lay_before, name_length, rest_at};
 use path_text::TEXT_MAX;
+use system_calls::errors::{EAGAIN, EISDIR, ELOOP, ENAMETOOLONG, ENOENT};
 use system_calls::{NextTry, next_try};
 
 // So many links are followed.
 const LINKS: u32 = 40;
-
-const ENOENT: u32 = 2;
-
-const EAGAIN: u32 = 11;
-
-const EISDIR: u32 = 21;
-
-const ENAMETOOLONG: u32 = 36;
-
-const ELOOP: u32 = 40;
 
 // The steps of a call have these numbers.
 const NO_STEP: u8 = 0;

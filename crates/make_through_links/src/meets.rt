@@ -2,6 +2,8 @@
 ghost use Rattle.std.specs.Prelude.{◌≡◌, ℕ, List, true, false, not, ◌&&◌};
 ghost use Rattle.make_through_links.specs.History.{meets, meets_create, meets_end, meets_find, meets_link, meets_make, meets_partial, meets_split, seen};
 
+use system_calls::errors::{EEXIST, EINVAL, ENOENT};
+
 /// What is at the path's end is looked for, through links: a file is wanted.
 pub const FIND: u8 = 1;
 
@@ -31,12 +33,6 @@ pub const ENDS: u8 = 9;
 
 /// No call comes: the reply is an error of its own.
 pub const FAILS: u8 = 10;
-
-const ENOENT: u32 = 2;
-
-const EEXIST: u32 = 17;
-
-const EINVAL: u32 = 22;
 
 // What an outcome says.
 pub(crate) enum Met {

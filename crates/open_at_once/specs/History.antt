@@ -1,24 +1,9 @@
 -- What was asked of a driver as it opens a path at once, what that gave, and what comes next. A history has the last
 -- exchange first.
 use Rattle.std.specs.Prelude.{◌≡◌, ℕ, ◌+◌, List, [], ◌∷◌, ◌==◌, Bool, not, ◌&&◌, ◌||◌, if◌then◌else◌, nat_lt}
+use Rattle.system_calls.specs.Errors.{ENOENT, EACCES, ENOTDIR, ENAMETOOLONG, ELOOP}
 use Rattle.open_at_once.specs.declared.ways.Facts.{Facts}
 use Rattle.open_at_once.specs.declared.ways.TheConstants.{WHOLE, WALK, KIND, SHUT, HINTS, NAMES, LOOK_UP, PLACE, PATH, REPLIES, DROP, FRESH, THROUGH, OPENS, STEPS}
-
--- numbers of errno(3)
-abbrev pub ENOENT : ℕ
-ENOENT = 2
-
-abbrev pub EACCES : ℕ
-EACCES = 13
-
-abbrev pub ENOTDIR : ℕ
-ENOTDIR = 20
-
-abbrev pub ENAMETOOLONG : ℕ
-ENAMETOOLONG = 36
-
-abbrev pub ELOOP : ℕ
-ELOOP = 40
 
 -- bits of openat2(2)
 abbrev pub RESOLVE_NO_XDEV : ℕ

@@ -3,6 +3,8 @@ ghost use Rattle.std.specs.Prelude.{◌≡◌, List, [], ◌∷◌, true, false}
 ghost use Rattle.open_at_once.specs.History.{after_exchange, after_fresh, after_hints, after_kind, after_look_up, after_names, after_through, after_walk, after_whole, asks, by_names, first, is_missing, is_question, or_drop, reads_links, resolve_of, walks, Exchange};
 ghost use Rattle.open_at_once.specs.Ways.{due_of, exchange_of, IsAt};
 
+use system_calls::errors::{EACCES, ELOOP, ENAMETOOLONG, ENOENT, ENOTDIR};
+
 /// A question: whether one system call may walk the path whole (`follows_at_once` of `c_protocol`), and it has more
 /// than slashes.
 pub const WHOLE: u8 = 1;
@@ -49,16 +51,6 @@ pub const OPENS: u8 = 14;
 
 /// Nothing comes: the steps decide.
 pub const STEPS: u8 = 15;
-
-const ENOENT: u32 = 2;
-
-const EACCES: u32 = 13;
-
-const ENOTDIR: u32 = 20;
-
-const ENAMETOOLONG: u32 = 36;
-
-const ELOOP: u32 = 40;
 
 const RESOLVE_NO_XDEV: u64 = 1;
 

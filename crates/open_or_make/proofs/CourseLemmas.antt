@@ -4,8 +4,9 @@ use Rattle.std.specs.Prelude.{◌==◌}
 use Rattle.std.proofs.lemmas.Bool.{false≢true, le-ltb, lt-ltb, ne_eqb}
 use Rattle.path_text.specs.Text.{is_empty}
 use Rattle.path_text.specs.declared.path.TheConstants.{TEXT_MAX}
+use Rattle.system_calls.specs.Errors.{ENAMETOOLONG, ELOOP}
 use Rattle.open_or_make.specs.Course.{due_of, exchange, Goes, IsAt, Keeps}
-use Rattle.open_or_make.specs.History.{after_link, after_met, calls, fails, is_between, is_call, is_link, links_read, meets, met_of, next_after, path_after, times_between, Asked, Due, Exchange, ELOOP, ENAMETOOLONG, LINKS, STEP_READ_LINK}
+use Rattle.open_or_make.specs.History.{after_link, after_met, calls, fails, is_between, is_call, is_link, links_read, meets, met_of, next_after, path_after, times_between, Asked, Due, Exchange, LINKS, STEP_READ_LINK}
 use Rattle.open_or_make.specs.Leads.{kept_length, led_to}
 use Rattle.open_or_make.specs.declared.course.Course.{Course}
 use Rattle.open_or_make.specs.declared.course.Met.{Met}

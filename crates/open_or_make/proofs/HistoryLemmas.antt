@@ -4,9 +4,9 @@ use Rattle.std.specs.Prelude.{◌==◌}
 use Rattle.std.proofs.lemmas.Bool.{and_parts, eqb-true, false≢true, ltb-true}
 use Rattle.path_text.specs.Text.{is_empty}
 use Rattle.path_text.specs.declared.path.TheConstants.{TEXT_MAX}
-use Rattle.system_calls.specs.Opening.{EINVAL}
-use Rattle.system_calls.specs.Tries.{is_due, pause_after, EAGAIN}
-use Rattle.open_or_make.specs.History.{after_met, calls, fails, is_between, is_call, is_link, links_read, met_of, next_after, path_after, times_between, was_between, Asked, Exchange, IsHistory, IsNext, EEXIST, ELOOP, ENAMETOOLONG, ENOENT, LINKS, STEP_MAKE_FILE, STEP_READ_LINK}
+use Rattle.system_calls.specs.Errors.{ENOENT, EAGAIN, EEXIST, EINVAL, ENAMETOOLONG, ELOOP}
+use Rattle.system_calls.specs.Tries.{is_due, pause_after}
+use Rattle.open_or_make.specs.History.{after_met, calls, fails, is_between, is_call, is_link, links_read, met_of, next_after, path_after, times_between, was_between, Asked, Exchange, IsHistory, IsNext, LINKS, STEP_MAKE_FILE, STEP_READ_LINK}
 use Rattle.open_or_make.specs.Leads.{led_to}
 use Rattle.open_or_make.specs.declared.course.Met.{Met}
 use Rattle.open_or_make.specs.declared.course.Met.TheVariants.{Missing, Stands, Link, Between, Other}

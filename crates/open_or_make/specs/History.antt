@@ -3,27 +3,14 @@
 use Rattle.std.specs.Prelude.{◌≡◌, ℕ, ◌+◌, List, [], ◌∷◌, ◌==◌, Bool, true, false, not, ◌||◌, if◌then◌else◌, nat_lt, length}
 use Rattle.path_text.specs.Text.{is_empty}
 use Rattle.path_text.specs.declared.path.TheConstants.{TEXT_MAX}
-use Rattle.system_calls.specs.Opening.{EINVAL}
-use Rattle.system_calls.specs.Tries.{is_due, pause_after, EAGAIN}
+use Rattle.system_calls.specs.Errors.{ENOENT, EAGAIN, EEXIST, EINVAL, ENAMETOOLONG, ELOOP}
+use Rattle.system_calls.specs.Tries.{is_due, pause_after}
 use Rattle.open_or_make.specs.Leads.{led_to}
 use Rattle.open_or_make.specs.declared.course.TheConstants.{FIND, CREATE, READ_LINK, ENDS, FAILS}
 use Rattle.open_or_make.specs.declared.course.Met.{Met}
 use Rattle.open_or_make.specs.declared.course.Met.TheVariants.{Missing, Stands, Link, Between, Other}
 
 -- ---- numbers
-
--- of errno(3)
-abbrev pub ENOENT : ℕ
-ENOENT = 2
-
-abbrev pub EEXIST : ℕ
-EEXIST = 17
-
-abbrev pub ENAMETOOLONG : ℕ
-ENAMETOOLONG = 36
-
-abbrev pub ELOOP : ℕ
-ELOOP = 40
 
 -- so many links are followed in one path (path_resolution(7))
 abbrev pub LINKS : ℕ

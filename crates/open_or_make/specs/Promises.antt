@@ -2,11 +2,12 @@
 use Rattle.std.specs.Prelude.{◌≡◌, ◌<◌, ◌≤◌, ℕ, List, ◌∷◌, ◌++◌, ◌⊎◌, false, true, length}
 use Rattle.std.specs.List.{AllByRecursion}
 use Rattle.path_text.specs.declared.path.TheConstants.{TEXT_MAX}
-use Rattle.system_calls.specs.Tries.{EAGAIN, TRIES}
+use Rattle.system_calls.specs.Errors.{EAGAIN, ENAMETOOLONG, ELOOP}
+use Rattle.system_calls.specs.Tries.{TRIES}
 use Rattle.open_or_make.specs.Leads.{led_to}
 use Rattle.open_or_make.specs.declared.course.TheConstants.{FIND, CREATE, READ_LINK}
 use Rattle.open_or_make.specs.declared.course.Met.TheVariants.{Missing, Link}
-use Rattle.open_or_make.specs.History.{fails, links_read, met_of, path_after, times_between, was_between, Asked, Due, Exchange, ELOOP, ENAMETOOLONG, LINKS, STEP_MAKE_FILE, STEP_READ_LINK}
+use Rattle.open_or_make.specs.History.{fails, links_read, met_of, path_after, times_between, was_between, Asked, Due, Exchange, LINKS, STEP_MAKE_FILE, STEP_READ_LINK}
 
 -- a call gave no descriptor: it gave an error, or a link's text
 abbrev pub GaveNone : Exchange → Type 0

@@ -6,6 +6,7 @@ ghost use Rattle.open_or_make.specs.History.{asked_of, is_call, meets, met_of, A
 
 use crate::leads::{kept_length, lay};
 use path_text::TEXT_MAX;
+use system_calls::errors::{EAGAIN, EEXIST, EINVAL, ELOOP, ENAMETOOLONG, ENOENT};
 use system_calls::next_try;
 
 /// What is at the path's end is looked for, through links, and opened.
@@ -25,18 +26,6 @@ pub const FAILS: u8 = 5;
 
 // So many links are followed.
 const LINKS: u32 = 40;
-
-const ENOENT: u32 = 2;
-
-const EAGAIN: u8 = 11;
-
-const EEXIST: u32 = 17;
-
-const EINVAL: u32 = 22;
-
-const ENAMETOOLONG: u8 = 36;
-
-const ELOOP: u8 = 40;
 
 // The steps of a call have these numbers.
 const STEP_READ_LINK: u8 = 4;
@@ -139,11 +128,11 @@ fn make_missing(course: Course) -> Course
     if !course.again {
         return calls(course, CREATE, 0);
     }
-    let again = next_try(course.between, course.may_retry, u32::from(EAGAIN), false);
+    let again = next_try(course.between, course.may_retry, EAGAIN, false);
     if again.due {
         calls(course, CREATE, again.pause)
     } else {
-        fails(course, EAGAIN, STEP_MAKE_FILE)
+        fails(course, EAGAIN as u8, STEP_MAKE_FILE)
     }
 }
 
@@ -171,10 +160,10 @@ fn lead_on(course: Course, text: &[u8], room: &mut [u8]) -> Course
 {
     let kept = kept_length(&room[..course.length], text);
     if kept + text.len() > TEXT_MAX {
-        return fails(course, ENAMETOOLONG, STEP_READ_LINK);
+        return fails(course, ENAMETOOLONG as u8, STEP_READ_LINK);
     }
     if course.links >= LINKS {
-        return fails(course, ELOOP, STEP_READ_LINK);
+        return fails(course, ELOOP as u8, STEP_READ_LINK);
     }
     lay(text, kept, room);
     Course {

@@ -4,10 +4,9 @@ ghost use Rattle.std.specs.Prelude.{◌≡◌, ◌≢◌, ◌<◌, ◌≤◌, Li
 ghost use Rattle.std.specs.List.{AllByRecursion};
 ghost use Rattle.path_text.specs.Text.{is_empty};
 ghost use Rattle.path_text.specs.declared.path.TheConstants.{TEXT_MAX};
-ghost use Rattle.system_calls.specs.Opening.{EINVAL};
-ghost use Rattle.system_calls.specs.Tries.{EAGAIN};
+ghost use Rattle.system_calls.specs.Errors.{ENOENT, EAGAIN, EEXIST, ENAMETOOLONG, ELOOP};
 ghost use Rattle.open_or_make.specs.Leads.{led_to};
-ghost use Rattle.open_or_make.specs.History.{calls, fails, links_read, next_after, path_after, was_between, Asked, Exchange, IsHistory, EEXIST, ELOOP, ENAMETOOLONG, ENOENT, LINKS, STEP_MAKE_FILE, STEP_READ_LINK};
+ghost use Rattle.open_or_make.specs.History.{calls, fails, links_read, next_after, path_after, was_between, Asked, Exchange, IsHistory, LINKS, STEP_MAKE_FILE, STEP_READ_LINK};
 ghost use Rattle.open_or_make.specs.Promises.{IsGiven, IsLastTry, IsOneTooMany, IsPathOf, IsTooLong, IsWhy, CALLS_MAX};
 ghost use Rattle.open_or_make.specs.declared.course.TheConstants.{CREATE, ENDS, FAILS, FIND, READ_LINK};
 

@@ -1,15 +1,10 @@
 -- What was tried of a path, what that gave, and what comes next. A history has the last exchange first.
 use Rattle.std.specs.Prelude.{◌≡◌, ℕ, suc, ◌+◌, ◌-◌, ◌/◌, List, [], ◌∷◌, ◌==◌, Bool, true, false, not, ◌&&◌, ◌||◌, if◌then◌else◌, nat_lt}
+use Rattle.system_calls.specs.Errors.{ENOENT, ENOTDIR}
 use Rattle.open_partial.specs.declared.search.Search.{Search}
 use Rattle.open_partial.specs.declared.search.TheConstants.{TRY, CLOSE, ENDS, FAILS}
 
--- Numbers of errno(3). A name isn't there; what stands before another one is no directory (path_resolution(7)).
-abbrev pub ENOENT : ℕ
-ENOENT = 2
-
-abbrev pub ENOTDIR : ℕ
-ENOTDIR = 20
-
+-- a name isn't there; or what stands before another one is no directory (path_resolution(7))
 abbrev pub is_missing : ℕ → Bool
 is_missing error = (error == ENOENT) || (error == ENOTDIR)
 

@@ -4,6 +4,7 @@ ghost use Rattle.path_text.specs.Text.{pieces};
 ghost use Rattle.open_partial.specs.History.{after_close, after_try, exchange, fails, gains, goes_on, is_missing, is_question, Exchange, IsAt};
 
 use crate::beginnings::count_pieces;
+use system_calls::errors::{ENOENT, ENOTDIR};
 
 /// So many of the path's first pieces are opened: all of them as what they mean, fewer as a directory.
 pub const TRY: u8 = 1;
@@ -16,10 +17,6 @@ pub const ENDS: u8 = 3;
 
 /// Nothing comes: it failed by an error, and nothing is open.
 pub const FAILS: u8 = 4;
-
-const ENOENT: u32 = 2;
-
-const ENOTDIR: u32 = 20;
 
 /// How far a search has come. C keeps it.
 #[repr(C)]

@@ -5,12 +5,13 @@ use Rattle.std.proofs.lemmas.Bool.{cond-true, cond-false, cond_both, eq-eqb, le-
 use Rattle.path_text.specs.Name.{same_bytes}
 use Rattle.path_text.specs.declared.name.TheConstants.{SLASH}
 use Rattle.path_text.specs.declared.path.TheConstants.{TEXT_MAX}
+use Rattle.system_calls.specs.Errors.{EAGAIN, ENAMETOOLONG}
 use Rattle.kernel_text.specs.Place.{ends_as_gone, is_named, place_below, place_between, place_of_cwd, IsPart}
 use Rattle.kernel_text.specs.declared.place.Place.{Place}
 use Rattle.system_calls.specs.Objects.{is_same_object}
 use Rattle.place_protocol.specs.Conversation.{Conversation, Exchange, Goes, StandsAt, keep}
 use Rattle.place_protocol.specs.Texts.{Texts, Finds, bytes_of, path_of_root, place_before, place_of, texts_of}
-use Rattle.place_protocol.specs.Turns.{after_cwd, after_cwd_again, after_found, after_is_root, after_link_again, after_look_up, after_object, after_root_again, ask_there, confirm, confirm_alone, confirm_place, facts_after, first_link, has_found, has_path, in_jail, is_root, link_error, look_up_error, without_second, EAGAIN, ENAMETOOLONG}
+use Rattle.place_protocol.specs.Turns.{after_cwd, after_cwd_again, after_found, after_is_root, after_link_again, after_look_up, after_object, after_root_again, ask_there, confirm, confirm_alone, confirm_place, facts_after, first_link, has_found, has_path, in_jail, is_root, link_error, look_up_error, without_second}
 use Rattle.place_protocol.specs.Witness.{AgreeingWitnessesAreTold, FindsObject, FindsRoot, Worked, is_top}
 use Rattle.place_protocol.specs.declared.questions.Answer.{Answer}
 use Rattle.place_protocol.specs.declared.questions.Facts.{Facts}

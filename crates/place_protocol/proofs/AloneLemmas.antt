@@ -2,12 +2,13 @@
 use Rattle.std.proofs.Common.{◌≡◌, ◌==◌, ◌&&◌, ◌||◌, ℕ, Bool, true, false, not, cond, List, [], ◌∷◌, Option, Some, None, refl, sym, ap, subst, ◌∙◌, inl, inr}
 use Rattle.std.proofs.lemmas.Bool.{eqb-true, not-true, or_left, true≢false, false≢true}
 use Rattle.path_text.specs.declared.name.TheConstants.{SLASH}
+use Rattle.system_calls.specs.Errors.{EAGAIN, EOPNOTSUPP}
 use Rattle.kernel_text.specs.Place.{ends_as_gone, is_named, place_between, IsPart}
 use Rattle.kernel_text.specs.declared.place.Place.{Place}
 use Rattle.system_calls.specs.Objects.{is_same_object}
 use Rattle.place_protocol.specs.Conversation.{Comes, Exchange, StandsAt, keep}
 use Rattle.place_protocol.specs.Texts.{Texts, Finds, bytes_of, place_before, place_of}
-use Rattle.place_protocol.specs.Turns.{after_dead, after_is_root, after_link_again, after_object, after_root_again, ask_there, confirm, confirm_alone, is_root, link_error, look_up_error, EAGAIN, EOPNOTSUPP}
+use Rattle.place_protocol.specs.Turns.{after_dead, after_is_root, after_link_again, after_object, after_root_again, ask_there, confirm, confirm_alone, is_root, link_error, look_up_error}
 use Rattle.place_protocol.specs.Witness.{FindsRoot, IsAlive, IsThere, NamedAgain, RootStayed, TextTells, Worked, is_top}
 use Rattle.place_protocol.specs.declared.questions.Facts.{Facts}
 use Rattle.place_protocol.specs.declared.questions.Question.TheVariants.{RootLink, ObjectLink, OwnRoot, RootAgain, LinkAgain, Dead, IsRoot}

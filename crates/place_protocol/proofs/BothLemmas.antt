@@ -2,12 +2,13 @@
 use Rattle.std.proofs.Common.{◌≡◌, ◌==◌, ◌&&◌, ◌||◌, ℕ, Bool, true, false, not, cond, List, [], ◌∷◌, length, nat_lt, Option, Some, None, refl, sym, ap, subst, ◌∙◌, ◌⊎◌, inl, inr}
 use Rattle.std.proofs.lemmas.Bool.{cond-false, eqb-true, not-false, true≢false}
 use Rattle.path_text.specs.declared.name.TheConstants.{SLASH}
+use Rattle.system_calls.specs.Errors.{EAGAIN}
 use Rattle.kernel_text.specs.Place.{place_between, IsPart}
 use Rattle.kernel_text.specs.declared.place.Place.{Place}
 use Rattle.system_calls.specs.Objects.{is_same_object}
 use Rattle.place_protocol.specs.Conversation.{Comes, Exchange, StandsAt, keep}
 use Rattle.place_protocol.specs.Texts.{Texts, Finds, path_of_root, place_of, texts_of}
-use Rattle.place_protocol.specs.Turns.{after_found, after_look_up, after_object, ask_there, confirm, confirm_alone, confirm_place, facts_after, first_link, has_found, is_root, link_error, look_up_error, without_second, EAGAIN}
+use Rattle.place_protocol.specs.Turns.{after_found, after_look_up, after_object, ask_there, confirm, confirm_alone, confirm_place, facts_after, first_link, has_found, is_root, link_error, look_up_error, without_second}
 use Rattle.place_protocol.specs.Witness.{IsThere, RootStayed, SecondWitness, TextTells, WasThere, Worked, is_top}
 use Rattle.place_protocol.specs.declared.questions.Facts.{Facts}
 use Rattle.place_protocol.specs.declared.questions.Question.{Question}

@@ -2,11 +2,12 @@
 use Rattle.std.proofs.Common.{◌≡◌, ◌==◌, ◌&&◌, ℕ, Bool, true, false, not, cond, List, [], ◌∷◌, length, nat_lt, refl, subst, ◌⊎◌, inl, inr, arith}
 use Rattle.std.proofs.lemmas.Bool.{cond_both, eqb-true, true≢false, false≢true, not-false}
 use Rattle.path_text.specs.declared.path.TheConstants.{TEXT_MAX}
+use Rattle.system_calls.specs.Errors.{ENOENT, ENAMETOOLONG, ENOSYS}
 use Rattle.kernel_text.specs.Place.{IsPart}
 use Rattle.kernel_text.specs.declared.place.Place.{Place}
 use Rattle.place_protocol.specs.Conversation.{Exchange, Goes, StandsAt, keep}
 use Rattle.place_protocol.specs.Texts.{Texts}
-use Rattle.place_protocol.specs.Turns.{facts_after, link_error, Follows, ENOENT, ENOSYS, ENAMETOOLONG}
+use Rattle.place_protocol.specs.Turns.{facts_after, link_error, Follows}
 use Rattle.place_protocol.specs.declared.questions.Facts.{Facts}
 use Rattle.place_protocol.specs.declared.questions.Question.{Question}
 use Rattle.place_protocol.specs.declared.turns.Turn.{Turn}

@@ -2,13 +2,14 @@
 use Rattle.std.proofs.Common.{◌≡◌, ◌==◌, ◌&&◌, ◌||◌, ◌≤◌, ◌<◌, ℕ, Bool, true, false, not, cond, List, [], ◌∷◌, length, nat_lt, Option, Some, None, refl, sym, subst, arith, lit<, lit≤}
 use Rattle.std.proofs.lemmas.Bool.{cond_both, both_ways, not-false, not-true, true≢false}
 use Rattle.path_text.specs.declared.name.TheConstants.{SLASH}
+use Rattle.system_calls.specs.Errors.{ENOENT, EAGAIN, EACCES, ENOSYS, EOPNOTSUPP}
 use Rattle.kernel_text.specs.Place.{is_named, IsPart}
 use Rattle.kernel_text.specs.declared.place.Place.{Place}
 use Rattle.system_calls.specs.Objects.{is_same_object}
 use Rattle.system_calls.specs.declared.objects.Object.{Object}
 use Rattle.place_protocol.specs.Conversation.{Conversation, Exchange, Goes, keep}
 use Rattle.place_protocol.specs.Texts.{Texts, bytes_of, texts_of}
-use Rattle.place_protocol.specs.Turns.{after_dead, after_found, after_is_root, after_kept, after_link_again, after_look_up, after_object, ask_there, confirm, confirm_alone, confirm_place, facts_after, first, first_link, has_found, has_path, in_jail, is_root, link_error, look_up_error, without_second, Follows, ENOENT, ENOSYS, EAGAIN, EACCES, EOPNOTSUPP}
+use Rattle.place_protocol.specs.Turns.{after_dead, after_found, after_is_root, after_kept, after_link_again, after_look_up, after_object, ask_there, confirm, confirm_alone, confirm_place, facts_after, first, first_link, has_found, has_path, in_jail, is_root, link_error, look_up_error, without_second, Follows}
 use Rattle.place_protocol.specs.Witness.{QuestionsComeToAnEnd}
 use Rattle.place_protocol.specs.declared.questions.Answer.{Answer}
 use Rattle.place_protocol.specs.declared.questions.Facts.{Facts}

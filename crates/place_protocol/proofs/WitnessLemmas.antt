@@ -2,11 +2,12 @@
 use Rattle.std.proofs.Common.{◌≡◌, ◌==◌, ◌&&◌, ℕ, Bool, true, false, not, cond, List, [], ◌∷◌, Option, Some, None, refl, ap, subst, ◌∙◌, inl, inr}
 use Rattle.std.proofs.lemmas.Bool.{cond-true, cond-false, eqb-true}
 use Rattle.path_text.specs.declared.name.TheConstants.{SLASH}
+use Rattle.system_calls.specs.Errors.{ENOENT, EACCES}
 use Rattle.kernel_text.specs.Place.{place_of_cwd}
 use Rattle.kernel_text.specs.declared.place.Place.{Place}
 use Rattle.place_protocol.specs.Conversation.{Comes, Exchange, StandsAt, keep}
 use Rattle.place_protocol.specs.Texts.{Texts, Finds, place_of, texts_of}
-use Rattle.place_protocol.specs.Turns.{after_cwd, after_cwd_again, after_enter, after_kept, confirm_place, first_link, has_path, in_jail, is_root, ENOENT, EACCES}
+use Rattle.place_protocol.specs.Turns.{after_cwd, after_cwd_again, after_enter, after_kept, confirm_place, first_link, has_path, in_jail, is_root}
 use Rattle.place_protocol.specs.Witness.{DirectoryTells, FirstWitness, below_slash, below_kept, below_link, IsWitnessed, by_directory, by_both, by_seen, in_old_jail, by_text, root_itself, HasNoSecond, IsThere, PlacesAreWitnessed, RootStayed, SecondWitness, TextTells, WasThere, is_top}
 use Rattle.place_protocol.specs.declared.questions.Facts.{Facts}
 use Rattle.place_protocol.specs.declared.questions.Question.TheVariants.{Enter, Cwd, CwdAgain, KeptLink, RootLink, ObjectLink}

@@ -1,5 +1,6 @@
 -- Questions and what is due, as numbers.
 use Rattle.std.specs.Prelude.{◌≡◌, ℕ, ◌==◌, false, if◌then◌else◌, Option, Some, None}
+use Rattle.system_calls.specs.Errors.{EINVAL}
 use Rattle.place_protocol.specs.Texts.{Texts}
 use Rattle.place_protocol.specs.Turns.{facts_after, first, Follows}
 use Rattle.place_protocol.specs.declared.told.Told.{Told}
@@ -9,10 +10,6 @@ use Rattle.place_protocol.specs.declared.questions.Question.{Question}
 use Rattle.place_protocol.specs.declared.questions.Question.TheVariants.{Enter, Cwd, CwdAgain, KeptLink, RootLink, ObjectLink, OwnRoot, RootAgain, LookUp, LinkAgain, Dead, IsRoot}
 use Rattle.place_protocol.specs.declared.turns.Turn.{Turn}
 use Rattle.place_protocol.specs.declared.turns.Turn.TheVariants.{Ask, Look, Stands, Nowhere, Unmade}
-
--- a number of errno(3)
-abbrev pub EINVAL : ℕ
-EINVAL = 22
 
 abbrev pub number_of : Question → ℕ
 number_of Enter = 1

@@ -2,6 +2,7 @@
 -- errno(3).
 use Rattle.std.specs.Prelude.{◌≡◌, ℕ, List, ◌==◌, Bool, true, false, not, ◌&&◌, ◌||◌, if◌then◌else◌, nat_lt, length, Option, Some, None}
 use Rattle.path_text.specs.declared.path.TheConstants.{TEXT_MAX}
+use Rattle.system_calls.specs.Errors.{ENOENT, EAGAIN, EACCES, ERANGE, ENAMETOOLONG, ENOSYS, EOPNOTSUPP}
 use Rattle.kernel_text.specs.Place.{is_named, place_of_cwd}
 use Rattle.kernel_text.specs.declared.place.Place.{Place}
 use Rattle.system_calls.specs.Objects.{is_elsewhere, is_same_object}
@@ -12,27 +13,6 @@ use Rattle.place_protocol.specs.declared.questions.Question.{Question}
 use Rattle.place_protocol.specs.declared.questions.Question.TheVariants.{Enter, Cwd, CwdAgain, KeptLink, RootLink, ObjectLink, OwnRoot, RootAgain, LookUp, LinkAgain, Dead, IsRoot}
 use Rattle.place_protocol.specs.declared.turns.Turn.{Turn}
 use Rattle.place_protocol.specs.declared.turns.Turn.TheVariants.{Ask, Look, Stands, Nowhere, Unmade}
-
-abbrev pub ENOENT : ℕ
-ENOENT = 2
-
-abbrev pub EAGAIN : ℕ
-EAGAIN = 11
-
-abbrev pub EACCES : ℕ
-EACCES = 13
-
-abbrev pub ERANGE : ℕ
-ERANGE = 34
-
-abbrev pub ENAMETOOLONG : ℕ
-ENAMETOOLONG = 36
-
-abbrev pub ENOSYS : ℕ
-ENOSYS = 38
-
-abbrev pub EOPNOTSUPP : ℕ
-EOPNOTSUPP = 95
 
 abbrev pub first_link : Facts → Question
 first_link facts = if facts.jailed then ObjectLink else (if facts.second && facts.kept then KeptLink else RootLink)

@@ -6,8 +6,7 @@ ghost use Rattle.place_protocol.specs.Texts.{texts_of};
 use crate::questions::{Answer, Facts, Question};
 use crate::turns::{Turn, facts_after, first, follow};
 use kernel_text::Place;
-
-const EINVAL: u32 = 22;
+use system_calls::errors::EINVAL;
 
 /// What is due: a question, or nothing more.
 #[repr(C)]

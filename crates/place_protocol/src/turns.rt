@@ -7,21 +7,8 @@ use crate::questions::{Answer, Facts, Question};
 use crate::texts::{found, found_in_jail};
 use kernel_text::{Place, is_named};
 use path_text::TEXT_MAX;
+use system_calls::errors::{EACCES, EAGAIN, ENAMETOOLONG, ENOENT, ENOSYS, EOPNOTSUPP, ERANGE};
 use system_calls::{is_elsewhere, is_same_object};
-
-const ENOENT: u32 = 2;
-
-const EAGAIN: u32 = 11;
-
-const EACCES: u32 = 13;
-
-const ERANGE: u32 = 34;
-
-const ENAMETOOLONG: u32 = 36;
-
-const ENOSYS: u32 = 38;
-
-const EOPNOTSUPP: u32 = 95;
 
 /// What is due.
 #[derive(Clone, Copy, Debug, PartialEq, Eq)]

@@ -2,7 +2,8 @@
 use Rattle.std.proofs.Common.{◌≡◌, ℕ, ◌<◌, Bool, true, false, ◌&&◌, ◌||◌, if◌then◌else◌, ◌⊎◌, inl, inr, refl, arith, nat_lt}
 use Rattle.std.specs.Prelude.{◌==◌}
 use Rattle.std.proofs.lemmas.Bool.{and_parts, eqb-true, ltb-true}
-use Rattle.remove_by_calls.specs.Answers.{is_bound, met_of, EBUSY, EMFILE, ENFILE}
+use Rattle.system_calls.specs.Errors.{EBUSY, ENFILE, EMFILE}
+use Rattle.remove_by_calls.specs.Answers.{is_bound, met_of}
 use Rattle.remove_by_calls.specs.declared.answers.Answer.{Answer}
 use Rattle.remove_by_calls.specs.declared.answers.Met.TheVariants.{Gone, Deeper, Bound, Crowded, Failed}
 

@@ -2,10 +2,10 @@
 use Rattle.std.proofs.Common.{◌≡◌, ℕ, List, [], ◌∷◌, Bool, true, false, not, ◌&&◌, ◌||◌, if◌then◌else◌, ◌⊎◌, inl, inr, refl, sym, ap, subst, ◌∙◌, arith}
 use Rattle.std.specs.Prelude.{◌==◌}
 use Rattle.std.proofs.lemmas.Bool.{and_parts, eqb-true, eqb-false, false≢true}
+use Rattle.system_calls.specs.Errors.{ENOENT, EINTR, EAGAIN, ENOTDIR}
 use Rattle.system_calls.specs.Objects.{has_birth, has_number}
-use Rattle.system_calls.specs.Tries.{EAGAIN}
 use Rattle.system_calls.specs.declared.objects.Birth.{Birth}
-use Rattle.remove_by_calls.specs.Back.{after_file_system, after_identify, after_open, after_step, asks, back_after, begun, due_of, is_question, loses, lost_by, AreSteps, IsBackAt, IsIdentified, IsLostBy, IsOpened, IsSame, Next, Step, EINTR, ENOENT, ENOTDIR, OVERLAYFS_SUPER_MAGIC}
+use Rattle.remove_by_calls.specs.Back.{after_file_system, after_identify, after_open, after_step, asks, back_after, begun, due_of, is_question, loses, lost_by, AreSteps, IsBackAt, IsIdentified, IsLostBy, IsOpened, IsSame, Next, Step, OVERLAYFS_SUPER_MAGIC}
 use Rattle.remove_by_calls.specs.declared.back.Back.{Back}
 use Rattle.remove_by_calls.specs.declared.back.Found.{Found}
 use Rattle.remove_by_calls.specs.declared.back.TheConstants.{OPEN, IDENTIFY, FILE_SYSTEM, IS_BACK, IS_LOST}

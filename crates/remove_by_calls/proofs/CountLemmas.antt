@@ -2,8 +2,8 @@
 use Rattle.std.proofs.Common.{◌≡◌, ℕ, suc, ◌+◌, ◌*◌, ◌<◌, ◌≤◌, List, [], ◌∷◌, Bool, true, false, if◌then◌else◌, length, refl, sym, ap, subst, arith, nat_lt}
 use Rattle.std.specs.Prelude.{◌==◌}
 use Rattle.std.proofs.lemmas.Bool.{ltb-true, ltb-false, false≢true}
+use Rattle.system_calls.specs.Errors.{EAGAIN}
 use Rattle.system_calls.specs.Held.{without}
-use Rattle.system_calls.specs.Tries.{EAGAIN}
 use Rattle.remove_by_calls.specs.Answers.{met_of}
 use Rattle.remove_by_calls.specs.History.{after_call, after_close, again, all_closed, at_root, idle_after, in_place, is_asked, kept_after, last_answer, one_closed, outermost, removed_after, tries_by, ComesNext, Exchange, IsDue, IsHistory, PLACES}
 use Rattle.remove_by_calls.specs.History.Due.{asks, keeps}

@@ -2,7 +2,8 @@
 use Rattle.std.proofs.Common.{◌≡◌, ℕ, suc, ◌<◌, ◌≤◌, List, [], ◌∷◌, Bool, true, false, not, ◌&&◌, ◌||◌, if◌then◌else◌, ◌⊎◌, inl, inr, length, refl, sym, ap, subst, arith, nat_lt}
 use Rattle.std.specs.Prelude.{◌==◌}
 use Rattle.std.proofs.lemmas.Bool.{and_parts, eqb-true, eq-eqb, ltb-true, ltb-false, eqb-false, false≢true}
-use Rattle.system_calls.specs.Tries.{is_due, pause_after, EAGAIN, TRIES}
+use Rattle.system_calls.specs.Errors.{EAGAIN}
+use Rattle.system_calls.specs.Tries.{is_due, pause_after, TRIES}
 use Rattle.remove_by_calls.specs.History.{again, all_closed, at_root, in_place, is_kept, one_closed, outermost, IsDue, PLACES}
 use Rattle.remove_by_calls.specs.History.Due.{asks, keeps}
 use Rattle.remove_by_calls.specs.Promises.{goes_on}

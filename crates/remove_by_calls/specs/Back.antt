@@ -1,23 +1,14 @@
 -- What was found out about a directory that was let go and is to be opened again, and what comes next. A history has
 -- the last step first.
 use Rattle.std.specs.Prelude.{◌≡◌, ◌≢◌, ℕ, List, [], ◌∷◌, ◌==◌, ◌⊎◌, Bool, true, ◌&&◌, ◌||◌, if◌then◌else◌}
+use Rattle.system_calls.specs.Errors.{ENOENT, EINTR, EAGAIN, ENOTDIR}
 use Rattle.system_calls.specs.Objects.{has_birth, has_number, same_directory}
-use Rattle.system_calls.specs.Tries.{EAGAIN}
 use Rattle.system_calls.specs.declared.objects.Birth.{Birth}
 use Rattle.remove_by_calls.specs.declared.back.Back.{Back}
 use Rattle.remove_by_calls.specs.declared.back.Found.{Found}
 use Rattle.remove_by_calls.specs.declared.back.TheConstants.{OPEN, IDENTIFY, FILE_SYSTEM, IS_BACK, IS_LOST}
 
--- numbers of errno(3), and of statfs(2)
-abbrev pub ENOENT : ℕ
-ENOENT = 2
-
-abbrev pub EINTR : ℕ
-EINTR = 4
-
-abbrev pub ENOTDIR : ℕ
-ENOTDIR = 20
-
+-- a number of statfs(2)
 abbrev pub OVERLAYFS_SUPER_MAGIC : ℕ
 OVERLAYFS_SUPER_MAGIC = 2035054128
 

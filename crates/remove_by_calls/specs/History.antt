@@ -1,8 +1,9 @@
 -- What was asked of a driver to remove an entry with all below it, what its calls gave, and what comes next. A
 -- history has the last exchange first.
 use Rattle.std.specs.Prelude.{◌≡◌, ℕ, suc, ◌+◌, ◌<◌, List, [], ◌∷◌, ◌==◌, Bool, true, false, ◌||◌, if◌then◌else◌, nat_lt, length}
+use Rattle.system_calls.specs.Errors.{EAGAIN}
 use Rattle.system_calls.specs.Held.{without}
-use Rattle.system_calls.specs.Tries.{is_due, pause_after, EAGAIN}
+use Rattle.system_calls.specs.Tries.{is_due, pause_after}
 use Rattle.remove_by_calls.specs.Answers.{met_of}
 use Rattle.remove_by_calls.specs.declared.answers.Answer.{Answer}
 use Rattle.remove_by_calls.specs.declared.answers.Met.{Met}

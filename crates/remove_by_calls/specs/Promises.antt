@@ -1,6 +1,7 @@
 -- What holds of every history.
 use Rattle.std.specs.Prelude.{◌≡◌, ◌<◌, ◌≤◌, ℕ, ◌+◌, ◌*◌, List, [], ◌∷◌, ◌==◌, ◌⊎◌, Bool, true, false, if◌then◌else◌}
-use Rattle.system_calls.specs.Tries.{EAGAIN, TRIES}
+use Rattle.system_calls.specs.Errors.{EAGAIN}
+use Rattle.system_calls.specs.Tries.{TRIES}
 use Rattle.remove_by_calls.specs.Answers.{met_of}
 use Rattle.remove_by_calls.specs.History.{idle_after, is_call, is_kept, kept_after, last_answer, removed_after, Exchange, PLACES}
 use Rattle.remove_by_calls.specs.declared.answers.Met.{Met}

@@ -2,11 +2,7 @@
 ghost use Rattle.std.specs.Prelude.{◌≡◌};
 ghost use Rattle.remove_by_calls.specs.Answers.{met_of};
 
-const EBUSY: u32 = 16;
-
-const ENFILE: u32 = 23;
-
-const EMFILE: u32 = 24;
+use system_calls::errors::{EBUSY, EMFILE, ENFILE};
 
 /// What a call gave.
 #[repr(C)]

@@ -2,6 +2,7 @@
 ghost use Rattle.std.specs.Prelude.{◌≡◌, List, [], ◌∷◌, Bool, true, false};
 ghost use Rattle.remove_by_calls.specs.Back.{after_file_system, after_identify, after_open, begun, due_of, is_question, lost_by, IsBackAt, Step};
 
+use system_calls::errors::{EAGAIN, EINTR, ENOENT, ENOTDIR};
 use system_calls::{Birth, same_directory};
 
 /// `..` is opened, of the directory right below that was closed last.
@@ -18,14 +19,6 @@ pub const IS_BACK: u8 = 4;
 
 /// Nothing: the directory is lost, by an error. What was opened in its place is closed.
 pub const IS_LOST: u8 = 5;
-
-const ENOENT: u32 = 2;
-
-const EINTR: u32 = 4;
-
-const EAGAIN: u32 = 11;
-
-const ENOTDIR: u32 = 20;
 
 const OVERLAYFS_SUPER_MAGIC: u64 = 0x794c_7630;
 

@@ -1,7 +1,8 @@
 //! What holds of every removal, as laws over its exchanges: each function's contract is one, and its body is empty.
 ghost use Rattle.std.specs.Prelude.{◌≡◌, ◌≢◌, ◌<◌, ◌≤◌, ℕ, Bool, true, false, List, ◌∷◌, length};
 ghost use Rattle.std.specs.List.{AllByRecursion};
-ghost use Rattle.remove_by_calls.specs.Answers.{met_of, EBUSY};
+ghost use Rattle.system_calls.specs.Errors.{EBUSY};
+ghost use Rattle.remove_by_calls.specs.Answers.{met_of};
 ghost use Rattle.remove_by_calls.specs.Back.{asks, back_after, loses, AreSteps, IsLostBy, IsSame, Step};
 ghost use Rattle.remove_by_calls.specs.Slots.{holds, let_go, NO_SLOT};
 ghost use Rattle.remove_by_calls.specs.declared.slots.Slot.{Slot};

@@ -5,6 +5,7 @@ ghost use Rattle.remove_by_calls.specs.History.{after_call, after_close, again, 
 ghost use Rattle.remove_by_calls.specs.Removal.{demand_of, exchange, inner, ring, Fits, IsAt, Same, Sized};
 
 use crate::answers::{Answer, Met, met_of};
+use system_calls::errors::EAGAIN;
 use system_calls::next_try;
 
 /// A call is made at the root.
@@ -27,8 +28,6 @@ pub const FAILS: u8 = 6;
 
 // A table has so many places.
 const PLACES: u8 = 16;
-
-const EAGAIN: u32 = 11;
 
 // A count that a program can be given: of 63 bits.
 const COUNT_MAX: u64 = 0x7fff_ffff_ffff_ffff;

@@ -6,6 +6,7 @@ use Rattle.path_text.specs.declared.errno.Errno.{Errno}
 use Rattle.path_text.specs.declared.errno.Errno.TheVariants.{NotFound, BadHandle, Exists, IsDir, NotDir, NotEmpty}
 use Rattle.path_text.specs.Errno.{number_of}
 use Rattle.path_text.specs.Text.{text_fault}
+use Rattle.system_calls.specs.Errors.{EEXIST}
 use Rattle.tree_model.specs.declared.answer.Answer.TheVariants.{Done, Refused}
 use Rattle.tree_model.specs.declared.inode.Object.{Object}
 use Rattle.tree_model.specs.declared.inode.Object.TheVariants as object
@@ -17,7 +18,7 @@ use Rattle.tree_model.specs.Steps.{held, outcome, refused}
 use Rattle.tree_model.specs.Steps as tree
 use Rattle.tree_model.specs.StepWith.{StepWith}
 use Rattle.step_calls.specs.Changes.{DirectoryRemovalSays, MakeSays, MakesStood, RemovalSays, RemovalsStood, WasRefused}
-use Rattle.step_calls.specs.History.{after_exchange, asked, asks, ends_by, fails, first, next_after, Exchange, opens_directory, opens_any, spares, asks_mount, asks_kind, asks_holder, asks_magic, asks_links, asks_layers, opens_to_read, reads, closes_read, asks_follow, reads_link, changes, closes, EEXIST, IsHistory, Next}
+use Rattle.step_calls.specs.History.{after_exchange, asked, asks, ends_by, fails, first, next_after, Exchange, opens_directory, opens_any, spares, asks_mount, asks_kind, asks_holder, asks_magic, asks_links, asks_layers, opens_to_read, reads, closes_read, asks_follow, reads_link, changes, closes, IsHistory, Next}
 use Rattle.step_calls.specs.Moments.{moment, table, AreAnswers, IsWorld, World}
 use Rattle.step_calls.specs.Refusals.{is_refusal, is_too_long}
 use Rattle.step_calls.specs.declared.course.TheConstants.{CHANGE, DONE, REFUSED, UNMADE}

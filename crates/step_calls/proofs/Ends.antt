@@ -1,8 +1,9 @@
 -- What holds of each end of a turn holds of the turn.
 use Rattle.std.proofs.Common.{◌≡◌, ℕ, true, false, if◌then◌else◌, ◌&&◌, ◌||◌}
 use Rattle.std.specs.Prelude.{◌==◌}
+use Rattle.system_calls.specs.Errors.{ENOENT, EINTR, ENFILE, EMFILE}
 use Rattle.step_calls.specs.Refusals.{is_refusal}
-use Rattle.step_calls.specs.History.{asks, came_to, ends_by, fails, gone, knows, not_opened, opened, stayed, there, unasked, waits, EINTR, EMFILE, ENFILE, ENOENT, Next}
+use Rattle.step_calls.specs.History.{asks, came_to, ends_by, fails, gone, knows, not_opened, opened, stayed, there, unasked, waits, Next}
 use Rattle.step_calls.specs.declared.course.TheConstants.{SPARE, MOUNT, KIND, MAY_HOLD_MAGIC, LINKS, CLOSE, OPENED, DONE, REFUSED, UNMADE}
 use Rattle.step_calls.specs.declared.facts.Facts.{Facts}
 use Rattle.step_calls.specs.declared.facts.TheConstants.{PARENT, DIRECTORY, LINK}

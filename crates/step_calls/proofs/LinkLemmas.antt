@@ -3,13 +3,14 @@ use Rattle.std.proofs.Common.{◌≡◌, ◌≢◌, ◌≤◌, ℕ, suc, List, [
 use Rattle.std.specs.Prelude.{◌==◌, Option, Some, None, MatchBool}
 use Rattle.std.proofs.lemmas.Bool.{eqb-true}
 use Rattle.path_text.specs.declared.errno.Errno.TheVariants.{Invalid}
+use Rattle.system_calls.specs.Errors.{EINTR, ELOOP}
 use Rattle.tree_model.specs.declared.answer.Answer.TheVariants.{Text, Refused}
 use Rattle.tree_model.specs.declared.inode.Object.{Object}
 use Rattle.tree_model.specs.declared.inode.Object.TheVariants as object
 use Rattle.tree_model.specs.declared.step.StepOf.TheVariants.{ReadLink}
 use Rattle.tree_model.specs.State.{State, object_at}
 use Rattle.tree_model.specs.Steps.{held, outcome, reads as reads_node}
-use Rattle.step_calls.specs.History.{after_exchange, asks, asked, ends_by, fails, first, has_followed, next_after, not_read, Exchange, opens_directory, opens_any, spares, asks_mount, asks_kind, asks_holder, asks_magic, asks_links, asks_layers, opens_to_read, reads, closes_read, asks_follow, reads_link, changes, closes, EINTR, ELOOP, IsHistory, Next}
+use Rattle.step_calls.specs.History.{after_exchange, asks, asked, ends_by, fails, first, has_followed, next_after, not_read, Exchange, opens_directory, opens_any, spares, asks_mount, asks_kind, asks_holder, asks_magic, asks_links, asks_layers, opens_to_read, reads, closes_read, asks_follow, reads_link, changes, closes, IsHistory, Next}
 use Rattle.step_calls.specs.Moments.{moment, AreAnswers, IsNoLink, LinkSays, LinksWereRead, World}
 use Rattle.step_calls.specs.declared.course.TheConstants.{NO_FOLLOW, READ_LINK, TEXT, REFUSED, UNMADE}
 use Rattle.step_calls.specs.declared.facts.Facts.{Facts}

@@ -4,13 +4,14 @@ use Rattle.std.specs.Prelude.{◌==◌, nat_lt, Some, None}
 use Rattle.std.proofs.lemmas.Bool.{eqb-true, false≢true}
 use Rattle.std.proofs.lemmas.Option.{same_Some}
 use Rattle.path_text.specs.declared.errno.Errno.TheVariants.{NotFound}
+use Rattle.system_calls.specs.Errors.{ENOENT, EINTR, EXDEV, ENOTDIR, ENFILE, EMFILE}
 use Rattle.tree_model.specs.declared.answer.Answer.TheVariants.{Opened, Refused}
 use Rattle.tree_model.specs.declared.inode.Object.{Object}
 use Rattle.tree_model.specs.declared.inode.Object.TheVariants as object
 use Rattle.tree_model.specs.declared.step.StepOf.TheVariants.{Open}
 use Rattle.tree_model.specs.State.{State, child, is_dir, object_at}
 use Rattle.tree_model.specs.Steps.{held, is_full, kind_of, outcome}
-use Rattle.step_calls.specs.History.{after_close, after_exchange, asks, came_to, ends_by, fails, first, has_magic, is_ordinary, knows, next_after, not_opened, not_ordinary, opened, stayed, waits, Exchange, opens_directory, opens_any, spares, asks_mount, asks_kind, asks_holder, asks_magic, asks_links, asks_layers, opens_to_read, reads, closes_read, asks_follow, reads_link, changes, closes, asked, EINTR, ENOENT, ENOTDIR, EMFILE, ENFILE, EXDEV, IsHistory, Next}
+use Rattle.step_calls.specs.History.{after_close, after_exchange, asks, came_to, ends_by, fails, first, has_magic, is_ordinary, knows, next_after, not_opened, not_ordinary, opened, stayed, waits, Exchange, opens_directory, opens_any, spares, asks_mount, asks_kind, asks_holder, asks_magic, asks_links, asks_layers, opens_to_read, reads, closes_read, asks_follow, reads_link, changes, closes, asked, IsHistory, Next}
 use Rattle.step_calls.specs.Moments.{has_kind, moment, AreAnswers, HasNoEntry, IsWorld, OpenSays, OpensName, OpensStood, Stays, World}
 use Rattle.step_calls.specs.declared.course.TheConstants.{OPEN_DIRECTORY, OPEN_ANY, SPARE, MOUNT, KIND, MAY_HOLD_MAGIC, MAGIC, LINKS, CHANGE, CLOSE, OPENED, REFUSED, UNMADE}
 use Rattle.step_calls.specs.declared.facts.Facts.{Facts}

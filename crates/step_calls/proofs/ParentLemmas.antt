@@ -4,6 +4,7 @@ use Rattle.std.specs.Prelude.{◌==◌, Option, Some, None, is_some, MatchBool}
 use Rattle.std.specs.Option.{option_map}
 use Rattle.std.proofs.lemmas.Bool.{eqb-true, false≢true}
 use Rattle.path_text.specs.declared.errno.Errno.TheVariants.{NotFound}
+use Rattle.system_calls.specs.Errors.{ENOENT, EINTR, EXDEV, ENOTDIR, ENFILE, EMFILE}
 use Rattle.tree_model.specs.declared.answer.Answer.TheVariants.{Opened, Refused}
 use Rattle.tree_model.specs.declared.inode.Object.TheVariants as object
 use Rattle.tree_model.specs.declared.step.Kind.TheVariants as kind
@@ -11,7 +12,7 @@ use Rattle.tree_model.specs.declared.step.StepOf.TheVariants.{Parent}
 use Rattle.tree_model.specs.declared.inode.Place.{Place}
 use Rattle.tree_model.specs.State.{State, TOP, is_dir, is_gone, object_at, parent, place_at}
 use Rattle.tree_model.specs.Steps.{held, is_full, outcome}
-use Rattle.step_calls.specs.History.{after_exchange, after_spare, asks, asked, came_to, ends_by, fails, first, gone, keeps_links, knows, next_after, not_opened, opened, stayed, there, unasked, waits, Exchange, opens_directory, opens_any, spares, asks_mount, asks_kind, asks_holder, asks_magic, asks_links, asks_layers, opens_to_read, reads, closes_read, asks_follow, reads_link, changes, closes, EINTR, ENOENT, ENOTDIR, EMFILE, ENFILE, EXDEV, IsHistory, Next}
+use Rattle.step_calls.specs.History.{after_exchange, after_spare, asks, asked, came_to, ends_by, fails, first, gone, keeps_links, knows, next_after, not_opened, opened, stayed, there, unasked, waits, Exchange, opens_directory, opens_any, spares, asks_mount, asks_kind, asks_holder, asks_magic, asks_links, asks_layers, opens_to_read, reads, closes_read, asks_follow, reads_link, changes, closes, IsHistory, Next}
 use Rattle.step_calls.specs.Moments.{moment, AreAnswers, CouldNotAsk, IsGone, IsThere, IsWorld, OpensAbove, ParentSays, ParentsStood, Stays, World}
 use Rattle.step_calls.specs.declared.course.TheConstants.{OPEN_DIRECTORY, SPARE, MOUNT, LINKS, LAYERS, OPEN_TO_READ, READ, CLOSE_READ, CLOSE, OPENED, REFUSED, UNMADE}
 use Rattle.step_calls.specs.declared.facts.Facts.{Facts}

@@ -2,7 +2,8 @@
 use Rattle.std.proofs.Common.{◌≡◌, ◌≢◌, ℕ, List, [], ◌∷◌, true, if◌then◌else◌, ◌&&◌, ◌||◌, not, refl, sym, subst, arith}
 use Rattle.std.specs.Prelude.{◌==◌, MatchBool}
 use Rattle.std.proofs.lemmas.Bool.{eqb-true}
-use Rattle.step_calls.specs.History.{after_exchange, asked, asks, came_to, ends_by, fails, first, gone, has_followed, has_magic, is_ordinary, keeps_links, knows, next_after, not_opened, not_ordinary, not_read, opened, stayed, there, unasked, waits, Exchange, opens_directory, opens_any, spares, asks_mount, asks_kind, asks_holder, asks_magic, asks_links, asks_layers, opens_to_read, reads, closes_read, asks_follow, reads_link, changes, closes, EEXIST, EINTR, ELOOP, EMFILE, ENFILE, ENOENT, ENOTDIR, EXDEV, IsHistory, Next}
+use Rattle.system_calls.specs.Errors.{ENOENT, EINTR, EEXIST, EXDEV, ENOTDIR, ENFILE, EMFILE, ELOOP}
+use Rattle.step_calls.specs.History.{after_exchange, asked, asks, came_to, ends_by, fails, first, gone, has_followed, has_magic, is_ordinary, keeps_links, knows, next_after, not_opened, not_ordinary, not_read, opened, stayed, there, unasked, waits, Exchange, opens_directory, opens_any, spares, asks_mount, asks_kind, asks_holder, asks_magic, asks_links, asks_layers, opens_to_read, reads, closes_read, asks_follow, reads_link, changes, closes, IsHistory, Next}
 use Rattle.step_calls.specs.Promises.{is_about_child, RefusalsAreOwn}
 use Rattle.step_calls.specs.Refusals.{is_refusal}
 use Rattle.step_calls.specs.declared.course.TheConstants.{OPEN_DIRECTORY, OPEN_ANY, SPARE, MOUNT, KIND, MAY_HOLD_MAGIC, MAGIC, LINKS, LAYERS, OPEN_TO_READ, READ, CLOSE_READ, READ_LINK, NO_FOLLOW, CHANGE, CLOSE, OPENED, TEXT, DONE, REFUSED, UNMADE}

@@ -5,20 +5,15 @@ use Rattle.std.specs.Prelude.{◌≡◌, ◌≤◌, ◌<◌, ℕ, suc, List, Boo
 use Rattle.path_text.specs.declared.errno.Errno.{Errno}
 use Rattle.path_text.specs.Errno.{number_of}
 use Rattle.path_text.specs.Text.{text_fault}
+use Rattle.system_calls.specs.Errors.{ENOENT, EEXIST, ENOTDIR, EISDIR, ENOTEMPTY}
 use Rattle.tree_model.specs.declared.answer.Answer.TheVariants.{Done, Refused}
 use Rattle.tree_model.specs.declared.step.StepOf.TheVariants.{MakeDir, MakeFile, MakeLink, RemoveFile, RemoveDir}
 use Rattle.tree_model.specs.State.{child, has_entries, is_dir}
 use Rattle.tree_model.specs.StepWith.{StepWith}
-use Rattle.step_calls.specs.History.{next_after, Exchange, changes, EEXIST, ENOENT, ENOTDIR, IsHistory}
+use Rattle.step_calls.specs.History.{next_after, Exchange, changes, IsHistory}
 use Rattle.step_calls.specs.Moments.{moment, table, AreAnswers, HasNoEntry, IsGone, IsThere, IsWorld, World}
 use Rattle.step_calls.specs.declared.course.TheConstants.{DONE, REFUSED}
 use Rattle.step_calls.specs.declared.facts.Facts.{Facts}
-
-abbrev pub EISDIR : ℕ
-EISDIR = 21
-
-abbrev pub ENOTEMPTY : ℕ
-ENOTEMPTY = 39
 
 -- ---- what the answers say
 

@@ -1,47 +1,11 @@
 -- What was asked of a driver as it makes one step, what that gave, and what comes next. A history has the last exchange
 -- first.
 use Rattle.std.specs.Prelude.{◌≡◌, ℕ, List, [], ◌∷◌, ◌==◌, Bool, ◌&&◌, ◌||◌, if◌then◌else◌, nat_lt, bit_and, not}
+use Rattle.system_calls.specs.Errors.{EPERM, ENOENT, EINTR, EEXIST, EXDEV, ENOTDIR, EINVAL, ENFILE, EMFILE, ENAMETOOLONG, ENOSYS, ELOOP}
 use Rattle.step_calls.specs.Refusals.{is_refusal}
 use Rattle.step_calls.specs.declared.facts.Facts.{Facts}
 use Rattle.step_calls.specs.declared.facts.TheConstants.{IS_THERE, OPEN, DUP, PARENT, READ_TEXT, DIRECTORY, LINK}
 use Rattle.step_calls.specs.declared.course.TheConstants.{OPEN_DIRECTORY, OPEN_ANY, SPARE, MOUNT, KIND, MAY_HOLD_MAGIC, MAGIC, LINKS, LAYERS, OPEN_TO_READ, READ, CLOSE_READ, NO_FOLLOW, READ_LINK, CHANGE, CLOSE, OPENED, TEXT, DONE, REFUSED, UNMADE}
-
--- ---- numbers of errno(3)
-abbrev pub EPERM : ℕ
-EPERM = 1
-
-abbrev pub ENOENT : ℕ
-ENOENT = 2
-
-abbrev pub EINTR : ℕ
-EINTR = 4
-
-abbrev pub EEXIST : ℕ
-EEXIST = 17
-
-abbrev pub EXDEV : ℕ
-EXDEV = 18
-
-abbrev pub ENOTDIR : ℕ
-ENOTDIR = 20
-
-abbrev pub EINVAL : ℕ
-EINVAL = 22
-
-abbrev pub ENFILE : ℕ
-ENFILE = 23
-
-abbrev pub EMFILE : ℕ
-EMFILE = 24
-
-abbrev pub ENAMETOOLONG : ℕ
-ENAMETOOLONG = 36
-
-abbrev pub ENOSYS : ℕ
-ENOSYS = 38
-
-abbrev pub ELOOP : ℕ
-ELOOP = 40
 
 -- ---- numbers of statfs(2), <linux/magic.h>
 

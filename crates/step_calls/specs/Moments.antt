@@ -2,6 +2,7 @@
 -- the answer to a step is the step table's at one of the moments.
 use Rattle.std.specs.Prelude.{◌≡◌, ◌≢◌, ◌⊎◌, ◌≤◌, ℕ, suc, List, [], ◌∷◌, Bool, true, false, length, Some, None}
 use Rattle.path_text.specs.declared.errno.Errno.TheVariants.{NotFound, Invalid}
+use Rattle.system_calls.specs.Errors.{ENOENT}
 use Rattle.tree_model.specs.declared.answer.Answer.{Answer}
 use Rattle.tree_model.specs.declared.answer.Answer.TheVariants.{Opened, Text, Refused}
 use Rattle.tree_model.specs.declared.inode.Object.{Object}
@@ -12,7 +13,7 @@ use Rattle.tree_model.specs.declared.step.StepOf.TheVariants.{Open, Parent, Read
 use Rattle.tree_model.specs.State.{State, child, is_dir, is_gone, object_at, parent}
 use Rattle.tree_model.specs.Steps.{held, is_full, kind_of, outcome}
 use Rattle.tree_model.specs.StepWith.{StepWith}
-use Rattle.step_calls.specs.History.{next_after, Exchange, opens_directory, opens_any, asks_kind, asks_links, asks_layers, opens_to_read, reads, reads_link, keeps_links, ENOENT, IsHistory}
+use Rattle.step_calls.specs.History.{next_after, Exchange, opens_directory, opens_any, asks_kind, asks_links, asks_layers, opens_to_read, reads, reads_link, keeps_links, IsHistory}
 use Rattle.step_calls.specs.declared.course.TheConstants.{OPENED, TEXT, REFUSED}
 use Rattle.step_calls.specs.declared.facts.Facts.{Facts}
 use Rattle.step_calls.specs.declared.facts.TheConstants.{OPEN, PARENT, READ_TEXT}

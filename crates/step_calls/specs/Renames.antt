@@ -1,13 +1,14 @@
 -- A rename by its one system call, renameat2(2): what the answer says of the tree as the call finds it. Premises, by
 -- the manual page. By these the answer to the step is the step table's at that moment, but in one case.
 use Rattle.std.specs.Prelude.{◌≡◌, ◌≢◌, ◌⊎◌, ℕ, suc, List, Bool, true, false, Option, Some, None}
+use Rattle.system_calls.specs.Errors.{ENOENT, EEXIST, ENOTDIR, EISDIR, ENOTEMPTY}
 use Rattle.tree_model.specs.declared.answer.Answer.TheVariants.{Done}
 use Rattle.tree_model.specs.declared.step.Mode.TheVariants.{Plain, NoReplace, Exchange}
 use Rattle.tree_model.specs.declared.step.StepOf.TheVariants.{Rename}
 use Rattle.tree_model.specs.State.{child, has_entries, is_dir, is_gone, is_within}
 use Rattle.tree_model.specs.Steps.{held}
-use Rattle.step_calls.specs.Changes.{ChangeStood, WasRefused, EISDIR, ENOTEMPTY}
-use Rattle.step_calls.specs.History.{next_after, Exchange as Called, changes, EEXIST, ENOENT, ENOTDIR, IsHistory}
+use Rattle.step_calls.specs.Changes.{ChangeStood, WasRefused}
+use Rattle.step_calls.specs.History.{next_after, Exchange as Called, changes, IsHistory}
 use Rattle.step_calls.specs.Moments.{moment, table, AreAnswers, HasNoEntry, IsWorld, World}
 use Rattle.step_calls.specs.declared.course.TheConstants.{DONE, REFUSED}
 use Rattle.step_calls.specs.declared.facts.Facts.{Facts}

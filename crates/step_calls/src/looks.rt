@@ -8,16 +8,7 @@ use crate::course::{
     REFUSED, TEXT, UNMADE, asks, ends_by, fails, knows, waits,
 };
 use crate::facts::{DIRECTORY, Facts, PARENT};
-
-const ENOENT: u32 = 2;
-
-const EINTR: u32 = 4;
-
-const EEXIST: u32 = 17;
-
-const EINVAL: u32 = 22;
-
-const ELOOP: u32 = 40;
+use system_calls::errors::{EEXIST, EINTR, EINVAL, ELOOP, ENOENT};
 
 const OVERLAYFS: u64 = 0x794c_7630;
 

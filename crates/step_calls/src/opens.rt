@@ -8,24 +8,9 @@ use crate::course::{
     SPARE, UNMADE, asks, ends_by, fails, knows, waits,
 };
 use crate::facts::{DIRECTORY, Facts, LINK, OPEN, PARENT};
-
-const EPERM: u32 = 1;
-
-const EINTR: u32 = 4;
-
-const EXDEV: u32 = 18;
-
-const ENOTDIR: u32 = 20;
-
-const ENFILE: u32 = 23;
-
-const EMFILE: u32 = 24;
-
-const ENAMETOOLONG: u32 = 36;
-
-const ENOSYS: u32 = 38;
-
-const ELOOP: u32 = 40;
+use system_calls::errors::{
+    EINTR, ELOOP, EMFILE, ENAMETOOLONG, ENFILE, ENOSYS, ENOTDIR, EPERM, EXDEV,
+};
 
 const PROC: u64 = 0x9fa0;
 

@@ -2,18 +2,20 @@
 ghost use Rattle.std.specs.Prelude.{◌≡◌};
 ghost use Rattle.step_calls.specs.Refusals.{is_refusal, make_refused, rename_refused};
 
+use system_calls::errors::{EEXIST, EINVAL, EISDIR, ENAMETOOLONG, ENOENT, ENOTDIR, ENOTEMPTY};
+
 fn make_refused(error: u32) -> bool
     ensures { result ≡ make_refused error }
 {
-    error == 2 || error == 17
+    error == ENOENT || error == EEXIST
 }
 
 fn rename_refused(mode: u8, error: u32) -> bool
     ensures { result ≡ rename_refused mode error }
 {
-    error == 2
-        || ((mode == 0 && (error == 20 || (error == 21 || error == 39)))
-            || (mode == 1 && error == 17))
+    error == ENOENT
+        || ((mode == 0 && (error == ENOTDIR || (error == EISDIR || error == ENOTEMPTY)))
+            || (mode == 1 && error == EEXIST))
 }
 
 /// Whether the step table may refuse a step of this number by this error (errno(3)). A link is made with a text of so
@@ -27,12 +29,12 @@ pub fn is_refusal(what: u8, mode: u8, text: usize, error: u32) -> bool
     ensures { result ≡ is_refusal what mode text error }
 {
     match what {
-        1 | 3 => error == 2,
-        4 => error == 22,
+        1 | 3 => error == ENOENT,
+        4 => error == EINVAL,
         8 | 9 => make_refused(error),
-        10 => make_refused(error) || (error == 36 && text > 4095),
-        11 => error == 2 || error == 21,
-        12 => error == 2 || (error == 20 || error == 39),
+        10 => make_refused(error) || (error == ENAMETOOLONG && text > 4095),
+        11 => error == ENOENT || error == EISDIR,
+        12 => error == ENOENT || (error == ENOTDIR || error == ENOTEMPTY),
         13 => rename_refused(mode, error),
         _ => false,
     }

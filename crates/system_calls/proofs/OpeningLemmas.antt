@@ -3,13 +3,14 @@ use Rattle.std.proofs.Common.{◌≡◌, ◌==◌, ℕ, ◌+◌, Bool, true, fal
 use Rattle.std.specs.Int.Bits.{and_zero_r}
 use Rattle.std.proofs.lemmas.Bool.{eq-eqb, false≢true}
 use Rattle.std.proofs.lemmas.Nat.{and_assoc, and_or_apart, and_or_self}
+use Rattle.system_calls.specs.Errors.{ENOTDIR, EISDIR}
 use Rattle.system_calls.specs.declared.opening.MachineFlags.{MachineFlags}
 use Rattle.system_calls.specs.declared.opening.Opening.{Opening}
 use Rattle.system_calls.specs.declared.uses.TheConstants.{USE_GIVES, USE_MAKES, USE_REOPENS}
 use Rattle.system_calls.specs.declared.uses.Use.{Use}
 use Rattle.system_calls.specs.Uses.{does, fails, use_by, use_of, DIRECTORY}
 use Rattle.system_calls.specs.OpenFlags.{has, o_tmpfile, IsOfMachine, on_x86_64, on_x86_64_large, on_arm64, on_arm64_large, O_CREAT, O_EXCL, O_PATH}
-use Rattle.system_calls.specs.Opening.{contradict, done, found_flags, is_nameless, opening_of, opens, refused, use_flags, ALWAYS, EISDIR, ENOTDIR}
+use Rattle.system_calls.specs.Opening.{contradict, done, found_flags, is_nameless, opening_of, opens, refused, use_flags, ALWAYS}
 
 -- ---- what contradicts
 

@@ -1,3 +1,4 @@
+pub mod Errors
 pub mod Held
 pub mod Objects
 pub mod OpenFlags

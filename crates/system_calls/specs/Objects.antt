@@ -1,5 +1,6 @@
 -- Which object an answer of statx(2) or fstat(2) is about, of which kind it is (inode(7)), and what an error says.
 use Rattle.std.specs.Prelude.{ℕ, ◌*◌, ◌^◌, ◌==◌, Bool, not, ◌&&◌, ◌||◌, if◌then◌else◌, nat_lt, bit_and}
+use Rattle.system_calls.specs.Errors.{ENOENT, EAGAIN, EACCES, EXDEV, ENOTDIR, ELOOP}
 use Rattle.system_calls.specs.declared.objects.Birth.{Birth}
 use Rattle.system_calls.specs.declared.objects.Object.{Object}
 
@@ -78,4 +79,5 @@ is_node mode device =
 -- renamed meanwhile (EAGAIN). So somebody has moved or changed what stood there.
 abbrev pub is_elsewhere : ℕ → Bool
 is_elsewhere error =
-    (error == 2) || ((error == 20) || ((error == 40) || ((error == 18) || ((error == 13) || (error == 11)))))
+    (error == ENOENT)
+    || ((error == ENOTDIR) || ((error == ELOOP) || ((error == EXDEV) || ((error == EACCES) || (error == EAGAIN)))))

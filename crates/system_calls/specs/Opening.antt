@@ -1,19 +1,10 @@
 -- What a call opens and makes, by flags of open(2). As in openat2(2) a flag that isn't taken, or that another one
 -- contradicts, is refused by EINVAL, where open(2) passes over some.
 use Rattle.std.specs.Prelude.{ℕ, ◌+◌, ◌==◌, Bool, false, not, ◌&&◌, ◌||◌, if◌then◌else◌, nat_le, bit_and, bit_or}
+use Rattle.system_calls.specs.Errors.{ENOTDIR, EISDIR, EINVAL}
 use Rattle.system_calls.specs.declared.opening.MachineFlags.{MachineFlags}
 use Rattle.system_calls.specs.declared.opening.Opening.{Opening}
 use Rattle.system_calls.specs.OpenFlags.{O_WRONLY, O_RDWR, O_CREAT, O_EXCL, O_NOCTTY, O_TRUNC, O_APPEND, O_NONBLOCK, O_SYNC, O_NOATIME, O_CLOEXEC, O_PATH, o_tmpfile, has, are_among, access}
-
--- numbers of errno(3)
-abbrev pub EINVAL : ℕ
-EINVAL = 22
-
-abbrev pub EISDIR : ℕ
-EISDIR = 21
-
-abbrev pub ENOTDIR : ℕ
-ENOTDIR = 20
 
 -- ---- which flags are taken
 

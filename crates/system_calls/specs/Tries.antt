@@ -1,10 +1,7 @@
 -- When a call is begun again, and after which pause.
 use Rattle.std.specs.Prelude.{◌≡◌, ℕ, zero, suc, ◌+◌, ◌-◌, ◌*◌, ◌^◌, ◌==◌, Bool, true, false, not, ◌&&◌, if◌then◌else◌, nat_lt, min}
+use Rattle.system_calls.specs.Errors.{EAGAIN}
 use Rattle.system_calls.specs.declared.tries.NextTry.{NextTry}
-
--- a number of errno(3): others moved or removed what the call had come to
-abbrev pub EAGAIN : ℕ
-EAGAIN = 11
 
 -- a call makes so many tries, and the first of them one right after another
 abbrev pub TRIES : ℕ

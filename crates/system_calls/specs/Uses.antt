@@ -1,11 +1,12 @@
 -- What is done with an object that a call has found, by flags of open(2).
 use Rattle.std.specs.Prelude.{ℕ, ◌==◌, Bool, not, ◌&&◌, if◌then◌else◌}
+use Rattle.system_calls.specs.Errors.{ENOTDIR, EISDIR}
 use Rattle.system_calls.specs.declared.opening.MachineFlags.{MachineFlags}
 use Rattle.system_calls.specs.declared.opening.Opening.{Opening}
 use Rattle.system_calls.specs.declared.uses.TheConstants.{USE_FAILS, USE_GIVES, USE_MAKES, USE_REOPENS}
 use Rattle.system_calls.specs.declared.uses.Use.{Use}
 use Rattle.system_calls.specs.OpenFlags.{has, O_CREAT, O_PATH}
-use Rattle.system_calls.specs.Opening.{found_flags, is_nameless, EISDIR, ENOTDIR}
+use Rattle.system_calls.specs.Opening.{found_flags, is_nameless}
 
 -- a directory, as `kind_of` has it
 abbrev pub DIRECTORY : ℕ

@@ -4,6 +4,7 @@
 //! Each function takes numbers as a program or a system call gave them. None of them makes a call or takes memory.
 #![tactic(auto)]
 
+pub mod errors;
 mod laws;
 mod objects;
 mod opening;

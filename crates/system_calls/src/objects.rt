@@ -2,6 +2,8 @@
 ghost use Rattle.std.specs.Prelude.{◌≡◌};
 ghost use Rattle.system_calls.specs.Objects.{format, has_birth, has_number, is_elsewhere, is_node, is_same_object, kind_of, same_directory};
 
+use crate::errors::{EACCES, EAGAIN, ELOOP, ENOENT, ENOTDIR, EXDEV};
+
 const S_IFMT: u32 = 0o170000;
 
 const S_IFIFO: u32 = 0o010000;
@@ -113,7 +115,7 @@ pub fn is_elsewhere(error: u32) -> bool
     ensures { result ≡ is_elsewhere error }
 {
     match error {
-        2 | 11 | 13 | 18 | 20 | 40 => true,
+        ENOENT | EAGAIN | EACCES | EXDEV | ENOTDIR | ELOOP => true,
         _ => false,
     }
 }

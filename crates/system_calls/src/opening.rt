@@ -3,6 +3,8 @@ ghost use Rattle.std.specs.Prelude.{◌≡◌, ◌+◌, ◌==◌, bit_and, bit_o
 ghost use Rattle.system_calls.specs.OpenFlags.{access, are_among, has, o_tmpfile, O_CREAT, O_EXCL};
 ghost use Rattle.system_calls.specs.Opening.{contradict, done, error_of_directory, error_of_other, fits_mode, flags_of_path, found_flags, is_nameless, is_new, made_flags, opening_of, opens, path_flags, reopen_flags, reopens, use_flags};
 
+use crate::errors::{EINVAL, EISDIR, ENOTDIR};
+
 // The numbers of <fcntl.h> that are the same on x86-64 and on arm64.
 const O_WRONLY: u32 = 0o1;
 
@@ -50,12 +52,6 @@ const NEW: u32 = O_CREAT | O_EXCL;
 const MADE: u32 = O_CREAT | O_EXCL | ALWAYS;
 
 const MODE_BITS: u32 = 0o7777;
-
-const EINVAL: u8 = 22;
-
-const EISDIR: u8 = 21;
-
-const ENOTDIR: u8 = 20;
 
 /// The flags of open(2) whose numbers differ between machines, as <fcntl.h> has them on the machine that the call is
 /// made on. A C library may give O_LARGEFILE as 0.
@@ -216,14 +212,14 @@ fn made_flags(machine: &MachineFlags, flags: u32) -> u32
 fn error_of_directory(flags: u32) -> u8
     ensures { result ≡ error_of_directory flags }
 {
-    if has(flags, O_CREAT) { EISDIR } else { 0 }
+    if has(flags, O_CREAT) { EISDIR as u8 } else { 0 }
 }
 
 fn error_of_other(machine: &MachineFlags, flags: u32) -> u8
     ensures { result ≡ error_of_other machine.now flags }
 {
     if has(flags, O_PATH) && has(flags, machine.directory) {
-        ENOTDIR
+        ENOTDIR as u8
     } else {
         0
     }
@@ -262,7 +258,7 @@ pub fn opening_of(machine: &MachineFlags, flags: u32, mode: u32) -> Opening
         done(machine, flags)
     } else {
         Opening {
-            error: EINVAL,
+            error: EINVAL as u8,
             finds: false,
             makes: false,
             follows: false,

@@ -1,8 +1,9 @@
 //! When a call is begun again.
 ghost use Rattle.std.specs.Prelude.{◌≡◌, ◌≤◌, ◌<◌, true, false};
-ghost use Rattle.system_calls.specs.Tries.{is_due, next_try, pause_after, EAGAIN, TRIES, PAUSE_MAX};
+ghost use Rattle.system_calls.specs.Errors.{EAGAIN};
+ghost use Rattle.system_calls.specs.Tries.{is_due, next_try, pause_after, TRIES, PAUSE_MAX};
 
-const EAGAIN: u32 = 11;
+use crate::errors::EAGAIN;
 
 const TRIES: u32 = 32;
 

@@ -1,6 +1,7 @@
 use Rattle.std.proofs.Common.{◌≡◌, ◌+◌, true, false, ap, sym, refl, ◌∙◌, arith}
+use Rattle.system_calls.specs.Errors.{EAGAIN}
 use Rattle.make_through_links.proofs.making.another_try.Goals as goal
-use Rattle.system_calls.specs.Tries.{is_due, pause_after, EAGAIN}
+use Rattle.system_calls.specs.Tries.{is_due, pause_after}
 use Rattle.system_calls.specs.declared.tries.NextTry.{NextTry}
 use Rattle.make_through_links.proofs.MakingLemmas.{due_in, none_due_in, not_due}
 

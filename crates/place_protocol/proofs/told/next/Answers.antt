@@ -1,6 +1,7 @@
 use Rattle.std.proofs.Common.{Option, refl, subst}
+use Rattle.system_calls.specs.Errors.{EINVAL}
 use Rattle.place_protocol.specs.Texts.{texts_of}
-use Rattle.place_protocol.specs.Told.{EINVAL, FollowsNumber}
+use Rattle.place_protocol.specs.Told.{FollowsNumber}
 use Rattle.place_protocol.specs.declared.questions.Question.{Question}
 use Rattle.place_protocol.specs.declared.turns.Turn.TheVariants.{Unmade}
 use Rattle.place_protocol.proofs.told.next.Goals as goal
