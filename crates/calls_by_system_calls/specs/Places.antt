@@ -32,8 +32,8 @@ place_world x m top node passed root object = record {
   object = object;
 }
 
--- A place was told, and its names are the answer. `places_stood` has an exception: it is supposed not to be met, so what
--- the kernel had seen below the root right before isn't removed.
+-- A place was told, and its names are the answer. `places_stood` has an exception: it is supposed not to be met, so
+-- what the kernel had seen below the root right before isn't removed.
 pub record PlaceIsAsked (x : Linux) (m calls top node : ℕ) (answer : Answer) : Type 0 where
   pub facts : Facts
   pub kept : List ℕ

@@ -50,9 +50,9 @@ pub fn opens_through_by_system_calls()
     opens_through_tell();
 }
 
-/// Where a conversation of `place_protocol` told a place, and its names are the answer to a NameBelow, this answer was so
-/// at the moment of one of its system calls (getcwd(2), proc(5), openat2(2), statx(2)). Of what the kernel had seen below
-/// the root right before it is supposed that it isn't removed.
+/// Where a conversation of `place_protocol` told a place, and its names are the answer to a NameBelow, this answer was
+/// so at the moment of one of its system calls (getcwd(2), proc(5), openat2(2), statx(2)). Of what the kernel had seen
+/// below the root right before it is supposed that it isn't removed.
 pub fn asked_places_stood()
     ensures { AskedPlacesStood }
 {

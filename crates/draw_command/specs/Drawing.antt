@@ -6,7 +6,7 @@ use Rattle.drawings.specs.declared.picture.PictureFault.{PictureFault}
 use Rattle.drawings.specs.declared.picture.PictureFault.TheVariants as picture_fault
 use Rattle.drawings.specs.declared.picture.TheConstants.{ACTORS_MAX}
 use Rattle.drawings.specs.Calls.{calls_of}
-use Rattle.drawings.specs.Picture.{Drawn, drawn_of, IsLong}
+use Rattle.drawings.specs.Picture.{Drawn, drawn_of, IsLong, IsPictureFault}
 use Rattle.drawings.specs.Svg.{svg_of}
 use Rattle.drawings.specs.Text.{text_of}
 use Rattle.drawings.specs.Xml.{IsDocument}
@@ -72,6 +72,11 @@ abbrev pub told_of : PictureFault → DrawFault
 told_of picture_fault.Actors = TooManyActors
 told_of picture_fault.Lines = TooManyLines
 told_of picture_fault.NoMemory = Run NoMemory
+
+-- it is told so that a run with such a picture isn't drawn
+abbrev pub IsUndrawn : List Event → Drawn → DrawFault → Type 0
+IsUndrawn events picture told = (fault : PictureFault)
+    × ((told ≡ told_of fault) × (fault ≢ picture_fault.NoMemory → IsPictureFault events picture fault))
 
 -- why a script whose checks have passed has no picture
 abbrev pub IsNoDrawing : Closes → Said → DrawFault → Type 0

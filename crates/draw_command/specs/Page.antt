@@ -18,7 +18,7 @@ use Rattle.draw_command.specs.declared.page.JsonFault.TheVariants as json
 use Rattle.draw_command.specs.declared.page.TheConstants.{EVENTS_MAX}
 use Rattle.draw_command.specs.Drawing.{drawn, HasManyLines}
 use Rattle.walk_replay_command.specs.Replay.{IsRunOf}
-use Rattle.scripts.specs.declared.fault.RunFault.TheVariants.{WriteFailed}
+use Rattle.scripts.specs.declared.fault.RunFault.TheVariants.{WriteFailed, NoMemory}
 use Rattle.scripts.specs.declared.fault.ScriptFault.{ScriptFault}
 use Rattle.scripts.specs.declared.turns.TurnOrder.{TurnOrder}
 use Rattle.scripts.specs.Scenario.{Said, said_for}
@@ -46,6 +46,11 @@ pub record HasManyEvents (said : Said) : Type 0 where
   pub replies : List (List Outcome)
   pub run : IsRunOf said tree events replies
   pub over : EVENTS_MAX < length events
+
+-- why events aren't told as JSON
+abbrev pub IsUntold : List Event → JsonFault → Type 0
+IsUntold events (json.Run fault) = fault ≡ NoMemory
+IsUntold events json.TooManyEvents = EVENTS_MAX < length events
 
 -- why a run of a script whose checks have passed isn't told as JSON
 abbrev pub IsNoJson : Said → JsonFault → Type 0

@@ -1,12 +1,11 @@
 //! A script drawn: its world is run to its end, and a picture of it is written.
 ghost use Rattle.std.specs.Prelude.{◌≡◌, ◌≢◌, ◌≤◌, [], length, Some, IfOk, IfErr, MatchResult, OnOk};
-ghost use Rattle.drawings.specs.Picture.{drawn_of, IsPictureFault};
-ghost use Rattle.drawings.specs.declared.picture.PictureFault.TheVariants.{NoMemory as OutOfRoom};
+ghost use Rattle.drawings.specs.Picture.{drawn_of};
 ghost use Rattle.race_core.specs.Opening.{granted};
 ghost use Rattle.draw_command.specs.declared.drawing.DrawFault.TheVariants as draw_fault;
 ghost use Rattle.scripts.specs.declared.fault.RunFault.TheVariants.{NoMemory as OutOfMemory};
 ghost use Rattle.draw_command.specs.Drawing.{form_text, opened_by, told_of};
-ghost use Rattle.draw_command.specs.Drawing.{IsDraw, IsDrawingOf, IsNoDrawing, IsRunFrom, IsWellFormed};
+ghost use Rattle.draw_command.specs.Drawing.{IsDraw, IsDrawingOf, IsNoDrawing, IsRunFrom, IsUndrawn, IsWellFormed};
 ghost use Rattle.scripts.specs.Scenario.{said_by, IsPlayable};
 ghost use Rattle.scripts.specs.Writing.{IsNoRun};
 ghost use Rattle.step_text.specs.Output.{Gains};
@@ -80,6 +79,14 @@ pub fn told_of(fault: PictureFault) -> DrawFault
     }
 }
 
+impl From<PictureFault> for DrawFault {
+    ghost from_gives = { λ fault told. told ≡ told_of fault };
+
+    fn from(fault: PictureFault) -> DrawFault {
+        told_of(fault)
+    }
+}
+
 /// Adds a picture in its form.
 fn add_picture(
     alloc: Global,
@@ -130,20 +137,20 @@ pub(crate) fn run_of(
     Ok(report)
 }
 
-/// The text of a run's picture, from a tree in which its roots are granted. Errors: those of `Picture::of`;
-/// `NoMemory`.
+/// The text of a run's picture, from a tree in which its roots are granted. Errors: those of `Picture::of`, as they
+/// are told; `NoMemory`.
 fn picture_text(
     alloc: Global,
     tree: ListTree,
     calls: &[CallWords],
     came_to: &Report<SlabTree>,
     style: Style,
-) -> Result<Output, PictureFault>
+) -> Result<Output, DrawFault>
     ensures ok { IfOk result (λ text. text ≡ form_text style.form
         (drawn_of style.closes tree calls.now came_to.now.events.events came_to.now.replies.items)) }
     ensures well_formed { IfOk result (IsWellFormed style.form) }
-    ensures err { IfErr result (λ fault. fault ≢ OutOfRoom → IsPictureFault came_to.now.events.events
-        (drawn_of style.closes tree calls.now came_to.now.events.events came_to.now.replies.items) fault) }
+    ensures err { IfErr result (IsUndrawn came_to.now.events.events
+        (drawn_of style.closes tree calls.now came_to.now.events.events came_to.now.replies.items)) }
 {
     let picture = Picture::of(
         alloc,
@@ -175,10 +182,7 @@ fn drawing_of(
 {
     let calls = calls_of(alloc, &scenario.plans)?;
     let came_to = run_of(alloc, scenario, &mut tree)?;
-    match picture_text(alloc, tree, &calls, &came_to, style) {
-        Ok(text) => Ok(text),
-        Err(fault) => Err(told_of(fault)),
-    }
+    picture_text(alloc, tree, &calls, &came_to, style)
 }
 
 /// Reads a script, runs its world in this order of turns, and writes a picture of it: a heading with each actor's

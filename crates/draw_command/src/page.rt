@@ -1,17 +1,17 @@
 //! A script's run as JSON, and as a page that a browser shows.
 ghost use Rattle.std.specs.Prelude.{◌≡◌, ◌≢◌, [], ◌∷◌, IfOk, IfErr, MatchResult};
-ghost use Rattle.drawings.specs.Picture.{drawn_of, IsPictureFault};
-ghost use Rattle.drawings.specs.declared.picture.PictureFault.TheVariants.{NoMemory as OutOfRoom};
+ghost use Rattle.drawings.specs.Picture.{drawn_of};
 ghost use Rattle.draw_command.specs.declared.page.JsonFault.TheVariants as json_fault;
 ghost use Rattle.scripts.specs.declared.fault.RunFault.TheVariants.{NoMemory as OutOfMemory};
-ghost use Rattle.draw_command.specs.Drawing.{IsNoDrawing};
-ghost use Rattle.draw_command.specs.Page.{IsJsonOf, IsNoJson, IsJson, IsPageOf, IsPage};
+ghost use Rattle.draw_command.specs.Drawing.{IsNoDrawing, IsUndrawn};
+ghost use Rattle.draw_command.specs.Page.{IsJsonOf, IsNoJson, IsUntold, IsJson, IsPageOf, IsPage};
 ghost use Rattle.pages.specs.Page.{page_of, played_of};
+ghost use Rattle.pages.specs.Run.{report_json};
 ghost use Rattle.report_text.specs.Report.{report_text};
 ghost use Rattle.scripts.specs.Scenario.{said_by, IsPlayable};
 
-use crate::drawing::{DrawFault, run_of, told_of};
-use drawings::{CallWords, Closes, PictureFault, calls_of};
+use crate::drawing::{DrawFault, run_of};
+use drawings::{CallWords, Closes, calls_of};
 use pages::{Played, report_json, runs_page};
 use path_text::NoMemory;
 use race_core::Report;
@@ -53,6 +53,20 @@ impl From<NoMemory> for JsonFault {
     }
 }
 
+/// A report as JSON, from a tree in which the run's roots are granted. Errors: `TooManyEvents` over 2,000; `NoMemory`.
+fn json_text(alloc: Global, tree: ListTree, came_to: &Report<SlabTree>) -> Result<Output, JsonFault>
+    ensures ok { IfOk result (λ text.
+        text ≡ report_json tree came_to.now.events.events came_to.now.replies.items) }
+    ensures err { IfErr result (IsUntold came_to.now.events.events) }
+{
+    if came_to.events.len() > EVENTS_MAX {
+        return Err(JsonFault::TooManyEvents);
+    }
+    let mut text = Output::new(alloc);
+    report_json(alloc, &mut text, tree, &came_to.events, &came_to.replies)?;
+    Ok(text)
+}
+
 /// The report on a scenario's run as JSON, whose steps are made again on the same tree. Errors: those of `report_of`;
 /// `NoMemory`; `TooManyEvents` over 2,000.
 fn json_of(alloc: Global, scenario: Scenario, mut tree: ListTree) -> Result<Output, JsonFault>
@@ -63,12 +77,7 @@ fn json_of(alloc: Global, scenario: Scenario, mut tree: ListTree) -> Result<Outp
     ensures some { IfOk result (λ text. text ≢ []) }
 {
     let came_to = run_of(alloc, scenario, &mut tree)?;
-    if came_to.events.len() > EVENTS_MAX {
-        return Err(JsonFault::TooManyEvents);
-    }
-    let mut text = Output::new(alloc);
-    report_json(alloc, &mut text, tree, &came_to.events, &came_to.replies)?;
-    Ok(text)
+    json_text(alloc, tree, &came_to)
 }
 
 /// Reads a script, runs its world in this order of turns, and writes the report as one line of JSON: the tree as the
@@ -104,7 +113,7 @@ fn page_with(alloc: Global, text: &[u8], run: Played) -> Result<Output, NoMemory
     Ok(whole)
 }
 
-/// The page of a run, from a tree in which its roots are granted. Errors: those of `Played::of`; `NoMemory`.
+/// The page of a run, from a tree in which its roots are granted. Errors as of `picture_text`.
 fn page_played(
     alloc: Global,
     tree: ListTree,
@@ -112,12 +121,12 @@ fn page_played(
     came_to: &Report<SlabTree>,
     actors: u32,
     closes: Closes,
-) -> Result<Output, PictureFault>
+) -> Result<Output, DrawFault>
     ensures ok { IfOk result (λ page. page ≡ page_of
         (report_text came_to.now.events.events came_to.now.replies.items came_to.now.tree actors)
         (played_of closes tree calls.now came_to.now.events.events came_to.now.replies.items ∷ [])) }
-    ensures err { IfErr result (λ fault. fault ≢ OutOfRoom → IsPictureFault came_to.now.events.events
-        (drawn_of closes tree calls.now came_to.now.events.events came_to.now.replies.items) fault) }
+    ensures err { IfErr result (IsUndrawn came_to.now.events.events
+        (drawn_of closes tree calls.now came_to.now.events.events came_to.now.replies.items)) }
 {
     let (events, replies) = (&came_to.events, &came_to.replies);
     let run = Played::of(alloc, tree, calls, events, replies, closes)?;
@@ -142,10 +151,7 @@ fn page_of(
     let calls = calls_of(alloc, &scenario.plans)?;
     let actors = scenario.plans.len() as u32;
     let came_to = run_of(alloc, scenario, &mut tree)?;
-    match page_played(alloc, tree, &calls, &came_to, actors, closes) {
-        Ok(page) => Ok(page),
-        Err(fault) => Err(told_of(fault)),
-    }
+    page_played(alloc, tree, &calls, &came_to, actors, closes)
 }
 
 /// Reads a script, runs its world in this order of turns, and writes a page of HTML that needs nothing beside itself:

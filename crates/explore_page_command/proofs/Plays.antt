@@ -9,7 +9,7 @@ use Rattle.drawings.specs.Picture.{drawn_of, IsPictureFault}
 use Rattle.draw_command.specs.declared.drawing.DrawFault.{DrawFault}
 use Rattle.draw_command.specs.declared.drawing.DrawFault.TheVariants.{Run, TooManyActors, TooManyLines}
 use Rattle.draw_command.specs.Drawing.{opened_by, told_of, IsNoDrawing}
-use Rattle.draw_command.proofs.Drawings.{is_no_drawing}
+use Rattle.draw_command.proofs.Drawings.{opening, is_no_drawing}
 use Rattle.draw_command.proofs.Pages.{played_so}
 use Rattle.explore_page_command.specs.Played.{ArePlayed, IsPlayed, IsNoPlay, by_schedule_of}
 use Rattle.outcome_text.specs.declared.survey.Told.{Told}
@@ -48,7 +48,9 @@ is_played said t tree calls events replies played run opened are is =
       events = events;
       replies = replies;
       run = run;
-      is = is ∙ played_so Hidden said t tree calls events replies run opened are;
+      is =
+          is ∙ played_so Hidden said t tree calls events replies
+          (run, opening said t tree events replies run opened) are;
     }
 
 -- a run that has no picture has none by its schedule
@@ -66,9 +68,10 @@ pub is_no_play : (said : Said) (schedule : List ℕ) (t tree : State) (calls : L
     → (fault ≢ picture_fault.NoMemory → IsPictureFault events (drawn_of Hidden t calls events replies) fault)
     → told ≡ told_of fault → IsNoPlay said told
 is_no_play said schedule t tree calls events replies fault told playable run opened are why is =
+    let shown : Said = record said { schedule = schedule } in
     no_play said schedule told
-    (is_no_drawing Hidden
-    (record said { schedule = schedule }) t tree calls events replies fault told playable run opened are why is)
+    (is_no_drawing Hidden shown t tree calls events replies told playable
+    (run, opening shown t tree events replies run opened) are (fault, (is, why)))
 
 -- ---- one more
 
