@@ -97,22 +97,21 @@ static size_t names_in(const struct walk *w, size_t from, size_t to)
     return names;
 }
 
+static bool is_up(const char *part)
+{
+    return strncmp(part, "/..", 3) == 0 && (part[3] == '/' || part[3] == 0);
+}
+
 /* Whether `..` comes up behind a name, leads above the root, or ends the path: the steps go there. */
 static bool is_for_steps(const struct walk *w)
 {
     const char *rest = w->path + w->at;
     size_t up = 0;
-    for (; strncmp(rest, "/..", 3) == 0 && (rest[3] == '/' || rest[3] == 0); rest += 3)
+    for (; is_up(rest); rest += 3)
         up++;
     const size_t left = strlen(rest);
     const bool goes_up = strstr(rest, "/../") != NULL || (left >= 3 && strcmp(rest + left - 3, "/..") == 0);
     return left == 0 || goes_up || (up > 0 && up > names_in(w, 0, w->at));
-}
-
-static bool comes_up(const struct walk *w)
-{
-    const char *part = w->path + w->at;
-    return strncmp(part, "/..", 3) == 0 && (part[3] == 0 || part[3] == '/');
 }
 
 /* Says what comes next: a link that is hinted at, `..`, or names alone. */
@@ -125,7 +124,12 @@ static uint32_t look_ahead(struct walk *w, struct inroot_through_answer *answer)
     const bool is_link = w->link != INROOT_NO_HINT;
     answer->passed = names_in(w, 0, w->at);
     answer->ahead = names_in(w, w->at, is_link ? w->link : w->length);
-    answer->comes = by_steps ? INROOT_COMES_LEFT : comes_up(w) ? INROOT_COMES_UP : is_link ? INROOT_COMES_LINK : INROOT_COMES_END;
+    if (by_steps)
+        answer->comes = INROOT_COMES_LEFT;
+    else if (is_up(w->path + w->at))
+        answer->comes = INROOT_COMES_UP;
+    else
+        answer->comes = is_link ? INROOT_COMES_LINK : INROOT_COMES_END;
     return 0;
 }
 
