@@ -111,9 +111,20 @@ void inroot_by_calls(struct inroot_driver *d, struct inroot_work *w)
     }
 }
 
-bool inroot_is_dead(int fd)
+/* How the question ends: done if the directory is there, refused if it was removed, not made where that can't be known. */
+static uint8_t ask_there(int fd)
 {
     struct inroot_work work = {.facts = {.what = INROOT_IS_THERE}, .looks = fd};
     inroot_by_calls(NULL, &work);
-    return work.course.next != INROOT_ENDS_DONE;
+    return work.course.next;
+}
+
+bool inroot_is_dead(int fd)
+{
+    return ask_there(fd) == INROOT_ENDS_REFUSED;
+}
+
+bool inroot_may_be_dead(int fd)
+{
+    return ask_there(fd) != INROOT_ENDS_DONE;
 }

@@ -191,7 +191,7 @@ bool inroot_is_refusal(uint8_t what, uint8_t mode, size_t text, uint32_t error);
 
 /* ---- which system call comes next, as one step is made. These take no memory. */
 
-/* Whether a directory is there still: a question in the place of a step. */
+/* Whether a directory is there still: a question in the place of a step. It isn't made where that can't be known. */
 enum { INROOT_IS_THERE = 0 };
 
 /*

@@ -558,8 +558,9 @@ struct inroot_work {
 };
 /* Makes the step, as the library says: FACTS, and how it ENDS in the course. */
 void inroot_by_calls(struct inroot_driver *d, struct inroot_work *work);
-/* Whether somebody removed the directory, as far as the kernel shows it. */
+/* Whether somebody removed the directory; and whether that may be, as of one on overlayfs that can't be read. */
 bool inroot_is_dead(int fd);
+bool inroot_may_be_dead(int fd);
 
 /* steps.c */
 /* Another descriptor of the directory that a handle is on: it shares nothing else with that one. Or -errno. */

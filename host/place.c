@@ -243,7 +243,7 @@ static void ask(struct search *s)
     case INROOT_PLACE_ROOT_AGAIN: s->again_length = note(s, link_of(s->d, s->root, s->again)); break;
     case INROOT_PLACE_LOOK_UP: look_up(s); break;
     case INROOT_PLACE_LINK_AGAIN: s->again_length = note(s, object_link(s, s->again)); break;
-    case INROOT_PLACE_DEAD: s->answer.yes = inroot_is_dead(s->slot->fd); break;
+    case INROOT_PLACE_DEAD: s->answer.yes = inroot_may_be_dead(s->slot->fd); break;
     case INROOT_PLACE_IS_ROOT: find_root(s); break;
     }
 }

@@ -2,7 +2,8 @@
  * dead: a directory is removed after a call has opened it, and before the call asks for the one above: that one isn't opened, as
  * the kernel opens none of what is gone. On the file system that DIR is on, and on overlayfs, which leaves links to a directory
  * of a lower layer: of one that is there alone, of one that the upper layer has too, of one that was made above. And on a cgroup2,
- * which leaves links to each. To be linked with --wrap=openat.
+ * which leaves links to each. And a directory whose name ends as the kernel writes of what was removed is opened only if it can
+ * be known that it is there. To be linked with --wrap=openat.
  *
  * usage: dead DIR. Exits 0 where that holds. 78: no right to mount, so that overlayfs or a cgroup2 is left out, or to change a root.
  */
@@ -148,6 +149,37 @@ static void in_jail_on_overlay(void)
     in_jail();
 }
 
+static void opens_or_fails(const char *path, int flags, int wanted, const char *what)
+{
+    int fd = inroot_open(root, path, flags);
+    gives(fd < 0 ? fd : 0, wanted, "%s", what);
+    if (fd >= 0)
+        close(fd);
+}
+
+/* As nobody, who may read one of them. On overlayfs this must be read; elsewhere its links say it. */
+static void called_so(int unread)
+{
+    sure(mkdirat(root, "s (deleted)", 0755), "s (deleted)");
+    sure(mkdirat(root, "u (deleted)", 0311), "u (deleted)");
+    if (setresuid(65534, 65534, 65534) != 0)
+        _exit(NO_RIGHT);
+    gives_fd(inroot_open(root, "s (deleted)", INROOT_NO_RETRY), "a directory that is called so");
+    opens_or_fails("u (deleted)", INROOT_NO_RETRY, unread, "one that may not be read");
+    opens_or_fails("u (deleted)", INROOT_ONE_BY_ONE | INROOT_NO_RETRY, unread, "the same, name by name");
+}
+
+static void called_so_on_overlay(void)
+{
+    on_overlay("six");
+    called_so(-EAGAIN);
+}
+
+static void called_so_here(void)
+{
+    called_so(0);
+}
+
 int main(int count, char **words)
 {
     if (count != 2 || realpath(words[1], where) == NULL)
@@ -158,12 +190,15 @@ int main(int count, char **words)
         puts("dead: overlayfs can't be mounted here");
     else
         apart(in_jail_on_overlay);
+    if (skipped == 0 && may_be_nobody())
+        apart(called_so_on_overlay);
     const int no_groups = apart(on_cgroup2);
     if (no_groups != 0)
         puts("dead: a cgroup2 can't be mounted here, or has no new groups");
     skipped |= no_groups;
     here("three");
     apart(by_proc);
+    skipped |= may_be_nobody() ? apart(called_so_here) : NO_RIGHT;
     here("four");
     skipped |= apart(in_jail);
     printf("dead: %d not as they are to be\n", wrong);

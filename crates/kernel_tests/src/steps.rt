@@ -197,6 +197,37 @@ fn removed_directories_have_no_parent(rt: HostRuntime) -> Result<(), Fail> {
     Ok(())
 }
 
+// Where it can't be known, `..` of it is opened, and the question alone isn't answered.
+#[test]
+fn what_may_be_removed_is_no_answer(rt: HostRuntime) -> Result<(), Fail> {
+    let alone = step(IS_THERE);
+    let layers = says(&alone, begin(&alone), 2);
+    assert!(rt; ends(fails(&alone, layers, EIO), UNMADE, EIO));
+    let open = says(&alone, layers, OVERLAYFS);
+    assert!(rt; ends(fails(&alone, open, EACCES), UNMADE, EACCES));
+    let read = works(&alone, open);
+    assert!(rt; works(&alone, works(&alone, read)).next == DONE);
+    let gone = fails(&alone, read, ENOENT);
+    assert!(rt; gone.next == CLOSE_READ && ends(works(&alone, gone), REFUSED, ENOENT));
+    let unread = fails(&alone, read, EIO);
+    assert!(rt; unread.next == CLOSE_READ && ends(works(&alone, unread), UNMADE, EIO));
+    let above = step(PARENT);
+    let unread = fails(
+        &above,
+        works(
+            &above,
+            says(
+                &above,
+                says(&above, works(&above, begin(&above)), 2),
+                OVERLAYFS,
+            ),
+        ),
+        EIO,
+    );
+    assert!(rt; unread.next == CLOSE_READ && works(&above, unread).next == OPENED);
+    Ok(())
+}
+
 // readlink(2); mount(8), nosymfollow.
 #[test]
 fn texts_are_read(rt: HostRuntime) -> Result<(), Fail> {

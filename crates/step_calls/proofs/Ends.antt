@@ -45,9 +45,11 @@ pub gone_all : (P : Next → Type 0) (f : Facts) → ((f.what == PARENT) ≡ tru
     → ((f.what == PARENT) ≡ false → P (fails REFUSED ENOENT)) → P (gone f)
 gone_all P f c r = if_elim P (f.what == PARENT) (waits CLOSE REFUSED ENOENT) (fails REFUSED ENOENT) c r
 
-pub there_all : (P : Next → Type 0) (f : Facts) → ((f.what == PARENT) ≡ true → P (knows OPENED DIRECTORY))
-    → ((f.what == PARENT) ≡ false → P (asks DONE)) → P (there f)
-there_all P f o d = if_elim P (f.what == PARENT) (knows OPENED DIRECTORY) (asks DONE) o d
+pub there_all : (P : Next → Type 0) (f : Facts) (error : ℕ) → ((f.what == PARENT) ≡ true → P (knows OPENED DIRECTORY))
+    → ((f.what == PARENT) ≡ false → P (asks DONE)) → ((f.what == PARENT) ≡ false → P (fails UNMADE error)) → P (there f error)
+there_all P f error o d u =
+    if_elim P (f.what == PARENT) (knows OPENED DIRECTORY) _ o
+    (λ b. if_elim P (error == 0) (asks DONE) (fails UNMADE error) (λ c. d b) (λ c. u b))
 
 pub unasked_all : (P : Next → Type 0) (f : Facts) (error : ℕ)
     → ((f.what == PARENT) ≡ true → P (waits CLOSE UNMADE error)) → ((f.what == PARENT) ≡ false → P (fails UNMADE error))

@@ -93,28 +93,31 @@ well f (asks_links error links) due =
     (λ b. unasked_all P f error (λ x. no_way) (λ x. no_way))
 well f (asks_layers error type) due =
     let P = Well f (asks_layers error type) due in
-    if_elim P ((error == 0) && keeps_links type) (asks OPEN_TO_READ) (there f)
-    (λ b h. (refl, refl)) (λ b. there_all P f (λ x h. (refl, refl)) (λ x h. (refl, refl)))
+    if_elim P ((error == 0) && keeps_links type) (asks OPEN_TO_READ) (there f error)
+    (λ b h. (refl, refl)) (λ b. there_all P f error (λ x h. (refl, refl)) (λ x h. (refl, refl)) (λ x. no_way))
 well f (opens_to_read error) due =
     let P = Well f (opens_to_read error) due in
     let of = λ (k : ℕ) (b : (error == k) ≡ true) (is : not (k == ENOENT) ≡ true).
     ap (λ (n : ℕ). not (n == ENOENT)) (eqb-true error k b) ∙ is in
     if_elim P (error == 0) (asks READ) _ (λ b h. (of 0 b refl, refl))
     (λ b. if_elim P (error == EINTR) (asks OPEN_TO_READ) _ (λ c h. (of EINTR c refl, refl))
-    (λ c. if_elim P (error == ENOENT) (gone f) (there f)
+    (λ c. if_elim P (error == ENOENT) (gone f) (there f error)
     (λ d. gone_all P f (λ x. no_way) (λ x. no_way))
-    (λ d. there_all P f (λ x h. (opposite (error == ENOENT) d, refl)) (λ x h. (opposite (error == ENOENT) d, refl)))))
+    (λ d. there_all P f error (λ x h. (opposite (error == ENOENT) d, refl)) (λ x h. (opposite (error == ENOENT) d, refl))
+    (λ x. no_way))))
 well f (reads error) due =
     let P = Well f (reads error) due in
     if_elim P (error == EINTR) (asks READ) _
     (λ b h. (ap (λ (n : ℕ). not (n == ENOENT)) (eqb-true error EINTR b), refl))
-    (λ b. if_elim P (error == ENOENT) (fails CLOSE_READ ENOENT) (asks CLOSE_READ) (λ c. no_way)
+    (λ b. if_elim P (error == ENOENT) (fails CLOSE_READ ENOENT) _ (λ c. no_way)
     (λ c h. (opposite (error == ENOENT) c, refl)))
 well f closes_read due =
     let P = Well f closes_read due in
-    if_elim P (due.error == 0) (there f) (gone f)
-    (λ b. let ok = ap (λ (x : Bool). not (not x)) b in there_all P f (λ x h. (refl, ok)) (λ x h. (refl, ok)))
-    (λ b. gone_all P f (λ x. no_way) (λ x. no_way))
+    if_elim P (due.error == 0) (there f 0) _
+    (λ b. let ok = ap (λ (x : Bool). not (not x)) b in
+    there_all P f 0 (λ x h. (refl, ok)) (λ x h. (refl, ok)) (λ x. no_way))
+    (λ b. if_elim P (due.error == ENOENT) (gone f) (unasked f due.error) (λ c. gone_all P f (λ x. no_way) (λ x. no_way))
+    (λ c. unasked_all P f due.error (λ x. no_way) (λ x. no_way)))
 well f (asks_follow error flags) due =
     let P = Well f (asks_follow error flags) due in
     if_elim P (error == EINTR) (asks NO_FOLLOW) _

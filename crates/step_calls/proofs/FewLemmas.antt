@@ -80,22 +80,25 @@ falls f (asks_links error links) due =
     (λ b. unasked_all P f error (λ x. omega arith) (λ x. omega arith))
 falls f (asks_layers error type) due =
     let P = Falls (asks_layers error type) in
-    if_elim P ((error == 0) && keeps_links type) (asks OPEN_TO_READ) (there f)
-    (λ b. omega arith) (λ b. there_all P f (λ x. omega arith) (λ x. omega arith))
+    if_elim P ((error == 0) && keeps_links type) (asks OPEN_TO_READ) (there f error)
+    (λ b. omega arith) (λ b. there_all P f error (λ x. omega arith) (λ x. omega arith) (λ x. omega arith))
 falls f (opens_to_read error) due =
     let P = Falls (opens_to_read error) in
     if_elim P (error == 0) (asks READ) _ (λ b. omega arith)
     (λ b. if_elim P (error == EINTR) (asks OPEN_TO_READ) _ (λ c. omega (arith, one error c))
-    (λ c. if_elim P (error == ENOENT) (gone f) (there f)
-    (λ d. gone_all P f (λ x. omega arith) (λ x. omega arith)) (λ d. there_all P f (λ x. omega arith) (λ x. omega arith))))
+    (λ c. if_elim P (error == ENOENT) (gone f) (there f error) (λ d. gone_all P f (λ x. omega arith) (λ x. omega arith))
+    (λ d. there_all P f error (λ x. omega arith) (λ x. omega arith) (λ x. omega arith))))
 falls f (reads error) due =
     let P = Falls (reads error) in
     if_elim P (error == EINTR) (asks READ) _ (λ b. omega (arith, one error b))
-    (λ b. if_elim P (error == ENOENT) (fails CLOSE_READ ENOENT) (asks CLOSE_READ) (λ c. omega arith) (λ c. omega arith))
+    (λ b. if_elim P (error == ENOENT) (fails CLOSE_READ ENOENT) _ (λ c. omega arith) (λ c. omega arith))
 falls f closes_read due =
     let P = Falls closes_read in
-    if_elim P (due.error == 0) (there f) (gone f)
-    (λ b. there_all P f (λ x. omega arith) (λ x. omega arith)) (λ b. gone_all P f (λ x. omega arith) (λ x. omega arith))
+    if_elim P (due.error == 0) (there f 0) _
+    (λ b. there_all P f 0 (λ x. omega arith) (λ x. omega arith) (λ x. omega arith))
+    (λ b. if_elim P (due.error == ENOENT) (gone f) (unasked f due.error)
+    (λ c. gone_all P f (λ x. omega arith) (λ x. omega arith))
+    (λ c. unasked_all P f due.error (λ x. omega arith) (λ x. omega arith)))
 falls f (asks_follow error flags) due =
     let P = Falls (asks_follow error flags) in
     if_elim P (error == EINTR) (asks NO_FOLLOW) _ (λ b. omega (arith, one error b))

@@ -72,22 +72,24 @@ each P f (asks_links error links) due c =
     (λ d. gone_all P f (λ x. c.close REFUSED ENOENT) (λ x. c.refused ENOENT)) (λ d. c.layers))
     (λ b. unasked_all P f error (λ x. c.close UNMADE error) (λ x. c.unmade error))
 each P f (asks_layers error type) due c =
-    if_elim P ((error == 0) && keeps_links type) (asks OPEN_TO_READ) (there f) (λ b. c.to_read)
-    (λ b. there_all P f (λ x. c.is_open DIRECTORY) (λ x. c.done))
+    if_elim P ((error == 0) && keeps_links type) (asks OPEN_TO_READ) (there f error) (λ b. c.to_read)
+    (λ b. there_all P f error (λ x. c.is_open DIRECTORY) (λ x. c.done) (λ x. c.unmade error))
 each P f (opens_to_read error) due c =
     if_elim P (error == 0) (asks READ) _ (λ b. c.read)
     (λ b. if_elim P (error == EINTR) (asks OPEN_TO_READ) _ (λ d. c.to_read)
-    (λ d. if_elim P (error == ENOENT) (gone f) (there f)
+    (λ d. if_elim P (error == ENOENT) (gone f) (there f error)
     (λ g. gone_all P f (λ x. c.close REFUSED ENOENT) (λ x. c.refused ENOENT))
-    (λ g. there_all P f (λ x. c.is_open DIRECTORY) (λ x. c.done))))
+    (λ g. there_all P f error (λ x. c.is_open DIRECTORY) (λ x. c.done) (λ x. c.unmade error))))
 each P f (reads error) due c =
     if_elim P (error == EINTR) (asks READ) _ (λ b. c.read)
-    (λ b. if_elim P (error == ENOENT) (fails CLOSE_READ ENOENT) (asks CLOSE_READ) (λ d. c.close_read ENOENT)
-    (λ d. c.close_read 0))
+    (λ b. if_elim P (error == ENOENT) (fails CLOSE_READ ENOENT) _ (λ d. c.close_read ENOENT)
+    (λ d. c.close_read (if f.what == PARENT then 0 else error)))
 each P f closes_read due c =
-    if_elim P (due.error == 0) (there f) (gone f)
-    (λ g. there_all P f (λ x. c.is_open DIRECTORY) (λ x. c.done))
-    (λ g. gone_all P f (λ x. c.close REFUSED ENOENT) (λ x. c.refused ENOENT))
+    if_elim P (due.error == 0) (there f 0) _
+    (λ g. there_all P f 0 (λ x. c.is_open DIRECTORY) (λ x. c.done) (λ x. c.unmade 0))
+    (λ g. if_elim P (due.error == ENOENT) (gone f) (unasked f due.error)
+    (λ h. gone_all P f (λ x. c.close REFUSED ENOENT) (λ x. c.refused ENOENT))
+    (λ h. unasked_all P f due.error (λ x. c.close UNMADE due.error) (λ x. c.unmade due.error)))
 each P f (asks_follow error flags) due c =
     if_elim P (error == EINTR) (asks NO_FOLLOW) _ (λ b. c.no_follow)
     (λ b. if_elim P ((error == 0) && has_followed flags) (if f.was_read then asks TEXT else asks READ_LINK)
@@ -161,9 +163,11 @@ gone_holds f was is =
     gone_all (λ n. was ≡ needs_opened f n.next) f (λ b. is ∙ with_child (f.what == PARENT) true b)
     (λ b. (is ∙ with_child (f.what == PARENT) false b) ∙ none (f.what == PARENT))
 
-there_holds : (f : Facts) (was : Bool) → was ≡ ((f.what == PARENT) && true) → was ≡ needs_opened f (there f).next
-there_holds f was is =
-    there_all (λ n. was ≡ needs_opened f n.next) f (λ b. is ∙ with_child (f.what == PARENT) true b)
+there_holds : (f : Facts) (was : Bool) (error : ℕ) → was ≡ ((f.what == PARENT) && true)
+    → was ≡ needs_opened f (there f error).next
+there_holds f was error is =
+    there_all (λ n. was ≡ needs_opened f n.next) f error (λ b. is ∙ with_child (f.what == PARENT) true b)
+    (λ b. (is ∙ with_child (f.what == PARENT) false b) ∙ none (f.what == PARENT))
     (λ b. (is ∙ with_child (f.what == PARENT) false b) ∙ none (f.what == PARENT))
 
 unasked_holds : (f : Facts) (was : Bool) (error : ℕ) → was ≡ ((f.what == PARENT) && true)
@@ -217,20 +221,22 @@ holds_step f (asks_links error links) due was is =
     (λ b. if_elim P (links == 0) (gone f) (asks LAYERS) (λ c. gone_holds f was is) (λ c. is))
     (λ b. unasked_holds f was error is)
 holds_step f (asks_layers error type) due was is =
-    if_elim (λ (n : Next). was ≡ needs_opened f n.next) ((error == 0) && keeps_links type) (asks OPEN_TO_READ) (there f)
-    (λ b. is) (λ b. there_holds f was is)
+    if_elim (λ (n : Next). was ≡ needs_opened f n.next) ((error == 0) && keeps_links type) (asks OPEN_TO_READ)
+    (there f error) (λ b. is) (λ b. there_holds f was error is)
 holds_step f (opens_to_read error) due was is =
     let P = λ (n : Next). was ≡ needs_opened f n.next in
     if_elim P (error == 0) (asks READ) _ (λ b. is)
     (λ b. if_elim P (error == EINTR) (asks OPEN_TO_READ) _ (λ c. is)
-    (λ c. if_elim P (error == ENOENT) (gone f) (there f) (λ d. gone_holds f was is) (λ d. there_holds f was is)))
+    (λ c. if_elim P (error == ENOENT) (gone f) (there f error) (λ d. gone_holds f was is) (λ d. there_holds f was error is)))
 holds_step f (reads error) due was is =
     let P = λ (n : Next). was ≡ needs_opened f n.next in
     if_elim P (error == EINTR) (asks READ) _ (λ b. is)
-    (λ b. if_elim P (error == ENOENT) (fails CLOSE_READ ENOENT) (asks CLOSE_READ) (λ c. is) (λ c. is))
+    (λ b. if_elim P (error == ENOENT) (fails CLOSE_READ ENOENT) _ (λ c. is) (λ c. is))
 holds_step f closes_read due was is =
-    if_elim (λ (n : Next). was ≡ needs_opened f n.next) (due.error == 0) (there f) (gone f)
-    (λ b. there_holds f was is) (λ b. gone_holds f was is)
+    let P = λ (n : Next). was ≡ needs_opened f n.next in
+    if_elim P (due.error == 0) (there f 0) _ (λ b. there_holds f was 0 is)
+    (λ b. if_elim P (due.error == ENOENT) (gone f) (unasked f due.error) (λ c. gone_holds f was is)
+    (λ c. unasked_holds f was due.error is))
 holds_step f (asks_follow error flags) due was is =
     let P = λ (n : Next). was ≡ needs_opened f n.next in
     if_elim P (error == EINTR) (asks NO_FOLLOW) _ (λ b. is)
@@ -300,16 +306,17 @@ reads_step f (opens_to_read error) due was is =
     let P = λ (n : Next). (error == 0) ≡ needs_read n.next in
     if_elim P (error == 0) (asks READ) _ (λ b. b)
     (λ b. if_elim P (error == EINTR) (asks OPEN_TO_READ) _ (λ c. b)
-    (λ c. if_elim P (error == ENOENT) (gone f) (there f)
-    (λ d. gone_all P f (λ x. b) (λ x. b)) (λ d. there_all P f (λ x. b) (λ x. b))))
+    (λ c. if_elim P (error == ENOENT) (gone f) (there f error)
+    (λ d. gone_all P f (λ x. b) (λ x. b)) (λ d. there_all P f error (λ x. b) (λ x. b) (λ x. b))))
 reads_step f (reads error) due was is =
     let P = λ (n : Next). was ≡ needs_read n.next in
     if_elim P (error == EINTR) (asks READ) _ (λ b. is)
-    (λ b. if_elim P (error == ENOENT) (fails CLOSE_READ ENOENT) (asks CLOSE_READ) (λ c. is) (λ c. is))
+    (λ b. if_elim P (error == ENOENT) (fails CLOSE_READ ENOENT) _ (λ c. is) (λ c. is))
 reads_step f closes_read due was is =
     let P = λ (n : Next). false ≡ needs_read n.next in
-    if_elim P (due.error == 0) (there f) (gone f)
-    (λ b. there_all P f (λ x. refl) (λ x. refl)) (λ b. gone_all P f (λ x. refl) (λ x. refl))
+    if_elim P (due.error == 0) (there f 0) _ (λ b. there_all P f 0 (λ x. refl) (λ x. refl) (λ x. refl))
+    (λ b. if_elim P (due.error == ENOENT) (gone f) (unasked f due.error) (λ c. gone_all P f (λ x. refl) (λ x. refl))
+    (λ c. unasked_all P f due.error (λ x. refl) (λ x. refl)))
 reads_step f (opens_directory error) due was is =
     let P = λ (n : Next). was ≡ needs_read n.next in
     if_elim P (error == 0) (opened f DIRECTORY) _ (λ b. opened_all P f DIRECTORY is is (λ l. is) is is)
@@ -344,8 +351,8 @@ reads_step f (asks_links error links) due was is =
     (λ b. unasked_all P f error (λ x. is) (λ x. is))
 reads_step f (asks_layers error type) due was is =
     let P = λ (n : Next). was ≡ needs_read n.next in
-    if_elim P ((error == 0) && keeps_links type) (asks OPEN_TO_READ) (there f)
-    (λ b. is) (λ b. there_all P f (λ x. is) (λ x. is))
+    if_elim P ((error == 0) && keeps_links type) (asks OPEN_TO_READ) (there f error)
+    (λ b. is) (λ b. there_all P f error (λ x. is) (λ x. is) (λ x. is))
 reads_step f (asks_follow error flags) due was is =
     let P = λ (n : Next). was ≡ needs_read n.next in
     if_elim P (error == EINTR) (asks NO_FOLLOW) _ (λ b. is)

@@ -33,8 +33,8 @@ module _ (f : Facts) (above : (f.what == PARENT) ≡ false) (magic : f.no_magic 
   opens : (k : ℕ) → Plain said (opened f k)
   opens k = if_elim (Plain said) f.mount (knows MOUNT k) (stayed f k) (λ b. tt) (λ b. stays k)
 
-  is_there : Plain said (there f)
-  is_there = there_all (Plain said) f (λ b h. absurd (false≢true h)) (λ b. tt)
+  is_there : (error : ℕ) → Plain said (there f error)
+  is_there error = there_all (Plain said) f error (λ b h. absurd (false≢true h)) (λ b. tt) (λ b. tt)
 
   is_gone : Plain said (gone f)
   is_gone = gone_all (Plain said) f (λ b. tt) (λ b. tt)
@@ -75,20 +75,22 @@ magic_step f (asks_links error links) due said above magic =
     (λ b. if_elim P (links == 0) (gone f) (asks LAYERS) (λ c. is_gone f above magic said) (λ c. tt))
     (λ b. unasked_all P f error (λ x. tt) (λ x. tt))
 magic_step f (asks_layers error type) due said above magic =
-    if_elim (Plain said) ((error == 0) && keeps_links type) (asks OPEN_TO_READ) (there f) (λ b. tt)
-    (λ b. is_there f above magic said)
+    if_elim (Plain said) ((error == 0) && keeps_links type) (asks OPEN_TO_READ) (there f error) (λ b. tt)
+    (λ b. is_there f above magic said error)
 magic_step f (opens_to_read error) due said above magic =
     let P = Plain said in
     if_elim P (error == 0) (asks READ) _ (λ b. tt)
     (λ b. if_elim P (error == EINTR) (asks OPEN_TO_READ) _ (λ c. tt)
-    (λ c. if_elim P (error == ENOENT) (gone f) (there f) (λ d. is_gone f above magic said) (λ d. is_there f above magic said)))
+    (λ c. if_elim P (error == ENOENT) (gone f) (there f error) (λ d. is_gone f above magic said)
+    (λ d. is_there f above magic said error)))
 magic_step f (reads error) due said above magic =
     let P = Plain said in
     if_elim P (error == EINTR) (asks READ) _ (λ b. tt)
-    (λ b. if_elim P (error == ENOENT) (fails CLOSE_READ ENOENT) (asks CLOSE_READ) (λ c. tt) (λ c. tt))
+    (λ b. if_elim P (error == ENOENT) (fails CLOSE_READ ENOENT) _ (λ c. tt) (λ c. tt))
 magic_step f closes_read due said above magic =
-    if_elim (Plain said) (due.error == 0) (there f) (gone f) (λ b. is_there f above magic said)
-    (λ b. is_gone f above magic said)
+    if_elim (Plain said) (due.error == 0) (there f 0) _ (λ b. is_there f above magic said 0)
+    (λ b. if_elim (Plain said) (due.error == ENOENT) (gone f) (unasked f due.error) (λ c. is_gone f above magic said)
+    (λ c. unasked_all (Plain said) f due.error (λ x. tt) (λ x. tt)))
 magic_step f (asks_follow error flags) due said above magic =
     let P = Plain said in
     if_elim P (error == EINTR) (asks NO_FOLLOW) _ (λ b. tt)

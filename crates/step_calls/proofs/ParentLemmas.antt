@@ -114,10 +114,10 @@ found w layered f history now parents a =
     if_elim (Stood w layered f history now) f.mount (knows MOUNT DIRECTORY) (came_to f DIRECTORY)
     (λ b. (refl, a)) (λ b. came w layered f history now DIRECTORY parents a)
 
-is_there : (w : World) (layered : Bool) (f : Facts) (history : List Exchange) (now : ℕ) → f.what ≡ PARENT
-    → (a : Above w now) → IsThere w a.n ⊎ CouldNotAsk history → Stood w layered f history now (there f)
-is_there w layered f history now parents a known =
-    subst (λ (n : ℕ). Stood w layered f history now (there (record f { what = n }))) (sym parents)
+is_there : (w : World) (layered : Bool) (f : Facts) (history : List Exchange) (now error : ℕ) → f.what ≡ PARENT
+    → (a : Above w now) → IsThere w a.n ⊎ CouldNotAsk history → Stood w layered f history now (there f error)
+is_there w layered f history now error parents a known =
+    subst (λ (n : ℕ). Stood w layered f history now (there (record f { what = n }) error)) (sym parents)
     (a, led w f history now a known)
 
 is_removed : (w : World) (layered : Bool) (f : Facts) (history : List Exchange) (now : ℕ) → f.what ≡ PARENT
@@ -207,37 +207,40 @@ step w layered f older now (asks_links error links) due parents world says was =
 step w layered f older now (asks_layers error type) due parents world says was =
     let history = asks_layers error type ∷ older in
     let a = later w now world says.0 was.0 in
-    and_elim (Stood w layered f history (suc now)) (error == 0) (keeps_links type) (asks OPEN_TO_READ) (there f)
+    and_elim (Stood w layered f history (suc now)) (error == 0) (keeps_links type) (asks OPEN_TO_READ) (there f error)
     (λ b c. a)
-    (λ b c. is_there w layered f history (suc now) parents a
+    (λ b c. is_there w layered f history (suc now) error parents a
     (inl (other_type w layered a.n (says.1 (eqb-true error 0 b) c) was.1)))
-    (λ b. is_there w layered f history (suc now) parents a (inr (inl (not_zero error b))))
+    (λ b. is_there w layered f history (suc now) error parents a (inr (inl (not_zero error b))))
 step w layered f older now (opens_to_read error) due parents world says was =
     let history = opens_to_read error ∷ older in
     let a = later w now world says.0 was in
     if_elim (Stood w layered f history (suc now)) (error == 0) (asks READ) _ (λ b. a)
     (λ b. if_elim (Stood w layered f history (suc now)) (error == EINTR) (asks OPEN_TO_READ) _ (λ c. a)
-    (λ c. if_elim (Stood w layered f history (suc now)) (error == ENOENT) (gone f) (there f)
+    (λ c. if_elim (Stood w layered f history (suc now)) (error == ENOENT) (gone f) (there f error)
     (λ d. is_removed w layered f history (suc now) parents (removed_now w (suc now) (says.1 (eqb-true error ENOENT d))))
-    (λ d. is_there w layered f history (suc now) parents a (inr (inl (not_zero error b))))))
+    (λ d. is_there w layered f history (suc now) error parents a (inr (inl (not_zero error b))))))
 step w layered f older now (reads error) due parents world says was =
     let history = reads error ∷ older in
     let a = later w now world says.0 was in
     if_elim (Stood w layered f history (suc now)) (error == EINTR) (asks READ) _ (λ b. a)
-    (λ b. if_elim (Stood w layered f history (suc now)) (error == ENOENT) (fails CLOSE_READ ENOENT) (asks CLOSE_READ)
+    (λ b. if_elim (Stood w layered f history (suc now)) (error == ENOENT) (fails CLOSE_READ ENOENT)
+    (fails CLOSE_READ (if f.what == PARENT then 0 else error))
     (λ c. (a, (λ none. absurd (omega (arith, none))), (λ some. removed_now w (suc now) (says.1 (eqb-true error ENOENT c)))))
     (λ c. (
       a,
       (λ none. read_by (error == 0) w older error a.n (suc now) refl a.stays says.2),
-      (λ some. absurd (some refl)),
+      (λ some. absurd (some (ap (λ (n : ℕ). if n == PARENT then 0 else error) parents))),
     )))
 step w layered f older now closes_read due parents world says was =
     let history = closes_read ∷ older in
     let a = later w now world says was.0 in
-    if_elim (Stood w layered f history (suc now)) (due.error == 0) (there f) (gone f)
-    (λ b. is_there w layered f history (suc now) parents a (was.1 (eqb-true due.error 0 b)))
-    (λ b. let g = was.2 (not_zero due.error b) in
+    if_elim (Stood w layered f history (suc now)) (due.error == 0) (there f 0) _
+    (λ b. is_there w layered f history (suc now) 0 parents a (was.1 (eqb-true due.error 0 b)))
+    (λ b. if_elim (Stood w layered f history (suc now)) (due.error == ENOENT) (gone f) (unasked f due.error)
+    (λ c. let g = was.2 (not_zero due.error b) in
     is_removed w layered f history (suc now) parents (g.0, omega (arith, g.1), g.2))
+    (λ c. is_unasked w layered f history (suc now) due.error parents))
 step w layered f older now (asks_follow error flags) due parents world says was = absurd was
 step w layered f older now (reads_link error) due parents world says was = absurd was
 step w layered f older now (changes error) due parents world says was = absurd was

@@ -9,6 +9,7 @@ use Rattle.step_calls.specs.Refusals.{is_refusal}
 use Rattle.step_calls.specs.declared.course.TheConstants.{OPEN_DIRECTORY, OPEN_ANY, SPARE, MOUNT, KIND, MAY_HOLD_MAGIC, MAGIC, LINKS, LAYERS, OPEN_TO_READ, READ, CLOSE_READ, READ_LINK, NO_FOLLOW, CHANGE, CLOSE, OPENED, TEXT, DONE, REFUSED, UNMADE}
 use Rattle.step_calls.specs.declared.facts.Facts.{Facts}
 use Rattle.step_calls.specs.declared.facts.TheConstants.{DIRECTORY, DUP, IS_THERE, LINK, OPEN, PARENT, READ_TEXT}
+use Rattle.step_calls.proofs.Ends.{there_all}
 use Rattle.step_calls.proofs.MomentLemmas.{if_elim}
 
 abbrev IsOwn : Facts → ℕ → Type 0
@@ -54,8 +55,8 @@ module _ (f : Facts) where
   is_gone above =
       subst (λ (n : ℕ). Stood (record f { what = n }) (gone (record f { what = n }))) (sym above) (λ r. refl)
 
-  is_there : Stood f (there f)
-  is_there = if_elim (Stood f) (f.what == PARENT) (knows OPENED DIRECTORY) (asks DONE) (λ b. tt) (λ b. tt)
+  is_there : (error : ℕ) → Stood f (there f error)
+  is_there error = there_all (Stood f) f error (λ b. tt) (λ b. tt) (λ b. tt)
 
   is_unasked : (error : ℕ) → Stood f (unasked f error)
   is_unasked error =
@@ -87,16 +88,18 @@ module _ (f : Facts) where
       (λ b. if_elim (Stood f) (links == 0) (gone f) (asks LAYERS) (λ c. is_gone was) (λ c. was))
       (λ b. is_unasked error)
   step (asks_layers error type) due was =
-      if_elim (Stood f) ((error == 0) && keeps_links type) (asks OPEN_TO_READ) (there f) (λ b. was) (λ b. is_there)
+      if_elim (Stood f) ((error == 0) && keeps_links type) (asks OPEN_TO_READ) (there f error) (λ b. was) (λ b. is_there error)
   step (opens_to_read error) due was =
       if_elim (Stood f) (error == 0) (asks READ) _ (λ b. was)
       (λ b. if_elim (Stood f) (error == EINTR) (asks OPEN_TO_READ) _ (λ c. was)
-      (λ c. if_elim (Stood f) (error == ENOENT) (gone f) (there f) (λ d. is_gone was) (λ d. is_there)))
+      (λ c. if_elim (Stood f) (error == ENOENT) (gone f) (there f error) (λ d. is_gone was) (λ d. is_there error)))
   step (reads error) due was =
       if_elim (Stood f) (error == EINTR) (asks READ) _ (λ b. was)
-      (λ b. if_elim (Stood f) (error == ENOENT) (fails CLOSE_READ ENOENT) (asks CLOSE_READ) (λ c. was) (λ c. was))
+      (λ b. if_elim (Stood f) (error == ENOENT) (fails CLOSE_READ ENOENT) _ (λ c. was) (λ c. was))
   step closes_read due was =
-      if_elim (Stood f) (due.error == 0) (there f) (gone f) (λ b. is_there) (λ b. is_gone was)
+      if_elim (Stood f) (due.error == 0) (there f 0) _ (λ b. is_there 0)
+      (λ b. if_elim (Stood f) (due.error == ENOENT) (gone f) (unasked f due.error) (λ c. is_gone was)
+      (λ c. is_unasked due.error))
   step (asks_follow error flags) due was =
       if_elim (Stood f) (error == EINTR) (asks NO_FOLLOW) _ (λ b. tt)
       (λ b. if_elim (Stood f) ((error == 0) && has_followed flags) (if f.was_read then asks TEXT else asks READ_LINK)

@@ -182,8 +182,10 @@ after_magic error kind =
 abbrev pub gone : Facts → Next
 gone f = if f.what == PARENT then waits CLOSE REFUSED ENOENT else fails REFUSED ENOENT
 
-abbrev pub there : Facts → Next
-there f = if f.what == PARENT then knows OPENED DIRECTORY else asks DONE
+-- Where that can't be known, by this error, `..` is believed all the same. The question is not answered so.
+abbrev pub there : Facts → ℕ → Next
+there f error =
+    if f.what == PARENT then knows OPENED DIRECTORY else (if error == 0 then asks DONE else fails UNMADE error)
 
 abbrev pub unasked : Facts → ℕ → Next
 unasked f error = if f.what == PARENT then waits CLOSE UNMADE error else fails UNMADE error
@@ -197,20 +199,23 @@ abbrev pub after_links : Facts → ℕ → ℕ → Next
 after_links f error links = if error == 0 then (if links == 0 then gone f else asks LAYERS) else unasked f error
 
 abbrev pub after_layers : Facts → ℕ → ℕ → Next
-after_layers f error type = if (error == 0) && keeps_links type then asks OPEN_TO_READ else there f
+after_layers f error type = if (error == 0) && keeps_links type then asks OPEN_TO_READ else there f error
 
 -- ENOENT is a removed directory's. Of one that may not be read it can't be known.
 abbrev pub after_open_to_read : Facts → ℕ → Next
 after_open_to_read f error =
     if error == 0 then asks READ
-    else (if error == EINTR then asks OPEN_TO_READ else (if error == ENOENT then gone f else there f))
+    else (if error == EINTR then asks OPEN_TO_READ else (if error == ENOENT then gone f else there f error))
 
-abbrev pub after_read : ℕ → Next
-after_read error =
-    if error == EINTR then asks READ else (if error == ENOENT then fails CLOSE_READ ENOENT else asks CLOSE_READ)
+abbrev pub after_read : Facts → ℕ → Next
+after_read f error =
+    if error == EINTR then asks READ
+    else (if error == ENOENT then fails CLOSE_READ ENOENT
+    else fails CLOSE_READ (if f.what == PARENT then 0 else error))
 
 abbrev pub after_close_read : Facts → ℕ → Next
-after_close_read f why = if why == 0 then there f else gone f
+after_close_read f why =
+    if why == 0 then there f 0 else (if why == ENOENT then gone f else unasked f why)
 
 -- ---- links' texts
 
@@ -261,7 +266,7 @@ after_exchange f (asks_magic error) due = after_magic error due.kind
 after_exchange f (asks_links error links) due = after_links f error links
 after_exchange f (asks_layers error type) due = after_layers f error type
 after_exchange f (opens_to_read error) due = after_open_to_read f error
-after_exchange f (reads error) due = after_read error
+after_exchange f (reads error) due = after_read f error
 after_exchange f closes_read due = after_close_read f due.error
 after_exchange f (asks_follow error flags) due = after_follow f error flags
 after_exchange f (reads_link error) due = after_read_link f error

@@ -28,13 +28,16 @@ fn gone(facts: &Facts) -> Course
     }
 }
 
-fn there(facts: &Facts) -> Course
-    ensures { due_of result ≡ there facts.now }
+// Where that can't be known, by this error, `..` is believed all the same.
+fn there(facts: &Facts, error: u32) -> Course
+    ensures { due_of result ≡ there facts.now error }
 {
     if facts.what == PARENT {
         knows(OPENED, DIRECTORY)
-    } else {
+    } else if error == 0 {
         asks(DONE)
+    } else {
+        fails(UNMADE, error)
     }
 }
 
@@ -74,7 +77,7 @@ pub(crate) fn after_layers(facts: &Facts, error: u32, file_system: u64) -> Cours
     if error == 0 && keeps_links(file_system) {
         asks(OPEN_TO_READ)
     } else {
-        there(facts)
+        there(facts, error)
     }
 }
 
@@ -88,26 +91,32 @@ pub(crate) fn after_open_to_read(facts: &Facts, error: u32) -> Course
     } else if error == ENOENT {
         gone(facts)
     } else {
-        there(facts)
+        there(facts, error)
     }
 }
 
-pub(crate) fn after_read(error: u32) -> Course
-    ensures { due_of result ≡ after_read error }
+pub(crate) fn after_read(facts: &Facts, error: u32) -> Course
+    ensures { due_of result ≡ after_read facts.now error }
 {
     if error == EINTR {
         asks(READ)
     } else if error == ENOENT {
         fails(CLOSE_READ, ENOENT)
     } else {
-        asks(CLOSE_READ)
+        fails(CLOSE_READ, if facts.what == PARENT { 0 } else { error })
     }
 }
 
 pub(crate) fn after_close_read(facts: &Facts, why: u32) -> Course
     ensures { due_of result ≡ after_close_read facts.now why }
 {
-    if why == 0 { there(facts) } else { gone(facts) }
+    if why == 0 {
+        there(facts, 0)
+    } else if why == ENOENT {
+        gone(facts)
+    } else {
+        unasked(facts, why)
+    }
 }
 
 fn has_followed(flags: u64) -> bool

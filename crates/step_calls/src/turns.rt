@@ -69,7 +69,7 @@ fn after(facts: &Facts, course: Course, answer: &Answer) -> Course
         LINKS => after_links(facts, answer.error, answer.number),
         LAYERS => after_layers(facts, answer.error, answer.number),
         OPEN_TO_READ => after_open_to_read(facts, answer.error),
-        READ => after_read(answer.error),
+        READ => after_read(facts, answer.error),
         CLOSE_READ => after_close_read(facts, course.error),
         NO_FOLLOW => after_follow(facts, answer.error, answer.number),
         READ_LINK => after_read_link(facts, answer.error),
