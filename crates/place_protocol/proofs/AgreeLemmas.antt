@@ -1,7 +1,7 @@
 -- Agreeing answers tell the place.
-use Rattle.std.proofs.Common.{◌≡◌, ◌==◌, ◌&&◌, ◌||◌, ◌≤◌, ◌<◌, ℕ, Bool, true, false, not, List, [], ◌∷◌, length, nat_lt, Option, Some, None, refl, sym, ap, subst, ◌∙◌}
+use Rattle.std.proofs.Common.{◌≡◌, ◌==◌, ◌||◌, ◌≤◌, ℕ, Bool, true, false, not, List, [], ◌∷◌, length, nat_lt, Option, Some, None, refl, sym, ap, subst, ◌∙◌}
 use Rattle.std.specs.Cmp.Derive.{both_true}
-use Rattle.std.proofs.lemmas.Bool.{cond-true, cond-false, cond_both, eq-eqb, le-ltb, lt-ltb, ltb-false}
+use Rattle.std.proofs.lemmas.Bool.{cond-true, cond-false, cond_both, eq-eqb, le-ltb, ltb-false}
 use Rattle.path_text.specs.Name.{same_bytes}
 use Rattle.path_text.specs.declared.name.TheConstants.{SLASH}
 use Rattle.path_text.specs.declared.path.TheConstants.{TEXT_MAX}

@@ -1,5 +1,5 @@
 -- Where the text is the one witness.
-use Rattle.std.proofs.Common.{◌≡◌, ◌==◌, ◌&&◌, ◌||◌, ℕ, Bool, true, false, not, cond, List, [], ◌∷◌, Option, Some, None, refl, sym, ap, subst, ◌∙◌, inl, inr}
+use Rattle.std.proofs.Common.{◌≡◌, ◌==◌, ◌&&◌, ◌||◌, ℕ, Bool, true, false, not, List, [], ◌∷◌, Option, Some, None, refl, sym, ap, subst, ◌∙◌, inl, inr}
 use Rattle.std.proofs.lemmas.Bool.{eqb-true, not-true, or_left, true≢false, false≢true}
 use Rattle.path_text.specs.declared.name.TheConstants.{SLASH}
 use Rattle.system_calls.specs.Errors.{EAGAIN, EOPNOTSUPP}

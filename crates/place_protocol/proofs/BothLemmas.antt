@@ -1,5 +1,5 @@
 -- Where the thread has openat2(2).
-use Rattle.std.proofs.Common.{◌≡◌, ◌==◌, ◌&&◌, ◌||◌, ℕ, Bool, true, false, not, cond, List, [], ◌∷◌, length, nat_lt, Option, Some, None, refl, sym, ap, subst, ◌∙◌, ◌⊎◌, inl, inr}
+use Rattle.std.proofs.Common.{◌≡◌, ◌==◌, ◌||◌, ℕ, Bool, true, false, not, cond, List, [], ◌∷◌, length, Option, Some, None, refl, sym, ap, subst, ◌∙◌, ◌⊎◌, inl, inr}
 use Rattle.std.proofs.lemmas.Bool.{cond-false, eqb-true, not-false, true≢false}
 use Rattle.path_text.specs.declared.name.TheConstants.{SLASH}
 use Rattle.system_calls.specs.Errors.{EAGAIN}
@@ -7,7 +7,7 @@ use Rattle.kernel_text.specs.Place.{place_between, IsPart}
 use Rattle.kernel_text.specs.declared.place.Place.{Place}
 use Rattle.system_calls.specs.Objects.{is_same_object}
 use Rattle.place_protocol.specs.Conversation.{Comes, Exchange, StandsAt, keep}
-use Rattle.place_protocol.specs.Texts.{Texts, Finds, path_of_root, place_of, texts_of}
+use Rattle.place_protocol.specs.Texts.{Texts, Finds, path_of_root, place_of}
 use Rattle.place_protocol.specs.Turns.{after_found, after_look_up, after_object, ask_there, confirm, confirm_alone, confirm_place, facts_after, first_link, has_found, is_root, link_error, look_up_error, without_second}
 use Rattle.place_protocol.specs.Witness.{IsThere, RootStayed, SecondWitness, TextTells, WasThere, Worked, is_top}
 use Rattle.place_protocol.specs.declared.questions.Facts.{Facts}
@@ -17,7 +17,7 @@ use Rattle.place_protocol.specs.declared.turns.Turn.{Turn}
 use Rattle.place_protocol.specs.declared.turns.Turn.TheVariants.{Ask, Look, Stands, Unmade}
 use Rattle.place_protocol.proofs.AloneLemmas.{Confirmed, alive, jail_alone, root_stayed, there, top_of}
 use Rattle.place_protocol.proofs.GoesLemmas.{Ends, answered, asked, both, either, if_not, if_so, link_worked, no_error, not_so, so, stood, turned, unmade}
-use Rattle.place_protocol.proofs.TextLemmas.{found_part, is_found, or_second, part_size, place_with_second, some_found, told_with_second}
+use Rattle.place_protocol.proofs.TextLemmas.{found_part, is_found, or_second, part_size, some_found, told_with_second}
 
 -- the text tells the place below the root's path that was read last
 abbrev pub Told : Facts → Texts → List ℕ → Type 0

@@ -1,5 +1,5 @@
 -- Each question leaves fewer that may follow.
-use Rattle.std.proofs.Common.{◌≡◌, ◌==◌, ◌&&◌, ◌||◌, ◌≤◌, ◌<◌, ℕ, Bool, true, false, not, cond, List, [], ◌∷◌, length, nat_lt, Option, Some, None, refl, sym, subst, arith, lit<, lit≤}
+use Rattle.std.proofs.Common.{◌≡◌, ◌==◌, ◌&&◌, ◌||◌, ◌≤◌, ◌<◌, ℕ, Bool, true, false, not, cond, List, [], ◌∷◌, length, Option, Some, None, refl, sym, subst, arith, lit<, lit≤}
 use Rattle.std.proofs.lemmas.Bool.{cond_both, both_ways, not-false, not-true, true≢false}
 use Rattle.path_text.specs.declared.name.TheConstants.{SLASH}
 use Rattle.system_calls.specs.Errors.{ENOENT, EAGAIN, EACCES, ENOSYS, EOPNOTSUPP}

@@ -1,5 +1,5 @@
 -- What the kernel has answered wherever a place is told: the argument of docs/HOST-WHY.md, "NameBelow is the crux".
-use Rattle.std.specs.Prelude.{◌≡◌, ◌⊎◌, ◌<◌, ◌≤◌, ◌==◌, ℕ, List, [], ◌∷◌, Bool, true, false, length, Some}
+use Rattle.std.specs.Prelude.{◌≡◌, ◌⊎◌, ◌≤◌, ◌==◌, ℕ, List, [], ◌∷◌, Bool, true, false, length, Some}
 use Rattle.path_text.specs.declared.name.TheConstants.{SLASH}
 use Rattle.path_text.specs.declared.path.TheConstants.{TEXT_MAX}
 use Rattle.kernel_text.specs.Place.{ends_as_gone, is_named, place_between, place_of_cwd}
