@@ -2,7 +2,7 @@
 use Rattle.std.proofs.Common.{◌≡◌, ℕ, zero, suc, ◌+◌, ◌-◌, ◌≤◌, ◌<◌, List, [], ◌∷◌, ◌++◌, length, take, drop, refl, sym, ap, ◌∙◌, arith, get_or, add-one, subst}
 use Rattle.std.specs.Prelude.{Some, slice_get, IfSome, Option}
 use Rattle.std.proofs.Math.Seq.{take-append_seam, drop-append_seam}
-use Rattle.std.proofs.lemmas.List.{append_assoc, append-nil, length-append, take_all}
+use Rattle.std.proofs.lemmas.List.{append_assoc, append-nil, length-append}
 use Rattle.tree_model.specs.declared.answer.Event.{Event}
 use Rattle.tree_model.specs.declared.answer.Answer.{Answer}
 use Rattle.tree_model.specs.StepWith.{StepWith}
@@ -13,10 +13,6 @@ use Rattle.event_log.specs.Shapes.{step_shape, step_texts, answer_shape, answer_
 use Rattle.event_log.specs.Records.{event_with, event_texts, record_of, event_read, events_read, records_from, texts_of, HasNames, IsLike, IsLog}
 use Rattle.path_text.proofs.NameBuffers.{all_at}
 use Rattle.event_log.proofs.Again.{events_more, log_more, event_again}
-
-length_records : (start : ℕ) (events : List Event) → length (records_from start events) ≡ length events
-length_records start [] = refl
-length_records start (event ∷ events) = ap (λ n. suc n) (length_records (start + length (event_texts event)) events)
 
 record_start : (start : ℕ) (events : List Event) (k : ℕ) (r : Record) → slice_get (records_from start events) k ≡ Some r → r.start ≡ start + length (texts_of (take k events))
 record_start start [] k r e = absurd (cc)
@@ -33,12 +29,6 @@ pub start_recorded : (bytes : List ℕ) (records : List Record) (k : ℕ) (r : R
 start_recorded bytes records k r h found =
     let there : slice_get (records_from 0 (events_read bytes records)) k ≡ Some r = ap (λ rs. slice_get rs k) (sym h.recorded) ∙ found in
     record_start 0 (events_read bytes records) k r there ∙ omega arith
-
-pub start_of_none : (bytes : List ℕ) (records : List Record) (k : ℕ) → IsLog bytes records → length records ≤ k
-    → length bytes ≡ length (texts_of (take k (events_read bytes records)))
-start_of_none bytes records k h past =
-    let count : length (events_read bytes records) ≡ length records = sym (length_records 0 (events_read bytes records)) ∙ ap length (sym h.recorded) in
-    ap length h.written ∙ ap (λ es. length (texts_of es)) (sym (take_all k (events_read bytes records) (omega (arith, past, count))))
 
 -- the texts before an event, its own, and those behind it
 texts_split : (events : List Event) (k : ℕ) (event : Event) → slice_get events k ≡ Some event

@@ -15,7 +15,6 @@ use Rattle.tree_model.specs.declared.inode.Place.{Place}
 use Rattle.tree_model.specs.State.{child, child_from, is_at}
 use Rattle.tree_model.proofs.Children.{entry, is_at-true}
 use Rattle.tree_model.proofs.StepLaws.{slice_get-set_other}
-use Rattle.tree_list.specs.Build.{top_alone}
 use Rattle.tree_list.specs.Index.{node_in, PutsNode, IsIndexOf}
 
 -- a map without entries for one node more
@@ -24,9 +23,6 @@ node_in-empty_more [] map none zero n = ap (lookup (λ k. is_eq (slice_cmp nat_c
 node_in-empty_more [] map none (suc d) n = refl
 node_in-empty_more (first ∷ index) map none zero n = refl
 node_in-empty_more (first ∷ index) map none (suc d) n = node_in-empty_more index map none d n
-
-pub index-empty : (map : BTreeMap (Vec ℕ) ℕ) → IsEmpty map → IsIndexOf top_alone (map ∷ [])
-index-empty map none = record { found = λ d n. node_in-empty_more [] map none d n; count = refl }
 
 -- what is found among the nodes and one more
 abbrev or_last : Bool → ℕ → Option ℕ → Option ℕ

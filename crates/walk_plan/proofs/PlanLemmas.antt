@@ -1,15 +1,15 @@
 -- What the calls of a plan leave of it.
-use Rattle.std.proofs.Common.{◌≡◌, ◌≢◌, ℕ, ◌+◌, ◌-◌, ◌≤◌, ◌<◌, Bool, true, false, ◌||◌, ◌==◌, List, [], ◌∷◌, ◌++◌, length, refl, arith, length-append}
+use Rattle.std.proofs.Common.{◌≡◌, ℕ, ◌+◌, ◌-◌, ◌≤◌, ◌<◌, Bool, true, false, ◌||◌, ◌==◌, List, [], ◌∷◌, ◌++◌, length, refl, arith, length-append}
 use Rattle.std.specs.Prelude.{Option, Some, None, IsSome, if◌then◌else◌}
 use Rattle.std.proofs.lemmas.Bool.Decides.{nat_tests}
 use Rattle.path_text.specs.declared.errno.Errno.{Errno}
-use Rattle.path_text.specs.declared.errno.Errno.TheVariants.{Loop, CrossRoot}
+use Rattle.path_text.specs.declared.errno.Errno.TheVariants.{Loop}
 use Rattle.path_text.specs.declared.part.Part.{Part}
 use Rattle.path_text.specs.declared.path.TheConstants.{PARTS_MAX}
-use Rattle.path_text.specs.Text.{text_fault, parts_of, reading_of, begins_with_slash}
+use Rattle.path_text.specs.Text.{text_fault, parts_of, reading_of}
 use Rattle.path_text.specs.Reading.{Reading}
 use Rattle.path_text.proofs.TextLemmas.{reading_few}
-use Rattle.walk_plan.specs.Plan.{PlanState, IsPlan, most_parts_left, first_part, next_part, after_first, own_after_next, stayed, spliced, through, through_fault, first_fault, leads_out}
+use Rattle.walk_plan.specs.Plan.{PlanState, IsPlan, most_parts_left, first_part, next_part, after_first, own_after_next, stayed, spliced, through, through_fault, first_fault}
 
 -- ---- lengths
 
@@ -44,12 +44,6 @@ followed p text h =
     let passed = not_refused p.flags.no_links (p.links_left == 0) _ h in
     let left = passed.0 in
     (grind (arith, nat_tests), (first_fault_none (text_fault text) _ passed.1).0)
-
--- where links are allowed and one is left, only the text can be in the way
-pub text_alone : (p : PlanState) (text : List ℕ) → p.flags.no_links ≡ false → p.links_left ≢ 0 → through_fault p text ≡ first_fault (text_fault text) (if leads_out (begins_with_slash text) p.flags then Some CrossRoot else None)
-text_alone p text allowed left =
-    let some : (p.links_left == 0) ≡ false = grind (arith, nat_tests) in
-    rw (allowed, some) refl
 
 -- ---- what stays true of a plan
 
