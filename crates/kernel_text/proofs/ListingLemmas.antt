@@ -1,16 +1,14 @@
 -- Facts about records that are read one after another, and names that are laid.
-use Rattle.std.proofs.Common.{◌≡◌, ℕ, ◌+◌, ◌-◌, ◌≤◌, ◌<◌, Bool, true, false, not, ◌==◌, cond, List, [], ◌∷◌, ◌++◌, length, get_or, take, drop, map, refl, sym, ap, subst, ◌∙◌, arith, append_assoc, length-append, add-one, Option, Some, None, Bor, ◌⊎◌, inl, inr}
+use Rattle.std.proofs.Common.{◌≡◌, ℕ, ◌+◌, ◌-◌, ◌≤◌, ◌<◌, Bool, true, false, not, ◌==◌, cond, List, [], ◌∷◌, ◌++◌, length, get_or, take, drop, map, refl, sym, ap, subst, ◌∙◌, arith, length-append, add-one, Option, Some, None, Bor, ◌⊎◌, inl, inr}
 use Rattle.std.specs.Prelude.{MatchBool, slice_set}
 use Rattle.std.specs.List.{filter, onto_first, sum_by}
 use Rattle.std.specs.List.Sorted.{IsPermutation, IsSortedBy}
-use Rattle.std.proofs.Math.Seq.{take-append_seam}
 use Rattle.std.proofs.lemmas.Bool.{eqb-true, le-leb, lt-leb}
 use Rattle.std.proofs.lemmas.List.{append-nil, get_or-map, length-map, take-append-drop, take_more, take_rest}
 use Rattle.std.proofs.lemmas.List.Elements.{filter-append}
 use Rattle.std.proofs.lemmas.List.Sorted.{sum_by-IsPermutation}
 use Rattle.std.proofs.lemmas.List.Splits.{length-slice_split}
 use Rattle.std.proofs.lemmas.List.Sums.{sum_by-cons}
-use Rattle.std.proofs.lemmas.Slice.{drop-append-drop}
 use Rattle.path_text.specs.Errno.{number_of}
 use Rattle.path_text.specs.declared.errno.Errno.TheVariants.{NoMemory}
 use Rattle.path_text.specs.declared.name.TheConstants.{SLASH}
@@ -37,9 +35,6 @@ pub told_as : (bytes : List ℕ) (size : ℕ) (name : Option (List ℕ)) → siz
 told_as bytes size name is whole before =
     ap (λ t. cond t (before_nul (take (size_told bytes - HEAD_SIZE) (drop HEAD_SIZE bytes))) None) whole
     ∙ ap (λ k. before_nul (take (k - HEAD_SIZE) (drop HEAD_SIZE bytes))) (sym is) ∙ sym before
-
-pub told_none : (bytes : List ℕ) → is_whole bytes ≡ false → name_told bytes ≡ None
-told_none bytes part = ap (λ t. cond t (before_nul (take (size_told bytes - HEAD_SIZE) (drop HEAD_SIZE bytes))) None) part
 
 -- ---- names
 

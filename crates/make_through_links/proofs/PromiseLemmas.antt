@@ -299,10 +299,6 @@ not_reply : (call n : ℕ) → call ≡ n → n ≢ FIND → n ≢ CREATE → n 
     → (call ≢ FIND) × ((call ≢ CREATE) × (call ≢ MAKE))
 not_reply call n is f c m = (λ x. f (sym is ∙ x), (λ x. c (sym is ∙ x), λ x. m (sym is ∙ x)))
 
-no_reply : (call error n : ℕ) → call ≡ n → n ≢ FIND → n ≢ CREATE → n ≢ MAKE → error ≡ 0
-    → (call ≢ FIND) × ((call ≢ CREATE) × (call ≢ MAKE))
-no_reply call error n is f c m none = not_reply call n is f c m
-
 gave_none : (asked : Asked) (s : Stand) (e : Exchange) (m : Met) → Means m asked.follows e.call e.error
     → is_call (due_met asked s e m).next ≡ true → GaveNone e
 gave_none asked s e Missing is call = λ none. absurd (omega (arith, none, is.1))
@@ -465,13 +461,6 @@ followed_fits : (s : Stand) (e : Exchange) (due : Due) → is_call (follows_link
 followed_fits s e due call =
     ltb-false TEXT_MAX (length (whole s)) (link_fits (nat_lt LINKS s.links) (nat_lt TEXT_MAX (length (whole s)))
     (fails ELOOP STEP_READ_LINK e.path) (fails ENAMETOOLONG STEP_READ_LINK e.path) due refl refl call)
-
--- what was met, in place of what is read of the exchange
-at_met : (asked : Asked) (e : Exchange) (older : List Exchange) (m : Met) → met_of asked e ≡ m
-    → IsPathOf asked (e ∷ older) (moved (stand_after asked older) e m)
-    → IsPathOf asked (e ∷ older) (stand_after asked (e ∷ older))
-at_met asked e older m is path = subst (λ n. IsPathOf asked (e ∷ older) (moved (stand_after asked older) e n))
-    (sym is) path
 
 new_path : (asked : Asked) (e : Exchange) (older : List Exchange) (m : Met) → met_of asked e ≡ m
     → is_followed m ≡ true → IsLed (whole (stand_after asked older)) (whole (moved (stand_after asked older) e m)) e

@@ -1,5 +1,5 @@
 -- What holds of every history.
-use Rattle.std.proofs.Common.{◌≡◌, ◌≢◌, ◌<◌, ◌≤◌, ◌+◌, ◌-◌, ◌/◌, ℕ, zero, suc, List, [], ◌∷◌, ◌++◌, true, false, ◌⊎◌, inl, inr, refl, sym, subst, arith}
+use Rattle.std.proofs.Common.{◌≡◌, ◌≢◌, ◌<◌, ◌≤◌, ◌+◌, ◌-◌, ℕ, zero, suc, List, [], ◌∷◌, ◌++◌, true, false, ◌⊎◌, inl, inr, refl, sym, subst, arith}
 use Rattle.std.specs.Prelude.{◌==◌, if◌then◌else◌}
 use Rattle.std.proofs.lemmas.Bool.{false≢true}
 use Rattle.system_calls.proofs.HeldLemmas.{without_held}
@@ -28,9 +28,6 @@ pub record Fits (pieces : ℕ) (s : Search) : Type 0 where
   pub done : s.next ≡ ENDS → (s.holds ≡ true) × (s.missing ≡ suc s.there)
   pub failed : s.next ≡ FAILS → (s.holds ≡ false) × (s.error ≢ 0)
   pub closing : s.next ≡ CLOSE → (s.error ≡ 0 → s.holds ≡ true) × (s.error ≢ 0 → s.holds ≡ false)
-
-abbrev middle : Search → ℕ
-middle s = s.there + (s.missing - s.there) / 2
 
 goes_fit : (pieces : ℕ) (s n : Search) → Sound pieces s → s.error ≡ 0 → Goes s n → Fits pieces n
 goes_fit pieces s n sound none g =

@@ -1,7 +1,7 @@
 -- What a call met, and by which answer.
-use Rattle.std.proofs.Common.{◌≡◌, ℕ, ◌<◌, Bool, true, false, ◌&&◌, ◌||◌, if◌then◌else◌, ◌⊎◌, inl, inr, refl, arith, nat_lt}
+use Rattle.std.proofs.Common.{◌≡◌, ℕ, ◌<◌, Bool, true, false, ◌&&◌, ◌||◌, if◌then◌else◌, inl, inr, refl, arith, nat_lt}
 use Rattle.std.specs.Prelude.{◌==◌}
-use Rattle.std.proofs.lemmas.Bool.{and_parts, eqb-true, ltb-true}
+use Rattle.std.proofs.lemmas.Bool.{and_parts, eqb-true, ltb-true, or_cases}
 use Rattle.system_calls.specs.Errors.{EBUSY, ENFILE, EMFILE}
 use Rattle.remove_by_calls.specs.Answers.{is_bound, met_of}
 use Rattle.remove_by_calls.specs.declared.answers.Answer.{Answer}
@@ -47,16 +47,12 @@ crowded_in false false true full error given h = absurd (cc)
 crowded_in false false false true error given h = (refl, cc)
 crowded_in false false false false error given h = absurd (cc)
 
-either_is : (one other : Bool) → (one || other) ≡ true → (one ≡ true) ⊎ (other ≡ true)
-either_is true other h = inl refl
-either_is false other h = inr h
-
 -- its error isn't EAGAIN
 pub met_crowded : (a : Answer) (error : ℕ) → met_of a ≡ Crowded error → error ≡ 11 → ⊥
 met_crowded a error h is =
     let parts = crowded_in a.deeper (a.error == 0) (is_bound a)
     ((a.error == EMFILE) || (a.error == ENFILE)) a.error error h in
-    elim (either_is (a.error == EMFILE) (a.error == ENFILE) parts.0) [
+    elim (or_cases (a.error == EMFILE) (a.error == ENFILE) parts.0) [
       | inl one ↦ omega (arith, eqb-true a.error EMFILE one, parts.1, is)
       | inr other ↦ omega (arith, eqb-true a.error ENFILE other, parts.1, is)
     ]

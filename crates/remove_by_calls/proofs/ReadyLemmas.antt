@@ -1,7 +1,7 @@
 -- What holds as something comes next.
 use Rattle.std.proofs.Common.{◌≡◌, ℕ, suc, ◌<◌, ◌≤◌, List, [], ◌∷◌, Bool, true, false, not, ◌&&◌, ◌||◌, if◌then◌else◌, ◌⊎◌, inl, inr, length, refl, sym, ap, subst, arith, nat_lt}
 use Rattle.std.specs.Prelude.{◌==◌}
-use Rattle.std.proofs.lemmas.Bool.{and_parts, eqb-true, eq-eqb, ltb-true, ltb-false, eqb-false, false≢true}
+use Rattle.std.proofs.lemmas.Bool.{and_parts, eqb-true, eq-eqb, ltb-true, ltb-false, eqb-false, false≢true, or_right}
 use Rattle.system_calls.specs.Errors.{EAGAIN}
 use Rattle.system_calls.specs.Tries.{is_due, pause_after, TRIES}
 use Rattle.remove_by_calls.specs.History.{again, all_closed, at_root, in_place, is_kept, one_closed, outermost, IsDue, PLACES}
@@ -150,10 +150,6 @@ closed_ready retry whole idle (Failed error) waits d p k free due =
 
 kept_first : (place : ℕ) (around : List ℕ) → is_kept place (place ∷ around) ≡ true
 kept_first place around = ap (λ (b : Bool). b || is_kept place around) (eq-eqb place place refl)
-
-or_right : (a b : Bool) → b ≡ true → (a || b) ≡ true
-or_right true b h = refl
-or_right false b h = h
 
 kept_outer : (place : ℕ) (around : List ℕ) → is_kept (outermost place around) (place ∷ around) ≡ true
 kept_outer place [] = kept_first place []

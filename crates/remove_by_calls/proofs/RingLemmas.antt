@@ -1,9 +1,9 @@
 -- The numbers of the places that are kept follow one another.
-use Rattle.std.proofs.Common.{◌≡◌, ℕ, zero, suc, ◌+◌, ◌-◌, ◌%◌, ◌<◌, List, ◌∷◌, Bool, true, false, ◌||◌, if◌then◌else◌, length, refl, sym, ap, subst, ◌∙◌, arith}
+use Rattle.std.proofs.Common.{◌≡◌, ℕ, zero, suc, ◌+◌, ◌-◌, ◌%◌, ◌<◌, List, ◌∷◌, Bool, true, false, if◌then◌else◌, length, refl, sym, ap, subst, ◌∙◌, arith}
 use Rattle.std.specs.Prelude.{◌==◌}
-use Rattle.std.proofs.lemmas.Bool.{eq-eqb, ne_eqb}
+use Rattle.std.proofs.lemmas.Bool.{eq-eqb, ne_eqb, or_from}
 use Rattle.system_calls.specs.Held.{without}
-use Rattle.remove_by_calls.specs.History.{after_call, after_close, in_place, one_closed, is_kept, outermost, IsDue}
+use Rattle.remove_by_calls.specs.History.{after_call, in_place, is_kept, outermost, IsDue}
 use Rattle.remove_by_calls.specs.History.Due.{asks, keeps}
 use Rattle.remove_by_calls.specs.Removal.{demand_of, inner, ring}
 use Rattle.remove_by_calls.specs.declared.answers.Met.{Met}
@@ -16,23 +16,16 @@ pub length_ring : (first count : ℕ) → length (ring first count) ≡ count
 length_ring first zero = refl
 length_ring first (suc count) = ap suc (length_ring first count)
 
--- the innermost one is the last of so many
-pub inner_is : (first count : ℕ) → (first + suc count + 15) % 16 ≡ (first + count) % 16
-inner_is first count = omega arith
-
 pub outermost_ring : (first count : ℕ) → outermost ((first + count) % 16) (ring first count) ≡ first % 16
 outermost_ring first zero = ap (λ n. n % 16) (omega arith)
 outermost_ring first (suc count) = outermost_ring first count
-
-either_false : (a b : Bool) → a ≡ false → b ≡ false → (a || b) ≡ false
-either_false a b h k = ap (λ (c : Bool). c || b) h ∙ k
 
 -- no number further on is kept, while there are 16 in all
 free_further : (first count more : ℕ) → count + more < 16
     → is_kept ((first + (count + more)) % 16) (ring first count) ≡ false
 free_further first zero more fits = refl
 free_further first (suc count) more fits =
-    either_false (((first + count) % 16) == ((first + (suc count + more)) % 16))
+    or_from (((first + count) % 16) == ((first + (suc count + more)) % 16))
     (is_kept ((first + (suc count + more)) % 16) (ring first count))
     (ne_eqb ((first + count) % 16) ((first + (suc count + more)) % 16) (λ same. omega arith))
     (subst (λ n. is_kept ((first + n) % 16) (ring first count) ≡ false) (omega arith)
@@ -118,10 +111,3 @@ call_in retry idle first count met some =
     let here : (first + (count - 1)) % 16 ≡ (first + count + 15) % 16 = omega arith in
     ap (λ n. after_call retry idle (ring first n) met) (sym (less count some))
     ∙ ap (λ n. in_place n (ring first (count - 1)) met) here
-
-pub close_in : (retry : Bool) (idle first count : ℕ) (met : Met) → 0 < count
-    → after_close retry idle (ring first count) met ≡ one_closed ((first + count + 15) % 16) met
-close_in retry idle first count met some =
-    let here : (first + (count - 1)) % 16 ≡ (first + count + 15) % 16 = omega arith in
-    ap (λ n. after_close retry idle (ring first n) met) (sym (less count some))
-    ∙ ap (λ n. one_closed n met) here
