@@ -1,13 +1,12 @@
 -- Pieces cut off a text from its end, and the places where parts lie in a buffer.
 use Rattle.std.proofs.Common.{◌≡◌, ◌≢◌, ℕ, ◌+◌, ◌-◌, ◌≤◌, ◌<◌, zero, suc, Bool, true, false, not, ◌==◌, ◌||◌, cond, List, [], ◌∷◌, ◌++◌, length, get_or, map, reverse, take, drop, refl, sym, ap, ◌∙◌, arith}
-use Rattle.std.specs.Prelude.{Option, Some, None, Result, Ok, Err, IsOk, is_ok, slice_get, if◌then◌else◌}
-use Rattle.std.specs.Option.{option_to_list}
+use Rattle.std.specs.Prelude.{Some, Result, Ok, Err, IsOk, is_ok, slice_get, if◌then◌else◌}
 use Rattle.std.specs.List.{list_any, filter, onto_first}
 use Rattle.std.proofs.lemmas.Bool.{eqb-true, or_right}
 use Rattle.std.proofs.lemmas.Bool.Decides.{nat_tests}
 use Rattle.std.proofs.Math.Seq.{drop-append_seam, take-append_seam}
-use Rattle.std.proofs.lemmas.List.{append-nil, length-append, length-map, length-drop, length-take-le, map-append, length-reverse, reverse-append, drop-drop, drop_at, get_or-drop, take_all, take_more_same, append_assoc, nil_from_length}
-use Rattle.std.proofs.lemmas.List.Elements.{All-nil, All-head, All-tail, All-push, filter-append}
+use Rattle.std.proofs.lemmas.List.{append-nil, length-append, length-drop, map-append, reverse-append, drop-drop, drop_at, get_or-drop, take_all, take_more_same, append_assoc}
+use Rattle.std.proofs.lemmas.List.Elements.{All-head, All-tail, All-push, filter-append}
 use Rattle.std.proofs.lemmas.List.Folds.{list_any-append}
 use Rattle.std.proofs.lemmas.Option.{slice_get_within, get_or_from_slice_get}
 use Rattle.std.proofs.lemmas.List.Splits.{length-slice_split}
@@ -126,39 +125,6 @@ pub parts_push : (buffer : List ℕ) (spans : List Span) (span : Span) → parts
 parts_push buffer spans span =
     let said : Span → Part = λ s. part_said (bytes_at buffer s) in
     ap reverse (map-append said spans (span ∷ [])) ∙ reverse-append (map said spans) (said span ∷ [])
-
--- the first part's place taken off
-pub parts_pop : (buffer : List ℕ) (old new : List Span) (last : Option Span) → old ≡ new ++ option_to_list last → new ≡ take (length old - 1) old → parts_at buffer new ≡ drop 1 (parts_at buffer old)
-parts_pop buffer old new (Some span) h k = sym (ap (λ spans. drop 1 (parts_at buffer spans)) h ∙ ap (drop 1) (parts_push buffer new span))
-parts_pop buffer old new None h k =
-    let same : old ≡ new = h ∙ append-nil new in
-    let none : old ≡ [] = nil_from_length old (omega (arith, ap length same, ap length k, length-take-le (length old - 1) old (omega arith))) in
-    ap (parts_at buffer) (sym same ∙ none) ∙ ap (λ spans. drop 1 (parts_at buffer spans)) (sym none)
-
--- where there is no place, the buffer says nothing
-pub parts_none : (buffer : List ℕ) (spans : List Span) (parts : List Part) → length spans ≡ 0 → parts_at buffer spans ≡ parts → parts_at [] spans ≡ parts
-parts_none buffer [] parts h k = k
-parts_none buffer (span ∷ spans) parts h k = absurd (omega (arith, h))
-
-pub places_none : (buffer : List ℕ) (spans : List Span) → length spans ≡ 0 → ArePlaces buffer spans
-places_none buffer spans h = rw (nil_from_length spans h) (All-nil (λ span. IsPlace buffer span))
-
-pub length_parts : (buffer : List ℕ) (spans : List Span) → length (parts_at buffer spans) ≡ length spans
-length_parts buffer spans = length-reverse (map (λ s. part_said (bytes_at buffer s)) spans) ∙ length-map spans (λ s. part_said (bytes_at buffer s))
-
--- the last part's place taken off
-pub parts_shift : (buffer : List ℕ) (spans : List Span) → parts_at buffer (drop 1 spans) ≡ take (length (parts_at buffer spans) - 1) (parts_at buffer spans)
-parts_shift buffer [] = refl
-parts_shift buffer (span ∷ spans) =
-    let said : Span → Part = λ s. part_said (bytes_at buffer s) in
-    let others = parts_at buffer spans in
-    let whole : parts_at buffer (span ∷ spans) ≡ others ++ said span ∷ [] = reverse-append (said span ∷ []) (map said spans) in
-    let count : length (others ++ said span ∷ []) - 1 ≡ length others = omega (arith, length-append others (said span ∷ [])) in
-    sym (ap (λ parts. take (length parts - 1) parts) whole ∙ ap (λ n. take n (others ++ said span ∷ [])) count ∙ take-append_seam others (said span ∷ []))
-
-pub places_shift : (buffer : List ℕ) (spans : List Span) → ArePlaces buffer spans → ArePlaces buffer (drop 1 spans)
-places_shift buffer [] h = h
-places_shift buffer (span ∷ spans) h = All-tail (λ s. IsPlace buffer s) span spans h
 
 -- ---- one more piece
 

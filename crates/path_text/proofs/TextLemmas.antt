@@ -7,6 +7,7 @@ use Rattle.std.proofs.lemmas.Bool.Decides.{nat_tests}
 use Rattle.std.proofs.lemmas.List.{length-append, length-map}
 use Rattle.std.proofs.lemmas.List.Sums.{AllPass-from_list_all}
 use native.Mathlib.Numerals.{unary_clauses}
+pub use Rattle.std.proofs.lemmas.Bool.{and_parts as and_true, or_parts as or_false}
 use Rattle.path_text.specs.declared.name.TheConstants.{SLASH}
 use Rattle.path_text.specs.declared.part.Part.{Part}
 use Rattle.path_text.specs.declared.part.Part.TheVariants.{Cur}
@@ -40,19 +41,11 @@ is_clean_step : (b : ℕ) (t : Bool) (parts : List (List ℕ)) → (b == SLASH) 
 is_clean_step b true parts s n h = h
 is_clean_step b false parts s n h = is_clean_onto_first b parts s n h
 
-pub or_false : (x y : Bool) → (x || y) ≡ false → (x ≡ false) × (y ≡ false)
-or_false true y h = (h, cc)
-or_false false y h = (refl, h)
-
 is_clean_between : (text : List ℕ) → list_any (λ b. b == NUL) text ≡ false → list_all is_clean (between_slashes text) ≡ true
 is_clean_between [] h = refl
 is_clean_between (b ∷ bs) h =
     let parts = or_false (b == NUL) (list_any (λ c. c == NUL) bs) h in
     is_clean_step b (b == SLASH) (between_slashes bs) refl parts.0 (is_clean_between bs parts.1)
-
-pub and_true : (x y : Bool) → (x && y) ≡ true → (x ≡ true) × (y ≡ true)
-and_true true y h = (refl, h)
-and_true false y h = (h, cc)
 
 is_piece_filter : (xs : List (List ℕ)) → list_all is_clean xs ≡ true → list_all is_piece (filter (λ p. not (is_empty p)) xs) ≡ true
 is_piece_filter [] h = refl
@@ -108,9 +101,6 @@ fault_none true n l h = cc
 fault_none false true l h = cc
 fault_none false false true h = cc
 fault_none false false false h = (refl, refl)
-
-pub no_nul : (text : List ℕ) → text_fault text ≡ None → list_any (λ b. b == NUL) text ≡ false
-no_nul text h = (fault_none (is_empty text) (list_any (λ b. b == NUL) text) (nat_lt TEXT_MAX (length text)) h).0
 
 pub is_short : (text : List ℕ) → text_fault text ≡ None → length text ≤ TEXT_MAX
 is_short text h =
