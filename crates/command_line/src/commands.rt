@@ -87,43 +87,101 @@ const WALKING: &str = "SCRIPT is a JSON text on standard input, as
 Example:
   inroot walk a/b/f < examples/base.json";
 
-// An option without a value.
-fn option<'a>(alloc: Global, name: &'a str, help: &'a str) -> Arg<'a> {
-    Arg::new(alloc, name)
-        .long(name)
-        .action(ArgAction::SetTrue)
-        .help(help)
+// What an option takes.
+#[derive(Clone, Copy)]
+enum Takes<'a> {
+    Nothing,
+    // Nothing, and it isn't beside the option of that name.
+    NothingBeside(&'a str),
+    // Nothing, and it is alone.
+    NothingElse,
+    // A value, which help names so.
+    Once(&'a str),
+    // The same, and it may come more than once.
+    Often(&'a str),
 }
 
+// An option: its name, what it takes, and what help says of it.
+#[derive(Clone, Copy)]
+struct Row<'a>(&'a str, Takes<'a>, &'a str);
+
 // The option of every command by which its script is read strictly.
-fn strict<'a>(alloc: Global) -> Arg<'a> {
-    option(
-        alloc,
-        STRICT,
-        "Refuse unknown keys, restrictions in version 1 and unused labels",
-    )
+const STRICTLY: Row<'static> = Row(
+    STRICT,
+    Takes::Nothing,
+    "Refuse unknown keys, restrictions in version 1 and unused labels",
+);
+
+// The option with the turns that are taken in place of the script's schedule.
+const TURNS: Row<'static> = Row(
+    SCHEDULE,
+    Takes::Once("TURNS"),
+    "Take these turns, and not the script's: I or I*N between commas, for actor I; - for none",
+);
+
+// An option as clap takes it.
+fn option<'a>(alloc: Global, row: Row<'a>) -> Result<Arg<'a>, AllocError> {
+    let Row(name, takes, help) = row;
+    let arg = Arg::new(alloc, name).long(name).help(help);
+    match takes {
+        Takes::Nothing => Ok(arg.action(ArgAction::SetTrue)),
+        Takes::NothingBeside(other) => arg.action(ArgAction::SetTrue).conflicts_with(other),
+        Takes::NothingElse => Ok(arg.action(ArgAction::SetTrue).exclusive(true)),
+        Takes::Once(value) => Ok(arg.action(ArgAction::Set).value_name(value)),
+        Takes::Often(value) => Ok(arg.action(ArgAction::Append).value_name(value)),
+    }
 }
+
+// Adds options in their order.
+fn with<'a>(
+    alloc: Global,
+    mut command: Command<'a>,
+    options: &[Row<'a>],
+) -> Result<Command<'a>, AllocError> {
+    for row in options {
+        command = command.arg(option(alloc, *row)?)?;
+    }
+    Ok(command)
+}
+
+// A command, with what help says of it.
+fn described<'a>(
+    alloc: Global,
+    name: &'a str,
+    about: &'a str,
+    usage: &'a str,
+    help: &'a str,
+) -> Command<'a> {
+    Command::new(alloc, name)
+        .about(about)
+        .override_usage(usage)
+        .after_help(help)
+}
+
+const WALK_OPTIONS: [Row<'static>; 3] = [
+    Row(
+        BENEATH,
+        Takes::Nothing,
+        "Refuse what leads out of the root, an absolute path too",
+    ),
+    Row(NO_LINKS, Takes::Nothing, "Follow no symbolic link"),
+    STRICTLY,
+];
 
 // The command `walk`.
 fn walk<'a>(alloc: Global) -> Result<Command<'a>, AllocError> {
+    let walk = described(
+        alloc,
+        WALK,
+        "Resolve PATH below the first actor's root, and print what it opens",
+        "inroot walk [OPTIONS] <PATH> < SCRIPT",
+        WALKING,
+    );
     let path = Arg::new(alloc, PATH)
         .required(true)
         .action(ArgAction::Set)
         .help("The path to resolve");
-    let beneath = option(
-        alloc,
-        BENEATH,
-        "Refuse what leads out of the root, an absolute path too",
-    );
-    let no_links = option(alloc, NO_LINKS, "Follow no symbolic link");
-    Command::new(alloc, WALK)
-        .about("Resolve PATH below the first actor's root, and print what it opens")
-        .override_usage("inroot walk [OPTIONS] <PATH> < SCRIPT")
-        .after_help(WALKING)
-        .arg(beneath)?
-        .arg(no_links)?
-        .arg(strict(alloc))?
-        .arg(path)
+    with(alloc, walk.arg(path)?, &WALK_OPTIONS)
 }
 
 /// What help says of `replay` beside its arguments.
@@ -137,31 +195,26 @@ run of at most 2000 events.
 Example:
   inroot replay < examples/attacks/moved-out.json";
 
-// The option with the turns that are taken in place of the script's schedule.
-fn schedule<'a>(alloc: Global) -> Arg<'a> {
-    Arg::new(alloc, SCHEDULE)
-        .long(SCHEDULE)
-        .value_name("TURNS")
-        .action(ArgAction::Set)
-        .help(
-            "Take these turns, and not the script's: I or I*N between commas, for actor I; - for none",
-        )
-}
+const REPLAY_OPTIONS: [Row<'static>; 3] = [
+    Row(
+        JSON,
+        Takes::Nothing,
+        "Print JSON: the tree at the beginning, and what each event changed",
+    ),
+    TURNS,
+    STRICTLY,
+];
 
 // The command `replay`.
 fn replay<'a>(alloc: Global) -> Result<Command<'a>, AllocError> {
-    let json = option(
+    let replay = described(
         alloc,
-        JSON,
-        "Print JSON: the tree at the beginning, and what each event changed",
+        REPLAY,
+        "Run the actors' calls by the schedule, and print what came of them",
+        "inroot replay [OPTIONS] < SCRIPT",
+        REPLAYING,
     );
-    Command::new(alloc, REPLAY)
-        .about("Run the actors' calls by the schedule, and print what came of them")
-        .override_usage("inroot replay [OPTIONS] < SCRIPT")
-        .after_help(REPLAYING)
-        .arg(json)?
-        .arg(schedule(alloc))?
-        .arg(strict(alloc))
+    with(alloc, replay, &REPLAY_OPTIONS)
 }
 
 /// What help says of `draw` beside its arguments.
@@ -179,41 +232,38 @@ that says yes, and a call that did what it was to do. NO_COLOR asks for no colou
 Example:
   inroot draw < examples/attacks/moved-out.json";
 
+const DRAW_OPTIONS: [Row<'static>; 7] = [
+    Row(SVG, Takes::Nothing, "Draw as SVG and not as text"),
+    Row(
+        HTML,
+        Takes::NothingBeside(SVG),
+        "Draw a page for a browser, with the tree of each moment",
+    ),
+    Row(ALL, Takes::Nothing, "Show each handle that is closed, too"),
+    Row(
+        WIDTH,
+        Takes::Once("N"),
+        "Draw the text in N columns, 40 to 10000",
+    ),
+    Row(
+        COLOR,
+        Takes::Once("WHEN"),
+        "Draw the text in colours: never, auto or always; auto is on a terminal",
+    ),
+    TURNS,
+    STRICTLY,
+];
+
 // The command `draw`.
 fn draw<'a>(alloc: Global) -> Result<Command<'a>, AllocError> {
-    let svg = option(alloc, SVG, "Draw as SVG and not as text");
-    let html = option(
+    let draw = described(
         alloc,
-        HTML,
-        "Draw a page for a browser, with the tree of each moment",
-    )
-    .conflicts_with(SVG)?;
-    let all = option(alloc, ALL, "Show each handle that is closed, too");
-    let width = valued(
-        alloc,
-        WIDTH,
-        "N",
-        ArgAction::Set,
-        "Draw the text in N columns, 40 to 10000",
+        DRAW,
+        "Run the actors' calls by the schedule, and draw who did what when",
+        "inroot draw [OPTIONS] < SCRIPT",
+        DRAWING,
     );
-    let color = valued(
-        alloc,
-        COLOR,
-        "WHEN",
-        ArgAction::Set,
-        "Draw the text in colours: never, auto or always; auto is on a terminal",
-    );
-    Command::new(alloc, DRAW)
-        .about("Run the actors' calls by the schedule, and draw who did what when")
-        .override_usage("inroot draw [OPTIONS] < SCRIPT")
-        .after_help(DRAWING)
-        .arg(svg)?
-        .arg(html)?
-        .arg(all)?
-        .arg(width)?
-        .arg(color)?
-        .arg(schedule(alloc))?
-        .arg(strict(alloc))
+    with(alloc, draw, &DRAW_OPTIONS)
 }
 
 /// What help says of `run` beside its arguments.
@@ -228,19 +278,22 @@ Example:
 
 // The command `run`.
 fn run<'a>(alloc: Global) -> Result<Command<'a>, AllocError> {
-    let workers = Arg::new(alloc, WORKERS)
-        .long(WORKERS)
-        .value_name("N")
+    let workers = Row(
+        WORKERS,
+        Takes::Once("N"),
+        "How many workers there are, 1 to 8",
+    );
+    let workers = option(alloc, workers)?
         .required(true)
-        .action(ArgAction::Set)
-        .value_parser(ValueParser::unsigned(1, WORKERS_MAX as u64))
-        .help("How many workers there are, 1 to 8");
-    Command::new(alloc, RUN)
-        .about("Let workers make the first actor's calls side by side, and print how they ended")
-        .override_usage("inroot run [OPTIONS] --workers <N> < SCRIPT")
-        .after_help(RUNNING)
-        .arg(workers)?
-        .arg(strict(alloc))
+        .value_parser(ValueParser::unsigned(1, WORKERS_MAX as u64));
+    let run = described(
+        alloc,
+        RUN,
+        "Let workers make the first actor's calls side by side, and print how they ended",
+        "inroot run [OPTIONS] --workers <N> < SCRIPT",
+        RUNNING,
+    );
+    with(alloc, run.arg(workers)?, &[STRICTLY])
 }
 
 /// What help says of `explore` beside its arguments.
@@ -255,139 +308,105 @@ begins with TEXT and a blank, as 'reply 0 0 fault' or 'held 0 1'.
 Example:
   inroot explore --actor 0 < examples/attacks/moved-out.json";
 
-// An option with a value.
-fn valued<'a>(
-    alloc: Global,
-    name: &'a str,
-    value: &'a str,
-    action: ArgAction,
-    help: &'a str,
-) -> Arg<'a> {
-    Arg::new(alloc, name)
-        .long(name)
-        .value_name(value)
-        .action(action)
-        .help(help)
-}
-
-// Adds the options of `explore` that take a number.
-fn with_numbers<'a>(alloc: Global, command: Command<'a>) -> Result<Command<'a>, AllocError> {
-    let actor = valued(
-        alloc,
+const EXPLORE_OPTIONS: [Row<'static>; 13] = [
+    Row(
         ACTOR,
-        "I",
-        ArgAction::Append,
+        Takes::Often("I"),
         "Tell the replies of actor I alone; may be given more than once",
-    );
-    let cuts = valued(
-        alloc,
+    ),
+    Row(
         CUTS,
-        "K",
-        ArgAction::Set,
+        Takes::Once("K"),
         "Only schedules that cut calls at most K times",
-    );
-    let states = valued(
-        alloc,
+    ),
+    Row(
         STATES,
-        "N",
-        ArgAction::Set,
+        Takes::Once("N"),
         "Give up past N different states: 1 to 10000000, or 100000",
-    );
-    let memory = valued(
-        alloc,
+    ),
+    Row(
         MEMORY,
-        "N",
-        ArgAction::Set,
+        Takes::Once("N"),
         "Give up where more than N MB are taken: 1 to 1000000, of 1000000 bytes",
-    );
-    command.arg(actor)?.arg(cuts)?.arg(states)?.arg(memory)
-}
-
-// Adds the options of `explore` that say which schedules there are, and what is printed of them.
-fn with_parts<'a>(alloc: Global, command: Command<'a>) -> Result<Command<'a>, AllocError> {
-    let begin = valued(
-        alloc,
+    ),
+    Row(
         BEGIN,
-        "TURNS",
-        ArgAction::Set,
+        Takes::Once("TURNS"),
         "Only schedules that begin so: I or I*N between commas, for actor I; - for none",
-    );
-    let html = option(
-        alloc,
+    ),
+    Row(
         HTML,
+        Takes::NothingBeside(PART),
         "Print a page for a browser, which plays the first 64 outcomes",
-    )
-    .conflicts_with(PART)?;
-    let part = option(
-        alloc,
+    ),
+    Row(
         PART,
+        Takes::Nothing,
         "Print a line of JSON for --merge: this is a part of all schedules",
-    );
-    let merge = option(
-        alloc,
+    ),
+    Row(
         MERGE,
+        Takes::NothingElse,
         "Read such lines in place of a script, and print what all schedules come to",
-    )
-    .exclusive(true);
-    command.arg(begin)?.arg(html)?.arg(part)?.arg(merge)
-}
-
-// Adds the options of `explore` that say what is told beside the replies.
-fn with_properties<'a>(alloc: Global, command: Command<'a>) -> Result<Command<'a>, AllocError> {
-    let outside = option(
-        alloc,
+    ),
+    Row(
         OUTSIDE,
+        Takes::Nothing,
         "Tell how many steps of each actor acted outside of its root",
-    );
-    let when = valued(
-        alloc,
+    ),
+    Row(
         WHEN,
-        "TEXT",
-        ArgAction::Append,
+        Takes::Often("TEXT"),
         "Only schedules whose report has a line with TEXT",
-    );
-    let never = valued(
-        alloc,
+    ),
+    Row(
         NEVER,
-        "TEXT",
-        ArgAction::Append,
+        Takes::Often("TEXT"),
         "Tell whether no report has a line with TEXT",
-    );
-    let always = valued(
-        alloc,
+    ),
+    Row(
         ALWAYS,
-        "TEXT",
-        ArgAction::Append,
+        Takes::Often("TEXT"),
         "Tell whether every report has a line with TEXT",
-    );
-    command.arg(outside)?.arg(when)?.arg(never)?.arg(always)
-}
+    ),
+    STRICTLY,
+];
 
 // The command `explore`.
 fn explore<'a>(alloc: Global) -> Result<Command<'a>, AllocError> {
-    let command = Command::new(alloc, EXPLORE)
-        .about("Run the actors' calls by every schedule, and print what came of them")
-        .override_usage("inroot explore [OPTIONS] < SCRIPT")
-        .after_help(EXPLORING);
-    let command = with_parts(alloc, with_numbers(alloc, command)?)?;
-    with_properties(alloc, command)?.arg(strict(alloc))
+    let explore = described(
+        alloc,
+        EXPLORE,
+        "Run the actors' calls by every schedule, and print what came of them",
+        "inroot explore [OPTIONS] < SCRIPT",
+        EXPLORING,
+    );
+    with(alloc, explore, &EXPLORE_OPTIONS)
+}
+
+// Adds a command, if there was room for it.
+fn add<'a>(
+    program: Command<'a>,
+    command: Result<Command<'a>, AllocError>,
+) -> Result<Command<'a>, AllocError> {
+    program.subcommand(command?)
 }
 
 /// The commands of the program.
 pub fn command<'a>(alloc: Global) -> Result<Command<'a>, AllocError> {
-    Command::new(alloc, "inroot")
+    let program = Command::new(alloc, "inroot")
         .version("0.1.0")
         .about(
             "Resolve paths below a root, replay, draw and explore races, and run calls side by side, over the tree of a script on standard input",
         )
         .override_usage("inroot <COMMAND> < SCRIPT")
         .after_help(STATUSES)
-        .subcommand_required(true)
-        .subcommand(walk(alloc)?)?
-        .subcommand(replay(alloc)?)?
-        .subcommand(draw(alloc)?)?
-        .subcommand(run(alloc)?)?
-        .subcommand(explore(alloc)?)
+        .subcommand_required(true);
+    let program = add(program, walk(alloc))?;
+    let program = add(program, replay(alloc))?;
+    let program = add(program, draw(alloc))?;
+    let program = add(program, run(alloc))?;
+    add(program, explore(alloc))
 }
 
 /// A path to walk, with these restrictions (openat2(2)).
