@@ -39,11 +39,15 @@ static uint32_t open_in(struct look *l, int dir, const char *path, const struct 
     return l->fd < 0 ? (uint32_t)errno : 0;
 }
 
-/* Where there is no directory, no file system is asked. */
+/* Where there is no directory, no file system is asked. A filter may answer by success, and give a descriptor. */
 static uint32_t probe(struct look *l)
 {
     const struct open_how how = {.flags = O_PATH | O_DIRECTORY | O_CLOEXEC, .resolve = RESOLVE_NO_MAGICLINKS};
-    return open_in(l, INROOT_NONE, ".", &how);
+    const uint32_t error = open_in(l, INROOT_NONE, ".", &how);
+    if (l->fd >= 0)
+        close(l->fd);
+    l->fd = INROOT_NONE;
+    return error;
 }
 
 static uint32_t turn(struct look *l, enum inroot_one_look_next next, bool *kept)
