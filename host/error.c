@@ -17,11 +17,11 @@ static const char *const steps[] = {
 _Static_assert(sizeof steps / sizeof *steps == INROOT_STEP_GIVE + 1, "each step has its name");
 
 /* The proved library compares errors with these numbers. */
-_Static_assert(EPERM == 1 && ENOENT == 2 && EINTR == 4 && EIO == 5 && EAGAIN == 11 && ENOMEM == 12 && EACCES == 13 &&
-               EBUSY == 16 && EEXIST == 17 && EXDEV == 18 && ENOTDIR == 20 && EISDIR == 21 && EINVAL == 22 &&
-               ENFILE == 23 && EMFILE == 24 && ERANGE == 34 && ENAMETOOLONG == 36 && ENOSYS == 38 &&
-               ENOTEMPTY == 39 && ELOOP == 40 && EOPNOTSUPP == 95 &&
-               ESTALE == 116, "the numbers of crates/system_calls");
+_Static_assert(EPERM == 1 && ENOENT == 2 && EINTR == 4 && EIO == 5 && EBADF == 9 && EAGAIN == 11 && ENOMEM == 12 &&
+               EACCES == 13 && EBUSY == 16 && EEXIST == 17 && EXDEV == 18 && ENOTDIR == 20 && EISDIR == 21 &&
+               EINVAL == 22 && ENFILE == 23 && EMFILE == 24 && ERANGE == 34 && ENAMETOOLONG == 36 && ENOSYS == 38 &&
+               ENOTEMPTY == 39 && ELOOP == 40 && EOPNOTSUPP == 95 && ESTALE == 116,
+               "the numbers of crates/system_calls");
 
 /* As much of it as fits. */
 static void keep(char *to, size_t size, const char *text, size_t length)
