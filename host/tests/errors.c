@@ -155,6 +155,7 @@ static void deleted_names(void)
     int gone = sure(openat(root, "d/f", O_PATH | O_DIRECTORY | O_CLOEXEC), "openat");
     sure(unlinkat(root, "d/f", AT_REMOVEDIR), "unlinkat");
     gives(closed(inroot_open(gone, "/", 0)), 0, "a root that is gone, itself");
+    gives(inroot_place(gone, gone, (char[]){0, 0}, 2), 1, "the place of a root that is gone");
     gives(closed(inroot_open(gone, "x", 0)), -ENOENT, "a name in a root that is gone");
     gives(inroot_mkdir(gone, "x", 0755, 0), -ENOENT, "a directory in a root that is gone");
     close(gone);
