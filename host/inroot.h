@@ -102,10 +102,10 @@
  * The other opens for use, as a FIFO. A file system that lets signals interrupt fstat(2), as one of FUSE may, has a call
  * end by EINTR there as well: it has changed nothing then, but that inroot_mkdir_all() and its kin leave what they made.
  *
- * Of a non-directory whose name ends in ` (deleted)` nobody can say that it wasn't removed: the kernel writes just this
+ * If the name of a non-directory ends in ` (deleted)`, nobody can say that it wasn't removed: the kernel writes just this
  * behind the path of a removed object. So a call that opens it or looks at it gives EAGAIN, at every try, but for one with
- * INROOT_BELOW where there is openat2(2). It is made, renamed and removed as any other. So it is of a directory on
- * overlayfs or a cgroup that has such a name and may not be read.
+ * INROOT_BELOW where there is openat2(2). It is made, renamed and removed as any other. A directory of such a name on
+ * overlayfs or in a cgroup gives the same, if it may not be read.
  *
  * A call follows no link on a mount with nosymfollow (mount(8)): ELOOP. The protection of fs.protected_symlinks
  * (proc_sys_fs(5)) doesn't apply: a call follows a link in a sticky directory that all may write to, whoever made it,
@@ -345,8 +345,8 @@ int inroot_open_partial(int root, const char *path, int flags, char *rest, size_
  * moment of the call.
  *
  * EBADF if FD isn't a descriptor comes behind those of the first errors of every call that are about ROOT; ENOENT if
- * the object was removed, but of the root itself in a jail alone; EXDEV if it isn't below ROOT at any of eight
- * questions, or is a non-directory whose name ends in ` (deleted)`; ERANGE if the text and its NUL don't fit into SIZE
+ * the object was removed; EXDEV if it isn't below ROOT at any of eight questions, or if nobody can say that it wasn't
+ * removed, as of a non-directory whose name ends in ` (deleted)`; ERANGE if the text and its NUL don't fit into SIZE
  * bytes. After an error nothing is written. Of an object with several names the text has the one by which FD was opened.
  */
 ssize_t inroot_place(int root, int fd, char *path, size_t size);
