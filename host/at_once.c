@@ -43,7 +43,7 @@ static uint32_t walk(struct at_once *a)
     return a->fd < 0 ? (uint32_t)errno : 0;
 }
 
-/* Tells the caller of what kind it is. */
+/* Gives the caller the object's kind. Returns 0 or an error's number. */
 static uint32_t tell_kind(const struct at_once *a)
 {
     return inroot_kind(a->fd, a->d->asked->opened) ? 0 : (uint32_t)errno;
@@ -105,7 +105,7 @@ static bool are_names(const struct at_once *a)
     return inroot_run_is_whole(a->d, path, linked) && is_reply(a, INROOT_KIND_DIR, path->text, path->ahead.used);
 }
 
-/* Finds the names at which the object stands. Tells whether it found them. */
+/* Finds the names at which the object stands. Returns whether it found them. */
 static bool find_place(struct at_once *a)
 {
     struct inroot_run *run = &a->d->run;

@@ -108,7 +108,7 @@ struct inroot_from {
     int dir;                       /* the caller's descriptor of it, or INROOT_NONE */
     int fd;                        /* one that was opened at its names, or INROOT_NONE */
     struct inroot_telling telling; /* which walks begin with its names, and are still to be begun */
-    bool unseen;                   /* the second path was to begin at it, and nobody has seen that it does */
+    bool unseen;                   /* the second path should begin at it, and no step has shown that it does */
     const char *place;             /* the names, with a slash before each */
     uint64_t told;                 /* the handle that a witness has just found there, or zero */
 };

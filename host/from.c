@@ -62,7 +62,7 @@ int inroot_from_join(struct inroot_driver *d, int root, int dir, const struct in
     return 0;
 }
 
-/* Tells the call that it passed these names from the root, by which the directory was opened. INROOT_NO_XDEV wants its mount. */
+/* Reports these names to the call as passed from the root; the directory was opened by them. INROOT_NO_XDEV wants its mount. */
 static struct inroot_result pass(struct inroot_driver *d, int fd, struct inroot_told *told, char *room)
 {
     const char *names = d->from.place + 1;

@@ -28,7 +28,7 @@ static size_t read_about_root(int proc, unsigned char *about, size_t size)
     return got > 0 ? (size_t)got : 0;
 }
 
-/* By the mounts that the thread sees (proc(5)): before Linux 5.8 nothing else tells. What can't be read tells of none. */
+/* By the mounts that the thread sees (proc(5)): before Linux 5.8 there is no other way. If they can't be read, there is none. */
 static bool is_mounted(int proc)
 {
     unsigned char about[256], part[1024];

@@ -1,8 +1,8 @@
 /*
  * through.c: a path with links, on which the driver takes no turn. Each link is read by its name in the directory that is held, and
  * its text is put in its place; what the last one leads to is looked up from the root. After each link, after each `..`, and at the
- * end the proved library says whether a call with these answers to its steps would go on so, and reply so. Which call comes next it
- * says, too (crates/open_through_links). Where it says no, or a system call fails, the steps decide. docs/HOST-WHY.md has the
+ * end the proved library says whether a call with these answers to its steps would go on so, and reply so. It also says which call
+ * comes next (crates/open_through_links). Where it says no, or a system call fails, the steps decide. docs/HOST-WHY.md has the
  * argument.
  */
 #define _GNU_SOURCE

@@ -33,8 +33,8 @@ def is_alike_in_all_trees(script, rows):
 
 
 def over_each_tree():
-    """So is an attack on a directory that is made after the beginning, or never. crates/compare_trees tells so: rt ci builds
-    it, and it is no part of the program."""
+    """The trees also answer alike in an attack on a directory that is made after the beginning, or never. crates/compare_trees
+    compares them: rt ci builds it, and it is no part of the program."""
     rows = os.environ.get("INROOT_ROWS") or "crates/compare_trees/out/compare_trees"
     if not os.environ.get("INROOT_ROWS") and not os.access(rows, os.X_OK):
         skip("the steps of the attacks over each tree", f"there is no {rows} here: rt ci builds it")

@@ -18,7 +18,7 @@ def is_printed(wanted, printed):
 
 
 def comes_to(name, status, out, err, *words, given):
-    """The program's status over that script, and all that it prints and tells."""
+    """The program's status over that script, and all that it writes to both streams."""
     ran = run(*words, given=given)
     holds = ran.status == status and is_printed(out, ran.out) and is_printed(err, ran.err)
     verdict(holds, name, f"wanted status {status} and '{out}{err}', got status {ran.status} and '{ran.out}{ran.err}'")

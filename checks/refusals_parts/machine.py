@@ -20,7 +20,7 @@ UNDER, PLAIN = [], {}
 ROOM_ITSELF = tempfile.TemporaryDirectory()
 ROOM = ROOM_ITSELF.name
 NO_MEMORY = (4, "", "inroot: no memory\n")
-# The status, what was printed and told, and what the library counted: requests for memory, reads, writes, what failed of them,
+# The status, both streams, and what the library counted: requests for memory, reads, writes, what failed of them,
 # blocks of memory that were left, the most memory in KB, and threads.
 Ran = collections.namedtuple("Ran", "status out err requests reads writes met live peak threads")
 # What does not end by itself is ended.
@@ -82,8 +82,8 @@ def ends(ran, status, out, err):
 
 
 def ends_first(ran, status, out, err):
-    """The same, but that of the lines of an error the first alone were told, one at least. Those behind it are left out where
-    they can't be made or written."""
+    """The same, but of the lines of an error only the first ones came, one at least. The others are left out where they can't
+    be made or written."""
     return ran.err.endswith("\n") and err.startswith(ran.err) and ends(ran, status, out, ran.err)
 
 

@@ -15,7 +15,7 @@ count = {"refused": 0, "answered": 0}
 
 
 def counted(what):
-    """Tells how many were refused since the last time."""
+    """Prints how many were refused since the last time."""
     answered = f", {count['answered']} of them answered by a call" if count["answered"] else ""
     print(f"refusals: {count['refused']} requests for memory of ./inroot {what} refused{answered}")
     count.update(refused=0, answered=0)
@@ -23,8 +23,8 @@ def counted(what):
 
 def refuse(script, *words, rule=None):
     """Refuses the requests for memory of a command line in turn. Each such run answers as with ample memory, where a cache
-    goes on without it, or tells the want and writes nothing; or ends as the rule of its command says that it may, where a
-    call met the want."""
+    goes on without it; or it ends by the error of want and writes nothing; or, where a call met the want, it ends as the
+    rule of its command says that it may."""
     name = f"inroot {' '.join(words)}"
     ample = run(script, *words)
     for lasts in WANTS:
@@ -144,8 +144,8 @@ def replays_and_pictures():
 
 
 def searches(search, parts):
-    """The two parts of a small search, and the merge of them. No call answers a want here: it is told, and nothing is written.
-    That is so of a page, but for the runs that it plays."""
+    """The two parts of a small search, and the merge of them. No call answers a want here: the program ends by its error, and
+    writes nothing. The same holds for a page, but for the runs that it plays."""
     whole = re.sub("^states .*\n", "", run(search, "explore").out, flags=re.M)
     ran = run(parts, "explore", "--merge")
     verdict(ends(ran, 0, whole, ""), "inroot explore --merge of two parts", seen(ran))
@@ -156,8 +156,8 @@ def searches(search, parts):
 
 
 def searches_of_attacks():
-    """Each 97th request of searches in which the same turns come again in many worlds: it is told, or it changes nothing that
-    is printed."""
+    """Each 97th request of searches in which the same turns come again in many worlds: the program ends by the error of want,
+    or prints the same."""
     for script in ("examples/attacks/removed-underfoot.json", MOVED_OUT):
         ample = run(script, "explore")
         holds = ends(ample, 0, ample.out, "") and ample.requests > 970
@@ -193,7 +193,7 @@ def answers_all(ran):
 
 
 def racing_jobs():
-    """By eight workers: whatever is refused, each is answered, and nothing else is told than the want."""
+    """By eight workers: whatever is refused, each job is answered, and want is the only error."""
     calls = []
     for job in range(128):
         calls += [f'{{"op":"mkdir_all","path":"a/b/c{job % 7}"}}', '{"op":"remove_all","path":"a"}',
@@ -215,7 +215,7 @@ def racing_jobs():
 
 def fault_each(fault, kind, wanted, script, *words, behind=""):
     """Makes each read, or each write, fail in turn. Where the first write isn't the one that fails, the first lines of
-    `behind` may be told."""
+    `behind` may be written."""
     name, number, ran = f"inroot {' '.join(words)}: FAULT_{fault}", 1, run(script, *words, KIND=kind, **{fault: 1})
     verdict(ran.met > 0, f"{name}: nothing failed")
     while ran.met > 0 or ran.live < 0:
@@ -258,7 +258,7 @@ def reads_and_writes(search, parts):
     for script, words in ((MOVED_OUT, "draw --svg"), (search, "explore --html"), (search, "explore --part --begin 0"),
                           (parts, "explore --merge")):
         fault_all(run(script, *words.split()).out, script, *words.split())
-    # A fault that can't be told keeps its status.
+    # A fault whose error can't be written keeps its status.
     fault_each("WRITE", "fail", (3, "", ""), "/dev/null", "walk", "abs/f", behind=run("/dev/null", "walk", "abs/f").err)
     for printed, row in ((ANSWER, walk), (report, replay), (replies, two)):
         each_of_a_byte(printed, *row)

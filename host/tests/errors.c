@@ -113,7 +113,7 @@ static void opened_alone(void)
     close(root);
 }
 
-/* A file that is called so can't be told from one that is gone. It is made, renamed and removed as any other. */
+/* The kernel's text of a file of such a name may be that of a removed one. It is made, renamed and removed as any other. */
 static void files_called_so(int root)
 {
     struct stat about;

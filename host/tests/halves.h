@@ -1,6 +1,6 @@
 /*
  * halves.h: the text of a link in /proc in the two halves in which the kernel makes it (d_path() in fs/d_path.c): it looks whether
- * the object is gone, and takes its names after that. To be linked with --wrap=readlinkat. What is called so counts as gone.
+ * the object is gone, and takes its names after that. To be linked with --wrap=readlinkat. What has that ending counts as gone.
  */
 #ifndef HALVES_H
 #define HALVES_H

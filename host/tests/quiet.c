@@ -71,8 +71,8 @@ static bool is_called_so(int fd, const char *path, size_t length)
 }
 
 /*
- * For a `.` at the end the kernel searches the directory, which it may have no right to; here the path ends at its name. Nor is
- * a file known to be there that is called so.
+ * For a `.` at the end the kernel searches the directory, which it may have no right to; here the path ends at its name. And the
+ * driver can't know of a file whose name ends in ` (deleted)` that it is there.
  */
 static int wanted_of(const char *path)
 {

@@ -53,8 +53,8 @@ static void remove_deeper(void)
 }
 
 /*
- * Of a lower layer of overlayfs, and outside as long as it is there. One that is removed keeps its links; then comes the next. It
- * may be called as the kernel calls what was removed, and loses that ending before it is.
+ * A directory of a lower layer of overlayfs, outside as long as it is there. It keeps its links once it is removed; then the next
+ * one is taken. Its name may end in ` (deleted)`, as the kernel writes of what was removed; it loses that ending before.
  */
 enum { LOWER = 5000 };
 static int lower, removed;
