@@ -2,8 +2,8 @@
  * calls.h: the proved library's functions, and what passes between it and a driver. The numbers and bytes are those
  * of crates/c_protocol, step_calls, place_protocol, open_or_make, make_through_links, remove_by_calls, look_ups,
  * list_directory, call_course, ask_place, give_entry, open_partial, open_at_once, open_through_links, enter_directory,
- * begin_below, kernel_text and system_calls, whose contracts say what they stand for. A program that makes calls includes inroot.h,
- * and not this.
+ * begin_below, kernel_text and system_calls, whose contracts say what they stand for. A program that makes calls
+ * includes inroot.h, and not this.
  */
 #ifndef INROOT_CALLS_H
 #define INROOT_CALLS_H

@@ -345,9 +345,10 @@ int inroot_open_partial(int root, const char *path, int flags, char *rest, size_
  * moment of the call.
  *
  * EBADF if FD isn't a descriptor comes behind those of the first errors of every call that are about ROOT; ENOENT if
- * the object was removed; EXDEV if it isn't below ROOT at any of eight questions, or if nobody can say that it wasn't
- * removed, as of a non-directory whose name ends in ` (deleted)`; ERANGE if the text and its NUL don't fit into SIZE
- * bytes. After an error nothing is written. Of an object with several names the text has the one by which FD was opened.
+ * the object was removed, but of the root itself in a jail alone; EXDEV if it isn't below ROOT at any of eight
+ * questions, or if nobody can say that it wasn't removed, as of a non-directory whose name ends in ` (deleted)`; ERANGE
+ * if the text and its NUL don't fit into SIZE bytes. After an error nothing is written. Of an object with several names
+ * the text has the one by which FD was opened.
  */
 ssize_t inroot_place(int root, int fd, char *path, size_t size);
 
