@@ -23,7 +23,8 @@ pub fn what_one_look_gives()
         → is_opened history ≡ ((one_after known false history).next == GIVES) }
 {}
 
-/// There are four turns at most, one for each signal, and four for each kept descriptor that the program has closed.
+/// There are at most four turns, one more for each signal, and four more for each kept descriptor that the program has
+/// closed.
 pub fn turns_are_few()
     ensures { (known : ℕ) (asks : Bool) (history : List Turn) → AreTurns known asks history
         → length history ≤ costs history + 4 }

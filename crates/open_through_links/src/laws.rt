@@ -5,8 +5,8 @@ ghost use Rattle.open_through_links.specs.Promises.{all_yes, is_held, is_known, 
 ghost use Rattle.open_through_links.specs.declared.passage.Facts.{Facts};
 ghost use Rattle.open_through_links.specs.declared.passage.TheConstants.{GOES, OPENS, PLACE, SHUT, STEPS};
 
-/// Where the object is given, every call worked and every question was answered by yes, in the order in which
-/// `c_protocol` asks for the answers: the first said that the call begins so, each link and each `..` that it goes on.
+/// Where the object is given, every call that was made worked, and every question that was asked was answered by yes.
+/// Only of `..` it may be said that it isn't the root.
 pub fn where_it_opens_all_said_yes()
     ensures { (f : Facts) (history : List Exchange) → IsHistory f history → (next_after f history).next ≡ OPENS
         → all_yes history ≡ true }
@@ -46,7 +46,7 @@ pub fn each_descriptor_is_closed_or_given()
         → is_held history ≡ false }
 {}
 
-/// At most 40 links are followed. There are 248 exchanges at most, and five for each `..` on the way.
+/// At most 40 links are followed. There are at most 248 exchanges, and five more for each `..` on the way.
 pub fn calls_are_few()
     ensures links { (f : Facts) (history : List Exchange) → IsHistory f history → (next_after f history).links ≤ 40 }
     ensures all { (f : Facts) (history : List Exchange) → IsHistory f history

@@ -182,7 +182,7 @@ after_magic error kind =
 abbrev pub gone : Facts → Next
 gone f = if f.what == PARENT then waits CLOSE REFUSED ENOENT else fails REFUSED ENOENT
 
--- Where that can't be known, by this error, `..` is believed all the same. The question is not answered so.
+-- If this error kept the driver from finding that out, `..` counts all the same. The question alone ends as not made.
 abbrev pub there : Facts → ℕ → Next
 there f error =
     if f.what == PARENT then knows OPENED DIRECTORY else (if error == 0 then asks DONE else fails UNMADE error)

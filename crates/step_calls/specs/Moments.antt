@@ -120,7 +120,8 @@ IsThere w n = is_gone (w.states n).nodes w.node ≡ false
 abbrev pub ParentSays : World → Bool → ℕ → Exchange → Type 0
 ParentSays w layered n (opens_directory error) =
     (error ≡ 0 → OpensAbove w (suc n)) × (error ≡ ENOENT → IsGone w (suc n))
--- stat(2), rmdir(2): a removed directory has no link, but on such a file system; one that has none is removed
+-- stat(2), rmdir(2): a removed directory has no link, but on such a file system, and in sysfs, where the kernel itself
+-- removes directories; one that has none is removed
 ParentSays w layered n (asks_links error links) =
     Stays w n × (error ≡ 0 → (links ≡ 0 → IsGone w (suc n))
     × (links ≢ 0 → (layered ≡ true) ⊎ IsThere w (suc n)))
