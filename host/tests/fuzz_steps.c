@@ -77,6 +77,8 @@ static void opens(const struct inroot_step_facts *facts, uint8_t next, uint32_t 
 static void looks(const struct inroot_step_facts *facts, uint8_t next, const struct inroot_step_answer *answer, struct seen *seen)
 {
     const uint32_t error = answer->error;
+    /* Where an error kept the driver from finding that out, `..` counts all the same, and the question alone isn't answered. */
+    const uint32_t unknown = facts->what == INROOT_IS_THERE && error != EINTR && error != ENOENT ? error : 0;
     MUST(seen->is_open == (facts->what == INROOT_STEP_PARENT));
     MUST(seen->reads == (next == INROOT_CALL_READ || next == INROOT_CALL_CLOSE_READ));
     switch (next) {
@@ -84,12 +86,9 @@ static void looks(const struct inroot_step_facts *facts, uint8_t next, const str
         seen->why = error;
         seen->is_gone = error == 0 && answer->number == 0;
         break;
-    case INROOT_CALL_OPEN_TO_READ:
-        seen->reads = error == 0;
-        seen->is_gone = error == ENOENT;
-        seen->costs += error == EINTR;
-        break;
-    case INROOT_CALL_READ:
+    case INROOT_CALL_OPEN_TO_READ: case INROOT_CALL_READ:
+        seen->reads = next == INROOT_CALL_READ || error == 0;
+        seen->why = unknown;
         seen->is_gone = error == ENOENT;
         seen->costs += error == EINTR;
         break;
@@ -98,6 +97,7 @@ static void looks(const struct inroot_step_facts *facts, uint8_t next, const str
         break;
     default:
         MUST(next == INROOT_CALL_LAYERS && !seen->is_gone);
+        seen->why = facts->what == INROOT_IS_THERE ? error : 0;
     }
 }
 

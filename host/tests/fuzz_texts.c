@@ -119,6 +119,14 @@ static struct inroot_place_told after(enum inroot_place_what asked, bool jailed,
     return told;
 }
 
+/* Whether a text ends as the kernel writes of what was removed. */
+static bool ends_as_gone(const unsigned char *text, size_t length)
+{
+    static const char end[] = " (deleted)";
+    const size_t size = sizeof end - 1;
+    return length >= size && memcmp(text + length - size, end, size) == 0;
+}
+
 static void places(size_t size, const uint8_t *bytes, size_t length)
 {
     size_t root_length = size < length ? size : length;
@@ -129,6 +137,11 @@ static void places(size_t size, const uint8_t *bytes, size_t length)
     if (path_length > 4095)
         MUST(told.what == INROOT_PLACE_UNMADE && told.error == ENAMETOOLONG);
     MUST((wanted < 0) == (told.what == INROOT_PLACE_UNMADE));
+    /* A directory that is called removed has that name if it isn't dead. */
+    const bool is_asked = wanted >= 0 && ends_as_gone(path + wanted, path_length - (size_t)wanted);
+    MUST(is_asked == (told.what == INROOT_PLACE_DEAD));
+    if (is_asked)
+        told = after(INROOT_PLACE_DEAD, false, root, root_length, path, path_length);
     /* A link with the root's own place is never enough. */
     MUST((told.what == INROOT_PLACE_LOOK_UP) == (told.length == 1));
     if (wanted >= 0 && (size_t)wanted == path_length)
@@ -136,7 +149,7 @@ static void places(size_t size, const uint8_t *bytes, size_t length)
     else if (wanted >= 0)
         MUST(told.start == (size_t)wanted && told.length == path_length - (size_t)wanted);
     /* Its own text says that it has its name still. */
-    if (told.length > 1)
+    if (told.length > 1 && !is_asked)
         MUST(after(INROOT_PLACE_LINK_AGAIN, false, root, root_length, path, path_length).length == told.length);
     told = after(INROOT_PLACE_CWD, true, root, root_length, path, path_length);
     MUST(told.length == 0 || (told.start == 0 && told.length == path_length - 1 && path[path_length - 1] == 0));
