@@ -44,7 +44,7 @@ static int my_openat(int dir, const char *name, int flags, mode_t mode)
 
 INSTEAD_OF_OPENAT(my_openat)
 
-/* Whether directories are told as born later from here on, as one is that has the number of another which was removed. */
+/* Whether statx(2) gives directories a later birth from here on, as of one that has the number of another which was removed. */
 static bool is_reborn;
 
 static void bear_anew(void)

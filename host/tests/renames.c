@@ -1,6 +1,6 @@
 /*
  * renames: what inroot_rename() does by each of its modes to an entry that is there already, and to one that isn't. By /proc, in
- * a jail, and name by name. Which object an entry leads to is told by its inode, and a whiteout by its kind and device. And for
+ * a jail, and name by name. Its inode shows which object an entry leads to, and kind and device show a whiteout. And for
  * which of several reasons the kernel refuses a rename, as renames_stood of crates/step_calls has it.
  *
  * usage: renames DIR. Exits 0 where each is as inroot.h says. 78: no right to change a root, or no whiteouts here, so that a part
