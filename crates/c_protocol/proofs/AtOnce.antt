@@ -8,7 +8,7 @@ use Rattle.std.proofs.lemmas.List.Sums.{AllPass-from_list_all}
 use Rattle.std.proofs.lemmas.Option.{same_Some}
 use Rattle.std.specs.Cmp.Lexicographic.{bytes_decides}
 use Rattle.path_text.specs.declared.errno.Errno.{Errno}
-use Rattle.path_text.specs.declared.errno.Errno.TheVariants.{Invalid, NotDir, TooLong, CrossRoot, Raced}
+use Rattle.path_text.specs.declared.errno.Errno.TheVariants.{Invalid, NotDir, TooLong, CrossRoot, Raced, NotFound}
 use Rattle.path_text.specs.declared.name.TheConstants.{SLASH, NAME_MAX}
 use Rattle.path_text.specs.declared.part.Part.TheVariants as part
 use Rattle.path_text.specs.Name.{same_bytes, is_component, name_fault, is_name}
@@ -20,7 +20,7 @@ use Rattle.path_text.proofs.PrintLemmas.{printed_read}
 use Rattle.path_text.proofs.TextLemmas.{and_true}
 use Rattle.handles.proofs.SameNames.{same_where_equal}
 use Rattle.tree_model.specs.declared.answer.Answer.{Answer}
-use Rattle.tree_model.specs.declared.answer.Answer.TheVariants.{Opened, Names, Done}
+use Rattle.tree_model.specs.declared.answer.Answer.TheVariants.{Opened, Names, Done, Refused}
 use Rattle.tree_model.specs.StepWith.{StepWith}
 use Rattle.tree_model.specs.declared.step.Kind.{Kind}
 use Rattle.tree_model.specs.declared.step.Kind.TheVariants.{Dir, File, Link}
@@ -28,9 +28,9 @@ use Rattle.tree_model.specs.declared.step.StepOf.TheVariants.{Open, NameBelow, C
 use Rattle.walk_plan.specs.declared.goal.Goal.{Goal}
 use Rattle.walk_plan.specs.declared.goal.Goal.TheVariants.{Follow, NoFollow, Deepest}
 use Rattle.walk_plan.specs.Plan.{follows, leads_out}
-use Rattle.step_resolver.specs.Asked.{AskedPart, Named, asked}
+use Rattle.step_resolver.specs.Asked.{AskedPart, Named, asked, is_deepest}
 use Rattle.step_resolver.specs.Meaning.{LINKS_MAX, is_too_long}
-use Rattle.step_resolver.specs.Order.{Way, Handle, Position, root_itself, holds, names_of, handles_of, handle_at, is_dir_position, is_dir_kind, is_followed, Line, answered, todo, opening, on_own}
+use Rattle.step_resolver.specs.Order.{Way, Handle, Position, root_itself, holds, names_of, handles_of, handle_at, is_dir_position, is_dir_kind, is_followed, Line, answered, todo, opening, at_end, on_own}
 use Rattle.step_resolver.specs.Order as walk
 use Rattle.step_resolver.specs.View.{way_from}
 use Rattle.root_ops.specs.declared.aim.Aim.TheVariants.{Opens}
@@ -38,10 +38,11 @@ use Rattle.root_ops.specs.declared.below.Below.{Below}
 use Rattle.root_ops.specs.declared.op.Op.{Op}
 use Rattle.root_ops.specs.declared.op.Op.TheVariants.{Resolve, ResolveNoFollow, MkdirAll}
 use Rattle.root_ops.specs.EachCall.{EachCallTells}
-use Rattle.root_ops.specs.Order.{CallTurn, ends, opened, walked, on_path, unless_fault, makes, starts, LeadsTo}
+use Rattle.root_ops.specs.Order.{CallTurn, ends, fault, opened, walked, on_path, unless_fault, makes, starts, LeadsTo}
 use Rattle.bulk_ops.specs.MakeAllOrder as make
 use Rattle.root_ops.specs.View.{reply_view}
-use Rattle.c_protocol.specs.AtOnce.{Passed, opens_kind, opens, closes, lines_from, lines_at_once, names_passed, opened_at_once, has_names, spells_place, OpensAtOnceTell}
+use Rattle.root_ops.specs.declared.reply.Reply.TheVariants as replies
+use Rattle.c_protocol.specs.AtOnce.{Passed, opens_kind, opens, closes, lines_from, lines_at_once, names_passed, opened_at_once, has_names, spells_place, OpensAtOnceTell, lines_missing, lines_missing_from, names_to, FailsAtOnceTell}
 use Rattle.c_protocol.specs.Numbers.{op_of, kind_of, below_asked}
 use Rattle.c_protocol.specs.Outright.{call_in}
 use Rattle.c_protocol.specs.declared.numbers.Asked.{Asked}
@@ -113,6 +114,12 @@ asked_more : (f : Bool) (n : List ℕ) (ps : List Passed) (last : Passed)
     (map part.Named (names_passed ps last))
 asked_more f n [] last = refl
 asked_more f n (p ∷ ps) last = refl
+
+asked_to : (f : Bool) (n : List ℕ) (ps : List Passed) (name : List ℕ) (rest : List (List ℕ))
+    → asked f (part.Named n ∷ map part.Named (names_to ps name rest)) ≡ Named true n ∷ asked f
+    (map part.Named (names_to ps name rest))
+asked_to f n [] name rest = refl
+asked_to f n (p ∷ ps) name rest = refl
 
 -- the names passed, the innermost first
 abbrev pub onto : List Passed → Passed → List (List ℕ) → List (List ℕ)
@@ -214,6 +221,55 @@ module _
       (opens (handle_at way pos) p Dir ∷ (closes (handles_of pos) ++ rest)) end)
       (sym (asked_more (follows goal) p.name ps last))
       (opened_on pos true p Dir own rest end dir each.0 refl (passed_on ps last kind told new refl each.1 stays same))
+
+  -- what is held is closed, and the walk fails
+  gave_up : (pos : Position) → LeadsTo below (lift (walk.gives_up (handles_of pos) NotFound)) (closes (handles_of pos))
+      (lift (walk.failed NotFound))
+  gave_up root_itself = refl
+  gave_up (holds held names) =
+      goes_on (walk.closing held.number [] (walk.gives NotFound)) (Close held.number) Done []
+      (lift (walk.failed NotFound)) refl refl
+
+  missing_here : (pos : Position) (follow : Bool) (name : List ℕ) (own : List AskedPart)
+      → is_dir_position pos ≡ true → is_name name ≡ true → is_deepest goal ≡ false
+      → LeadsTo below (lift (on_own way pos (Named follow name ∷ own) b))
+      (answered (Open (handle_at way pos) name) (Refused NotFound) ∷ closes (handles_of pos))
+      (lift (walk.failed NotFound))
+  missing_here pos follow name own dir is shallow =
+      let refused : List Line = answered (Open (handle_at way pos) name) (Refused NotFound) ∷ closes (handles_of pos) in
+      subst (λ turn. LeadsTo below (lift turn) refused (lift (walk.failed NotFound)))
+      (sym (at_name pos follow name own dir (short name is)))
+      (goes_on (opening pos true follow name (todo [] own b)) (Open (handle_at way pos) name) (Refused NotFound)
+      (closes (handles_of pos)) (lift (walk.failed NotFound)) refl
+      (subst (λ t. LeadsTo below (lift (if t && true then at_end pos (Named follow name ∷ own)
+      else walk.gives_up (handles_of pos) NotFound)) (closes (handles_of pos)) (lift (walk.failed NotFound)))
+      (sym shallow) (gave_up pos)))
+
+  missing_next : (pos : Position) (name : List ℕ) (rest : List (List ℕ))
+      → is_dir_position pos ≡ true → is_name name ≡ true → is_deepest goal ≡ false
+      → LeadsTo below (lift (on_own way pos (asked (follows goal) (map part.Named (name ∷ rest))) b))
+      (answered (Open (handle_at way pos) name) (Refused NotFound) ∷ closes (handles_of pos))
+      (lift (walk.failed NotFound))
+  missing_next pos name [] dir is shallow = missing_here pos (follows goal) name [] dir is shallow
+  missing_next pos name (r ∷ rest) dir is shallow =
+      missing_here pos true name (asked (follows goal) (map part.Named (r ∷ rest))) dir is shallow
+
+  pub missing_on : (ps : List Passed) (name : List ℕ) (rest : List (List ℕ)) (pos : Position)
+      → is_dir_position pos ≡ true → list_all is_name (names_to ps name rest) ≡ true → is_deepest goal ≡ false
+      → LeadsTo below (lift (on_own way pos (asked (follows goal) (map part.Named (names_to ps name rest))) b))
+      (lines_missing_from (handle_at way pos) (handles_of pos) ps name) (lift (walk.failed NotFound))
+  missing_on [] name rest pos dir valid shallow =
+      missing_next pos name rest dir (and_true (is_name name) (list_all is_name rest) valid).0 shallow
+  missing_on (p ∷ ps) name rest pos dir valid shallow =
+      let own = asked (follows goal) (map part.Named (names_to ps name rest)) in
+      let each = and_true (is_name p.name) (list_all is_name (names_to ps name rest)) valid in
+      let new = holds (handle p Dir) (p.name ∷ names_of pos) in
+      let missing = lines_missing_from p.number (p.number ∷ []) ps name in
+      subst (λ (parts : List AskedPart). LeadsTo below (lift (on_own way pos parts b))
+      (opens (handle_at way pos) p Dir ∷ (closes (handles_of pos) ++ missing)) (lift (walk.failed NotFound)))
+      (sym (asked_to (follows goal) p.name ps name rest))
+      (opened_on pos true p Dir own missing (lift (walk.failed NotFound)) dir each.0 refl
+      (missing_on ps name rest new refl each.1 shallow))
 
 -- ---- the path's parts
 
@@ -382,4 +438,60 @@ tells each asked_for path second place kind op ps last named at_once read =
           each (call_in asked_for op true
           (lines_at_once asked_for.root ps last (kind_of kind)) opening before window node)
           (opened_at_once ps last (kind_of kind)) is led;
+    }
+
+-- ---- to the fault
+
+-- the operation is a walk to the path's end
+record IsResolve (below : Below) (op : Op) (path : List ℕ) : Type 0 where
+  goal : Goal
+  begins : starts below true op ≡ on_path below (Opens goal) path
+  shallow : is_deepest goal ≡ false
+
+resolve_of : (asked_for : Asked) (path second : List ℕ) (op : Op) (two one : Bool)
+    → (asked_for.op == 2) ≡ two → (asked_for.op == 1) ≡ one → op_of asked_for path second ≡ Some op
+    → (two || one) ≡ true → IsResolve (below_asked asked_for) op path
+resolve_of asked_for path second op true one e f named h =
+    let is : Some (ResolveNoFollow path) ≡ Some op =
+    subst (λ n. op_by asked_for path second op Dir n ≡ Some op) (eqb-true asked_for.op 2 e) named in
+    record {
+      goal = NoFollow;
+      begins = ap (starts (below_asked asked_for) true) (sym (same_Some (ResolveNoFollow path) op is));
+      shallow = refl;
+    }
+resolve_of asked_for path second op false true e f named h =
+    let is : Some (Resolve path) ≡ Some op =
+    subst (λ n. op_by asked_for path second op Dir n ≡ Some op) (eqb-true asked_for.op 1 f) named in
+    record {
+      goal = Follow;
+      begins = ap (starts (below_asked asked_for) true) (sym (same_Some (Resolve path) op is));
+      shallow = refl;
+    }
+resolve_of asked_for path second op false false e f named h = cc (h)
+
+pub misses : EachCallTells → FailsAtOnceTell
+misses each asked_for path second place op ps name rest named at_once read =
+    let below = below_asked asked_for in
+    let names = names_to ps name rest in
+    let both = and_true ((asked_for.op == 2) || (asked_for.op == 1)) _ at_once in
+    let kinds = and_true (opens_kind asked_for.op Dir) _ both.1 in
+    let inside = and_true (not (leads_out (begins_with_slash path) below.flags)) _ kinds.1 in
+    let whole = and_true (is_none (text_fault path)) _ inside.1 in
+    let spells = and_true (has_names (names_read place)) (spells_place path place) whole.1 in
+    let is = resolve_of asked_for path second op (asked_for.op == 2) (asked_for.op == 1) refl refl named both.0 in
+    let lift = walked below true (Opens is.goal) in
+    let place_is = placed place names spells.0 read in
+    let begins = is.begins
+    ∙ begins_so below is.goal lift path names (no_fault (text_fault path) whole.0)
+    (not-true (leads_out (begins_with_slash path) below.flags) inside.0) (parts_named path place names place_is spells.1)
+    in
+    let led = subst (λ turn. LeadsTo below turn (lines_missing asked_for.root ps name) (ends (fault NotFound)))
+    (sym begins)
+    (missing_on below is.goal lift (λ w step answer lines end e led. (e, led)) LINKS_MAX ps name rest root_itself refl
+    place_is.valid is.shallow) in
+    record {
+      leads = led;
+      tells = λ opening before window node is.
+          each (call_in asked_for op true (lines_missing asked_for.root ps name) opening before window node)
+          (replies.Fault NotFound) is led;
     }

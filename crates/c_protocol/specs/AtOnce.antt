@@ -1,10 +1,11 @@
 -- A call that opens by names alone, all of which are passed at once: as by one openat2(2) with RESOLVE_NO_SYMLINKS,
 -- and then one question where the object stands. What it replies is known then without its single turns.
 use Rattle.std.specs.Prelude.{◌≡◌, ℕ, List, [], ◌∷◌, ◌++◌, ◌==◌, ◌&&◌, ◌||◌, Bool, true, false, not, map, is_none, Option, Some, None}
+use Rattle.path_text.specs.declared.errno.Errno.TheVariants.{NotFound}
 use Rattle.path_text.specs.Name.{same_bytes}
 use Rattle.path_text.specs.Print.{names_read}
 use Rattle.path_text.specs.Text.{text_fault, begins_with_slash}
-use Rattle.tree_model.specs.declared.answer.Answer.TheVariants.{Opened, Names, Done}
+use Rattle.tree_model.specs.declared.answer.Answer.TheVariants.{Opened, Names, Done, Refused}
 use Rattle.tree_model.specs.declared.answer.Event.{Event}
 use Rattle.tree_model.specs.declared.step.Kind.{Kind}
 use Rattle.tree_model.specs.declared.step.Kind.TheVariants.{Dir}
@@ -49,6 +50,10 @@ opens_at_once asked path kind place =
     && (not (leads_out (begins_with_slash path) (below_asked asked).flags)
     && (is_none (text_fault path) && (has_names (names_read place) && spells_place path place)))
 
+-- A resolve by such a path. The calls that make directories go on where a name is missing.
+abbrev pub misses_at_once : Asked → List ℕ → List ℕ → Bool
+misses_at_once asked path place = ((asked.op == 2) || (asked.op == 1)) && opens_at_once asked path 1 place
+
 -- ---- the lines of such a call
 
 -- what was opened by a name
@@ -89,6 +94,18 @@ opened_at_once ps last kind =
       names = names_passed ps last;
     })
 
+-- Or the next name is missing in the directory that the one before it opened. What is held is closed.
+abbrev pub lines_missing_from : ℕ → List ℕ → List Passed → List ℕ → List Line
+lines_missing_from dir held [] name = answered (Open dir name) (Refused NotFound) ∷ closes held
+lines_missing_from dir held (p ∷ ps) name =
+    opens dir p Dir ∷ (closes held ++ lines_missing_from p.number (p.number ∷ []) ps name)
+
+abbrev pub lines_missing : ℕ → List Passed → List ℕ → List Line
+lines_missing root ps name = lines_missing_from root [] ps name
+
+abbrev pub names_to : List Passed → List ℕ → List (List ℕ) → List (List ℕ)
+names_to ps name rest = map (λ p. p.name) ps ++ name ∷ rest
+
 -- ---- what it comes to
 
 -- The lines lead from the operation's first turn to the reply. So in each legal history in which they are the
@@ -106,3 +123,12 @@ OpensAtOnceTell = (asked : Asked) (path second place : List ℕ) (kind : ℕ) (o
     → op_of asked path second ≡ Some op → opens_at_once asked path kind place ≡ true
     → names_read place ≡ Some (names_passed ps last)
     → IsCallAtOnce asked op (lines_at_once asked.root ps last (kind_of kind)) (opened_at_once ps last (kind_of kind))
+
+-- And where one of the names is missing in the directory that those before it led to, whichever names stand behind it,
+-- the call fails for that (ENOENT of openat2(2)).
+abbrev pub FailsAtOnceTell : Type 0
+FailsAtOnceTell = (asked : Asked) (path second place : List ℕ) (op : Op) (ps : List Passed) (name : List ℕ)
+    (rest : List (List ℕ))
+    → op_of asked path second ≡ Some op → misses_at_once asked path place ≡ true
+    → names_read place ≡ Some (names_to ps name rest)
+    → IsCallAtOnce asked op (lines_missing asked.root ps name) (replies.Fault NotFound)

@@ -4,7 +4,7 @@ ghost use Rattle.std.specs.List.{list_all};
 ghost use Rattle.path_text.specs.Name.{is_name};
 ghost use Rattle.path_text.specs.Print.{names_read};
 ghost use Rattle.path_text.specs.Text.{between_slashes};
-ghost use Rattle.c_protocol.specs.AtOnce.{has_names, opens_at_once, opens_kind, spells_place};
+ghost use Rattle.c_protocol.specs.AtOnce.{has_names, misses_at_once, opens_at_once, opens_kind, spells_place};
 ghost use Rattle.c_protocol.specs.Numbers.{kind_of};
 
 use crate::numbers::Asked;
@@ -67,4 +67,15 @@ pub fn opens_at_once(asked: &Asked, path: &[u8], kind: u8, place: &[u8]) -> bool
         && Path::fault_of(path).is_none()
         && has_names(place)
         && spells_place(path, place)
+}
+
+/// Whether a call is a resolve by the names of this place alone, as `opens_at_once` says. If one of them is missing in
+/// the directory that those before it led to, the call fails by ENOENT, by `fails_at_once_tell`, whichever of them that
+/// is (openat2(2), RESOLVE_NO_SYMLINKS). Takes no memory.
+///
+/// `place` is a slash before each name. False of the calls that make directories, which go on where a name is missing.
+pub fn misses_at_once(asked: &Asked, path: &[u8], place: &[u8]) -> bool
+    ensures { result ≡ misses_at_once asked.now path.now place.now }
+{
+    (asked.op == 2 || asked.op == 1) && opens_at_once(asked, path, 1, place)
 }

@@ -1,5 +1,5 @@
 //! What a C program's call tells in a history: laws, each the contract of a function without a body.
-ghost use Rattle.c_protocol.specs.AtOnce.{OpensAtOnceTell};
+ghost use Rattle.c_protocol.specs.AtOnce.{FailsAtOnceTell, OpensAtOnceTell};
 ghost use Rattle.c_protocol.specs.FollowedAtOnce.{LinksSeenBelow};
 ghost use Rattle.c_protocol.specs.History.{ConversationsAreCalls};
 ghost use Rattle.c_protocol.specs.Outright.{ConversationsTell};
@@ -56,6 +56,16 @@ pub fn conversations_with_runs_tell()
 /// `conversations_tell` says of a call.
 pub fn opens_at_once_tell()
     ensures { OpensAtOnceTell }
+{
+    each_call_tells();
+}
+
+/// A call of which `misses_at_once` is true, by whatever handles each name was opened in the directory before it, up to
+/// one that is missing there: the opens, that refusal, and the closes between are the lines of that call, which fails by
+/// ENOENT. In each legal history in which these lines are the program's own events, it tells what `conversations_tell`
+/// says of a call.
+pub fn fails_at_once_tell()
+    ensures { FailsAtOnceTell }
 {
     each_call_tells();
 }

@@ -32,14 +32,14 @@ mod through;
 mod told;
 mod turns;
 
-pub use at_once::opens_at_once;
+pub use at_once::{misses_at_once, opens_at_once};
 pub use followed::follows_at_once;
 pub use kept::Kept;
 pub use last_name::{Parted, split};
 pub use laws::{
     conversations_are_calls, conversations_close, conversations_tell, conversations_with_runs_tell,
-    links_seen_below_tell, opens_at_once_tell, opens_through_tell, seen_below_tell,
-    steps_are_refused_so, unmade_steps_end_calls,
+    fails_at_once_tell, links_seen_below_tell, opens_at_once_tell, opens_through_tell,
+    seen_below_tell, steps_are_refused_so, unmade_steps_end_calls,
 };
 pub use left::{Left, parts_ahead};
 pub use numbers::{Answered, Asked, Told};

@@ -195,6 +195,15 @@ passed_name t k d name nodes c what same e room dir entry is =
     ∙ ap (λ b. refuse_if (not b) (Refused NotDir) (found_at nodes c (length t.handles))) dir
     ∙ ap (λ o. with_some o (Refused NotFound) (λ what. Opened (length t.handles) c (kind_of what))) is
 
+pub missing_name : (t : State) (k d : ℕ) (name : List ℕ) (nodes : List Inode) → t.nodes ≡ nodes
+    → held t 0 k ≡ Some d → is_full t 0 ≡ false → is_dir nodes d ≡ true → child nodes d name ≡ None
+    → (outcome t 0 (Open k name)).answer ≡ Refused NotFound
+missing_name t k d name nodes same e room dir entry =
+    open_is t 0 k d name e room
+    ∙ ap (λ ns. entered ns d (child ns d name) (length t.handles)) same
+    ∙ ap (λ o. entered nodes d o (length t.handles)) entry
+    ∙ ap (λ b. refuse_if (not b) (Refused NotDir) (Refused NotFound)) dir
+
 pub passed_up : (t : State) (k d : ℕ) (nodes : List Inode) (c : ℕ) → t.nodes ≡ nodes
     → held t 0 k ≡ Some d → is_full t 0 ≡ false → is_dir nodes d ≡ true → parent nodes d ≡ Some c
     → object_at nodes c ≡ Some object.Dir

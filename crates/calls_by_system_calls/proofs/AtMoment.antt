@@ -28,7 +28,7 @@ use Rattle.root_ops.specs.Renumbered.{Numbering, step_by, answer_by}
 use Rattle.c_protocol.specs.Numbers.{errno_of}
 use Rattle.calls_by_system_calls.specs.Linux.{Linux, state_at}
 use Rattle.calls_by_system_calls.specs.Lines.{Descriptors, HasRoom, OpenIsMade, ParentIsMade, TextIsRead, DupIsMade, NameIsPassed, NamesAreListed, PlaceIsTold, TextIsRefused, UpIsPassed, LookIsMade, after_step, with_opened, with_closed, world}
-use Rattle.calls_by_system_calls.proofs.Answers.{at_number, at_opened, at_refused, same_open, same_parent, same_text, same_place, same_list, bad_text, same_close, same_dup, passed_name, passed_up}
+use Rattle.calls_by_system_calls.proofs.Answers.{at_number, at_opened, at_refused, same_open, same_parent, same_text, same_place, same_list, bad_text, same_close, same_dup, missing_name, passed_name, passed_up}
 use Rattle.calls_by_system_calls.proofs.Moments.{directory_later, is_world, object_later}
 
 abbrev pub numbering : (ℕ → ℕ) → (ℕ → ℕ) → Numbering
@@ -366,12 +366,22 @@ module _ (x : Linux) (nodes : ℕ → ℕ) (m calls : ℕ) (table : Descriptors)
     effect = opens_one j y k refl room (λ f i. refl) refl;
     by_handles = λ f g same. ap (λ i. steps.Open i name) (same h dir on);
   }
+  at_name h dir name (Refused error) room on made = record {
+    at = record {
+      n = made.0;
+      by = made.1;
+      tells = λ t f g same helds full number.
+          missing_name t (f h) dir name (state_at x (m + made.0)).nodes same (helds h dir on) (full room) made.2 made.3
+          ∙ ap Refused (sym made.4);
+    };
+    effect = tells_only refl refl;
+    by_handles = λ f g same. ap (λ i. steps.Open i name) (same h dir on);
+  }
   at_name h dir name (Text text) room on made = absurd made
   at_name h dir name (Names names) room on made = absurd made
   at_name h dir name NotBelow room on made = absurd made
   at_name h dir name (Listed names) room on made = absurd made
   at_name h dir name Done room on made = absurd made
-  at_name h dir name (Refused error) room on made = absurd made
 
   at_up : (h dir : ℕ) (answer : Answer) → HasRoom table → table.on h ≡ Some dir
       → UpIsPassed x nodes m calls dir answer → Made x nodes m calls table (steps.Parent h) answer

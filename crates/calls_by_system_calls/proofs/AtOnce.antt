@@ -1,20 +1,22 @@
 -- What names and links are passed at once by system calls is a call in a history.
 use Rattle.std.proofs.Common.{◌≡◌, ℕ, true, false, Bool, if◌then◌else◌, List, [], ◌∷◌, ◌++◌, map, Some, refl, sym, ap, ◌∙◌, subst}
+use Rattle.path_text.specs.declared.errno.Errno.TheVariants.{NotFound}
 use Rattle.path_text.specs.Text.{begins_with_slash}
-use Rattle.tree_model.specs.declared.answer.Answer.TheVariants.{Opened, Text, Names, Done}
+use Rattle.tree_model.specs.declared.answer.Answer.TheVariants.{Opened, Text, Names, Done, Refused}
 use Rattle.tree_model.specs.declared.step.Kind.{Kind}
 use Rattle.tree_model.specs.declared.step.Kind.TheVariants.{Dir, Link}
-use Rattle.tree_model.specs.declared.step.StepOf.TheVariants.{NameBelow, Close, Parent, ReadLink}
+use Rattle.tree_model.specs.declared.step.StepOf.TheVariants.{Open, NameBelow, Close, Parent, ReadLink}
 use Rattle.step_resolver.specs.Order.{Line, answered}
 use Rattle.root_ops.specs.declared.op.Op.{Op}
 use Rattle.root_ops.specs.declared.reply.Reply.{Reply}
+use Rattle.root_ops.specs.declared.reply.Reply.TheVariants.{Fault}
 use Rattle.root_ops.specs.CallHistory.{IsCallInHistory}
 use Rattle.root_ops.specs.Renumbered.{Numbering, line_by, lines_by, numbers_by, told_by}
-use Rattle.c_protocol.specs.AtOnce.{closes, lines_at_once, lines_from, names_passed, opened_at_once, opens, IsCallAtOnce, OpensAtOnceTell, Passed}
+use Rattle.c_protocol.specs.AtOnce.{closes, lines_at_once, lines_from, lines_missing, lines_missing_from, names_passed, names_to, opened_at_once, opens, IsCallAtOnce, FailsAtOnceTell, OpensAtOnceTell, Passed}
 use Rattle.c_protocol.specs.Through.{enters, follows, lines_of, lines_on, link, above, opened_at, spot_after, spot_at, spot_in, top, IsPassage, IsWay, OpensThroughTell, Passage, Spot, Stand, links_after}
 use Rattle.c_protocol.specs.Numbers.{kind_of}
 use Rattle.c_protocol.specs.declared.numbers.Asked.{Asked}
-use Rattle.calls_by_system_calls.specs.AtOnce.{in_history, LinesAreMade, LinesTell, OpensAtOnceBySystemCalls, OpensThroughBySystemCalls}
+use Rattle.calls_by_system_calls.specs.AtOnce.{in_history, LinesAreMade, LinesTell, FailsAtOnceBySystemCalls, OpensAtOnceBySystemCalls, OpensThroughBySystemCalls}
 use Rattle.calls_by_system_calls.specs.Linux.{Linux}
 use Rattle.calls_by_system_calls.proofs.AtMoment.{numbering}
 use Rattle.calls_by_system_calls.proofs.LinesJoined.{joined, root_held, root_is}
@@ -58,6 +60,18 @@ module _ (f : Numbering) where
   names_passed_by : (ps : List Passed) (last : Passed) → names_passed (all_by f ps) (passed_by f last)
       ≡ names_passed ps last
   names_passed_by ps last = ap (λ ns. ns ++ last.name ∷ []) (names_by ps)
+
+  missing_by : (dir : ℕ) (held : List ℕ) (ps : List Passed) (name : List ℕ)
+      → lines_by f (lines_missing_from dir held ps name)
+      ≡ lines_missing_from (f.handle dir) (numbers_by f held) (all_by f ps) name
+  missing_by dir held [] name =
+      ap (λ (zs : List Line). answered (Open (f.handle dir) name) (Refused NotFound) ∷ zs) (closes_by held)
+  missing_by dir held (p ∷ ps) name =
+      ap (λ (zs : List Line). opens (f.handle dir) (passed_by f p) Dir ∷ zs)
+      (lines_append (closes held) (lines_missing_from p.number (p.number ∷ []) ps name)
+      ∙ ap (λ (zs : List Line). zs ++ lines_by f (lines_missing_from p.number (p.number ∷ []) ps name))
+      (closes_by held)
+      ∙ ap (λ (zs : List Line). closes (numbers_by f held) ++ zs) (missing_by p.number (p.number ∷ []) ps name))
 
 -- ---- the call
 
@@ -113,6 +127,16 @@ opens_at_once_by_system_calls tell asked path second place kind op ps last e1 e2
         → opened_at_once (all_by f ps) (passed_by f last) kind ≡ told_by f (opened_at_once ps last kind)
     same_reply f ps last kind = ap (λ (ns : List (List ℕ)). opened_at (passed_by f last) kind ns)
         (names_passed_by f ps last)
+
+pub fails_at_once_by_system_calls : FailsAtOnceTell → FailsAtOnceBySystemCalls
+fails_at_once_by_system_calls tell asked path second place op ps name rest e1 e2 e3 x nodes root node ns made =
+    let lines = lines_missing asked.root ps name in
+    let f = numbers x asked op nodes root node lines ns (Fault NotFound) made in
+    let it = tell (record asked { root = f.handle asked.root }) path second place op (all_by f ps) name rest e1 e2
+    (e3 ∙ ap Some (sym (ap (λ ns. ns ++ name ∷ rest) (names_by f ps)))) in
+    lines_tell x asked op nodes root node lines ns (Fault NotFound) made
+    (subst (λ (ls : List Line). IsCallAtOnce (record asked { root = f.handle asked.root }) op ls (Fault NotFound))
+    (sym (missing_by f asked.root [] ps name)) it)
 
 -- ---- links between
 

@@ -1,6 +1,7 @@
 -- The same of a call that replies without its turns: its names, and the links between, were passed by a few system
 -- calls (`opens_at_once` and `goes_through` of c_protocol).
 use Rattle.std.specs.Prelude.{◌≡◌, ℕ, ◌+◌, ◌<◌, List, [], ◌∷◌, true, drop, length, Some}
+use Rattle.path_text.specs.declared.errno.Errno.TheVariants.{NotFound}
 use Rattle.path_text.specs.Print.{names_read}
 use Rattle.tree_model.specs.declared.answer.Event.{Event}
 use Rattle.tree_model.specs.State.{is_dir}
@@ -8,10 +9,11 @@ use Rattle.tree_model.specs.Steps.{held}
 use Rattle.step_resolver.specs.Order.{Line}
 use Rattle.root_ops.specs.declared.op.Op.{Op}
 use Rattle.root_ops.specs.declared.reply.Reply.{Reply}
+use Rattle.root_ops.specs.declared.reply.Reply.TheVariants.{Fault}
 use Rattle.root_ops.specs.CallHistory.{CallInHistory, IsCallInHistory}
 use Rattle.root_ops.specs.EachCall.{CallTells}
 use Rattle.root_ops.specs.Renumbered.{Numbering, lines_by, told_by}
-use Rattle.c_protocol.specs.AtOnce.{lines_at_once, names_passed, opened_at_once, opens_at_once, Passed}
+use Rattle.c_protocol.specs.AtOnce.{lines_at_once, lines_missing, misses_at_once, names_passed, names_to, opened_at_once, opens_at_once, Passed}
 use Rattle.c_protocol.specs.Numbers.{kind_of, op_of}
 use Rattle.c_protocol.specs.Outright.{call_in}
 use Rattle.c_protocol.specs.Through.{begins_through, ends_through, lines_on, opened_at, top, IsWay, Passage, Stand}
@@ -58,6 +60,16 @@ OpensAtOnceBySystemCalls =
     → LinesAreMade x asked nodes root node (lines_at_once asked.root ps last (kind_of kind)) counts
     → LinesTell x asked op nodes root node (lines_at_once asked.root ps last (kind_of kind)) counts
     (opened_at_once ps last (kind_of kind))
+
+-- or which one system call doesn't pass since a name is missing,
+abbrev pub FailsAtOnceBySystemCalls : Type 0
+FailsAtOnceBySystemCalls =
+    (asked : Asked) (path second place : List ℕ) (op : Op) (ps : List Passed) (name : List ℕ) (rest : List (List ℕ))
+    → op_of asked path second ≡ Some op → misses_at_once asked path place ≡ true
+    → names_read place ≡ Some (names_to ps name rest)
+    → (x : Linux) (nodes : ℕ → ℕ) (root node : ℕ) (counts : List ℕ)
+    → LinesAreMade x asked nodes root node (lines_missing asked.root ps name) counts
+    → LinesTell x asked op nodes root node (lines_missing asked.root ps name) counts (Fault NotFound)
 
 -- and of a path with links and `..`, each of which was read, or asked for its place.
 abbrev pub OpensThroughBySystemCalls : Type 0

@@ -2,6 +2,7 @@
 -- the tree what the manual pages say; or one of several names that one system call passes.
 use Rattle.std.specs.Prelude.{◌≡◌, ◌≢◌, ◌⊎◌, ◌≤◌, ◌<◌, ℕ, suc, ◌+◌, ◌-◌, ◌==◌, List, [], ◌∷◌, Bool, true, false, if◌then◌else◌, Option, Some, None}
 use Rattle.std.specs.List.{AllByRecursion}
+use Rattle.path_text.specs.declared.errno.Errno.TheVariants.{NotFound}
 use Rattle.path_text.specs.declared.errno.Errno.{Errno}
 use Rattle.path_text.specs.Errno.{number_of}
 use Rattle.path_text.specs.Text.{text_fault}
@@ -120,12 +121,16 @@ pub record TextIsRead (x : Linux) (m calls link : ℕ) (answer : Answer) : Type 
 
 -- Open of a name by a look-up of several at once (openat2(2), RESOLVE_NO_SYMLINKS): path_resolution(7), the kernel
 -- looks names up one after another, each in the directory that the one before gave. At one of the moments the object
--- was this name's. The moments are counted as for a conversation, and lie within the system call.
+-- was this name's; or the look-up failed by ENOENT, since there was none by this name. The moments are counted as for a
+-- conversation, and lie within the system call.
 abbrev pub NameIsPassed : Linux → (ℕ → ℕ) → ℕ → ℕ → ℕ → List ℕ → Answer → Type 0
 NameIsPassed x nodes m calls dir name (answers.Opened h y k) =
     (n : ℕ) × (n ≤ calls) × (what : Object) × (is_dir (state_at x (m + n)).nodes dir ≡ true)
     × (child (state_at x (m + n)).nodes dir name ≡ Some (nodes y))
     × (object_at (state_at x (m + n)).nodes (nodes y) ≡ Some what) × (k ≡ kind_of what)
+NameIsPassed x nodes m calls dir name (answers.Refused error) =
+    (n : ℕ) × (n ≤ calls) × (is_dir (state_at x (m + n)).nodes dir ≡ true)
+    × (child (state_at x (m + n)).nodes dir name ≡ None) × (error ≡ NotFound)
 NameIsPassed x nodes m calls dir name answer = ⊥
 
 -- the same of `..` at the end of such a look-up

@@ -1,5 +1,5 @@
 //! What a C program's call tells whose steps are made by system calls.
-ghost use Rattle.calls_by_system_calls.specs.AtOnce.{OpensAtOnceBySystemCalls, OpensThroughBySystemCalls};
+ghost use Rattle.calls_by_system_calls.specs.AtOnce.{FailsAtOnceBySystemCalls, OpensAtOnceBySystemCalls, OpensThroughBySystemCalls};
 ghost use Rattle.calls_by_system_calls.specs.Joined.{CallsTellBySystemCalls};
 ghost use Rattle.calls_by_system_calls.specs.Places.{AskedPlacesStood};
 ghost use Rattle.calls_by_system_calls.specs.Runs.{CallsWithRunsTellBySystemCalls};
@@ -7,7 +7,8 @@ ghost use Rattle.calls_by_system_calls.specs.WorkedChange.{MkdirIsMade};
 ghost use Rattle.calls_by_system_calls.specs.WorkedRace.{RaceIsMade};
 
 use c_protocol::{
-    conversations_tell, conversations_with_runs_tell, opens_at_once_tell, opens_through_tell,
+    conversations_tell, conversations_with_runs_tell, fails_at_once_tell, opens_at_once_tell,
+    opens_through_tell,
 };
 use place_protocol::places_stood;
 
@@ -40,6 +41,15 @@ pub fn opens_at_once_by_system_calls()
     ensures { OpensAtOnceBySystemCalls }
 {
     opens_at_once_tell();
+}
+
+/// The same of a resolve that fails by ENOENT without its turns: its path is names alone, and one system call looked
+/// them up until one was missing (openat2(2), RESOLVE_NO_SYMLINKS). That this one was missing at a moment within that
+/// system call, in the directory that those before it led to, is a premise (path_resolution(7)).
+pub fn fails_at_once_by_system_calls()
+    ensures { FailsAtOnceBySystemCalls }
+{
+    fails_at_once_tell();
 }
 
 /// The same of a resolve through links and `..` that replies so, each link of which was read (readlinkat(2)), and after
