@@ -10,7 +10,7 @@ use Rattle.call_course.specs.declared.calling.Answer.{Answer}
 use Rattle.call_course.specs.declared.calling.Facts.{Facts}
 use Rattle.call_course.specs.declared.calling.TheConstants.{BEGIN, LOOK_AT_ROOT, FAILS}
 use Rattle.std.proofs.lemmas.Bool.{false≢true}
-use Rattle.call_course.proofs.Leads.{Leads, Turn, to_proc, to_close, to_home, to_root, to_end, to_again, to_fail, t_begin, t_join, t_join_held, t_no_join, t_once, t_not_once, t_not_once_held, t_own_place, t_own_walk, t_own_given, t_no_own, t_place, t_no_place, t_opened, t_text, t_cut, t_done, t_made, t_lost, t_unopened, t_count, t_fault, t_took, t_not_took, t_let_go, t_close_made, t_closed, t_closed_stuck, t_same_proc, t_lost_proc, t_another, t_no_other, t_proc_closed, t_home, t_stuck_holds, t_stuck, t_root, t_bad_root}
+use Rattle.call_course.proofs.Leads.{Leads, Turn, to_proc, to_close, to_home, to_root, to_end, to_again, to_fail, t_begin, t_join, t_join_held, t_no_join, t_once, t_missing, t_not_once, t_not_once_held, t_own_place, t_own_walk, t_own_given, t_no_own, t_place, t_no_place, t_opened, t_text, t_cut, t_done, t_made, t_lost, t_unopened, t_count, t_fault, t_took, t_not_took, t_let_go, t_close_made, t_closed, t_closed_stuck, t_same_proc, t_lost_proc, t_another, t_no_other, t_proc_closed, t_home, t_stuck_holds, t_stuck, t_root, t_bad_root}
 use Rattle.call_course.proofs.Sound.{sound}
 use Rattle.call_course.proofs.Rule.{always, leads_same, sound_root, sound_stuck}
 
@@ -63,10 +63,11 @@ root_turn c a n s t =
       | t_no_join p0 p1 is ↦ subst (λ m. root_seen (looked_by (exchange c a)) m ≡ true) (sym is)
           (grind (arith, p0, p1, so))
       | t_once p0 p1 l ↦ root_leads true (gains a.value true (noted a c)) n (looked_by (exchange c a)) l
-      | t_not_once p0 p1 p2 is ↦
-          subst (λ m. root_seen (looked_by (exchange c a)) m ≡ true) (sym is) (grind (arith, p0, p1, p2, so))
-      | t_not_once_held p0 p1 p2 is ↦
-          subst (λ m. root_seen (looked_by (exchange c a)) m ≡ true) (sym is) (grind (arith, p0, p1, p2, so))
+      | t_missing p0 p1 p2 l ↦ root_leads true (lacks a.error (noted a c)) n (looked_by (exchange c a)) l
+      | t_not_once p0 p1 pf p2 is ↦
+          subst (λ m. root_seen (looked_by (exchange c a)) m ≡ true) (sym is) (grind (arith, p0, p1, pf, p2, so))
+      | t_not_once_held p0 p1 pf p2 is ↦
+          subst (λ m. root_seen (looked_by (exchange c a)) m ≡ true) (sym is) (grind (arith, p0, p1, pf, p2, so))
       | t_own_place p0 p1 p2 p3 is ↦
           subst (λ m. root_seen (looked_by (exchange c a)) m ≡ true) (sym is) (grind (arith, p0, p1, p2, p3, so))
       | t_own_walk p0 p1 p2 p3 is ↦
@@ -159,8 +160,9 @@ again_turn c a n t =
       | t_join_held p0 p1 p2 is ↦ subst (λ m. again_ok false m ≡ true) (sym is) (grind (arith, p0, p1, p2))
       | t_no_join p0 p1 is ↦ subst (λ m. again_ok false m ≡ true) (sym is) (grind (arith, p0, p1))
       | t_once p0 p1 l ↦ again_leads false true (gains a.value true (noted a c)) n false l
-      | t_not_once p0 p1 p2 is ↦ subst (λ m. again_ok false m ≡ true) (sym is) (grind (arith, p0, p1, p2))
-      | t_not_once_held p0 p1 p2 is ↦ subst (λ m. again_ok false m ≡ true) (sym is) (grind (arith, p0, p1, p2))
+      | t_missing p0 p1 p2 l ↦ again_leads false true (lacks a.error (noted a c)) n false l
+      | t_not_once p0 p1 pf p2 is ↦ subst (λ m. again_ok false m ≡ true) (sym is) (grind (arith, p0, p1, pf, p2))
+      | t_not_once_held p0 p1 pf p2 is ↦ subst (λ m. again_ok false m ≡ true) (sym is) (grind (arith, p0, p1, pf, p2))
       | t_own_place p0 p1 p2 p3 is ↦ subst (λ m. again_ok false m ≡ true) (sym is) (grind (arith, p0, p1, p2, p3))
       | t_own_walk p0 p1 p2 p3 is ↦ subst (λ m. again_ok false m ≡ true) (sym is) (grind (arith, p0, p1, p2, p3))
       | t_own_given p0 p1 p2 is ↦ subst (λ m. again_ok false m ≡ true) (sym is) (grind (arith, p0, p1, p2))
@@ -228,8 +230,10 @@ own_turn older c a n s t r =
       | t_no_join p0 p1 is ↦ absurd (grind (arith, p0, p1, is, so, r))
       | t_once p0 p1 l ↦ absurd
           (grind (arith, p0, p1, leads_same false true (gains a.value true (noted a c)) n l, so, r))
-      | t_not_once p0 p1 p2 is ↦ absurd (grind (arith, p0, p1, p2, is, so, r))
-      | t_not_once_held p0 p1 p2 is ↦ absurd (grind (arith, p0, p1, p2, is, so, r))
+      | t_missing p0 p1 p2 l ↦ absurd
+          (grind (arith, p0, p1, p2, leads_same false true (lacks a.error (noted a c)) n l, so, r))
+      | t_not_once p0 p1 pf p2 is ↦ absurd (grind (arith, p0, p1, pf, p2, is, so, r))
+      | t_not_once_held p0 p1 pf p2 is ↦ absurd (grind (arith, p0, p1, pf, p2, is, so, r))
       | t_own_place p0 p1 p2 p3 is ↦ absurd (grind (arith, p0, p1, p2, p3, is, so, r))
       | t_own_walk p0 p1 p2 p3 is ↦ absurd (grind (arith, p0, p1, p2, p3, is, so, r))
       | t_own_given p0 p1 p2 is ↦ absurd (grind (arith, p0, p1, p2, is, so, r))
@@ -290,8 +294,10 @@ home_turn older c a n s w t r =
       | t_no_join p0 p1 is ↦ absurd (grind (arith, p0, p1, is, so, r))
       | t_once p0 p1 l ↦ absurd
           (grind (arith, p0, p1, leads_same false true (gains a.value true (noted a c)) n l, so, r))
-      | t_not_once p0 p1 p2 is ↦ absurd (grind (arith, p0, p1, p2, is, so, r))
-      | t_not_once_held p0 p1 p2 is ↦ absurd (grind (arith, p0, p1, p2, is, so, r))
+      | t_missing p0 p1 p2 l ↦ absurd
+          (grind (arith, p0, p1, p2, leads_same false true (lacks a.error (noted a c)) n l, so, r))
+      | t_not_once p0 p1 pf p2 is ↦ absurd (grind (arith, p0, p1, pf, p2, is, so, r))
+      | t_not_once_held p0 p1 pf p2 is ↦ absurd (grind (arith, p0, p1, pf, p2, is, so, r))
       | t_own_place p0 p1 p2 p3 is ↦ absurd (grind (arith, p0, p1, p2, p3, is, so, r))
       | t_own_walk p0 p1 p2 p3 is ↦ absurd (grind (arith, p0, p1, p2, p3, is, so, r))
       | t_own_given p0 p1 p2 is ↦ absurd (grind (arith, p0, p1, p2, is, so, r))

@@ -99,9 +99,11 @@ pub data Turn (c : Calling) (a : Answer) (n : Calling) : Type 0 where
       → Turn c a n
   t_no_join : c.next ≡ JOIN → (a.error == 0) ≡ false → n ≡ asks LET_GO 0 (lacks a.error (noted a c)) → Turn c a n
   t_once : c.next ≡ AT_ONCE → (a.error == 0) ≡ true → Leads false true (gains a.value true (noted a c)) n → Turn c a n
-  t_not_once : c.next ≡ AT_ONCE → (a.error == 0) ≡ false → c.facts.held ≡ false → n ≡ asks OWN_ROOT 0 (noted a c)
+  t_missing : c.next ≡ AT_ONCE → (a.error == 0) ≡ false → a.fails ≡ true → Leads false true (lacks a.error (noted a c)) n
       → Turn c a n
-  t_not_once_held : c.next ≡ AT_ONCE → (a.error == 0) ≡ false → c.facts.held ≡ true → n ≡ asks CONVERSE 0 (noted a c)
+  t_not_once : c.next ≡ AT_ONCE → (a.error == 0) ≡ false → a.fails ≡ false → c.facts.held ≡ false → n ≡ asks OWN_ROOT 0 (noted a c)
+      → Turn c a n
+  t_not_once_held : c.next ≡ AT_ONCE → (a.error == 0) ≡ false → a.fails ≡ false → c.facts.held ≡ true → n ≡ asks CONVERSE 0 (noted a c)
       → Turn c a n
   t_own_place : c.next ≡ OWN_ROOT → (a.error == 0) ≡ true → (c.facts.error == 0) ≡ true → c.facts.places ≡ true
       → n ≡ asks PLACE 0 (noted a c) → Turn c a n
@@ -171,10 +173,12 @@ join_turn : (c : Calling) (a : Answer) → c.next ≡ JOIN → (a.error == 0) �
 join_turn c a at fine true is = t_join_held at fine is refl
 join_turn c a at fine false is = t_join at fine is refl
 
-once_turn : (c : Calling) (a : Answer) → c.next ≡ AT_ONCE → (a.error == 0) ≡ false → (held : Bool) → c.facts.held ≡ held
-    → Turn c a (asks (if held then CONVERSE else OWN_ROOT) 0 (noted a c))
-once_turn c a at none true is = t_not_once_held at none is refl
-once_turn c a at none false is = t_not_once at none is refl
+once_turn : (c : Calling) (a : Answer) → c.next ≡ AT_ONCE → (a.error == 0) ≡ false → (fails held : Bool)
+    → a.fails ≡ fails → c.facts.held ≡ held
+    → Turn c a (if fails then ended (lacks a.error (noted a c)) else asks (if held then CONVERSE else OWN_ROOT) 0 (noted a c))
+once_turn c a at none true held so is = t_missing at none so (ended_leads (lacks a.error (noted a c)))
+once_turn c a at none false true so is = t_not_once_held at none so is refl
+once_turn c a at none false false so is = t_not_once at none so is refl
 
 -- what a call that changed an entry gives
 done_turn : (c : Calling) (a : Answer) → c.next ≡ CONVERSE → (a.reply == OPENED) ≡ false → (a.reply == TEXT) ≡ false
@@ -227,8 +231,9 @@ turn_at c a asked home_owns root_owns root_moved =
           (λ x. t_no_join at x refl))
       | is_at_once at ↦ subst (λ k. Turn c a (after_answer k a c)) (sym at)
           (pick (Turn c a) (a.error == 0) (ended (gains a.value true (noted a c)))
-          (asks (checked CONVERSE c.facts) 0 (noted a c))
-          (λ x. t_once at x (ended_leads (gains a.value true (noted a c)))) (λ x. once_turn c a at x c.facts.held refl))
+          (if a.fails then ended (lacks a.error (noted a c)) else asks (checked CONVERSE c.facts) 0 (noted a c))
+          (λ x. t_once at x (ended_leads (gains a.value true (noted a c))))
+          (λ x. once_turn c a at x a.fails c.facts.held refl refl))
       | is_own_root at ↦ subst (λ k. Turn c a (after_answer k a c)) (sym at)
           (answered_turn c a (after_own_root c.facts)
           (λ x. own_turn c a at x (c.facts.error == 0) c.facts.places refl refl) (λ x. t_no_own at x refl))

@@ -9,7 +9,7 @@ use Rattle.call_course.specs.declared.calling.Answer.{Answer}
 use Rattle.call_course.specs.declared.calling.Facts.{Facts}
 use Rattle.call_course.specs.declared.calling.TheConstants.{BEGIN, JOIN, OWN_ROOT, PLACE, CONVERSE, TAKE, ENDS, FAILS}
 use Rattle.std.proofs.lemmas.Bool.{eqb-true, false≢true}
-use Rattle.call_course.proofs.Leads.{First, f_given, f_check, f_check_place, f_place, f_join, f_once, first_is, Leads, Turn, to_proc, to_close, to_home, to_root, to_end, to_again, to_fail, t_begin, t_join, t_join_held, t_no_join, t_once, t_not_once, t_not_once_held, t_own_place, t_own_walk, t_own_given, t_no_own, t_place, t_no_place, t_opened, t_text, t_cut, t_done, t_made, t_lost, t_unopened, t_count, t_fault, t_took, t_not_took, t_let_go, t_close_made, t_closed, t_closed_stuck, t_same_proc, t_lost_proc, t_another, t_no_other, t_proc_closed, t_home, t_stuck_holds, t_stuck, t_root, t_bad_root}
+use Rattle.call_course.proofs.Leads.{First, f_given, f_check, f_check_place, f_place, f_join, f_once, first_is, Leads, Turn, to_proc, to_close, to_home, to_root, to_end, to_again, to_fail, t_begin, t_join, t_join_held, t_no_join, t_once, t_missing, t_not_once, t_not_once_held, t_own_place, t_own_walk, t_own_given, t_no_own, t_place, t_no_place, t_opened, t_text, t_cut, t_done, t_made, t_lost, t_unopened, t_count, t_fault, t_took, t_not_took, t_let_go, t_close_made, t_closed, t_closed_stuck, t_same_proc, t_lost_proc, t_another, t_no_other, t_proc_closed, t_home, t_stuck_holds, t_stuck, t_root, t_bad_root}
 use Rattle.call_course.proofs.Sound.{within}
 use Rattle.call_course.proofs.Ends.{home_is}
 use Rattle.call_course.proofs.Rule.{always, has_facts}
@@ -75,8 +75,9 @@ given_turn c a n w t =
       | t_join_held p0 p1 p2 is ↦ subst (λ m. given_ok m ≡ true) (sym is) (grind (arith, p0, p1, p2, w))
       | t_no_join p0 p1 is ↦ subst (λ m. given_ok m ≡ true) (sym is) (grind (arith, p0, p1, w))
       | t_once p0 p1 l ↦ given_leads false true (gains a.value true (noted a c)) n (grind (arith, p0, p1, w)) l
-      | t_not_once p0 p1 p2 is ↦ subst (λ m. given_ok m ≡ true) (sym is) (grind (arith, p0, p1, p2, w))
-      | t_not_once_held p0 p1 p2 is ↦ subst (λ m. given_ok m ≡ true) (sym is) (grind (arith, p0, p1, p2, w))
+      | t_missing p0 p1 p2 l ↦ given_leads false true (lacks a.error (noted a c)) n (grind (arith, p0, p1, p2, w)) l
+      | t_not_once p0 p1 pf p2 is ↦ subst (λ m. given_ok m ≡ true) (sym is) (grind (arith, p0, p1, pf, p2, w))
+      | t_not_once_held p0 p1 pf p2 is ↦ subst (λ m. given_ok m ≡ true) (sym is) (grind (arith, p0, p1, pf, p2, w))
       | t_own_place p0 p1 p2 p3 is ↦ subst (λ m. given_ok m ≡ true) (sym is) (grind (arith, p0, p1, p2, p3, w))
       | t_own_walk p0 p1 p2 p3 is ↦ subst (λ m. given_ok m ≡ true) (sym is) (grind (arith, p0, p1, p2, p3, w))
       | t_own_given p0 p1 p2 is ↦ subst (λ m. given_ok m ≡ true) (sym is) (grind (arith, p0, p1, p2, w))
@@ -177,10 +178,12 @@ asked_turn c a n was g w t =
           (grind (arith, p0, p1, g, w))
       | t_once p0 p1 l ↦ asked_leads false true (gains a.value true (noted a c)) n (checked_by (exchange c a) was)
           (grind (arith, p0, p1, g, w)) l
-      | t_not_once p0 p1 p2 is ↦
-          subst (λ m. asked_ok (checked_by (exchange c a) was) m ≡ true) (sym is) (grind (arith, p0, p1, p2, g, w))
-      | t_not_once_held p0 p1 p2 is ↦
-          subst (λ m. asked_ok (checked_by (exchange c a) was) m ≡ true) (sym is) (grind (arith, p0, p1, p2, g, w))
+      | t_missing p0 p1 p2 l ↦ asked_leads false true (lacks a.error (noted a c)) n (checked_by (exchange c a) was)
+          (grind (arith, p0, p1, p2, g, w)) l
+      | t_not_once p0 p1 pf p2 is ↦
+          subst (λ m. asked_ok (checked_by (exchange c a) was) m ≡ true) (sym is) (grind (arith, p0, p1, pf, p2, g, w))
+      | t_not_once_held p0 p1 pf p2 is ↦
+          subst (λ m. asked_ok (checked_by (exchange c a) was) m ≡ true) (sym is) (grind (arith, p0, p1, pf, p2, g, w))
       | t_own_place p0 p1 p2 p3 is ↦
           subst (λ m. asked_ok (checked_by (exchange c a) was) m ≡ true) (sym is) (grind (arith, p0, p1, p2, p3, g, w))
       | t_own_walk p0 p1 p2 p3 is ↦
@@ -297,10 +300,12 @@ order_turn c a n was g w t =
           (grind (arith, p0, p1, g, w))
       | t_once p0 p1 l ↦ order_leads false true (gains a.value true (noted a c)) n (check_error_by (exchange c a) was)
           (grind (arith, p0, p1, g, w)) l
-      | t_not_once p0 p1 p2 is ↦
-          subst (λ m. order_ok (check_error_by (exchange c a) was) m ≡ true) (sym is) (grind (arith, p0, p1, p2, g, w))
-      | t_not_once_held p0 p1 p2 is ↦
-          subst (λ m. order_ok (check_error_by (exchange c a) was) m ≡ true) (sym is) (grind (arith, p0, p1, p2, g, w))
+      | t_missing p0 p1 p2 l ↦ order_leads false true (lacks a.error (noted a c)) n (check_error_by (exchange c a) was)
+          (grind (arith, p0, p1, p2, g, w)) l
+      | t_not_once p0 p1 pf p2 is ↦
+          subst (λ m. order_ok (check_error_by (exchange c a) was) m ≡ true) (sym is) (grind (arith, p0, p1, pf, p2, g, w))
+      | t_not_once_held p0 p1 pf p2 is ↦
+          subst (λ m. order_ok (check_error_by (exchange c a) was) m ≡ true) (sym is) (grind (arith, p0, p1, pf, p2, g, w))
       | t_own_place p0 p1 p2 p3 is ↦
           subst (λ m. order_ok (check_error_by (exchange c a) was) m ≡ true) (sym is)
           (grind (arith, p0, p1, p2, p3, g, w))
@@ -431,8 +436,10 @@ steps_turn older c a n own t r =
       | t_no_join p0 p1 is ↦ absurd (not_both (steps n.next) (subst (λ m. steps m.next ≡ false) (sym is) refl) r)
       | t_once p0 p1 l ↦ absurd
           (not_both (steps n.next) (steps_no_leads false true (gains a.value true (noted a c)) n l) r)
-      | t_not_once p0 p1 p2 is ↦ absurd (not_both (steps n.next) (subst (λ m. steps m.next ≡ false) (sym is) refl) r)
-      | t_not_once_held p0 p1 p2 is ↦ absurd (not_both c.facts.held own p2)
+      | t_missing p0 p1 p2 l ↦ absurd
+          (not_both (steps n.next) (steps_no_leads false true (lacks a.error (noted a c)) n l) r)
+      | t_not_once p0 p1 pf p2 is ↦ absurd (not_both (steps n.next) (subst (λ m. steps m.next ≡ false) (sym is) refl) r)
+      | t_not_once_held p0 p1 pf p2 is ↦ absurd (not_both c.facts.held own p2)
       | t_own_place p0 p1 p2 p3 is ↦ (p0, eqb-true a.error 0 p1)
       | t_own_walk p0 p1 p2 p3 is ↦ (p0, eqb-true a.error 0 p1)
       | t_own_given p0 p1 p2 is ↦ absurd (not_both (steps n.next) (subst (λ m. steps m.next ≡ false) (sym is) refl) r)

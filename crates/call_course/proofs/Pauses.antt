@@ -9,7 +9,7 @@ use Rattle.call_course.specs.declared.calling.Calling.{Calling}
 use Rattle.call_course.specs.declared.calling.Answer.{Answer}
 use Rattle.call_course.specs.declared.calling.Facts.{Facts}
 use Rattle.call_course.specs.declared.calling.TheConstants.{BEGIN, JOIN, AT_ONCE, OWN_ROOT, PLACE, CONVERSE, TAKE, LET_GO, CLOSE, LOOK_AT_PROC, ANOTHER_PROC, CLOSE_PROC, GO_HOME, LOOK_AT_ROOT}
-use Rattle.call_course.proofs.Leads.{away, Leads, Turn, to_proc, to_close, to_home, to_root, to_end, to_again, to_fail, t_begin, t_join, t_join_held, t_no_join, t_once, t_not_once, t_not_once_held, t_own_place, t_own_walk, t_own_given, t_no_own, t_place, t_no_place, t_opened, t_text, t_cut, t_done, t_made, t_lost, t_unopened, t_count, t_fault, t_took, t_not_took, t_let_go, t_close_made, t_closed, t_closed_stuck, t_same_proc, t_lost_proc, t_another, t_no_other, t_proc_closed, t_home, t_stuck_holds, t_stuck, t_root, t_bad_root}
+use Rattle.call_course.proofs.Leads.{away, Leads, Turn, to_proc, to_close, to_home, to_root, to_end, to_again, to_fail, t_begin, t_join, t_join_held, t_no_join, t_once, t_missing, t_not_once, t_not_once_held, t_own_place, t_own_walk, t_own_given, t_no_own, t_place, t_no_place, t_opened, t_text, t_cut, t_done, t_made, t_lost, t_unopened, t_count, t_fault, t_took, t_not_took, t_let_go, t_close_made, t_closed, t_closed_stuck, t_same_proc, t_lost_proc, t_another, t_no_other, t_proc_closed, t_home, t_stuck_holds, t_stuck, t_root, t_bad_root}
 use Rattle.call_course.proofs.Sound.{another_ok, moved_ok, owns_ok, sound, stuck_ok, tries_ok}
 use Rattle.call_course.proofs.Rule.{always, sound_another, sound_moved, sound_owns, sound_stuck, sound_tries}
 
@@ -67,10 +67,12 @@ pauses_turn c a n was s w t =
           (grind (arith, p0, w))
       | t_once p0 p1 l ↦ pauses_leads false true (gains a.value true (noted a c)) n
           (if (exchange c a).asked == BEGIN then was + (exchange c a).about else was) (grind (arith, p0, w)) l
-      | t_not_once p0 p1 p2 is ↦
+      | t_missing p0 p1 p2 l ↦ pauses_leads false true (lacks a.error (noted a c)) n
+          (if (exchange c a).asked == BEGIN then was + (exchange c a).about else was) (grind (arith, p0, w)) l
+      | t_not_once p0 p1 pf p2 is ↦
           subst (λ m. pauses_ok (if (exchange c a).asked == BEGIN then was + (exchange c a).about else was) m) (sym is)
           (grind (arith, p0, w))
-      | t_not_once_held p0 p1 p2 is ↦
+      | t_not_once_held p0 p1 pf p2 is ↦
           subst (λ m. pauses_ok (if (exchange c a).asked == BEGIN then was + (exchange c a).about else was) m) (sym is)
           (grind (arith, p0, w))
       | t_own_place p0 p1 p2 p3 is ↦
@@ -251,12 +253,16 @@ few_turn c a n was so sa ss st sm t =
           (λ w. few_leads false true (gains a.value true (noted a c)) n (suc was)
           (λ is can. grind (arith, p0, p1, w, can)) (λ is. grind (arith, p0, p1, so, w, is))
           (λ is away. grind (arith, p0, p1, w, away)) (λ is. grind (arith, p0, p1, w)) (grind (arith, p0, p1, w)) l)
-      | t_not_once p0 p1 p2 is ↦
+      | t_missing p0 p1 p2 l ↦ few_via AT_ONCE c was (few_ok (suc was) n) p0
+          (λ w. few_leads false true (lacks a.error (noted a c)) n (suc was) (λ is can. grind (arith, p0, p1, p2, w, can))
+          (λ is. grind (arith, p0, p1, p2, so, w, is)) (λ is away. grind (arith, p0, p1, p2, w, away))
+          (λ is. grind (arith, p0, p1, p2, w)) (grind (arith, p0, p1, p2, w)) l)
+      | t_not_once p0 p1 pf p2 is ↦
           few_via AT_ONCE c was (few_ok (suc was) n) p0
-          (λ w. subst (λ m. few_ok (suc was) m) (sym is) (grind (arith, p0, p1, p2, w)))
-      | t_not_once_held p0 p1 p2 is ↦
+          (λ w. subst (λ m. few_ok (suc was) m) (sym is) (grind (arith, p0, p1, pf, p2, w)))
+      | t_not_once_held p0 p1 pf p2 is ↦
           few_via AT_ONCE c was (few_ok (suc was) n) p0
-          (λ w. subst (λ m. few_ok (suc was) m) (sym is) (grind (arith, p0, p1, p2, w)))
+          (λ w. subst (λ m. few_ok (suc was) m) (sym is) (grind (arith, p0, p1, pf, p2, w)))
       | t_own_place p0 p1 p2 p3 is ↦
           few_via OWN_ROOT c was (few_ok (suc was) n) p0
           (λ w. subst (λ m. few_ok (suc was) m) (sym is) (grind (arith, p0, p1, p2, p3, w)))

@@ -7,7 +7,7 @@ use Rattle.call_course.specs.declared.calling.Calling.{Calling}
 use Rattle.call_course.specs.declared.calling.Answer.{Answer}
 use Rattle.call_course.specs.declared.calling.Facts.{Facts}
 use Rattle.call_course.specs.declared.calling.TheConstants.{BEGIN, JOIN, AT_ONCE, OWN_ROOT, PLACE, CONVERSE, TAKE, LET_GO, CLOSE, LOOK_AT_PROC, ANOTHER_PROC, CLOSE_PROC, GO_HOME, LOOK_AT_ROOT, ENDS, FAILS}
-use Rattle.call_course.proofs.Leads.{First, f_given, f_check, f_check_place, f_place, f_join, f_once, first_is, Leads, Turn, to_proc, to_close, to_home, to_root, to_end, to_again, to_fail, t_begin, t_join, t_join_held, t_no_join, t_once, t_not_once, t_not_once_held, t_own_place, t_own_walk, t_own_given, t_no_own, t_place, t_no_place, t_opened, t_text, t_cut, t_done, t_made, t_lost, t_unopened, t_count, t_fault, t_took, t_not_took, t_let_go, t_close_made, t_closed, t_closed_stuck, t_same_proc, t_lost_proc, t_another, t_no_other, t_proc_closed, t_home, t_stuck_holds, t_stuck, t_root, t_bad_root}
+use Rattle.call_course.proofs.Leads.{First, f_given, f_check, f_check_place, f_place, f_join, f_once, first_is, Leads, Turn, to_proc, to_close, to_home, to_root, to_end, to_again, to_fail, t_begin, t_join, t_join_held, t_no_join, t_once, t_missing, t_not_once, t_not_once_held, t_own_place, t_own_walk, t_own_given, t_no_own, t_place, t_no_place, t_opened, t_text, t_cut, t_done, t_made, t_lost, t_unopened, t_count, t_fault, t_took, t_not_took, t_let_go, t_close_made, t_closed, t_closed_stuck, t_same_proc, t_lost_proc, t_another, t_no_other, t_proc_closed, t_home, t_stuck_holds, t_stuck, t_root, t_bad_root}
 
 abbrev pub within : ℕ → ℕ → ℕ → Bool
 within low high n = nat_le low n && nat_le n high
@@ -128,10 +128,12 @@ sound_turn c a n t =
           (λ g. subst (λ m. sound m ≡ true) (sym is) (grind (arith, p1, g)))
       | t_once p0 p1 l ↦ via AT_ONCE c (sound n ≡ true) p0
           (λ g. sound_leads false true (gains a.value true (noted a c)) n l (grind (arith, p1, g)))
-      | t_not_once p0 p1 p2 is ↦
-          via AT_ONCE c (sound n ≡ true) p0 (λ g. subst (λ m. sound m ≡ true) (sym is) (grind (arith, p1, p2, g)))
-      | t_not_once_held p0 p1 p2 is ↦
-          via AT_ONCE c (sound n ≡ true) p0 (λ g. subst (λ m. sound m ≡ true) (sym is) (grind (arith, p1, p2, g)))
+      | t_missing p0 p1 p2 l ↦ via AT_ONCE c (sound n ≡ true) p0
+          (λ g. sound_leads false true (lacks a.error (noted a c)) n l (grind (arith, p1, g)))
+      | t_not_once p0 p1 pf p2 is ↦
+          via AT_ONCE c (sound n ≡ true) p0 (λ g. subst (λ m. sound m ≡ true) (sym is) (grind (arith, p1, pf, p2, g)))
+      | t_not_once_held p0 p1 pf p2 is ↦
+          via AT_ONCE c (sound n ≡ true) p0 (λ g. subst (λ m. sound m ≡ true) (sym is) (grind (arith, p1, pf, p2, g)))
       | t_own_place p0 p1 p2 p3 is ↦
           via OWN_ROOT c (sound n ≡ true) p0 (λ g. subst (λ m. sound m ≡ true) (sym is) (grind (arith, p1, p2, p3, g)))
       | t_own_walk p0 p1 p2 p3 is ↦

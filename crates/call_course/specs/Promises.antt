@@ -108,7 +108,7 @@ last_error error before = if error == 0 then before else error
 abbrev pub why_by : Facts → Exchange → ℕ → ℕ
 why_by facts e before =
     if e.asked == BEGIN then facts.error
-    else (if e.asked == AT_ONCE then 0
+    else (if e.asked == AT_ONCE then (if e.gave.fails then e.gave.error else 0)
     else (if e.asked == CONVERSE then error_of facts e.gave
     else (if e.asked == ANOTHER_PROC then last_error e.gave.error facts.error
     else (if (e.asked == OWN_ROOT) || (e.asked == GO_HOME) then last_error e.gave.error before

@@ -124,7 +124,7 @@ answered a next c = if a.error == 0 then asks next 0 (noted a c) else asks LET_G
 abbrev pub at_once : Answer → Calling → Calling
 at_once a c =
     if a.error == 0 then ended (gains a.value true (noted a c))
-    else asks (checked CONVERSE c.facts) 0 (noted a c)
+    else (if a.fails then ended (lacks a.error (noted a c)) else asks (checked CONVERSE c.facts) 0 (noted a c))
 
 abbrev pub placed : Answer → Calling → Calling
 placed a c = if a.error == 0 then ended (gains a.length false (noted a c)) else ended (lacks a.error (noted a c))

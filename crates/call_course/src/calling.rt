@@ -98,8 +98,8 @@ pub struct Answer {
     pub value: u64,
     /// How long a text is: of CONVERSE, and of PLACE.
     pub length: u64,
-    /// 0, or the number of an error (errno(3)). Of AT_ONCE any number but 0 says that it opened nothing, and of
-    /// LOOK_AT_PROC that the number is another file's by now.
+    /// 0, or the number of an error (errno(3)). Of AT_ONCE any number but 0 says that it opened nothing; the steps
+    /// decide then, unless it `fails`. Of LOOK_AT_PROC one says that the number is another file's by now.
     pub error: u32,
     /// Of CONVERSE: 0, or the kernel's error for which a step wasn't made.
     pub unmade: u32,
@@ -111,6 +111,8 @@ pub struct Answer {
     pub reply: u8,
     /// Of CONVERSE: the text is whole.
     pub whole: bool,
+    /// Of AT_ONCE: the call fails by the error.
+    pub fails: bool,
     /// Of a try's things: a step was made.
     pub stepped: bool,
     /// An entry was made, removed or renamed, and a try made once more would not find it as the first one did.
@@ -351,6 +353,8 @@ fn at_once(c: Calling, a: &Answer) -> Calling
 {
     if a.error == 0 {
         ended(gains(noted(c, a), a.value, true))
+    } else if a.fails {
+        ended(lacks(noted(c, a), a.error))
     } else {
         asks(noted(c, a), checked(c.facts, CONVERSE), 0)
     }
