@@ -1,10 +1,10 @@
 -- What holds of every history, turn by turn.
 use Rattle.std.proofs.Common.{◌≡◌, ◌≤◌, ◌+◌, ℕ, List, [], ◌∷◌, length, Bool, true, false, not, ◌&&◌, ◌||◌, ap, sym, ◌∙◌, arith}
 use Rattle.std.specs.Prelude.{◌==◌, if◌then◌else◌}
-use Rattle.open_at_once.specs.History.{after_exchange, asked, first, next_after, reads_links, resolve_of, Exchange, asks_whole, walks_path, asks_kind, shuts, asks_hints, asks_names, looks_up, asks_place, takes_path, replies, drops, asks_fresh, goes_through, IsHistory, Next}
-use Rattle.open_at_once.specs.Promises.{given_by, is_given, is_open, is_placed, needs_open, open_by, placed_by, says_fresh, says_linked, says_names, says_whole, why_by, why_failed, IsAllowed}
+use Rattle.open_at_once.specs.History.{after_exchange, asked, first, next_after, reads_links, resolve_of, Exchange, asks_whole, walks_path, asks_kind, shuts, asks_hints, asks_names, looks_up, asks_place, takes_path, replies, drops, asks_fresh, goes_through, asks_misses, IsHistory, Next}
+use Rattle.open_at_once.specs.Promises.{given_by, is_given, is_missed, is_open, is_placed, missed_by, needs_open, open_by, placed_by, says_fresh, says_linked, says_names, says_whole, why_by, why_failed, IsAllowed}
 use Rattle.open_at_once.specs.declared.ways.Facts.{Facts}
-use Rattle.open_at_once.specs.declared.ways.TheConstants.{WHOLE, WALK, KIND, SHUT, HINTS, NAMES, LOOK_UP, PLACE, PATH, REPLIES, DROP, FRESH, THROUGH, OPENS}
+use Rattle.open_at_once.specs.declared.ways.TheConstants.{WHOLE, WALK, KIND, SHUT, HINTS, NAMES, LOOK_UP, PLACE, PATH, REPLIES, DROP, FRESH, THROUGH, MISSES, OPENS, FAILS}
 
 -- ---- leave
 
@@ -22,13 +22,14 @@ come_step f (asks_kind error) failed was = grind (arith, was)
 come_step f shuts failed was = grind (arith, was)
 come_step f (asks_hints linked left) failed was = grind (arith, was)
 come_step f (asks_names so) failed was = grind (arith, was)
-come_step f (looks_up so) failed was = grind (arith, was)
+come_step f (looks_up so error) failed was = grind (arith, was)
 come_step f (asks_place so) failed was = grind (arith, was)
 come_step f takes_path failed was = grind (arith, was)
 come_step f (replies so) failed was = grind (arith, was)
 come_step f drops failed was = grind (arith, was)
 come_step f (asks_fresh so) failed was = grind (arith, was)
 come_step f (goes_through so) failed was = grind (arith, was)
+come_step f (asks_misses so) failed was = grind (arith, was)
 
 come_is : (f : Facts) (history : List Exchange) → IsHistory f history → may_come f (next_after f history).next ≡ true
 come_is f [] h = grind arith
@@ -47,13 +48,14 @@ read_step f (asks_kind error) failed was = grind (arith, was)
 read_step f shuts failed was = grind (arith, was)
 read_step f (asks_hints linked left) failed was = grind (arith, was)
 read_step f (asks_names so) failed was = grind (arith, was)
-read_step f (looks_up so) failed was = grind (arith, was)
+read_step f (looks_up so error) failed was = grind (arith, was)
 read_step f (asks_place so) failed was = grind (arith, was)
 read_step f takes_path failed was = grind (arith, was)
 read_step f (replies so) failed was = grind (arith, was)
 read_step f drops failed was = grind (arith, was)
 read_step f (asks_fresh so) failed was = grind (arith, was)
 read_step f (goes_through so) failed was = grind (arith, was)
+read_step f (asks_misses so) failed was = grind (arith, was)
 
 read_is : (f : Facts) (history : List Exchange) → IsHistory f history → may_read f (next_after f history).next ≡ true
 read_is f [] h = grind arith
@@ -67,13 +69,14 @@ walk_said f (asks_kind error) failed at = (grind (arith, at), grind (arith, at))
 walk_said f shuts failed at = (grind (arith, at), grind (arith, at))
 walk_said f (asks_hints linked left) failed at = (grind (arith, at), grind (arith, at))
 walk_said f (asks_names so) failed at = (grind (arith, at), grind (arith, at))
-walk_said f (looks_up so) failed at = (grind (arith, at), grind (arith, at))
+walk_said f (looks_up so error) failed at = (grind (arith, at), grind (arith, at))
 walk_said f (asks_place so) failed at = (grind (arith, at), grind (arith, at))
 walk_said f takes_path failed at = (grind (arith, at), grind (arith, at))
 walk_said f (replies so) failed at = (grind (arith, at), grind (arith, at))
 walk_said f drops failed at = (grind (arith, at), grind (arith, at))
 walk_said f (asks_fresh so) failed at = (grind (arith, at), grind (arith, at))
 walk_said f (goes_through so) failed at = (grind (arith, at), grind (arith, at))
+walk_said f (asks_misses so) failed at = (grind (arith, at), grind (arith, at))
 
 names_said : (f : Facts) (e : Exchange) (failed : ℕ) → (after_exchange f e failed).next ≡ LOOK_UP → says_names e ≡ true
 names_said f (asks_whole so) failed at = grind (arith, at)
@@ -82,13 +85,14 @@ names_said f (asks_kind error) failed at = grind (arith, at)
 names_said f shuts failed at = grind (arith, at)
 names_said f (asks_hints linked left) failed at = grind (arith, at)
 names_said f (asks_names so) failed at = grind (arith, at)
-names_said f (looks_up so) failed at = grind (arith, at)
+names_said f (looks_up so error) failed at = grind (arith, at)
 names_said f (asks_place so) failed at = grind (arith, at)
 names_said f takes_path failed at = grind (arith, at)
 names_said f (replies so) failed at = grind (arith, at)
 names_said f drops failed at = grind (arith, at)
 names_said f (asks_fresh so) failed at = grind (arith, at)
 names_said f (goes_through so) failed at = grind (arith, at)
+names_said f (asks_misses so) failed at = grind (arith, at)
 
 fresh_said : (f : Facts) (e : Exchange) (failed : ℕ) → (after_exchange f e failed).next ≡ FRESH → says_linked e ≡ true
 fresh_said f (asks_whole so) failed at = grind (arith, at)
@@ -97,13 +101,14 @@ fresh_said f (asks_kind error) failed at = grind (arith, at)
 fresh_said f shuts failed at = grind (arith, at)
 fresh_said f (asks_hints linked left) failed at = grind (arith, at)
 fresh_said f (asks_names so) failed at = grind (arith, at)
-fresh_said f (looks_up so) failed at = grind (arith, at)
+fresh_said f (looks_up so error) failed at = grind (arith, at)
 fresh_said f (asks_place so) failed at = grind (arith, at)
 fresh_said f takes_path failed at = grind (arith, at)
 fresh_said f (replies so) failed at = grind (arith, at)
 fresh_said f drops failed at = grind (arith, at)
 fresh_said f (asks_fresh so) failed at = grind (arith, at)
 fresh_said f (goes_through so) failed at = grind (arith, at)
+fresh_said f (asks_misses so) failed at = grind (arith, at)
 
 through_said : (f : Facts) (e : Exchange) (failed : ℕ) → (after_exchange f e failed).next ≡ THROUGH → says_fresh e ≡ true
 through_said f (asks_whole so) failed at = grind (arith, at)
@@ -112,13 +117,14 @@ through_said f (asks_kind error) failed at = grind (arith, at)
 through_said f shuts failed at = grind (arith, at)
 through_said f (asks_hints linked left) failed at = grind (arith, at)
 through_said f (asks_names so) failed at = grind (arith, at)
-through_said f (looks_up so) failed at = grind (arith, at)
+through_said f (looks_up so error) failed at = grind (arith, at)
 through_said f (asks_place so) failed at = grind (arith, at)
 through_said f takes_path failed at = grind (arith, at)
 through_said f (replies so) failed at = grind (arith, at)
 through_said f drops failed at = grind (arith, at)
 through_said f (asks_fresh so) failed at = grind (arith, at)
 through_said f (goes_through so) failed at = grind (arith, at)
+through_said f (asks_misses so) failed at = grind (arith, at)
 
 come_walk : (f : Facts) (next : ℕ) → may_come f next ≡ true → next ≡ WALK → (f.below ≡ true) × (f.one_by_one ≡ false)
 come_walk f next come at = (grind (arith, at, come), grind (arith, at, come))
@@ -180,13 +186,14 @@ now_step f (asks_kind error) failed placed given is = grind (arith, is)
 now_step f shuts failed placed given is = grind (arith, is)
 now_step f (asks_hints linked left) failed placed given is = grind (arith, is)
 now_step f (asks_names so) failed placed given is = grind (arith, is)
-now_step f (looks_up so) failed placed given is = grind (arith, is)
+now_step f (looks_up so error) failed placed given is = grind (arith, is)
 now_step f (asks_place so) failed placed given is = grind (arith, is)
 now_step f takes_path failed placed given is = grind (arith, is)
 now_step f (replies so) failed placed given is = grind (arith, is)
 now_step f drops failed placed given is = grind (arith, is)
 now_step f (asks_fresh so) failed placed given is = grind (arith, is)
 now_step f (goes_through so) failed placed given is = grind (arith, is)
+now_step f (asks_misses so) failed placed given is = grind (arith, is)
 
 now_is : (f : Facts) (history : List Exchange) → IsHistory f history
     → by_now f (next_after f history).next (is_placed f history) (is_given f history) ≡ true
@@ -212,13 +219,14 @@ open_step f (asks_kind error) failed was is = grind (arith, is)
 open_step f shuts failed was is = grind (arith, is)
 open_step f (asks_hints linked left) failed was is = grind (arith, is)
 open_step f (asks_names so) failed was is = grind (arith, is)
-open_step f (looks_up so) failed was is = grind (arith, is)
+open_step f (looks_up so error) failed was is = grind (arith, is)
 open_step f (asks_place so) failed was is = grind (arith, is)
 open_step f takes_path failed was is = grind (arith, is)
 open_step f (replies so) failed was is = grind (arith, is)
 open_step f drops failed was is = grind (arith, is)
 open_step f (asks_fresh so) failed was is = grind (arith, is)
 open_step f (goes_through so) failed was is = grind (arith, is)
+open_step f (asks_misses so) failed was is = grind (arith, is)
 
 open_first : (f : Facts) → false ≡ needs_open (first f).next
 open_first f = grind arith
@@ -245,13 +253,14 @@ knows_step f (asks_kind error) failed why was = grind (arith, was)
 knows_step f shuts failed why was = grind (arith, was)
 knows_step f (asks_hints linked left) failed why was = grind (arith, was)
 knows_step f (asks_names so) failed why was = grind (arith, was)
-knows_step f (looks_up so) failed why was = grind (arith, was)
+knows_step f (looks_up so error) failed why was = grind (arith, was)
 knows_step f (asks_place so) failed why was = grind (arith, was)
 knows_step f takes_path failed why was = grind (arith, was)
 knows_step f (replies so) failed why was = grind (arith, was)
 knows_step f drops failed why was = grind (arith, was)
 knows_step f (asks_fresh so) failed why was = grind (arith, was)
 knows_step f (goes_through so) failed why was = grind (arith, was)
+knows_step f (asks_misses so) failed why was = grind (arith, was)
 
 knows_is : (f : Facts) (history : List Exchange) → IsHistory f history
     → knows (next_after f history).next (next_after f history).failed (why_failed history) ≡ true
@@ -268,6 +277,45 @@ pub failed_so : (f : Facts) (history : List Exchange) → IsHistory f history �
 failed_so f history h at =
     knows_names (next_after f history).next (next_after f history).failed (why_failed history) (knows_is f history h) at
 
+-- ---- a name that is missing
+
+abbrev is_sound : ℕ → Bool → Bool
+is_sound next missed = not ((next == MISSES) || (next == FAILS)) || missed
+
+miss_step : (f : Facts) (e : Exchange) (failed why : ℕ) (missed : Bool) → knows (asked e) failed why ≡ true
+    → is_sound (asked e) missed ≡ true
+    → is_sound (after_exchange f e failed).next (missed_by f e why missed) ≡ true
+miss_step f (asks_whole so) failed why missed known was = grind (arith, known, was)
+miss_step f (walks_path error) failed why missed known was = grind (arith, known, was)
+miss_step f (asks_kind error) failed why missed known was = grind (arith, known, was)
+miss_step f shuts failed why missed known was = grind (arith, known, was)
+miss_step f (asks_hints linked left) failed why missed known was = grind (arith, known, was)
+miss_step f (asks_names so) failed why missed known was = grind (arith, known, was)
+miss_step f (looks_up so error) failed why missed known was = grind (arith, known, was)
+miss_step f (asks_place so) failed why missed known was = grind (arith, known, was)
+miss_step f takes_path failed why missed known was = grind (arith, known, was)
+miss_step f (replies so) failed why missed known was = grind (arith, known, was)
+miss_step f drops failed why missed known was = grind (arith, known, was)
+miss_step f (asks_fresh so) failed why missed known was = grind (arith, known, was)
+miss_step f (goes_through so) failed why missed known was = grind (arith, known, was)
+miss_step f (asks_misses so) failed why missed known was = grind (arith, known, was)
+
+miss_is : (f : Facts) (history : List Exchange) → IsHistory f history
+    → is_sound (next_after f history).next (is_missed f history) ≡ true
+miss_is f [] h = grind arith
+miss_is f (e ∷ older) h =
+    let failed = (next_after f older).failed in
+    miss_step f e failed (why_failed older) (is_missed f older)
+    (ap (λ n. knows n failed (why_failed older)) h.0 ∙ knows_is f older h.1)
+    (ap (λ n. is_sound n (is_missed f older)) h.0 ∙ miss_is f older h.1)
+
+miss_end : (next : ℕ) (missed : Bool) → is_sound next missed ≡ true → next ≡ FAILS → missed ≡ true
+miss_end next missed is at = grind (arith, at, is)
+
+pub missed_so : (f : Facts) (history : List Exchange) → IsHistory f history → (next_after f history).next ≡ FAILS
+    → is_missed f history ≡ true
+missed_so f history h at = miss_end (next_after f history).next (is_missed f history) (miss_is f history h) at
+
 -- ---- how many
 
 abbrev rank : ℕ → ℕ
@@ -279,7 +327,7 @@ rank next =
     else (if next == HINTS then 4
     else (if (next == FRESH) || (next == NAMES) then 5
     else (if (next == LOOK_UP) || (next == THROUGH) then 6
-    else (if (next == PLACE) || (next == PATH) then 7
+    else (if (next == PLACE) || ((next == PATH) || (next == MISSES)) then 7
     else (if next == REPLIES then 8 else (if next == DROP then 9 else 10)))))))))
 
 rank_step : (f : Facts) (e : Exchange) (failed : ℕ) → rank (asked e) + 1 ≤ rank (after_exchange f e failed).next
@@ -289,13 +337,14 @@ rank_step f (asks_kind error) failed = grind (arith)
 rank_step f shuts failed = grind (arith)
 rank_step f (asks_hints linked left) failed = grind (arith)
 rank_step f (asks_names so) failed = grind (arith)
-rank_step f (looks_up so) failed = grind (arith)
+rank_step f (looks_up so error) failed = grind (arith)
 rank_step f (asks_place so) failed = grind (arith)
 rank_step f takes_path failed = grind (arith)
 rank_step f (replies so) failed = grind (arith)
 rank_step f drops failed = grind (arith)
 rank_step f (asks_fresh so) failed = grind (arith)
 rank_step f (goes_through so) failed = grind (arith)
+rank_step f (asks_misses so) failed = grind (arith)
 
 rank_most : (next : ℕ) → rank next ≤ 10
 rank_most next = grind arith

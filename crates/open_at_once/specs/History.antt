@@ -3,7 +3,7 @@
 use Rattle.std.specs.Prelude.{◌≡◌, ℕ, ◌+◌, List, [], ◌∷◌, ◌==◌, Bool, not, ◌&&◌, ◌||◌, if◌then◌else◌, nat_lt}
 use Rattle.system_calls.specs.Errors.{ENOENT, EACCES, ENOTDIR, ENAMETOOLONG, ELOOP}
 use Rattle.open_at_once.specs.declared.ways.Facts.{Facts}
-use Rattle.open_at_once.specs.declared.ways.TheConstants.{WHOLE, WALK, KIND, SHUT, HINTS, NAMES, LOOK_UP, PLACE, PATH, REPLIES, DROP, FRESH, THROUGH, OPENS, STEPS}
+use Rattle.open_at_once.specs.declared.ways.TheConstants.{WHOLE, WALK, KIND, SHUT, HINTS, NAMES, LOOK_UP, PLACE, PATH, REPLIES, DROP, FRESH, THROUGH, MISSES, OPENS, FAILS, STEPS}
 
 -- bits of openat2(2)
 abbrev pub RESOLVE_NO_XDEV : ℕ
@@ -33,8 +33,8 @@ pub data Exchange : Type 0 where
   asks_hints : Bool → Bool → Exchange
   -- a call would reply so, if the names lead to a directory there (`opens_at_once`), and one look-up may pass them all
   asks_names : Bool → Exchange
-  -- openat2(2) with RESOLVE_NO_SYMLINKS and RESOLVE_BENEATH has opened what they lead to
-  looks_up : Bool → Exchange
+  -- openat2(2) with RESOLVE_NO_SYMLINKS and RESOLVE_BENEATH has opened what they lead to; or its error
+  looks_up : Bool → ℕ → Exchange
   -- its place was found; or the path is taken for it
   asks_place : Bool → Exchange
   takes_path : Exchange
@@ -45,6 +45,8 @@ pub data Exchange : Type 0 where
   asks_fresh : Bool → Exchange
   -- links were read, and what they lead to is what the call gives (`open_through_links`)
   goes_through : Bool → Exchange
+  -- the call fails where one of these names is missing (`misses_at_once` of `c_protocol`)
+  asks_misses : Bool → Exchange
 
 abbrev pub asked : Exchange → ℕ
 asked (asks_whole so) = WHOLE
@@ -53,13 +55,14 @@ asked (asks_kind error) = KIND
 asked shuts = SHUT
 asked (asks_hints linked left) = HINTS
 asked (asks_names so) = NAMES
-asked (looks_up so) = LOOK_UP
+asked (looks_up so error) = LOOK_UP
 asked (asks_place so) = PLACE
 asked takes_path = PATH
 asked (replies so) = REPLIES
 asked drops = DROP
 asked (asks_fresh so) = FRESH
 asked (goes_through so) = THROUGH
+asked (asks_misses so) = MISSES
 
 abbrev pub is_question : ℕ → Bool
 is_question next = not (next == 0) && nat_lt next OPENS
@@ -117,9 +120,12 @@ after_hints f failed linked left =
 abbrev pub after_names : ℕ → Bool → Next
 after_names failed so = if so then asks LOOK_UP failed else asks STEPS 0
 
--- whoever takes the kernel's word asks for no place
-abbrev pub after_look_up : Facts → Bool → Next
-after_look_up f so = if so then asks (if f.below then PATH else PLACE) 0 else asks STEPS 0
+-- Whoever takes the kernel's word asks for no place, and needs no step to know that a name is missing. What was known
+-- before is the walk's error, which may be a link's.
+abbrev pub after_look_up : Facts → ℕ → Bool → ℕ → Next
+after_look_up f failed so error =
+    if so then asks (if f.below then PATH else PLACE) 0
+    else asks (if f.below && ((failed == 0) && (error == ENOENT)) then MISSES else STEPS) 0
 
 abbrev pub or_drop : Bool → ℕ → Next
 or_drop so next = asks (if so then next else DROP) 0
@@ -130,6 +136,9 @@ after_fresh is = asks (if is then THROUGH else STEPS) 0
 abbrev pub after_through : Bool → Next
 after_through opened = asks (if opened then OPENS else STEPS) 0
 
+abbrev pub after_misses : Bool → Next
+after_misses so = asks (if so then FAILS else STEPS) 0
+
 -- after this exchange, before which this was known
 abbrev pub after_exchange : Facts → Exchange → ℕ → Next
 after_exchange f (asks_whole so) failed = after_whole f so
@@ -138,13 +147,14 @@ after_exchange f (asks_kind error) failed = after_kind error
 after_exchange f shuts failed = by_names f 0
 after_exchange f (asks_hints linked left) failed = after_hints f failed linked left
 after_exchange f (asks_names so) failed = after_names failed so
-after_exchange f (looks_up so) failed = after_look_up f so
+after_exchange f (looks_up so error) failed = after_look_up f failed so error
 after_exchange f (asks_place so) failed = or_drop so REPLIES
 after_exchange f takes_path failed = asks REPLIES 0
 after_exchange f (replies so) failed = or_drop so OPENS
 after_exchange f drops failed = asks STEPS 0
 after_exchange f (asks_fresh so) failed = after_fresh so
 after_exchange f (goes_through so) failed = after_through so
+after_exchange f (asks_misses so) failed = after_misses so
 
 abbrev pub first : Facts → Next
 first f = if f.below && not f.one_by_one then asks WHOLE 0 else by_names f 0

@@ -1,6 +1,7 @@
 -- What holds of every history.
 use Rattle.std.specs.Prelude.{◌≡◌, ℕ, List, [], ◌∷◌, ◌==◌, Bool, true, false, not, ◌&&◌, ◌||◌, if◌then◌else◌}
-use Rattle.open_at_once.specs.History.{is_missing, reads_links, resolve_of, Exchange, Next, asks_whole, walks_path, asks_kind, shuts, asks_hints, asks_names, looks_up, asks_place, takes_path, replies, drops, asks_fresh, goes_through}
+use Rattle.system_calls.specs.Errors.{ENOENT}
+use Rattle.open_at_once.specs.History.{is_missing, reads_links, resolve_of, Exchange, Next, asks_whole, walks_path, asks_kind, shuts, asks_hints, asks_names, looks_up, asks_place, takes_path, replies, drops, asks_fresh, goes_through, asks_misses}
 use Rattle.open_at_once.specs.declared.ways.Facts.{Facts}
 use Rattle.open_at_once.specs.declared.ways.TheConstants.{WALK, KIND, SHUT, LOOK_UP, PLACE, PATH, REPLIES, DROP, FRESH, THROUGH, OPENS}
 
@@ -56,7 +57,7 @@ given_by f _ placed was = false
 abbrev pub placed_by : Facts → Exchange → Bool → Bool
 placed_by f (asks_place so) was = was && so
 placed_by f takes_path was = was && f.below
-placed_by f (looks_up so) was = so
+placed_by f (looks_up so error) was = so
 placed_by f _ was = false
 
 abbrev pub is_placed : Facts → List Exchange → Bool
@@ -72,7 +73,7 @@ is_given f (e ∷ older) = given_by f e (is_placed f older) (is_given f older)
 -- whether an object is open
 abbrev pub open_by : Exchange → Bool → Bool
 open_by (walks_path error) was = error == 0
-open_by (looks_up so) was = so
+open_by (looks_up so error) was = so
 open_by (goes_through so) was = so
 open_by shuts was = false
 open_by drops was = false
@@ -99,3 +100,16 @@ why_by _ was = was
 abbrev pub why_failed : List Exchange → ℕ
 why_failed [] = 0
 why_failed (e ∷ older) = why_by e (why_failed older)
+
+-- ---- a name that is missing
+
+-- The caller takes the kernel's word, and the look-up of all names has just failed by ENOENT, of which nothing was known
+-- before; then the library said that the call fails so.
+abbrev pub missed_by : Facts → Exchange → ℕ → Bool → Bool
+missed_by f (looks_up so error) why was = f.below && (not so && ((why == 0) && (error == ENOENT)))
+missed_by f (asks_misses so) why was = was && so
+missed_by f _ why was = false
+
+abbrev pub is_missed : Facts → List Exchange → Bool
+is_missed f [] = false
+is_missed f (e ∷ older) = missed_by f e (why_failed older) (is_missed f older)

@@ -1,9 +1,9 @@
 //! What holds of every history, as laws over its exchanges: each function's contract is one, and its body is empty.
 ghost use Rattle.std.specs.Prelude.{◌≡◌, ◌≤◌, true, false, List, length};
 ghost use Rattle.open_at_once.specs.History.{next_after, Exchange, IsHistory};
-ghost use Rattle.open_at_once.specs.Promises.{is_given, is_open, needs_open, why_failed, IsAllowed};
+ghost use Rattle.open_at_once.specs.Promises.{is_given, is_missed, is_open, needs_open, why_failed, IsAllowed};
 ghost use Rattle.open_at_once.specs.declared.ways.Facts.{Facts};
-ghost use Rattle.open_at_once.specs.declared.ways.TheConstants.{LOOK_UP, OPENS};
+ghost use Rattle.open_at_once.specs.declared.ways.TheConstants.{FAILS, LOOK_UP, OPENS};
 
 /// The kernel walks the whole path only where the caller takes its word and the call doesn't go name by name, right
 /// after the library said that one system call may; it stays in the root and on its mount, and follows no magic link.
@@ -32,6 +32,14 @@ pub fn each_object_is_closed_or_given()
 pub fn plain_names_are_known_to_fail()
     ensures { (f : Facts) (history : List Exchange) → IsHistory f history → (next_after f history).next ≡ LOOK_UP
         → (next_after f history).failed ≡ why_failed history }
+{}
+
+/// A call fails at once only where its caller takes the kernel's word, after the one look-up of all names: that failed by
+/// ENOENT, of which nothing was known before, and then the library said that the call fails where one of these names is
+/// missing (`misses_at_once` of `c_protocol`).
+pub fn a_call_fails_by_its_own_look_up()
+    ensures { (f : Facts) (history : List Exchange) → IsHistory f history → (next_after f history).next ≡ FAILS
+        → is_missed f history ≡ true }
 {}
 
 /// There are ten ways, questions and closes at most.

@@ -8,10 +8,10 @@ mod laws;
 mod ways;
 
 pub use laws::{
-    a_way_is_tried_by_leave, each_object_is_closed_or_given, plain_names_are_known_to_fail,
-    tries_are_few, what_is_given_was_opened,
+    a_call_fails_by_its_own_look_up, a_way_is_tried_by_leave, each_object_is_closed_or_given,
+    plain_names_are_known_to_fail, tries_are_few, what_is_given_was_opened,
 };
 pub use ways::{
-    Answer, DROP, FRESH, Facts, HINTS, KIND, LOOK_UP, NAMES, OPENS, PATH, PLACE, REPLIES, SHUT,
-    STEPS, THROUGH, WALK, WHOLE, Way, begin, next,
+    Answer, DROP, FAILS, FRESH, Facts, HINTS, KIND, LOOK_UP, MISSES, NAMES, OPENS, PATH, PLACE,
+    REPLIES, SHUT, STEPS, THROUGH, WALK, WHOLE, Way, begin, next,
 };

@@ -1,6 +1,6 @@
 //! Which way comes next.
 ghost use Rattle.std.specs.Prelude.{◌≡◌, List, [], ◌∷◌, true, false};
-ghost use Rattle.open_at_once.specs.History.{after_exchange, after_fresh, after_hints, after_kind, after_look_up, after_names, after_through, after_walk, after_whole, asks, by_names, first, is_missing, is_question, or_drop, reads_links, resolve_of, walks, Exchange};
+ghost use Rattle.open_at_once.specs.History.{after_exchange, after_fresh, after_hints, after_kind, after_look_up, after_misses, after_names, after_through, after_walk, after_whole, asks, by_names, first, is_missing, is_question, or_drop, reads_links, resolve_of, walks, Exchange};
 ghost use Rattle.open_at_once.specs.Ways.{due_of, exchange_of, IsAt};
 
 use system_calls::errors::{EACCES, ELOOP, ENAMETOOLONG, ENOENT, ENOTDIR};
@@ -46,11 +46,17 @@ pub const FRESH: u8 = 12;
 /// Links are read by their names, and what the last one leads to is opened (`open_through_links`).
 pub const THROUGH: u8 = 13;
 
+/// A question: whether the call fails where one of its names is missing (`misses_at_once` of `c_protocol`).
+pub const MISSES: u8 = 14;
+
 /// Nothing comes: the last way has opened what the call gives.
-pub const OPENS: u8 = 14;
+pub const OPENS: u8 = 15;
+
+/// Nothing comes: the call fails by ENOENT.
+pub const FAILS: u8 = 16;
 
 /// Nothing comes: the steps decide.
-pub const STEPS: u8 = 15;
+pub const STEPS: u8 = 17;
 
 const RESOLVE_NO_XDEV: u64 = 1;
 
@@ -84,10 +90,10 @@ pub struct Facts {
 #[repr(C)]
 #[derive(Clone, Copy, Debug, PartialEq, Eq)]
 pub struct Answer {
-    /// At WALK and KIND: 0, or the number of its error (errno(3)).
+    /// At WALK, KIND and LOOK_UP: 0, or the number of its error (errno(3)).
     pub error: u32,
     /// At WHOLE and NAMES: it may. At FRESH: so it is. At LOOK_UP: it opened the object. At PLACE: it was found. At
-    /// REPLIES: so it does. At THROUGH: what was opened is what the call gives.
+    /// REPLIES and MISSES: so it does. At THROUGH: what was opened is what the call gives.
     pub yes: bool,
     /// At HINTS: a name was a link last.
     pub linked: bool,
@@ -211,11 +217,13 @@ fn after_names(failed: u32, yes: bool) -> Way
     }
 }
 
-fn after_look_up(facts: &Facts, yes: bool) -> Way
-    ensures { due_of result ≡ after_look_up facts.now yes }
+fn after_look_up(facts: &Facts, failed: u32, yes: bool, error: u32) -> Way
+    ensures { due_of result ≡ after_look_up facts.now failed yes error }
 {
     if yes {
         asks(if facts.below { PATH } else { PLACE }, 0)
+    } else if facts.below && (failed == 0 && error == ENOENT) {
+        asks(MISSES, 0)
     } else {
         asks(STEPS, 0)
     }
@@ -239,6 +247,12 @@ fn after_through(yes: bool) -> Way
     asks(if yes { OPENS } else { STEPS }, 0)
 }
 
+fn after_misses(yes: bool) -> Way
+    ensures { due_of result ≡ after_misses yes }
+{
+    asks(if yes { FAILS } else { STEPS }, 0)
+}
+
 fn after(facts: &Facts, way: Way, answer: &Answer) -> Way
     ensures { due_of result ≡ after_exchange facts.now (exchange_of way.next answer.now) way.failed }
 {
@@ -249,13 +263,14 @@ fn after(facts: &Facts, way: Way, answer: &Answer) -> Way
         SHUT => by_names(facts, 0),
         HINTS => after_hints(facts, way.failed, answer),
         NAMES => after_names(way.failed, answer.yes),
-        LOOK_UP => after_look_up(facts, answer.yes),
+        LOOK_UP => after_look_up(facts, way.failed, answer.yes, answer.error),
         PLACE => or_drop(answer.yes, REPLIES),
         PATH => asks(REPLIES, 0),
         REPLIES => or_drop(answer.yes, OPENS),
         DROP => asks(STEPS, 0),
         FRESH => after_fresh(answer.yes),
-        _ => after_through(answer.yes),
+        THROUGH => after_through(answer.yes),
+        _ => after_misses(answer.yes),
     }
 }
 
@@ -276,7 +291,8 @@ pub fn begin(facts: &Facts) -> Way
 /// The kernel's walk is first, where the caller takes its word and the library says that one system call may. Then come
 /// the path's names: at once, or through links where one was a link last, the call follows each, and it didn't fail so
 /// before. What plain names led to is given if the call replies so by its place; where the caller takes the kernel's
-/// word, the path is that place. If no way opens it, the steps decide, by which each error is found anew.
+/// word, the path is that place. Where the one look-up of such a caller finds a name missing, the call fails by ENOENT. If
+/// else no way opens it, the steps decide, by which each error is found anew.
 pub fn next(facts: &Facts, way: Way, answer: &Answer) -> Way
     ensures goes { (history : List Exchange) → IsAt facts.now history way → is_question way.next ≡ true
         → IsAt facts.now (exchange_of way.next answer.now ∷ history) result }
