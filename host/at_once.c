@@ -105,6 +105,19 @@ static bool are_names(const struct at_once *a)
     return inroot_run_is_whole(a->d, path, linked) && is_reply(a, INROOT_KIND_DIR, path->text, path->ahead.used);
 }
 
+static bool look_up(struct at_once *a, uint32_t *error)
+{
+    return inroot_run_whole(a->d, a->root, a->path, (int)a->way.failed, error);
+}
+
+/* Whether the call fails where one of these names is missing. */
+static bool misses(const struct at_once *a)
+{
+    const struct inroot_driver *d = a->d;
+    return inroot_misses_at_once(a->numbers, (const unsigned char *)d->asked->first, d->first_length,
+                                 (const unsigned char *)a->path->text, a->path->ahead.used);
+}
+
 /* Finds the names at which the object stands. Returns whether it found them. */
 static bool find_place(struct at_once *a)
 {
@@ -170,7 +183,7 @@ static struct inroot_way_answer turn(struct at_once *a)
     case INROOT_WAY_SHUT: shut(a); break;
     case INROOT_WAY_HINTS: ask_hints(a, &answer); break;
     case INROOT_WAY_NAMES: answer.yes = are_names(a); break;
-    case INROOT_WAY_LOOK_UP: answer.yes = inroot_run_whole(a->d, a->root, a->path, (int)a->way.failed); break;
+    case INROOT_WAY_LOOK_UP: answer.yes = look_up(a, &answer.error); break;
     case INROOT_WAY_PLACE: answer.yes = find_place(a); break;
     case INROOT_WAY_PATH: a->told = as_place(a->d, a->text); break;
     case INROOT_WAY_REPLIES: answer.yes = replies(a); break;
@@ -178,12 +191,13 @@ static struct inroot_way_answer turn(struct at_once *a)
     case INROOT_WAY_FRESH:
         answer.yes = inroot_has_openat2() && !inroot_hints_is_missed(a->d, a->path->text, a->path->ahead.used);
         break;
-    default: answer.yes = go_through(a);
+    case INROOT_WAY_THROUGH: answer.yes = go_through(a); break;
+    default: answer.yes = misses(a);
     }
     return answer;
 }
 
-int inroot_at_once(struct inroot_driver *d, int root, const struct inroot_asked *numbers, char *text)
+int inroot_at_once(struct inroot_driver *d, int root, const struct inroot_asked *numbers, char *text, bool *fails)
 {
     struct inroot_coming path;
     const struct inroot_way_facts facts = facts_of(d);
@@ -193,6 +207,9 @@ int inroot_at_once(struct inroot_driver *d, int root, const struct inroot_asked 
         const struct inroot_way_answer answer = turn(&a);
         inroot_way_next(&facts, &answer, &a.way);
     }
+    *fails = a.way.next == INROOT_WAY_FAILS;
+    if (*fails)
+        return inroot_error_note_missing(d);
     if (a.way.next == INROOT_WAY_STEPS)
         return INROOT_NONE;
     /* The step to report if the way back to the root fails. */

@@ -129,6 +129,10 @@ void inroot_pass_names(struct inroot_kept *kept, const unsigned char *text, size
 bool inroot_opens_at_once(const struct inroot_asked *asked, const unsigned char *path, size_t path_length, uint8_t kind,
                           const unsigned char *place, size_t place_length);
 
+/* Whether a call by the names of this place fails by ENOENT where one of them is missing in what those before it led to. */
+bool inroot_misses_at_once(const struct inroot_asked *asked, const unsigned char *path, size_t path_length,
+                           const unsigned char *place, size_t place_length);
+
 /*
  * Whether one system call may walk PATH as a whole in the place of a call's steps, through links and `..`: openat2(2) with
  * RESOLVE_IN_ROOT, or with RESOLVE_BENEATH where that is asked for. It is true of a resolve that may follow links, of a text of 1 to
@@ -435,7 +439,7 @@ struct inroot_calling_answer {
     uint64_t value, length;
     uint32_t error, unmade, unopened, made;
     uint8_t reply;
-    bool whole, stepped, changed, moved, has_proc, owns_proc;
+    bool whole, fails, stepped, changed, moved, has_proc, owns_proc;
 };
 
 /*
@@ -729,12 +733,13 @@ void inroot_one_look_next(struct inroot_one_look *look, uint32_t error, bool kep
  * (inroot_opens_at_once) and which are looked up at once (inroot_looks_begin). They are looked up so: LOOK_UP. The object's PLACE; or
  * the PATH is taken for it. A question: whether the call REPLIES so (inroot_opens_at_once). DROP: the object is closed. A question:
  * whether there is openat2(2), and the path is FRESH, which didn't fail so before. THROUGH links, which are read by their names
- * (inroot_through_begin). If it OPENS, the last way has opened what the call gives; else the STEPS decide.
+ * (inroot_through_begin). A question: whether the call MISSES one of the names by ENOENT, as LOOK_UP did (inroot_misses_at_once). If it
+ * OPENS, the last way has opened what the call gives; if it FAILS, the call does so by ENOENT; else the STEPS decide.
  */
 enum inroot_way_next {
     INROOT_WAY_WHOLE = 1, INROOT_WAY_WALK, INROOT_WAY_KIND, INROOT_WAY_SHUT, INROOT_WAY_HINTS, INROOT_WAY_NAMES, INROOT_WAY_LOOK_UP,
-    INROOT_WAY_PLACE, INROOT_WAY_PATH, INROOT_WAY_REPLIES, INROOT_WAY_DROP, INROOT_WAY_FRESH, INROOT_WAY_THROUGH, INROOT_WAY_OPENS,
-    INROOT_WAY_STEPS,
+    INROOT_WAY_PLACE, INROOT_WAY_PATH, INROOT_WAY_REPLIES, INROOT_WAY_DROP, INROOT_WAY_FRESH, INROOT_WAY_THROUGH, INROOT_WAY_MISSES,
+    INROOT_WAY_OPENS, INROOT_WAY_FAILS, INROOT_WAY_STEPS,
 };
 
 /*

@@ -284,9 +284,9 @@ int inroot_look_through(struct inroot_driver *d, int dir, const char *path, uint
 bool inroot_run_is_whole(struct inroot_driver *d, struct inroot_coming *path, size_t linked);
 /*
  * Passes them then. Returns whether it could, and the kernel saw the object below the root. FAILED is the error of a look-up that
- * this one would fail by, too, or zero.
+ * this one would fail by, too, or zero. ERROR receives that, or this one's.
  */
-bool inroot_run_whole(struct inroot_driver *d, int root, struct inroot_coming *path, int failed);
+bool inroot_run_whole(struct inroot_driver *d, int root, struct inroot_coming *path, int failed, uint32_t *error);
 /* Asks the proved call which names come next. There are none if the Open that is due is no walk's. */
 void inroot_run_ask(struct inroot_driver *d, struct inroot_coming *coming);
 /*
@@ -307,8 +307,8 @@ void inroot_run_drop(struct inroot_driver *d);
 bool inroot_kind(int fd, enum inroot_kind *kind);
 
 /* at_once.c */
-/* Opens the whole path at once, where the library says that this is the reply, or may be; or gives INROOT_NONE. */
-int inroot_at_once(struct inroot_driver *d, int root, const struct inroot_asked *numbers, char *text);
+/* Opens the whole path at once, where the library says that this is the reply, or may be; or gives INROOT_NONE; or it FAILS so. */
+int inroot_at_once(struct inroot_driver *d, int root, const struct inroot_asked *numbers, char *text, bool *fails);
 
 /* through.c */
 /*
@@ -329,6 +329,8 @@ bool inroot_error_note_rest(struct inroot_driver *d, uint8_t from);
 /* The same where nothing is left; and of a directory that the call has made, which is passed. */
 void inroot_error_note_end(struct inroot_driver *d);
 void inroot_error_note_made(struct inroot_driver *d);
+/* Of a path one system call says that a name is missing, and not which. Gives -ENOENT. */
+int inroot_error_note_missing(struct inroot_driver *d);
 /* Keeps why a call failed: with the step of this driver; or alone, and then returns -error. */
 void inroot_error_of(const struct inroot_driver *d, int error);
 int inroot_error_alone(int error, const char *step, const char *rest);

@@ -80,6 +80,16 @@ void inroot_error_note_end(struct inroot_driver *d)
     keep_rest(d, 0, true);
 }
 
+int inroot_error_note_missing(struct inroot_driver *d)
+{
+    d->steps++;
+    d->step = INROOT_STEP_OPEN;
+    d->stands = -1;
+    d->name_length = 0;
+    d->rest_is = INROOT_REST_WHOLE;
+    return -ENOENT;
+}
+
 void inroot_error_note_made(struct inroot_driver *d)
 {
     size_t length = d->rest_end - d->rest_at;

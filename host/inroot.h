@@ -48,7 +48,8 @@
  * the root, between the moment when the path led to it and the check. And you trust the kernel with more: the library
  * doesn't learn the texts of the links through which openat2(2) went, so it takes the kernel's word that these were the
  * steps of a walk of this path. If openat2(2) fails, the call makes the steps, and each error is theirs; after `..` they
- * ask for the names as without the flag. The flag says nothing of the directory in which O_CREAT makes an entry: the
+ * ask for the names as without the flag. But if PATH has names alone, and an openat2(2) that follows no link, as under
+ * INROOT_NO_LINKS, finds one of them missing, the call gives ENOENT without a step. The flag says nothing of the directory in which O_CREAT makes an entry: the
  * call finds that as without it. Without openat2(2) the flag changes nothing. A call may open an object whose entry
  * somebody removes just while the kernel looks it up, as openat2(2) itself may: to the kernel a removed entry is below
  * the directory that had it, and if that was outside meanwhile, the object never was below the root by a name. A call
@@ -296,7 +297,8 @@ int inroot_at_end(int at);
  * Others may have moved these since. A link that the call follows is none of them. AT is empty if the call made no step,
  * and where the library doesn't keep the names: if they have more than 3,071 bytes, or some behind a `..` that led to the
  * root. For a rename, and for a tree that is removed, REST and AT are empty. REST is also empty if memory was missing
- * for the walk. The texts end with a NUL, and are cut off where they don't fit. A later version may use the reserved
+ * for the walk. Where one openat2(2) found that a name is missing (INROOT_BELOW), it didn't say which: STEP is `Open`,
+ * NAME and AT are empty, and REST is all of PATH. The texts end with a NUL, and are cut off where they don't fit. A later version may use the reserved
  * bytes, which are zero: the structure doesn't get larger while the library's soname stays.
  */
 struct inroot_error {

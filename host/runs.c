@@ -182,13 +182,13 @@ bool inroot_run_is_whole(struct inroot_driver *d, struct inroot_coming *path, si
     return d->looks.next == INROOT_LOOK_NAMES && d->looks.names == path->ahead.names;
 }
 
-bool inroot_run_whole(struct inroot_driver *d, int root, struct inroot_coming *path, int failed)
+bool inroot_run_whole(struct inroot_driver *d, int root, struct inroot_coming *path, int failed, uint32_t *error)
 {
     struct passing p = {.d = d, .dir = root, .coming = path};
-    uint32_t error = failed ? (uint32_t)failed : turn(&p);
-    inroot_looks_next(&d->looks, &path->facts, error, 0);
+    *error = failed ? (uint32_t)failed : turn(&p);
+    inroot_looks_next(&d->looks, &path->facts, *error, 0);
     /* The steps go on with fewer names. */
-    if (error == 0)
+    if (*error == 0)
         pass(&p);
     return d->looks.next == INROOT_LOOK_PASSED;
 }

@@ -116,6 +116,11 @@ static int open_path_below(const char *path, int flags)
     return inroot_openat(at, path, O_PATH, 0, flags | INROOT_BELOW);
 }
 
+static int open_names_below(const char *path, int flags)
+{
+    return open_path_below(path, flags | INROOT_NO_LINKS);
+}
+
 static int create(const char *path, int flags)
 {
     int fd = inroot_openat(at, path, O_WRONLY | O_CREAT | O_EXCL, 0600, flags);
@@ -234,6 +239,7 @@ static const struct {
     {"open a/b/u by BELOW, a link to ../g", "a/b/u", open_path_below, {3, 24, 1, 27, 1, 24}},
     {"open d/l/f by BELOW, l a link to ../a/b", "d/l/f", open_path_below, {3, 27, 1, 29, 1, 27}},
     {"open a/b/none by BELOW", "a/b/none", open_path_below, {6, 5, 4, 5, 4, 5}},
+    {"open a/b/none by BELOW and NO_LINKS", "a/b/none", open_names_below, {3, 5, 1, 5, 1, 5}},
     {"open the part of a/b/none/x", "a/b/none/x", open_partial, {21, 18, 15, 21, 16, 18}},
     {"open f from a/b", "f", open_from, {19, 19, 19, 19, 15, 15}},
     {"make new from a/b", "new", make_from, {12, 12, 12, 12, 9, 9}},

@@ -191,6 +191,11 @@ static void at_once(const struct inroot_asked *asked, uint8_t kind, const unsign
     bool may = opens_it && inside && length >= 1 && length < PATH_MAX;
     MUST(inroot_opens_at_once(asked, path, length, kind, own, length + 1) == (may && is_place(own, length + 1)));
     MUST(inroot_opens_at_once(asked, path, length, kind, path, length) == (may && is_place(path, length)));
+    bool resolves = asked->op == INROOT_ASK_RESOLVE || asked->op == INROOT_ASK_RESOLVE_NOFOLLOW;
+    MUST(inroot_misses_at_once(asked, path, length, own, length + 1) ==
+         (resolves && inside && length >= 1 && length < PATH_MAX && is_place(own, length + 1)));
+    if (inroot_misses_at_once(asked, path, length, place, place_length))
+        MUST(resolves && inroot_opens_at_once(asked, path, length, INROOT_KIND_DIR, place, place_length));
     if (inroot_opens_at_once(asked, path, length, kind, place, place_length))
         MUST(may && is_place(place, place_length) && place_length - length <= 1 &&
              memcmp(place + (place_length - length), path, length) == 0);

@@ -11,7 +11,7 @@
 ghost use Rattle.std.specs.Prelude.{◌≡◌, ◌≤◌, ◌∷◌, [], ℕ, List, not, true, false, ◌&&◌, drop, length, take, IfSome, IsSome};
 ghost use Rattle.root_ops.specs.Ahead.{doing_ahead};
 ghost use Rattle.root_ops.specs.declared.call.CallTurn.{CallTurn};
-ghost use Rattle.c_protocol.specs.AtOnce.{opens_at_once};
+ghost use Rattle.c_protocol.specs.AtOnce.{misses_at_once, opens_at_once};
 ghost use Rattle.c_protocol.specs.FollowedAtOnce.{follows_at_once};
 ghost use Rattle.c_protocol.specs.Left.{IsLeft};
 ghost use Rattle.c_protocol.specs.Runs.{ComeNext, IsRun};
@@ -143,6 +143,14 @@ pub extern "C" fn inroot_opens_at_once(asked: &Asked, path: &[u8], kind: u8, pla
     ensures { result ≡ opens_at_once asked.now path.now kind place.now }
 {
     c_protocol::opens_at_once(asked, path, kind, place)
+}
+
+/// Whether a call whose names are looked up at once fails where one is missing: `c_protocol::misses_at_once`.
+#[unsafe(no_mangle)]
+pub extern "C" fn inroot_misses_at_once(asked: &Asked, path: &[u8], place: &[u8]) -> bool
+    ensures { result ≡ misses_at_once asked.now path.now place.now }
+{
+    c_protocol::misses_at_once(asked, path, place)
 }
 
 /// Whether one system call may walk a call's path as a whole, through links: `c_protocol::follows_at_once`.

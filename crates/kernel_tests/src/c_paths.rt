@@ -3,7 +3,7 @@
 ghost use Rattle.std.specs.Prelude.{◌<◌, ◌≤◌};
 
 use c_protocol::{
-    Asked, Parted, begins_through, ends_through, follows_at_once, goes_through, opens_at_once,
+    Asked, Parted, begins_through, ends_through, follows_at_once, goes_through, misses_at_once, opens_at_once,
     rises_through, split,
 };
 use std::test::Fail;
@@ -121,6 +121,30 @@ fn names_are_opened_at_once(rt: HostRuntime) -> Result<(), Fail> {
         let opened = opens_at_once(&asked, path.as_bytes(), *kind, place.as_bytes());
         assert!(rt; opened == *wanted, "{path}");
     }
+    Ok(())
+}
+
+/// An operation's number, a path and a place; and whether the call fails where a name of that is missing.
+const MISSED: [(u8, &str, &str, bool); 8] = [
+    (1, "a/f", "/a/f", true),
+    (2, "/a/f", "/a/f", true),
+    // Directories that are made all, another operation, another part, another place, and none.
+    (10, "a/b", "/a/b", false),
+    (3, "a", "/a", false),
+    (1, "a/./f", "/a/f", false),
+    (1, "a/f/", "/a/f", false),
+    (1, "a/f", "/a/g", false),
+    (1, "/", "/", false),
+];
+
+#[test]
+fn names_are_missed_at_once(rt: HostRuntime) -> Result<(), Fail> {
+    for (op, path, place, wanted) in &MISSED {
+        let missed = misses_at_once(&asked(*op, false, false), path.as_bytes(), place.as_bytes());
+        assert!(rt; missed == *wanted, "{path}");
+    }
+    // A slash at the beginning leads out of the root.
+    assert!(rt; !misses_at_once(&asked(1, true, false), b"/a/f", b"/a/f"));
     Ok(())
 }
 

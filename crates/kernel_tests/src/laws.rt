@@ -82,6 +82,7 @@ fn laws_of_paths_at_once() {
     open_at_once::what_is_given_was_opened();
     open_at_once::each_object_is_closed_or_given();
     open_at_once::plain_names_are_known_to_fail();
+    open_at_once::a_call_fails_by_its_own_look_up();
     open_at_once::tries_are_few();
 }
 
@@ -115,6 +116,7 @@ fn laws_of_calls_from_c() {
     c_protocol::conversations_tell();
     c_protocol::conversations_with_runs_tell();
     c_protocol::opens_at_once_tell();
+    c_protocol::fails_at_once_tell();
     c_protocol::conversations_close();
     c_protocol::unmade_steps_end_calls();
     c_protocol::seen_below_tell();

@@ -1,7 +1,7 @@
 //! By which way a path is opened, by what was known and what the ways before gave.
 use open_at_once::{
-    Answer, DROP, FRESH, Facts, HINTS, KIND, LOOK_UP, NAMES, OPENS, PATH, PLACE, REPLIES, SHUT,
-    STEPS, THROUGH, WALK, WHOLE, Way, begin, next,
+    Answer, DROP, FAILS, FRESH, Facts, HINTS, KIND, LOOK_UP, MISSES, NAMES, OPENS, PATH, PLACE,
+    REPLIES, SHUT, STEPS, THROUGH, WALK, WHOLE, Way, begin, next,
 };
 use std::test::Fail;
 
@@ -121,6 +121,24 @@ fn the_kernels_walk_is_first_where_it_may(rt: HostRuntime) -> Result<(), Fail> {
     // Whoever takes the kernel's word asks for no place.
     assert!(rt; after(&BELOW, &[NO, NO, YES, YES]).next == PATH);
     assert!(rt; after(&BELOW, &[NO, NO, YES, YES, NO]).next == REPLIES);
+    Ok(())
+}
+
+#[test]
+fn a_missing_name_is_known_by_one_look_up(rt: HostRuntime) -> Result<(), Fail> {
+    let missing = Answer {
+        error: ENOENT,
+        ..NO
+    };
+    assert!(rt; after(&BELOW, &[NO, NO, YES, missing]).next == MISSES);
+    assert!(rt; after(&BELOW, &[NO, NO, YES, missing, NO]).next == STEPS);
+    let fails = after(&BELOW, &[NO, NO, YES, missing, YES]);
+    assert!(rt; fails.next == FAILS && next(&BELOW, fails, &YES) == fails);
+    // Another error; one that the walk through links gave, which may be a link's; who doesn't take the kernel's word.
+    let other = Answer { error: EXDEV, ..NO };
+    assert!(rt; after(&BELOW, &[NO, NO, YES, other]).next == STEPS);
+    assert!(rt; after(&BELOW, &[YES, missing, NO, YES, missing]).next == STEPS);
+    assert!(rt; after(&RESOLVE, &[NO, YES, missing]).next == STEPS);
     Ok(())
 }
 
