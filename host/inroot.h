@@ -419,8 +419,9 @@ ssize_t inroot_readlink(int root, const char *path, int flags, char *text, size_
  *
  * inroot_walk_next() gives 1 and an ENTRY; 0 behind the last; or -errno where the rest of a directory's entries isn't
  * given, whose PATH is in ENTRY then, and the next turn goes on behind it: EAGAIN where it was moved meanwhile, EIO where
- * a name has no bytes, and what getdents64(2) has. What is in ENTRY stays until the next turn. inroot_walk_skip() has the
- * walk leave out what is below the directory that was given last. inroot_walk_close() ends it, where it isn't NULL.
+ * a name has no bytes or has a slash, and what getdents64(2) has. What is in ENTRY stays until the next turn.
+ * inroot_walk_skip() has the walk leave out what is below the directory that was given last. inroot_walk_close() ends it,
+ * where it isn't NULL.
  *
  * The walk promises, whoever renames meanwhile: it follows no link below PATH. It opens each directory that it enters
  * by its name in the directory that has it; and that directory was below the root then, at that PATH, since a call of

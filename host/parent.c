@@ -22,8 +22,9 @@ int inroot_open_parent(int root, const char *path, int flags, char last[256])
     char text[INROOT_TEXT_MAX + 1], name[NAME_MAX + 1];
     struct inroot_parted parted;
     const int restrictions = flags & ~INROOT_DIRECTORY;
-    last[0] = 0;
+    /* LAST may be the room of PATH. */
     inroot_copy(text, path);
+    last[0] = 0;
     int failed = inroot_check(root, restrictions & ~INROOT_BELOW);
     if (failed)
         return inroot_error_alone(-failed, "", text);

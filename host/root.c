@@ -22,8 +22,9 @@ struct inroot_root {
     struct inroot_own table;
     /* A page that begins with 1, and with 0 in a child of fork(2): what is kept isn't the child's. */
     unsigned char *mark;
-    /* Which directory it is. */
+    /* Which directory it is. A file system may not tell. */
     uint64_t device, inode;
+    bool is_known;
     struct inroot_kept_root kept;
 };
 
@@ -86,11 +87,23 @@ static bool is_of_parent(const struct inroot_root *root)
     return root->mark != NULL && *(const volatile unsigned char *)root->mark != 1;
 }
 
+static bool is_root(const struct inroot_root *root, const struct stat *about)
+{
+    return about->st_dev == root->device && about->st_ino == root->inode;
+}
+
 /* A child may have closed the root and opened another directory by its number. */
 static bool is_there(const struct inroot_root *root)
 {
     struct stat about;
-    return fstat(root->fd, &about) == 0 && about.st_dev == root->device && about.st_ino == root->inode;
+    return fstat(root->fd, &about) == 0 && is_root(root, &about);
+}
+
+/* Whether that is seen. */
+static bool is_another(const struct inroot_root *root)
+{
+    struct stat about;
+    return root->is_known && fstat(root->fd, &about) == 0 && !is_root(root, &about);
 }
 
 const struct inroot_kept_root *inroot_root_kept(int fd)
@@ -156,11 +169,6 @@ static int keep_table(struct inroot_root *root, int proc)
 static int keep(struct inroot_root *root, int flags, int proc)
 {
     char written[INROOT_PROC_NAME];
-    struct stat about;
-    if (fstat(root->fd, &about) != 0)
-        return -errno;
-    root->device = about.st_dev;
-    root->inode = about.st_ino;
     root->kept.flags = flags;
     int failed = make_mark(root);
     if (failed || root->mark == NULL)
@@ -168,6 +176,18 @@ static int keep(struct inroot_root *root, int flags, int proc)
     if (flags & INROOT_ROOT_STAYS)
         root->kept.length = path_of(proc, inroot_proc_name(root->fd, written), root->kept.path);
     return flags & INROOT_TRUST_PROC ? keep_table(root, proc) : 0;
+}
+
+/* Notes which directory it is: 0 or -errno. */
+static int identify(struct inroot_root *root)
+{
+    struct stat about;
+    if (fstat(root->fd, &about) != 0)
+        return -errno;
+    root->device = about.st_dev;
+    root->inode = about.st_ino;
+    root->is_known = true;
+    return 0;
 }
 
 /* Lets go of it. A child closes the table of its parent if its number is still that directory's. */
@@ -211,8 +231,8 @@ static int open_root(const char *directory, int flags, struct inroot_root *root)
     root->fd = open_directory(directory);
     if (root->fd < 0)
         return root->fd;
-    int proc = find_proc(&is_own);
-    int failed = proc < 0 ? proc : flags != 0 ? keep(root, flags, proc) : 0;
+    int unknown = identify(root), proc = find_proc(&is_own);
+    int failed = proc < 0 ? proc : flags == 0 ? 0 : unknown ? unknown : keep(root, flags, proc);
     if (proc >= 0 && is_own)
         close(proc);
     if (failed) {
@@ -259,7 +279,8 @@ void inroot_root_close(struct inroot_root *root)
         return;
     pthread_setcancelstate(PTHREAD_CANCEL_DISABLE, &state);
     forget(root);
-    close(root->fd);
+    if (!is_another(root))
+        close(root->fd);
     free(root);
     pthread_setcancelstate(state, NULL);
 }

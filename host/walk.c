@@ -185,7 +185,8 @@ static int enter(struct inroot_walk *walk, const char *name, size_t length)
 
 /*
  * Gives 1 and the next name of the directory; 0 at its end, which one that is gone has, too; -errno. A server may give a name that
- * begins with the byte 0, so that nothing is left of it: the path would be that of the directory itself.
+ * begins with the byte 0, so that nothing is left of it: the path would be that of the directory itself. By a damaged file system
+ * Linux before 5.5 gives names that have a slash, which lead elsewhere.
  */
 static int next_record(struct level *level, const struct record **record)
 {
@@ -200,7 +201,7 @@ static int next_record(struct level *level, const struct record **record)
     }
     *record = (const struct record *)(const void *)(level->records + level->at);
     level->at += (*record)->length;
-    return (*record)->name[0] != 0 ? 1 : -EIO;
+    return (*record)->name[0] != 0 && strchr((*record)->name, '/') == NULL ? 1 : -EIO;
 }
 
 static bool is_entry(const char *name)

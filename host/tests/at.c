@@ -88,7 +88,7 @@ static void parents(int at)
         {"a/b/f", INROOT_BELOW, 0, "a/b", "f"}, {"a/none", INROOT_BELOW, 0, "a", "none"},
         {"a/b/../x", INROOT_BELOW, 0, "a", "x"}, {"none/x", INROOT_BELOW, ENOENT, NULL, NULL},
     };
-    char last[256], longest[300], path[400];
+    char last[256], longest[300], path[400], both[256] = "a/b/f";
     for (size_t one = 0; one < sizeof cases / sizeof *cases; one++) {
         strcpy(last, "untouched");
         int fd = inroot_open_parent(at, cases[one].path, cases[one].flags, last);
@@ -107,6 +107,8 @@ static void parents(int at)
     path[2 + 255] = 0;
     finds(inroot_open_parent(at, path, 0, last), "a", "a last name of 255 bytes");
     expect(strlen(last) == 255, "%zu bytes of 255", strlen(last));
+    finds(inroot_open_parent(at, both, 0, both), "a/b", "a path in the room of the last name");
+    gives_text(both, "f", "the last name in the room of the path");
 }
 
 /* ---- calls from a directory */

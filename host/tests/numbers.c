@@ -220,6 +220,24 @@ static void of_child(void)
     opens(INROOT_JAIL, "a/b/f", 0, "in the parent");
 }
 
+/* The same of a root that is kept. */
+static void of_root(void)
+{
+    static const int flags[] = {0, INROOT_BELOW, INROOT_ROOT_STAYS | INROOT_TRUST_PROC};
+    for (size_t at = 0; at < sizeof flags / sizeof *flags; at++) {
+        struct inroot_root *kept;
+        gives(inroot_root_open("/", flags[at], &kept), 0, "a root by %d", flags[at]);
+        int number = inroot_root_fd(kept);
+        int opened = sure(dup(number), "dup");
+        take(number);
+        inroot_root_close(kept);
+        expect(is_taker(number), "the other file was closed with a root by %d", flags[at]);
+        sure(dup3(opened, number, O_CLOEXEC), "dup3");
+        close(opened);
+        close(number);
+    }
+}
+
 /* ---- a program that began without its standard files */
 
 static void standard(void)
@@ -252,6 +270,7 @@ int main(int count, char **words)
     for (size_t at = 0; at < sizeof takers / sizeof *takers; at++) {
         taker = takers[at];
         apart(of_program);
+        apart(of_root);
         if (may) {
             apart(of_jail);
             apart(of_thread);

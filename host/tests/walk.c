@@ -1,8 +1,8 @@
 /*
  * walk: the entries below a directory, one after another: each one once and with its kind, to a depth; what can't be
  * gone into and why; and what is given after directories were moved, replaced and removed between two turns. By /proc,
- * in a jail and in one that trusts. Once what is no kind stands beside each name, as a server might have it. To be linked
- * with --wrap=syscall.
+ * in a jail and in one that trusts. Once what is no kind stands beside each name, as a server might have it, and once a name
+ * leads above, as in a damaged file system. To be linked with --wrap=syscall.
  *
  * usage: walk DIR. Exits 0 where each case holds. 78: no right here to do what it takes, or a part of it.
  */
@@ -53,16 +53,20 @@ static void make_tree(void)
     sure(mknodat(root, "a/fifo", S_IFIFO | 0600, 0), "fifo");
 }
 
-/* Whether the kind of each entry that is read has a bit that none has. */
-static bool has_odd_kinds;
+/* Whether the kind of each entry that is read has a bit that none has; and whether `fifo` is read as a directory `../x`. */
+static bool has_odd_kinds, leads_above;
 
 static long my_syscall(long number, const long with[6])
 {
     long got = __real_syscall(number, with[0], with[1], with[2], with[3], with[4], with[5]);
     /* A record's length and kind stand behind two numbers of 64 bits. */
-    for (long at = 0; has_odd_kinds && number == SYS_getdents64 && at < got;) {
+    for (long at = 0; (has_odd_kinds || leads_above) && number == SYS_getdents64 && at < got;) {
         unsigned char *record = (unsigned char *)with[1] + at;
-        record[18] |= 16;
+        record[18] |= has_odd_kinds ? 16 : 0;
+        if (leads_above && strcmp((char *)record + 19, "fifo") == 0) {
+            memcpy(record + 19, "../x", 5);
+            record[18] = S_IFDIR >> 12;
+        }
         at += record[16] | record[17] << 8;
     }
     return got;
@@ -188,6 +192,16 @@ static void errors(void)
     gives(walk("to/b", 0, INROOT_NO_LINKS), -ELOOP, "through a link");
     gives(inroot_walk_open(-1, "a", 0, 0, &it), -EBADF, "no root");
     inroot_walk_close(NULL);
+}
+
+/* The rest of the directory isn't given. */
+static void slashes(void)
+{
+    leads_above = true;
+    gives(walk("a", 1, 0), -EIO, "a name with a slash");
+    gives(walk("a", 0, 0), -EIO, "a name with a slash, to any depth");
+    expect(at_path("../x") == NULL && at_path("../x/y") == NULL, "it leads above");
+    leads_above = false;
 }
 
 /* One descriptor a level, and none is left where it is closed in the middle. */
@@ -408,6 +422,7 @@ static void all(int by)
     has_odd_kinds = false;
     levels();
     errors();
+    slashes();
     holds();
     skips();
     large();
