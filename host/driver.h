@@ -339,18 +339,21 @@ const char *inroot_step_name(unsigned step);
 
 /* proc.c */
 enum { INROOT_PROC_NAME = 48 };
-/* A directory of a proc(5) that the library keeps open, and which one it is: none where the descriptor is INROOT_NONE. */
+/*
+ * A directory of a proc(5) that the library keeps open, and which one it is: none where the descriptor is INROOT_NONE. Of a top
+ * also the number of its file system, by which another proc(5) is known.
+ */
 struct inroot_own {
     int fd;
-    uint64_t device, inode;
+    uint64_t device, inode, system;
 };
 /* Takes a descriptor over, by a number above those of the standard files: 0, or -errno and it is closed. */
 int inroot_proc_own(int fd, struct inroot_own *own);
 /* Closes it, where the number is still that directory's, and forgets it. */
 void inroot_proc_close(struct inroot_own *own);
 /*
- * A /proc that is one, or -errno; IS_CALLERS where the caller is to close it. One that is at hand is any file of a proc(5), or
- * SURELY the directory that was opened.
+ * A /proc that is one, or -errno; IS_CALLERS where the caller is to close it. One that is at hand is any file of that proc(5), or
+ * SURELY the directory that was opened. If the program has handed one in, there is no other.
  */
 int inroot_proc_open(bool surely, bool *is_callers);
 /* Whether the program has one already. */

@@ -1,8 +1,9 @@
 /*
  * proc.c: the /proc of this program, in which the kernel gives the path of a descriptor. The library opens it once for
- * the program. Before each use it checks that this is still a proc(5): the program may have closed the number, or it
- * may be another file's in a thread's own table of descriptors. Another file of a proc(5) lacks the names that the
- * library looks for: then the library checks whether it is the one that it opened, and does without.
+ * the program. Before each use it checks that this is still that proc(5): the program may have closed the number, or it
+ * may be another file's in a thread's own table of descriptors. Another file of that proc(5) lacks the names that the
+ * library looks for: then the library checks whether it is the one that it opened, and does without. A program that hands
+ * one in may know that /proc is covered: so the library never goes by /proc in its place.
  */
 #define _GNU_SOURCE
 #include "driver.h"
@@ -19,8 +20,11 @@
 
 /* The program's descriptor; and that of a thread with a table of its own, which lacks the program's and can't open one later. */
 static atomic_int kept = INROOT_NONE;
-static _Atomic uint64_t kept_device, kept_inode;
+static _Atomic uint64_t kept_device, kept_inode, kept_system;
 static _Thread_local struct inroot_own of_thread = {.fd = INROOT_NONE};
+
+/* Whether the program has handed one in. */
+static atomic_bool is_handed_in;
 
 /* Stands in place of a descriptor while another thread writes its device and inode. */
 enum { CLAIMED = -5 };
@@ -30,10 +34,27 @@ static pthread_once_t key_once = PTHREAD_ONCE_INIT;
 static pthread_key_t key;
 static bool has_key;
 
-bool inroot_proc_is(int fd)
+/* Whether it is of a proc(5); and the number of that one, which is zero in old kernels (statfs(2)). */
+static bool find_system(int fd, uint64_t *system)
 {
     struct statfs about;
-    return fd >= 0 && fstatfs(fd, &about) == 0 && about.f_type == PROC_SUPER_MAGIC;
+    _Static_assert(sizeof about.f_fsid == sizeof *system, "the number of a file system");
+    if (fd < 0 || fstatfs(fd, &about) != 0 || about.f_type != PROC_SUPER_MAGIC)
+        return false;
+    memcpy(system, &about.f_fsid, sizeof *system);
+    return true;
+}
+
+static bool is_in(int fd, uint64_t system)
+{
+    uint64_t found;
+    return find_system(fd, &found) && found == system;
+}
+
+bool inroot_proc_is(int fd)
+{
+    uint64_t unused;
+    return find_system(fd, &unused);
 }
 
 int inroot_proc_own(int fd, struct inroot_own *own)
@@ -70,14 +91,26 @@ void inroot_proc_close(struct inroot_own *own)
     own->fd = INROOT_NONE;
 }
 
+/* Takes the descriptor over, as the top of the proc(5) of this number: 0 or -errno. */
+static int own_top(int fd, uint64_t system, struct inroot_own *own)
+{
+    int failed = inroot_proc_own(fd, own);
+    if (failed == 0)
+        own->system = system;
+    return failed;
+}
+
 /* Opens /proc, if it is a proc(5): 0 or -errno. */
 static int open_proc(struct inroot_own *own)
 {
+    uint64_t system;
+    if (atomic_load(&is_handed_in))
+        return -ENOSYS;
     int fd = open("/proc", O_PATH | O_DIRECTORY | O_NOFOLLOW | O_CLOEXEC);
     if (fd < 0)
         return errno == EMFILE || errno == ENFILE || errno == ENOMEM ? -errno : -ENOSYS;
-    if (inroot_proc_is(fd))
-        return inroot_proc_own(fd, own);
+    if (find_system(fd, &system))
+        return own_top(fd, system, own);
     close(fd);
     return -ENOSYS;
 }
@@ -90,6 +123,7 @@ static bool keep(const struct inroot_own *own)
         return false;
     kept_device = own->device;
     kept_inode = own->inode;
+    kept_system = own->system;
     atomic_store(&kept, own->fd);
     return true;
 }
@@ -111,13 +145,16 @@ bool inroot_proc_is_lost(int proc)
     return proc == atomic_load(&kept) && !is_kept(proc);
 }
 
-/* Gives a descriptor that is there, or INROOT_NONE. With SURELY it is the one that was opened; else any proc(5) will do. */
+/*
+ * Gives a descriptor that is there, or INROOT_NONE. With SURELY it is the one that was opened; else any file of that proc(5)
+ * will do.
+ */
 static int at_hand(bool surely)
 {
     int fd = atomic_load(&kept);
-    if (surely ? is_kept(fd) : inroot_proc_is(fd))
+    if (surely ? is_kept(fd) : is_in(fd, kept_system))
         return fd;
-    return (surely ? is_own(&of_thread) : inroot_proc_is(of_thread.fd)) ? of_thread.fd : INROOT_NONE;
+    return (surely ? is_own(&of_thread) : is_in(of_thread.fd, of_thread.system)) ? of_thread.fd : INROOT_NONE;
 }
 
 int inroot_proc_open(bool surely, bool *is_callers)
@@ -125,6 +162,9 @@ int inroot_proc_open(bool surely, bool *is_callers)
     struct inroot_own own;
     int fd = at_hand(surely);
     *is_callers = false;
+    /* The kernel may have failed to tell just then, and there is no other one. */
+    if (fd < 0 && atomic_load(&is_handed_in))
+        fd = at_hand(true);
     if (fd >= 0)
         return fd;
     /* Below the root of a jail anybody may have made what is called /proc. */
@@ -224,14 +264,19 @@ static int take_over(int proc)
 {
     struct inroot_own own;
     struct statfs about;
+    uint64_t system;
     if (fstatfs(proc, &about) != 0)
         return -errno;
-    if (!inroot_proc_is(proc))
+    if (!find_system(proc, &system))
         return -EINVAL;
     int fd = openat(proc, ".", O_PATH | O_DIRECTORY | O_CLOEXEC);
-    int failed = fd < 0 ? -errno : inroot_proc_own(fd, &own);
-    if (failed || keep(&own))
+    int failed = fd < 0 ? -errno : own_top(fd, system, &own);
+    if (failed)
         return failed;
+    if (keep(&own)) {
+        atomic_store(&is_handed_in, true);
+        return 0;
+    }
     close(own.fd);
     return -EBUSY;
 }

@@ -96,7 +96,7 @@ static void lose_proc(void)
 
 static void jails(void)
 {
-    open_proc();
+    keep_proc();
     no_advice = EAGAIN;
     jail_refused("a page that can't be marked now", INROOT_TRUST_PROC);
     no_advice = 0;

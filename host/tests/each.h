@@ -200,7 +200,7 @@ __attribute__((unused)) static bool same(int a, int b)
 /* The tree below the root. */
 static void make_tree(int root)
 {
-    open_proc();
+    keep_proc();
     sure(mkdirat(root, "a", 0755), "a");
     sure(mkdirat(root, "a/b", 0755), "a/b");
     sure(mknodat(root, "a/b/f", S_IFREG | 0600, 0), "a/b/f");

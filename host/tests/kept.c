@@ -437,7 +437,7 @@ int main(int count, char **words)
     make_tree("box");
     make_tree("other");
     box = sure(openat(base, "box", O_PATH | O_DIRECTORY | O_CLOEXEC), "box");
-    open_proc();
+    keep_proc();
     flags_of_roots();
     highest_numbers();
     each_kind();

@@ -1,6 +1,7 @@
 /*
  * private_proc: in a mount namespace whose /proc is covered, calls by inroot_use_private_proc() go on as they should: /proc as a
- * whole, and the directory of this thread's descriptors, by one with links that lead elsewhere.
+ * whole, and the directory of this thread's descriptors, by one with links that lead elsewhere. Where the program has closed it,
+ * no call goes by another one. Nor does any by a proc(5) that the program has opened by the number of the one that it closed.
  *
  * usage: private_proc DIR. Exits 0 where that holds. 78: no right to mount here, so that nothing was tried.
  */
@@ -11,6 +12,7 @@
 #include <string.h>
 #include <sys/mount.h>
 #include <sys/stat.h>
+#include <sys/vfs.h>
 
 static char where[4096];
 static int box;
@@ -27,16 +29,21 @@ static void cover(const char *place)
         _exit(NO_RIGHT);
 }
 
-/* Its links say that everything is the secret outside. */
-static void cover_with_lies(void)
+/* The links of the thread's descriptors say that everything is the secret outside. */
+static void cover_table(const char *table)
 {
-    char link[64], secret[4200];
+    char link[4400], secret[4200];
     snprintf(secret, sizeof secret, "%s/secret", where);
-    cover("/proc/thread-self/fd");
+    cover(table);
     for (int fd = 0; fd < 64; fd++) {
-        snprintf(link, sizeof link, "/proc/thread-self/fd/%d", fd);
+        snprintf(link, sizeof link, "%s/%d", table, fd);
         sure(symlink(secret, link), link);
     }
+}
+
+static void cover_with_lies(void)
+{
+    cover_table("/proc/thread-self/fd");
 }
 
 /* What is read by each call is the text of the file inside. */
@@ -78,6 +85,59 @@ static void in_part(void)
     cover_with_lies();
     use_private();
     reads("a private one beside a covered one", 0);
+}
+
+/* As a child of fork(2) does that keeps nothing: the numbers are another's then. */
+static void close_all_but_root(int most)
+{
+    for (int fd = STDERR_FILENO + 1; fd < most; fd++)
+        if (fd != box)
+            close(fd);
+}
+
+/* The program has closed what it didn't open. /proc, which somebody has covered, doesn't take its place. */
+static void closed(void)
+{
+    struct inroot_root *kept;
+    apart_from_others();
+    cover_with_lies();
+    use_private();
+    close_all_but_root(64);
+    reads("a private one that was closed", -ENOSYS);
+    gives(inroot_reopen(box, O_RDONLY), -ENOSYS, "a directory once more");
+    gives(inroot_root_open(where, 0, &kept), -ENOSYS, "a root");
+    gives(inroot_jail(box), -ENOSYS, "a jail");
+    gives(inroot_use_private_proc(), -EBUSY, "another private one");
+}
+
+static uint64_t number_of(const char *path)
+{
+    struct statfs about;
+    uint64_t number = 0;
+    if (statfs(path, &about) == 0)
+        memcpy(&number, &about.f_fsid, sizeof number);
+    return number;
+}
+
+/*
+ * Another proc(5), which somebody has covered, has the number of the one that was closed. Where the kernel doesn't number file
+ * systems of that kind, nobody can tell them apart.
+ */
+static void another(void)
+{
+    char other[4200], table[4300];
+    apart_from_others();
+    reads("by /proc", 0);
+    snprintf(other, sizeof other, "%s/proc", where);
+    sure(mkdir(other, 0755), other);
+    if (mount("proc", other, "proc", 0, NULL) != 0 || number_of(other) == number_of("/proc"))
+        _exit(NO_RIGHT);
+    snprintf(table, sizeof table, "%s/%d/task/%d/fd", other, (int)getpid(), (int)getpid());
+    cover_table(table);
+    close_all_but_root(64);
+    for (int fd = -1; fd < 16;)
+        fd = sure(open(other, O_PATH | O_DIRECTORY | O_CLOEXEC), other);
+    reads("another one by the number", 0);
 }
 
 /* Without it, what is opened to be read is what the covered one leads to: the test would see that. */
@@ -150,6 +210,10 @@ int main(int count, char **words)
         skipped = apart(whole);
     if (skipped == 0)
         skipped = apart(in_part);
+    if (skipped == 0)
+        skipped = apart(closed);
+    if (skipped == 0)
+        skipped = apart(another);
     printf("private_proc: %d not as they are to be\n", wrong);
     return wrong != 0 ? 1 : skipped;
 }

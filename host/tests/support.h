@@ -245,6 +245,14 @@ static inline void open_proc(void)
         exit(1);
 }
 
+/* The same by one that the library opens, and opens anew where a program has closed it. */
+__attribute__((unused)) static void keep_proc(void)
+{
+    struct inroot_root *unused;
+    sure(inroot_root_open("/", 0, &unused), "inroot_root_open");
+    inroot_root_close(unused);
+}
+
 /* Runs it in a process of its own, and adds up what wasn't as it is to be. */
 __attribute__((unused)) static int apart(void (*what)(void))
 {
