@@ -111,6 +111,8 @@ struct inroot_from {
     bool unseen;                   /* the second path should begin at it, and no step has shown that it does */
     const char *place;             /* the names, with a slash before each */
     uint64_t told;                 /* the handle that a witness has just found there, or zero */
+    bool is_copy;                  /* that descriptor is a copy of the caller's */
+    uint64_t copied;               /* the handle that has it, or zero */
 };
 
 /* So many bytes of a path, up to a name, have this key (hints.c). */
@@ -193,7 +195,10 @@ int inroot_handles_fd_again(struct inroot_driver *d, uint64_t handle, int *fd);
 struct inroot_result inroot_handles_close(struct inroot_driver *d, uint64_t handle);
 /* A second handle on the root, by the same descriptor. */
 uint64_t inroot_handles_share(struct inroot_driver *d, uint64_t root);
-/* Takes the descriptor out of a handle, for the caller to keep, and notes its kind. Returns it, or -errno. */
+/*
+ * Takes the descriptor out of a handle, for the caller to keep, and notes its kind; or another one of the same directory, where that
+ * one shares something with the caller's own. Returns it, or -errno.
+ */
 int inroot_handles_take(struct inroot_driver *d, uint64_t handle);
 /* Closes the descriptor of one directory above this one, if one can be spared. */
 bool inroot_handles_spare(struct inroot_driver *d, uint64_t handle);
@@ -470,7 +475,7 @@ struct inroot_result inroot_name_below(struct inroot_driver *d, const struct inr
 /* stands.c */
 /*
  * The names of a descriptor's object below the root: how long the text is, or -errno; -EAGAIN: it isn't below, or is
- * moved. The slot has another descriptor of it, if that is kept.
+ * moved. The slot has another descriptor of it, if that is kept: a copy, which shares all with the caller's, where it IS_SHARED.
  */
 ssize_t inroot_ask_place(struct inroot_driver *d, int root, int fd, const struct inroot_asking_facts *facts, char *text,
                          struct inroot_slot *slot);

@@ -56,6 +56,7 @@ int inroot_from_join(struct inroot_driver *d, int root, int dir, const struct in
     d->from.dir = dir;
     d->from.place = joined->place;
     d->from.fd = length > 0 ? slot.fd : INROOT_NONE;
+    d->from.is_copy = length > 0 && slot.is_shared;
     begin_telling(d, joined->place, asked, renames);
     join(joined->first, joined->place, asked->first);
     join(joined->second, renames ? joined->place : "", asked->second);
@@ -78,6 +79,7 @@ static struct inroot_result pass(struct inroot_driver *d, int fd, struct inroot_
     size_t count = inroot_count_names((const unsigned char *)names, length);
     struct inroot_result result = inroot_run_tell(d, told, room, names, count - 1);
     d->from.told = result.handle;
+    d->from.copied = d->from.is_copy ? result.handle : 0;
     return result;
 }
 
@@ -102,6 +104,7 @@ static struct inroot_result pass_again(struct inroot_driver *d, struct inroot_to
         close(slot.fd);
         return inroot_refused(d, EAGAIN);
     }
+    d->from.is_copy = slot.is_shared;
     struct inroot_result result = pass(d, slot.fd, told, room);
     d->from.unseen = result.what != INROOT_ANSWER_OPENED;
     return result;

@@ -269,9 +269,12 @@ int inroot_handles_take(struct inroot_driver *d, uint64_t handle)
     inroot_hints_find(d);
     if (d->asked->opened != NULL)
         *d->asked->opened = (enum inroot_kind)slot->kind;
-    /* The names that were left behind `..` may all have led back to the root. No caller gets its own descriptor. */
-    if (slot->is_shared)
-        return inroot_open_anew(d, handle);
-    slot->fd = INROOT_NONE;
-    return fd >= 0 ? fd : -ENOMEM;
+    /* No caller gets its own descriptor, or a copy: names that were left behind `..` may all have led back to the root. */
+    const bool is_copy = handle == d->from.copied;
+    int given = slot->is_shared || is_copy ? inroot_open_anew(d, handle) : fd >= 0 ? fd : -ENOMEM;
+    if (is_copy)
+        close(fd);
+    if (!slot->is_shared)
+        slot->fd = INROOT_NONE;
+    return given;
 }

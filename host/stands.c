@@ -17,7 +17,7 @@
  */
 struct asking {
     struct inroot_driver *d;
-    int root, fd;
+    int root, fd, copied;
     char *text;
     struct inroot_slot *slot;
     struct inroot_asking course;
@@ -38,17 +38,54 @@ static uint32_t look(struct asking *a, int dir, const char *name)
 
 static uint32_t copy(struct asking *a)
 {
-    a->slot->fd = fcntl(a->fd, F_DUPFD_CLOEXEC, 0);
+    a->slot->fd = a->copied = fcntl(a->fd, F_DUPFD_CLOEXEC, 0);
     return a->slot->fd < 0 ? (uint32_t)errno : 0;
 }
 
+/* Goes down by a name. If that leads elsewhere, others have moved something, or the text is of another tree. */
+static uint32_t enter(int *dir, int root, const char *name, size_t length)
+{
+    int fd = inroot_followed_enter(*dir, name, length);
+    int error = errno;
+    if (*dir != root)
+        close(*dir);
+    *dir = fd;
+    if (fd >= 0)
+        return 0;
+    return error == ENOENT || error == ENOTDIR || error == ELOOP ? EAGAIN : (uint32_t)error;
+}
+
+/*
+ * Whether the names lead from the root to the object, each through no link: 0 or an error's number. If an object was opened in
+ * another mount namespace, or the root is mounted nowhere, a text tells nothing of the one below the other.
+ */
+static uint32_t look_for(const struct asking *a)
+{
+    enum inroot_kind kind;
+    int dir = a->root;
+    const char *name = a->text + 1, *slash;
+    uint32_t error = 0;
+    for (; error == 0 && (slash = strchr(name, '/')) != NULL; name = slash + 1)
+        error = enter(&dir, a->root, name, (size_t)(slash - name));
+    if (error)
+        return error;
+    bool is_there = *name == 0 || inroot_is_entry(dir, name, a->slot->fd, &kind);
+    if (dir != a->root)
+        close(dir);
+    return is_there ? 0 : EAGAIN;
+}
+
+/* Without openat2(2) a text alone has told the place. In a jail it is that of the thread's own root. */
 static uint32_t find(struct asking *a)
 {
     struct inroot_result result = inroot_find_place(a->d, a->root, a->slot, a->text, &a->answer.length);
-    a->answer.yes = a->root == INROOT_JAILED && !inroot_has_openat2();
-    const uint32_t error = result.what == INROOT_ANSWER_NAMES ? 0 : (uint32_t)a->d->unmade;
+    const bool alone = !inroot_has_openat2(), jailed = a->root == INROOT_JAILED;
+    uint32_t error = result.what == INROOT_ANSWER_NAMES ? 0 : (uint32_t)a->d->unmade;
+    /* A look-up was made while the copy was open, so it has another number. */
+    a->slot->is_shared = a->slot->fd == a->copied;
+    a->answer.yes = jailed && alone;
     a->d->unmade = 0;
-    return error;
+    return error == 0 && alone && !jailed ? look_for(a) : error;
 }
 
 static uint32_t look_up(struct asking *a)

@@ -146,6 +146,30 @@ static void opens_from(int root_or_jail)
     close(dir);
 }
 
+/* What is given has an open file description of its own, by O_PATH, also where it is the directory itself. */
+static void is_apart(int fd, const char *what)
+{
+    gives_fd(fd, "%s", what);
+    expect(fd < 0 || fcntl(fd, F_GETFL) & O_PATH, "%s shares its flags with the program's own descriptor", what);
+    close(fd);
+}
+
+static void shares_nothing(int root_or_jail)
+{
+    char last[256], rest[256];
+    int at, dir = sure(openat(root, "a/b", O_RDONLY | O_DIRECTORY | O_CLOEXEC), "a/b");
+    sure(inroot_at_begin(root_or_jail, dir, &at), "inroot_at_begin");
+    finds(inroot_open(at, ".", 0), "a/b", "the directory itself");
+    is_apart(inroot_open(at, ".", 0), "inroot_open()");
+    is_apart(inroot_open(at, ".", INROOT_ONE_BY_ONE), "inroot_open(), one by one");
+    is_apart(inroot_openat(at, ".", O_PATH | O_DIRECTORY, 0, 0), "inroot_openat()");
+    is_apart(inroot_open_parent(at, "none", 0, last), "inroot_open_parent()");
+    is_apart(inroot_open_partial(at, "none/x", 0, rest, sizeof rest), "inroot_open_partial()");
+    is_apart(inroot_mkdir_all(at, ".", 0755, 0), "inroot_mkdir_all()");
+    inroot_at_end(at);
+    close(dir);
+}
+
 /* Each kind of call from a directory does what it does by the whole path. */
 static void changes_from(int root_or_jail)
 {
@@ -399,6 +423,7 @@ static void each(void)
     int before = open_descriptors();
     parents(at);
     opens_from(at);
+    shares_nothing(at);
     changes_from(at);
     moved_directories(at);
     /* Without openat2(2) the text alone tells where the directory is. */

@@ -2,9 +2,9 @@
  * own_root: without openat2(2), as a filter has it, a root that is given by its descriptor is refused before any step in a thread
  * whose own root directory is no mount's: there /proc doesn't tell what is below it from what isn't. Elsewhere the calls go on,
  * and in a jail. Where the kernel doesn't tell whether a directory is a mount's, the mounts of the thread do, but for one that covers
- * the directory. What was moved out of
- * the mount on which the root is isn't taken for the root, with openat2(2) or without; and a root that was moved out itself has no
- * places.
+ * the directory. What was moved out of the mount on which the root is isn't taken for the root, with openat2(2) or without; and a
+ * root that was moved out itself has no places. Nor has an object of another tree: the root is mounted nowhere, or they are open in
+ * different mount namespaces, where somebody has mounted something by the root's path.
  *
  * usage: own_root DIR. Exits 0 where that holds. 77: no openat2(2) here, so that a part is left out. 78: no right to do what it
  * takes.
@@ -287,6 +287,49 @@ static void in_jail_on_mount(void)
     not_searched();
 }
 
+/* ---- an object of another tree, whose text is as if it were below the root */
+
+static void is_elsewhere(const char *who, int from, int tree)
+{
+    char place[PATH_MAX];
+    int at, dir = sure(openat(tree, "a", O_PATH | O_DIRECTORY | O_CLOEXEC), "a");
+    int file = sure(openat(tree, "a/b/f", O_PATH | O_CLOEXEC), "f");
+    gives(inroot_place(from, dir, place, sizeof place), -EXDEV, "%s: the place of a directory of another tree", who);
+    gives(inroot_place(from, file, place, sizeof place), -EXDEV, "%s: the place of a file of another tree", who);
+    gives(inroot_at_begin(from, dir, &at), 0, "%s: inroot_at_begin", who);
+    gives(inroot_open(at, "b/f", INROOT_NO_RETRY), -EAGAIN, "%s: a file, from a directory of another tree", who);
+    gives(inroot_mkdir(at, "made", 0755, INROOT_NO_RETRY), -EAGAIN, "%s: a directory is made there", who);
+    gives(faccessat(dir, "made", F_OK, 0), -1, "%s: it is made", who);
+    inroot_at_end(at);
+    close(file);
+    close(dir);
+}
+
+static void mounted_nowhere(void)
+{
+    enum { OPEN_TREE = 428, CLONES = 1 };
+    int nowhere = (int)syscall(OPEN_TREE, AT_FDCWD, where, CLONES | O_CLOEXEC);
+    if (nowhere < 0)
+        _exit(NO_RIGHT);
+    filter();
+    goes_on("by a root that is mounted nowhere", nowhere);
+    is_elsewhere("by a root that is mounted nowhere", nowhere, root);
+}
+
+static void in_another_namespace(void)
+{
+    if (unshare(CLONE_NEWNS) != 0 || mount(NULL, "/", NULL, MS_REC | MS_PRIVATE, NULL) != 0 ||
+        mount("tmpfs", where, "tmpfs", 0, NULL) != 0)
+        _exit(NO_RIGHT);
+    int other = sure(open(where, O_PATH | O_DIRECTORY | O_CLOEXEC), where);
+    sure(mkdirat(other, "a", 0755), "a");
+    sure(mkdirat(other, "a/b", 0755), "b");
+    sure(mknodat(other, "a/b/f", S_IFREG | 0600, 0), "f");
+    filter();
+    goes_on("by a root of another mount namespace", root);
+    is_elsewhere("by a root of another mount namespace", root, other);
+}
+
 static int each(void)
 {
     int skipped = apart(in_no_jail);
@@ -295,6 +338,8 @@ static int each(void)
     skipped |= apart(in_chroot_over_itself);
     skipped |= apart(in_jail);
     skipped |= apart(on_mount);
+    skipped |= apart(mounted_nowhere);
+    skipped |= apart(in_another_namespace);
     return skipped | apart(in_jail_on_mount);
 }
 
