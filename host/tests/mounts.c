@@ -328,6 +328,30 @@ static void without_links(void)
 
 /* ---- */
 
+/* Its own entry was replaced where it was mounted from. The kernel calls it removed, though it is there. */
+static void replaced(void)
+{
+    char place[PATH_MAX];
+    if (unshare(CLONE_NEWNS) != 0 || mount(NULL, "/", NULL, MS_REC | MS_PRIVATE, NULL) != 0)
+        _exit(NO_RIGHT);
+    make("here", true);
+    make("kept", true);
+    make("next", true);
+    put("root/kept", "here", NULL);
+    open_roots();
+    struct stat about;
+    int opened = inroot_open(root, "here", 0);
+    gives_object(opened, root, "here", "a file that is mounted");
+    sure(renameat(root, "next", root, "kept"), "next");
+    gives(inroot_open(root, "here", INROOT_NO_RETRY), -EAGAIN, "it, once another has its name");
+    gives(inroot_stat(root, "here", &about, INROOT_NO_RETRY), -EAGAIN, "its status");
+    gives(inroot_place(root, opened, place, sizeof place), -ENOENT, "its place");
+    gives_object(inroot_open(root, "here", INROOT_BELOW), root, "here", "it by INROOT_BELOW");
+    umount2("root/here", MNT_DETACH);
+    sure(unlinkat(root, "here", 0), "here");
+    sure(unlinkat(root, "kept", 0), "kept");
+}
+
 static void make_tree(void)
 {
     static const char *const dirs[] = {
@@ -458,7 +482,7 @@ static void without_openat2(void)
 int main(int count, char **words)
 {
     static void (*const parts[])(void) = {
-        by_proc, in_jail, in_trusting_jail, without_openat2, without_numbers, with_zeros, without_links,
+        by_proc, in_jail, in_trusting_jail, without_openat2, without_numbers, with_zeros, without_links, replaced,
     };
     static const char *const whole[] = {"r/a", "s/a"};
     int skipped = 0;
