@@ -42,37 +42,56 @@ static uint32_t copy(struct asking *a)
     return a->slot->fd < 0 ? (uint32_t)errno : 0;
 }
 
-/* Goes down by a name. If that leads elsewhere, others have moved something, or the text is of another tree. */
-static uint32_t enter(int *dir, int root, const char *name, size_t length)
+static int open_name(int dir, const char *name, size_t length)
 {
-    int fd = inroot_followed_enter(*dir, name, length);
-    int error = errno;
-    if (*dir != root)
-        close(*dir);
-    *dir = fd;
-    if (fd >= 0)
-        return 0;
-    return error == ENOENT || error == ENOTDIR || error == ELOOP ? EAGAIN : (uint32_t)error;
+    char whole[NAME_MAX + 1];
+    int fd;
+    if (length > NAME_MAX) {
+        errno = ENAMETOOLONG;
+        return -1;
+    }
+    memcpy(whole, name, length);
+    whole[length] = 0;
+    do
+        fd = openat(dir, whole, O_PATH | O_NOFOLLOW | O_CLOEXEC);
+    while (fd < 0 && errno == EINTR);
+    return fd;
+}
+
+/* Opens what these names lead to, each in the one before it and through no link: a descriptor or -1. */
+static int open_names(int root, const char *names)
+{
+    int dir = root, error = 0;
+    for (size_t length; dir >= 0 && *names != 0; names += length + (names[length] == '/')) {
+        length = strcspn(names, "/");
+        int fd = open_name(dir, names, length);
+        error = errno;
+        if (dir != root)
+            close(dir);
+        dir = fd;
+    }
+    errno = error;
+    return dir;
 }
 
 /*
- * Whether the names lead from the root to the object, each through no link: 0 or an error's number. If an object was opened in
- * another mount namespace, or the root is mounted nowhere, a text tells nothing of the one below the other.
+ * Whether the names lead from the root to the object: 0 or an error's number. If an object was opened in another mount namespace,
+ * or the root is mounted nowhere, a text tells nothing of the one below the other. The slot goes on with what was found: so no step
+ * leads up another tree.
  */
-static uint32_t look_for(const struct asking *a)
+static uint32_t look_for(struct asking *a)
 {
     enum inroot_kind kind;
-    int dir = a->root;
-    const char *name = a->text + 1, *slash;
-    uint32_t error = 0;
-    for (; error == 0 && (slash = strchr(name, '/')) != NULL; name = slash + 1)
-        error = enter(&dir, a->root, name, (size_t)(slash - name));
-    if (error)
-        return error;
-    bool is_there = *name == 0 || inroot_is_entry(dir, name, a->slot->fd, &kind);
-    if (dir != a->root)
-        close(dir);
-    return is_there ? 0 : EAGAIN;
+    if (a->text[1] == 0)
+        return 0;
+    int found = open_names(a->root, a->text + 1);
+    if (found < 0)
+        return errno == ENOENT || errno == ENOTDIR ? EAGAIN : (uint32_t)errno;
+    bool same = inroot_is_entry(found, "", a->slot->fd, &kind);
+    close(same ? a->slot->fd : found);
+    if (same)
+        a->slot->fd = found;
+    return same ? 0 : EAGAIN;
 }
 
 /* Without openat2(2) a text alone has told the place. In a jail it is that of the thread's own root. */
@@ -81,11 +100,13 @@ static uint32_t find(struct asking *a)
     struct inroot_result result = inroot_find_place(a->d, a->root, a->slot, a->text, &a->answer.length);
     const bool alone = !inroot_has_openat2(), jailed = a->root == INROOT_JAILED;
     uint32_t error = result.what == INROOT_ANSWER_NAMES ? 0 : (uint32_t)a->d->unmade;
+    if (error == 0 && alone && !jailed)
+        error = look_for(a);
     /* A look-up was made while the copy was open, so it has another number. */
     a->slot->is_shared = a->slot->fd == a->copied;
     a->answer.yes = jailed && alone;
     a->d->unmade = 0;
-    return error == 0 && alone && !jailed ? look_for(a) : error;
+    return error;
 }
 
 static uint32_t look_up(struct asking *a)

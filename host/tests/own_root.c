@@ -289,15 +289,15 @@ static void in_jail_on_mount(void)
 
 /* ---- an object of another tree, whose text is as if it were below the root */
 
-static void is_elsewhere(const char *who, int from, int tree)
+static void is_elsewhere(const char *who, int from, int tree, const char *name, const char *below)
 {
     char place[PATH_MAX];
-    int at, dir = sure(openat(tree, "a", O_PATH | O_DIRECTORY | O_CLOEXEC), "a");
-    int file = sure(openat(tree, "a/b/f", O_PATH | O_CLOEXEC), "f");
+    int at, dir = sure(openat(tree, name, O_PATH | O_DIRECTORY | O_CLOEXEC), name);
+    int file = sure(openat(dir, below, O_PATH | O_CLOEXEC), below);
     gives(inroot_place(from, dir, place, sizeof place), -EXDEV, "%s: the place of a directory of another tree", who);
     gives(inroot_place(from, file, place, sizeof place), -EXDEV, "%s: the place of a file of another tree", who);
     gives(inroot_at_begin(from, dir, &at), 0, "%s: inroot_at_begin", who);
-    gives(inroot_open(at, "b/f", INROOT_NO_RETRY), -EAGAIN, "%s: a file, from a directory of another tree", who);
+    gives(inroot_open(at, below, INROOT_NO_RETRY), -EAGAIN, "%s: a file, from a directory of another tree", who);
     gives(inroot_mkdir(at, "made", 0755, INROOT_NO_RETRY), -EAGAIN, "%s: a directory is made there", who);
     gives(faccessat(dir, "made", F_OK, 0), -1, "%s: it is made", who);
     inroot_at_end(at);
@@ -313,21 +313,50 @@ static void mounted_nowhere(void)
         _exit(NO_RIGHT);
     filter();
     goes_on("by a root that is mounted nowhere", nowhere);
-    is_elsewhere("by a root that is mounted nowhere", nowhere, root);
+    is_elsewhere("by a root that is mounted nowhere", nowhere, root, "a", "b/f");
+}
+
+/* Whose a/b is the root's own by a mount of its own, and whose a has another file. */
+static int mount_other(void)
+{
+    char part[PATH_MAX + 8], kept[PATH_MAX + 8];
+    snprintf(part, sizeof part, "%s/a/b", where);
+    snprintf(kept, sizeof kept, "%s/e", where);
+    if (unshare(CLONE_NEWNS) != 0 || mount(NULL, "/", NULL, MS_REC | MS_PRIVATE, NULL) != 0 ||
+        mount(part, kept, NULL, MS_BIND, NULL) != 0)
+        _exit(NO_RIGHT);
+    int own = sure(open(kept, O_PATH | O_DIRECTORY | O_CLOEXEC), kept);
+    snprintf(kept, sizeof kept, "/proc/self/fd/%d", own);
+    sure(mount("tmpfs", where, "tmpfs", 0, NULL), where);
+    int other = sure(open(where, O_PATH | O_DIRECTORY | O_CLOEXEC), where);
+    sure(mkdirat(other, "a", 0755), "a");
+    sure(mkdirat(other, "a/b", 0755), "b");
+    sure(mknodat(other, "a/lure", S_IFREG | 0600, 0), "lure");
+    sure(mkdirat(other, "e", 0755), "e");
+    sure(mknodat(other, "e/f", S_IFREG | 0600, 0), "f");
+    sure(mount(kept, part, NULL, MS_BIND, NULL), part);
+    return other;
+}
+
+/* Where the kernel tells no mount, the directory is the root's own: the call goes on by that one. */
+static void leads_up(const char *who, int other)
+{
+    int at, dir = sure(openat(other, "a/b", O_PATH | O_DIRECTORY | O_CLOEXEC), "b");
+    gives(inroot_at_begin(root, dir, &at), 0, "%s: inroot_at_begin", who);
+    int fd = inroot_open(at, "../lure", INROOT_NO_RETRY);
+    expect(fd == -ENOENT || fd == -EAGAIN, "%s: a file above, in the other tree: %d", who, fd);
+    inroot_at_end(at);
+    close(dir);
 }
 
 static void in_another_namespace(void)
 {
-    if (unshare(CLONE_NEWNS) != 0 || mount(NULL, "/", NULL, MS_REC | MS_PRIVATE, NULL) != 0 ||
-        mount("tmpfs", where, "tmpfs", 0, NULL) != 0)
-        _exit(NO_RIGHT);
-    int other = sure(open(where, O_PATH | O_DIRECTORY | O_CLOEXEC), where);
-    sure(mkdirat(other, "a", 0755), "a");
-    sure(mkdirat(other, "a/b", 0755), "b");
-    sure(mknodat(other, "a/b/f", S_IFREG | 0600, 0), "f");
+    const char *who = "by a root of another mount namespace";
+    int other = mount_other();
     filter();
-    goes_on("by a root of another mount namespace", root);
-    is_elsewhere("by a root of another mount namespace", root, other);
+    goes_on(who, root);
+    leads_up(who, other);
+    is_elsewhere(who, root, other, "e", "f");
 }
 
 static int each(void)
