@@ -363,6 +363,8 @@ void inroot_proc_close(struct inroot_own *own);
 int inroot_proc_open(bool surely, bool *is_callers);
 /* Whether the program has one already. */
 bool inroot_proc_is_kept(void);
+/* Whether it is one that is mounted nowhere (private_proc.c). */
+bool inroot_proc_is_private(void);
 /* Whether somebody closed the library's own /proc, so that its number is another file of a proc(5). */
 bool inroot_proc_is_lost(int proc);
 /* The same, for a call. */

@@ -9,6 +9,7 @@
 #include <errno.h>
 #include <fcntl.h>
 #include <pthread.h>
+#include <stdatomic.h>
 #include <sys/syscall.h>
 #include <unistd.h>
 
@@ -58,12 +59,21 @@ static int find_one(void)
     return -ENOSYS;
 }
 
+static atomic_bool is_private;
+
+bool inroot_proc_is_private(void)
+{
+    return atomic_load(&is_private);
+}
+
 static int use_one(void)
 {
     int fd = find_one();
     if (fd < 0)
         return fd;
     int failed = inroot_use_proc(fd);
+    if (failed == 0)
+        atomic_store(&is_private, true);
     close(fd);
     return failed;
 }

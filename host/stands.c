@@ -42,33 +42,30 @@ static uint32_t copy(struct asking *a)
     return a->slot->fd < 0 ? (uint32_t)errno : 0;
 }
 
-static int open_name(int dir, const char *name, size_t length)
+static int open_name(int dir, const char *name)
 {
-    char whole[NAME_MAX + 1];
     int fd;
-    if (length > NAME_MAX) {
-        errno = ENAMETOOLONG;
-        return -1;
-    }
-    memcpy(whole, name, length);
-    whole[length] = 0;
     do
-        fd = openat(dir, whole, O_PATH | O_NOFOLLOW | O_CLOEXEC);
+        fd = openat(dir, name, O_PATH | O_NOFOLLOW | O_CLOEXEC);
     while (fd < 0 && errno == EINTR);
     return fd;
 }
 
 /* Opens what these names lead to, each in the one before it and through no link: a descriptor or -1. */
-static int open_names(int root, const char *names)
+static int open_names(int root, char *names)
 {
     int dir = root, error = 0;
-    for (size_t length; dir >= 0 && *names != 0; names += length + (names[length] == '/')) {
-        length = strcspn(names, "/");
-        int fd = open_name(dir, names, length);
+    while (dir >= 0 && *names != 0) {
+        char *end = names + strcspn(names, "/");
+        const char behind = *end;
+        *end = 0;
+        int fd = open_name(dir, names);
         error = errno;
+        *end = behind;
         if (dir != root)
             close(dir);
         dir = fd;
+        names = end + (behind != 0);
     }
     errno = error;
     return dir;

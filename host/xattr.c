@@ -1,15 +1,15 @@
 /*
  * xattr.c: the extended attributes of an object that was found. Linux 6.13 has system calls that take a name in a directory,
  * here in /proc. Before that all of them take a path. In a jail the driver makes /proc the thread's current directory, and the
- * path begins there. Elsewhere it begins at the top, if /proc there is the directory that the library has open.
+ * path begins there. Elsewhere it begins at the top, if /proc there is the directory that the library has open, by the same mount.
  */
 #define _GNU_SOURCE
 #include "driver.h"
 
 #include <errno.h>
+#include <fcntl.h>
 #include <pthread.h>
 #include <stdio.h>
-#include <sys/stat.h>
 #include <sys/syscall.h>
 #include <sys/xattr.h>
 #include <unistd.h>
@@ -69,11 +69,18 @@ static ssize_t from_jail(int proc, const char *name, const struct attribute *one
     return done;
 }
 
+/* One that is mounted nowhere may be of the same file system: its mount differs, where the kernel tells mounts. */
+static bool is_at_top(int proc)
+{
+    struct inroot_which there, here;
+    return !inroot_proc_is_private() && inroot_find_which(AT_FDCWD, "/proc", &there) && inroot_find_which(proc, "", &here) &&
+           inroot_is_same_object(&there.object, &here.object, false);
+}
+
 static ssize_t from_top(int proc, const char *name, const struct attribute *one)
 {
-    struct stat there, here;
     char path[sizeof "/proc/" + INROOT_PROC_NAME];
-    if (stat("/proc", &there) != 0 || fstat(proc, &here) != 0 || there.st_dev != here.st_dev || there.st_ino != here.st_ino) {
+    if (!is_at_top(proc)) {
         errno = ENOSYS;
         return -1;
     }

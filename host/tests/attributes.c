@@ -40,6 +40,7 @@ int __wrap_utimensat(int dir, const char *name, const struct timespec times[2], 
 /* How many system calls were made. */
 static volatile int made;
 COUNTED(int, fstat, (int fd, struct stat *about), (fd, about))
+COUNTED(int, statx, (int dir, const char *name, int flags, unsigned mask, struct statx *about), (dir, name, flags, mask, about))
 COUNTED(int, fstatfs, (int fd, struct statfs *about), (fd, about))
 COUNTED(int, fchmodat, (int dir, const char *name, mode_t mode, int flags), (dir, name, mode, flags))
 COUNTED(int, fchownat, (int dir, const char *name, uid_t user, gid_t group, int flags), (dir, name, user, group, flags))
@@ -311,7 +312,7 @@ static void count(int by)
     if (has_user) {
         made = 0;
         gives(inroot_fgetxattr(fd, "user.none", value, 4), -ENODATA, "an attribute by a path");
-        gives(made, is_jail ? 6 : 4, "system calls for an attribute by a path");
+        gives(made, is_jail ? 6 : 5, "system calls for an attribute by a path");
     }
     refuses = 0;
     close(fd);
