@@ -1,8 +1,11 @@
 """The frame of a check in Python, as frame.bash is that of one in bash. It counts what passed and what failed, and notes
 what was skipped. The last line is 'N passed, M failed, K skipped'. The K lines before it say what was skipped and why:
 'skipped: CHECK: WHAT: WHY'. A skip is neither passed nor failed. A check that imports it runs at the top of the repository.
+
+Each check in Python imports it before its own parts, since it ends the check where Python is too old.
 """
 import collections
+import functools
 import os
 import shutil
 import subprocess
@@ -11,9 +14,7 @@ import sys
 CHECK = os.path.basename(sys.argv[0])
 Ran = collections.namedtuple("Ran", "status out err")
 passed, failed, skipped = 0, 0, []
-
-os.chdir(os.path.dirname(os.path.dirname(os.path.realpath(__file__))))
-sys.stdout.reconfigure(encoding="utf-8", errors="surrogateescape")
+OLDEST = (3, 10)
 
 
 def verdict(holds, name, seen=""):
@@ -47,6 +48,13 @@ def end():
     sys.exit(0 if failed == 0 and passed > 0 else 1)
 
 
+if sys.version_info < OLDEST:
+    skip("all of it", "it needs Python {}.{} or later, and this is {}.{}".format(*OLDEST, *sys.version_info[:2]))
+    end()
+os.chdir(os.path.dirname(os.path.dirname(os.path.realpath(__file__))))
+sys.stdout.reconfigure(encoding="utf-8", errors="surrogateescape")
+
+
 def text(data):
     """Bytes as text, each byte that is no text in a place of its own, so that equal texts are of equal bytes."""
     return data.decode("utf-8", "surrogateescape")
@@ -69,6 +77,7 @@ def started(words, given="", **more):
     return Ran(done.returncode, text(done.stdout or b""), text(done.stderr or b""))
 
 
+@functools.lru_cache(None)
 def find_program():
     """The program itself: that of INROOT_PROGRAM, or the one that ./inroot runs, which is built where it isn't yet."""
     path = os.environ.get("INROOT_PROGRAM") or started(["tools/program"], stderr=None).out.strip()
@@ -77,9 +86,13 @@ def find_program():
     return path
 
 
-PROGRAM = find_program()
+def __getattr__(name):
+    """PROGRAM is looked for where a check first asks for it."""
+    if name == "PROGRAM":
+        return find_program()
+    raise AttributeError(name)
 
 
 def run(*words, given="", **more):
     """Runs the program."""
-    return started([PROGRAM, *words], given, **more)
+    return started([find_program(), *words], given, **more)
