@@ -19,7 +19,27 @@ static uint32_t error_of(long failed)
 
 static uint32_t open_entry(struct inroot_work *w, int flags)
 {
+    static const enum inroot_way ways[] = {
+        [INROOT_STEP_OPEN] = INROOT_BY_NAME, [INROOT_STEP_DUP] = INROOT_BY_ROOT, [INROOT_STEP_PARENT] = INROOT_BY_PARENT,
+    };
+    w->how = ways[w->facts.what];
     w->fd = openat(w->at, w->name, O_PATH | O_NOFOLLOW | O_CLOEXEC | flags);
+    return error_of(w->fd);
+}
+
+/* The proved call's own handle on the root is the first. */
+static uint32_t take_root(struct inroot_driver *d, struct inroot_work *w)
+{
+    if (!inroot_above_is_root(d->root, w->at))
+        return ESTALE;
+    w->handle = inroot_handles_share(d, UINT64_C(1) << 32);
+    return 0;
+}
+
+static uint32_t look_above(struct inroot_driver *d, struct inroot_work *w)
+{
+    w->how = INROOT_SEEN_BELOW;
+    w->fd = inroot_above_find(d, d->root, d->passed, w->above);
     return error_of(w->fd);
 }
 
@@ -90,6 +110,9 @@ static uint32_t turn(struct inroot_driver *d, struct inroot_work *w, struct inro
     case INROOT_CALL_KIND: return ask_object(w->fd, answer);
     case INROOT_CALL_MAY_HOLD_MAGIC: return ask_file_system(w->fd, answer);
     case INROOT_CALL_MAGIC: return (uint32_t)inroot_magic_follow(d, w->held, w->plain);
+    case INROOT_CALL_IS_ROOT: return take_root(d, w);
+    case INROOT_CALL_LOOK_ABOVE: return look_above(d, w);
+    case INROOT_CALL_COMPARE_ABOVE: return inroot_above_is(w->at, w->fd) ? 0 : ESTALE;
     case INROOT_CALL_LINKS: return ask_object(w->looks, answer);
     case INROOT_CALL_LAYERS: return ask_file_system(w->looks, answer);
     case INROOT_CALL_OPEN_TO_READ: return open_to_read(w);

@@ -37,6 +37,7 @@ static struct inroot_result make(struct inroot_driver *d, struct inroot_told *st
     struct inroot_result result;
     *length = 0;
     d->steps++;
+    d->known = inroot_last_take(&d->last, step->what, step->handle);
     if (step->what == INROOT_STEP_CLOSE)
         return inroot_handles_close(d, step->handle);
     if (d->from.dir >= 0 && inroot_from_begins(d, step, room, text, &result))

@@ -194,6 +194,26 @@ void inroot_split(const unsigned char *path, size_t path_length, bool takes_slas
  */
 bool inroot_is_refusal(uint8_t what, uint8_t mode, size_t text, uint32_t error);
 
+/* ---- what is known of a step from the steps before. These take no memory. */
+
+/*
+ * What the step before has shown: an object's place was told; a link was read by its name as it was opened; a directory had such a
+ * link as an entry, whose text was then asked for.
+ */
+enum inroot_shown { INROOT_SHOWN_NOTHING, INROOT_SHOWN_PLACED, INROOT_SHOWN_LINK_READ, INROOT_SHOWN_FOLLOWED };
+
+/* The last step. All of it is 0 before the first one. A driver leaves it alone. */
+struct inroot_last_step {
+    uint64_t handle, dir;
+    uint8_t what, shows;
+};
+
+/* Takes a step, before it is made, and says what the one before has shown of the same object, if that is of use to this one. */
+uint8_t inroot_last_take(struct inroot_last_step *last, uint8_t what, uint64_t handle);
+
+/* That step told the object's place (PLACED); or read the link by its name, which has the handle that it GAVE (LINK_READ). */
+void inroot_last_end(struct inroot_last_step *last, uint8_t how, uint64_t gave);
+
 /* ---- which system call comes next, as one step is made. These take no memory. */
 
 /* Whether a directory is there still: a question in the place of a step. It isn't made where that can't be known. */
@@ -202,28 +222,33 @@ enum { INROOT_IS_THERE = 0 };
 /*
  * What is known of a step before its first system call. WHAT it is (`enum inroot_what`), the MODE of a rename, the bytes of the TEXT
  * of a link that is made. An Open: a DIRECTORY is expected; NO_MAGIC link is opened. An Open, a Dup, a Parent: what is opened must be
- * on the root's MOUNT. A Parent: the directory above is OPENED already, and the child's `..` has just led to it; the child LIVED at
- * the step before, since it had an entry. A ReadLink: the call wants the link's OWN_TEXT, on each mount; the text WAS_READ by the
- * link's name; the object was opened as a LINK. A change: an object that is there gets a SECOND_NAME.
+ * on the root's MOUNT. A Parent: the names are known by which the call came to the child (NAMED), and are a SINGLE one; the call
+ * GOES_ON from the directory above by a name; the root is the thread's own (JAILED); a tree is removed (CLEARS); each name is to be
+ * looked up by itself (ONE_BY_ONE); openat2(2) is there (SECOND); the child LIVED at the step before, since it had an entry. A
+ * ReadLink: the call wants the link's OWN_TEXT, on each mount; the text WAS_READ by the link's name; the object was opened as a
+ * LINK. A change: an object that is there gets a SECOND_NAME.
  */
 struct inroot_step_facts {
     size_t text;
     uint8_t what, mode;
-    bool directory, mount, no_magic, opened, lived, own_text, was_read, link, second_name;
+    bool directory, mount, no_magic, named, single, goes_on, jailed, clears, one_by_one, second, lived, own_text, was_read, link,
+         second_name;
 };
 
 /*
  * By O_PATH, O_NOFOLLOW and O_CLOEXEC the name is opened, or `.` of a Dup, or `..` of a Parent: with O_DIRECTORY, or without. A
  * descriptor of a directory above is let go. Of what was opened: whether it is on the root's mount; its kind; its file system; openat2(2)
- * of its name with RESOLVE_NO_MAGICLINKS. Of the directory that must be there still: its links; its file system; it is opened to be
- * read, read by getdents64(2), and closed. Of a link: the flags of its mount; its text. The one system call of a change. What was
- * opened is closed. Or the step ENDS: with what was opened; with a text; done; refused by an error of the step table; or not made.
+ * of its name with RESOLVE_NO_MAGICLINKS. Of a Parent, first: whether `..` is the root, which then is what was opened; or the names
+ * passed, without the last, are looked up from the root with RESOLVE_BENEATH; whether `..` is what that found; if not, that is
+ * closed. Of the directory that must be there still: its links; its file system; it is opened to be read, read by getdents64(2),
+ * and closed. Of a link: the flags of its mount; its text. The one system call of a change. What was opened is closed. Or the step
+ * ENDS: with what was opened; with a text; done; refused by an error of the step table; or not made.
  */
 enum inroot_step_next {
     INROOT_CALL_OPEN_DIRECTORY = 1, INROOT_CALL_OPEN_ANY, INROOT_CALL_SPARE, INROOT_CALL_MOUNT, INROOT_CALL_KIND,
-    INROOT_CALL_MAY_HOLD_MAGIC, INROOT_CALL_MAGIC, INROOT_CALL_LINKS, INROOT_CALL_LAYERS, INROOT_CALL_OPEN_TO_READ,
-    INROOT_CALL_READ, INROOT_CALL_CLOSE_READ, INROOT_CALL_NO_FOLLOW, INROOT_CALL_READ_LINK, INROOT_CALL_CHANGE,
-    INROOT_CALL_CLOSE,
+    INROOT_CALL_MAY_HOLD_MAGIC, INROOT_CALL_MAGIC, INROOT_CALL_IS_ROOT, INROOT_CALL_LOOK_ABOVE, INROOT_CALL_COMPARE_ABOVE,
+    INROOT_CALL_CLOSE_ABOVE, INROOT_CALL_LINKS, INROOT_CALL_LAYERS, INROOT_CALL_OPEN_TO_READ, INROOT_CALL_READ,
+    INROOT_CALL_CLOSE_READ, INROOT_CALL_NO_FOLLOW, INROOT_CALL_READ_LINK, INROOT_CALL_CHANGE, INROOT_CALL_CLOSE,
     INROOT_ENDS_OPENED, INROOT_ENDS_TEXT, INROOT_ENDS_DONE, INROOT_ENDS_REFUSED, INROOT_ENDS_UNMADE,
 };
 

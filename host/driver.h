@@ -139,8 +139,8 @@ struct inroot_driver {
     uint32_t used, serial;         /* of the slots, so many were taken so far; and the last handle's number above its slot */
     char *names;                   /* those of the directory that was listed last */
     size_t listed;                 /* bytes of names that the call holds */
-    uint64_t placed;               /* the handle of the question right before, or zero */
-    uint64_t came_to;              /* what that was before this step */
+    struct inroot_last_step last;  /* what the step before has shown */
+    uint8_t known;                 /* what of that is known of this one (`enum inroot_shown`) */
     size_t name_length;            /* of the name that `step` was about */
     ssize_t stands;                /* how long the names in `passed` are where the walk stands, or -1 where they aren't known */
     uint8_t rest_is;               /* what is known of the rest of the path */
@@ -151,7 +151,6 @@ struct inroot_driver {
     size_t passed_length;
     uint64_t keyed, key;           /* the handle whose names have this key (hints.c), or zero */
     struct inroot_keyed hinted[2]; /* how far a path from the root was searched for hints, and the name before that */
-    uint64_t lived;                /* the directory that had the entry which the last step but Close was about, or zero */
     uint64_t link, link_dir;       /* a link that was read by its name in that directory, or zero, and how long its text is */
     size_t link_length;
     _Atomic uint32_t *missed;      /* the note that this path opened nothing last (hints.c), or NULL */
@@ -246,14 +245,12 @@ void inroot_hints_find(const struct inroot_driver *d);
 /* above.c */
 /* Whether the directory above CHILD is the root itself. */
 bool inroot_above_is_root(int root, int child);
-/* Looks the directory above CHILD up by so many bytes of these names, but in a jail: a descriptor of that very one, or -1. */
+/* Looks a directory up from the root by so many bytes of these names: a descriptor, or -1 with errno. */
+int inroot_above_find(struct inroot_driver *d, int root, char *names, size_t length);
+/* Whether it is the directory above CHILD. */
+bool inroot_above_is(int child, int fd);
+/* Looks the directory above CHILD up by so many bytes of these names: a descriptor of that very one, or -1. */
 int inroot_above_look(struct inroot_driver *d, int root, int child, char *names, size_t length);
-/*
- * The directory above a handle's, which is CHILD, by the names passed: looked up from the root, so that the kernel sees it below
- * the root; and the child's `..` leads to that same one. Whether it could. Only if the call GOES_ON from there by a name it may
- * be the caller's own descriptor of the root: what is handed out is opened anew.
- */
-bool inroot_above_open(struct inroot_driver *d, uint64_t handle, int child, bool goes_on, struct inroot_result *result);
 
 /* followed.c */
 /*
@@ -556,11 +553,16 @@ struct inroot_result inroot_refused(struct inroot_driver *d, int error);
 struct inroot_result inroot_unmade(struct inroot_driver *d, int error);
 
 /* by_calls.c */
-/* A step, and by what its system calls are made. A driver sets what they need; what was opened is FD, or HANDLE if it has one. */
+/*
+ * A step, and by what its system calls are made. A driver sets what they need. What was opened is FD, and HOW it was; or the root
+ * itself, by HANDLE.
+ */
 struct inroot_work {
     struct inroot_step_facts facts;
     struct inroot_step course;
-    uint64_t dir, handle;          /* whose descriptor isn't let go; and one on what is open already, or zero */
+    uint64_t dir, handle;          /* whose descriptor isn't let go; and a second one of the root, or zero */
+    enum inroot_way how;
+    size_t above;                  /* so long the names passed are without the last */
     int at, held;                  /* the directory as a system call takes it, and as it is kept */
     const char *name, *plain;      /* the name as a system call takes it, and as it is */
     int looks;                     /* what is looked at: the child, the link */

@@ -64,9 +64,10 @@ uint32_t inroot_followed_read(struct inroot_driver *d, uint64_t handle, int dir,
     inroot_hints_tell(d, handle, names, length, error == 0);
     if (error)
         return error;
-    d->link_dir = d->lived = handle;
+    d->link_dir = handle;
     d->link_length = (size_t)got;
     d->link = inroot_handles_passed(d);
+    inroot_last_end(&d->last, INROOT_SHOWN_LINK_READ, d->link);
     return 0;
 }
 

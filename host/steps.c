@@ -93,14 +93,14 @@ static struct inroot_work work_on(const struct inroot_driver *d, unsigned what, 
     };
 }
 
-/* Makes a step that opens. If it was opened before, its handle is there. */
-static struct inroot_result open_by(struct inroot_driver *d, struct inroot_work *work, enum inroot_way way)
+/* Makes a step that opens. The root that is shared has its handle already. */
+static struct inroot_result open_by(struct inroot_driver *d, struct inroot_work *work)
 {
     inroot_by_calls(d, work);
     if (work->course.next != INROOT_ENDS_OPENED)
         return ended(d, &work->course);
     const enum inroot_kind kind = work->course.kind;
-    return inroot_opened(work->handle != 0 ? work->handle : inroot_handles_put(d, work->fd, kind, way, work->dir), kind);
+    return inroot_opened(work->handle != 0 ? work->handle : inroot_handles_put(d, work->fd, kind, work->how, work->dir), kind);
 }
 
 /* Opens a directory itself, by a descriptor of its own, or gives -errno. */
@@ -146,7 +146,7 @@ static struct inroot_result open_alone(struct inroot_driver *d, const struct inr
     struct inroot_work work = work_on(d, INROOT_STEP_OPEN, step->handle, &entry);
     work.facts.directory = is_expected;
     work.facts.no_magic = inroot_magic_matters(d, is_last);
-    return open_by(d, &work, INROOT_BY_NAME);
+    return open_by(d, &work);
 }
 
 /* Keeps by which names the walk has come to what was opened by a name. */
@@ -251,29 +251,34 @@ static struct inroot_result open_root(struct inroot_driver *d, uint64_t root)
     if (error)
         return inroot_unmade(d, error);
     struct inroot_work work = work_on(d, INROOT_STEP_DUP, root, &itself);
-    return open_by(d, &work, INROOT_BY_ROOT);
+    return open_by(d, &work);
 }
 
 /* Makes the step by the names passed, if they are known; else by the child's `..`, of which they say nothing. */
 static struct inroot_result open_parent(struct inroot_driver *d, uint64_t handle)
 {
     struct entry above;
-    struct inroot_result seen;
-    bool lived = handle == d->lived;
     int error = find(d, handle, "..", 2, &above);
     if (error)
         return inroot_unmade(d, error);
     if (!inroot_handles_reserve(d))
         return inroot_unmade(d, ENOMEM);
     struct inroot_work work = work_on(d, INROOT_STEP_PARENT, handle, &above);
-    ssize_t base = inroot_passed_base(d, handle);
-    work.facts.lived = lived;
-    work.facts.opened = inroot_above_open(d, handle, above.dir, goes_on(d), &seen);
-    if (work.facts.opened)
-        work.handle = seen.handle;
-    struct inroot_result result = open_by(d, &work, INROOT_BY_PARENT);
-    if (result.what == INROOT_ANSWER_OPENED && !work.facts.opened)
-        inroot_passed_end(d, result.handle, base > 0 ? inroot_passed_above(d, (size_t)base) : 0);
+    const ssize_t base = inroot_passed_base(d, handle);
+    work.above = base > 0 ? inroot_passed_above(d, (size_t)base) : 0;
+    work.facts.named = base > 0;
+    work.facts.single = work.above == 0;
+    work.facts.goes_on = goes_on(d);
+    work.facts.jailed = d->root == INROOT_JAILED;
+    work.facts.clears = d->counts;
+    work.facts.one_by_one = d->asked->flags & INROOT_ONE_BY_ONE;
+    work.facts.second = inroot_has_openat2();
+    work.facts.lived = d->known == INROOT_SHOWN_FOLLOWED;
+    struct inroot_result result = open_by(d, &work);
+    if (result.what == INROOT_ANSWER_OPENED && work.handle == 0) {
+        inroot_handles_slot(d, result.handle)->is_above = true;
+        inroot_passed_end(d, result.handle, work.above);
+    }
     return result;
 }
 
@@ -295,12 +300,12 @@ int inroot_parent_of(struct inroot_driver *d, int child)
 static struct inroot_result read_link(struct inroot_driver *d, uint64_t handle, char *text, size_t *length)
 {
     struct inroot_work work = {.facts = {.what = INROOT_STEP_READLINK}, .text = text, .length = d->link_length};
-    work.facts.was_read = handle == d->link;
+    work.facts.was_read = d->known == INROOT_SHOWN_LINK_READ;
     if (!work.facts.was_read) {
         int error = inroot_handles_fd(d, handle, &work.looks);
         if (error)
             return inroot_unmade(d, error);
-        work.facts.own_text = handle == d->came_to && !d->asked->follows;
+        work.facts.own_text = d->known == INROOT_SHOWN_PLACED && !d->asked->follows;
         work.facts.link = inroot_handles_slot(d, handle)->kind == INROOT_KIND_LINK;
     }
     inroot_by_calls(d, &work);
@@ -409,20 +414,17 @@ static struct inroot_result change_entry(struct inroot_driver *d, const struct i
 /* Asked twice in a row, it stands where it did right after the first time, and its names are in the text still. */
 static struct inroot_result name_below(struct inroot_driver *d, const struct inroot_told *step, char *text, size_t *length)
 {
-    if (step->handle == d->placed) {
+    struct inroot_result result = {.what = INROOT_ANSWER_NAMES};
+    if (d->known == INROOT_SHOWN_PLACED) {
         *length = d->placed_length;
-        return (struct inroot_result){.what = INROOT_ANSWER_NAMES};
+    } else if (!inroot_from_tells(d, step->handle, text, length)) {
+        /* What is behind a place was in no run with what is before it. */
+        inroot_looks_fresh(&d->looks);
+        result = inroot_name_below(d, step, text, length);
     }
-    if (inroot_from_tells(d, step->handle, text, length)) {
-        d->placed = step->handle;
-        d->placed_length = *length;
-        return (struct inroot_result){.what = INROOT_ANSWER_NAMES};
-    }
-    /* What is behind a place was in no run with what is before it. */
-    inroot_looks_fresh(&d->looks);
-    struct inroot_result result = inroot_name_below(d, step, text, length);
-    d->placed = result.what == INROOT_ANSWER_NAMES ? step->handle : 0;
     d->placed_length = *length;
+    if (result.what == INROOT_ANSWER_NAMES)
+        inroot_last_end(&d->last, INROOT_SHOWN_PLACED, 0);
     return result;
 }
 
@@ -450,7 +452,7 @@ static struct inroot_result make_other(struct inroot_driver *d, const struct inr
 /* Whether a step needs a descriptor that isn't there. By its name another directory could be opened. */
 static bool is_only_passed(const struct inroot_driver *d, const struct inroot_told *step)
 {
-    bool is_link = step->what == INROOT_STEP_READLINK && step->handle == d->link;
+    bool is_link = d->known == INROOT_SHOWN_LINK_READ;
     bool has_other = step->what == INROOT_STEP_RENAME && inroot_handles_is_passed(step->other);
     return has_other || (inroot_handles_is_passed(step->handle) && !is_link);
 }
@@ -462,10 +464,7 @@ struct inroot_result inroot_make(struct inroot_driver *d, struct inroot_told *st
         return inroot_unmade(d, ENAMETOOLONG);
     if (is_only_passed(d, step))
         return inroot_unmade(d, ENOMEM);
-    d->came_to = d->placed;
     if (step->what != INROOT_STEP_NAME_BELOW)
-        d->placed = d->from.told = 0;
-    if (step->what != INROOT_STEP_READLINK && step->what != INROOT_STEP_PARENT)
-        d->lived = 0;
+        d->from.told = 0;
     return step->what == INROOT_STEP_OPEN ? open_next(d, step, room, text) : make_other(d, step, room, text, length);
 }

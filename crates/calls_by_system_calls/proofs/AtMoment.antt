@@ -164,7 +164,7 @@ module _ (x : Linux) (nodes : ℕ → ℕ) (m calls : ℕ) (table : Descriptors)
       let w = world x m dir [] made.on [] in
       let stood = parents-stood w made.layered made.facts made.history made.what
       (is_world x m dir [] made.on [] (directory_within (state_at x m).nodes dir made.directory))
-      (λ n. directory_later x m n dir made.directory) made.opened made.says made.is in
+      (λ n. directory_later x m n dir made.directory) made.says made.is in
       let found = stood.0 made.tells.0 in
       let told : (outcome (w.states found.0) 0 (steps.Parent 0)).answer ≡ Opened 1 (made.on (moment made.history)) kind.Dir =
       above (λ e. e) (λ gone. absurd (false≢true (sym (made.lived gone.1 found.0 (omega (arith, found.1, made.all))) ∙ gone.0)))
@@ -190,7 +190,7 @@ module _ (x : Linux) (nodes : ℕ → ℕ) (m calls : ℕ) (table : Descriptors)
       let w = world x m dir [] made.on [] in
       let stood = parents-stood w made.layered made.facts made.history made.what
       (is_world x m dir [] made.on [] (directory_within (state_at x m).nodes dir made.directory))
-      (λ n. directory_later x m n dir made.directory) made.opened made.says made.is in
+      (λ n. directory_later x m n dir made.directory) made.says made.is in
       let missing = stood.1 made.tells.0 in
       let own = refusals-are-own made.facts made.history (λ e. absurd (omega (arith, e, made.what))) made.is made.tells.0 in
       let own_parent = subst (λ (i : ℕ). is_refusal i made.facts.mode made.facts.text (next_after made.facts made.history).error ≡ true) made.what own in

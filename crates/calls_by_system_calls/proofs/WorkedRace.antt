@@ -23,7 +23,13 @@ facts_of what = record {
   directory = true;
   mount = false;
   no_magic = false;
-  opened = false;
+  named = false;
+  single = false;
+  goes_on = false;
+  jailed = false;
+  clears = false;
+  one_by_one = false;
+  second = false;
   lived = false;
   own_text = false;
   was_read = false;
@@ -87,7 +93,6 @@ opens_above = record {
   all = refl;
   is = (refl, (refl, (refl, tt)));
   directory = refl;
-  opened = λ e. absurd (false≢true e);
   says = (
     (refl, (λ e type. refl)),
     (

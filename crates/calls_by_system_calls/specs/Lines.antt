@@ -16,7 +16,7 @@ use Rattle.tree_model.specs.State.{child, is_dir, names_below, names_in, object_
 use Rattle.tree_model.specs.Steps.{kind_of, shows}
 use Rattle.tree_model.specs.StepWith.{StepWith}
 use Rattle.step_calls.specs.History.{next_after, Exchange, IsHistory, Next}
-use Rattle.step_calls.specs.Moments.{moment, number_of_kind, AreAnswers, CouldNotAsk, IsNoLink, IsThere, LinkSays, OpenSays, OpensAbove, ParentSays, World}
+use Rattle.step_calls.specs.Moments.{moment, number_of_kind, AreAnswers, CouldNotAsk, IsNoLink, IsThere, LinkSays, OpenSays, ParentSays, World}
 use Rattle.step_calls.specs.declared.course.TheConstants.{OPENED, TEXT, REFUSED}
 use Rattle.step_calls.specs.declared.facts.Facts.{Facts}
 use Rattle.step_calls.specs.declared.facts.TheConstants.{OPEN, PARENT, READ_TEXT}
@@ -100,7 +100,6 @@ pub record ParentIsMade (x : Linux) (nodes : ℕ → ℕ) (m calls dir : ℕ) (a
   pub all : moment history ≡ calls
   pub is : IsHistory facts history
   pub directory : is_dir (state_at x m).nodes dir ≡ true
-  pub opened : facts.opened ≡ true → OpensAbove (world x m dir [] on []) 0
   pub says : AreAnswers (ParentSays (world x m dir [] on []) layered) history
   pub lived : facts.lived ≡ true → (n : ℕ) → n ≤ calls → IsThere (world x m dir [] on []) n
   pub could_ask : CouldNotAsk history → ⊥

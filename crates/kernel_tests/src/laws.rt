@@ -100,6 +100,7 @@ fn laws_of_paths_through_links() {
 fn laws_of_single_steps() {
     step_calls::opens_stood();
     step_calls::parents_stood();
+    step_calls::there_stood();
     step_calls::links_were_read();
     step_calls::links_are_followed_by_leave();
     step_calls::each_descriptor_is_closed_once();
@@ -107,7 +108,10 @@ fn laws_of_single_steps() {
     step_calls::changes_stood();
     step_calls::renames_stood();
     step_calls::a_change_is_made_once();
+    step_calls::refusals_are_the_steps_own();
+    step_calls::above_is_found_by_leave();
     step_calls::calls_are_few();
+    step_calls::what_is_known_was_shown_last();
 }
 
 #[test]

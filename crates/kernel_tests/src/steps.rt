@@ -1,10 +1,12 @@
-//! Which system call comes next as one step is made, by answers that Linux gives; and which errors are a step's own.
+//! Which system call comes next as one step is made, by answers that Linux gives; and what is known of a step from the
+//! steps before.
 use std::test::Fail;
 use step_calls::{
-    Answer, CHANGE, CLOSE, CLOSE_READ, Course, DIRECTORY, DONE, DUP, Facts, IS_THERE, KIND, LAYERS,
-    LINK, LINKS, MAGIC, MAY_HOLD_MAGIC, MOUNT, NO_FOLLOW, OPEN, OPEN_ANY, OPEN_DIRECTORY,
-    OPEN_TO_READ, OPENED, PARENT, READ, READ_LINK, READ_TEXT, REFUSED, SPARE, TEXT, UNMADE, begin,
-    next,
+    Answer, CHANGE, CLOSE, CLOSE_ABOVE, CLOSE_HANDLE, CLOSE_READ, COMPARE_ABOVE, Course, DIRECTORY,
+    DONE, DUP, FOLLOWED, Facts, IS_ROOT, IS_THERE, KIND, LAYERS, LINK, LINK_READ, LINKS,
+    LOOK_ABOVE, LastStep, MAGIC, MAY_HOLD_MAGIC, MOUNT, NAME_BELOW, NO_FOLLOW, NOTHING, OPEN,
+    OPEN_ANY, OPEN_DIRECTORY, OPEN_TO_READ, OPENED, PARENT, PLACED, READ, READ_LINK, READ_TEXT,
+    REFUSED, SPARE, TEXT, UNMADE, begin, next, take_step, tell_end,
 };
 
 const ENOENT: u32 = 2;
@@ -54,7 +56,13 @@ fn step(what: u8) -> Facts {
         directory: false,
         mount: false,
         no_magic: false,
-        opened: false,
+        named: false,
+        single: false,
+        goes_on: false,
+        jailed: false,
+        clears: false,
+        one_by_one: false,
+        second: false,
         lived: false,
         own_text: false,
         was_read: false,
@@ -186,14 +194,78 @@ fn removed_directories_have_no_parent(rt: HostRuntime) -> Result<(), Fail> {
         ..facts
     };
     assert!(rt; works(&lived, begin(&lived)).next == OPENED);
-    let opened = Facts {
-        opened: true,
-        ..facts
-    };
-    assert!(rt; begin(&opened).next == LINKS);
     let alone = step(IS_THERE);
     assert!(rt; ends(says(&alone, begin(&alone), 0), REFUSED, ENOENT));
     assert!(rt; says(&alone, says(&alone, begin(&alone), 2), EXT4).next == DONE);
+    Ok(())
+}
+
+// openat2(2), RESOLVE_BENEATH, of the names passed without the last; statx(2) of what that found, and of `..`.
+#[test]
+fn what_is_above_is_looked_up_by_the_names(rt: HostRuntime) -> Result<(), Fail> {
+    let facts = Facts {
+        named: true,
+        second: true,
+        ..step(PARENT)
+    };
+    let look = begin(&facts);
+    assert!(rt; look.next == LOOK_ABOVE && fails(&facts, look, EINTR).next == OPEN_DIRECTORY);
+    let compare = works(&facts, look);
+    assert!(rt; compare.next == COMPARE_ABOVE && works(&facts, compare).next == LINKS);
+    let other = fails(&facts, compare, EIO);
+    assert!(rt; other.next == CLOSE_ABOVE);
+    let above = works(&facts, other);
+    assert!(rt; above.next == OPEN_DIRECTORY && works(&facts, above).next == LINKS);
+    let lived = Facts {
+        lived: true,
+        ..facts
+    };
+    let found = works(&lived, works(&lived, begin(&lived)));
+    assert!(rt; found.next == OPENED && found.kind == DIRECTORY);
+    let jailed = Facts {
+        jailed: true,
+        ..facts
+    };
+    let removing = Facts {
+        clears: true,
+        ..facts
+    };
+    let one = Facts {
+        one_by_one: true,
+        ..facts
+    };
+    let stays = Facts {
+        mount: true,
+        ..facts
+    };
+    let old = Facts {
+        second: false,
+        ..facts
+    };
+    assert!(rt; begin(&jailed).next == OPEN_DIRECTORY && begin(&removing).next == OPEN_DIRECTORY);
+    assert!(rt; begin(&one).next == OPEN_DIRECTORY && begin(&stays).next == OPEN_DIRECTORY);
+    assert!(rt; begin(&old).next == OPEN_DIRECTORY);
+    Ok(())
+}
+
+// Behind one name it is the root: by the caller's own descriptor, if the call goes on by a name.
+#[test]
+fn the_root_is_above_one_name(rt: HostRuntime) -> Result<(), Fail> {
+    let facts = Facts {
+        named: true,
+        single: true,
+        second: true,
+        goes_on: true,
+        ..step(PARENT)
+    };
+    let root = begin(&facts);
+    assert!(rt; root.next == IS_ROOT && works(&facts, root).next == LINKS);
+    assert!(rt; fails(&facts, root, EIO).next == OPEN_DIRECTORY);
+    let ends = Facts {
+        goes_on: false,
+        ..facts
+    };
+    assert!(rt; begin(&ends).next == OPEN_DIRECTORY);
     Ok(())
 }
 
@@ -276,5 +348,77 @@ fn changes_are_one_call(rt: HostRuntime) -> Result<(), Fail> {
     assert!(rt; ends(fails(&other, begin(&other), ENOENT), UNMADE, ENOENT));
     let end = works(&facts, change);
     assert!(rt; works(&facts, end) == end);
+    Ok(())
+}
+
+fn no_step() -> LastStep {
+    LastStep {
+        handle: 0,
+        dir: 0,
+        what: 0,
+        shows: NOTHING,
+    }
+}
+
+// A walk that ends, and the reading of a link that it was to find: the place is asked for twice in a row.
+#[test]
+fn a_place_is_known_at_the_next_step(rt: HostRuntime) -> Result<(), Fail> {
+    let mut last = no_step();
+    assert!(rt; take_step(&mut last, NAME_BELOW, 5) == NOTHING);
+    tell_end(&mut last, PLACED, 0);
+    let placed = last;
+    assert!(rt; take_step(&mut last, CLOSE_HANDLE, 4) == NOTHING);
+    assert!(rt; take_step(&mut last, NAME_BELOW, 5) == PLACED);
+    assert!(rt; take_step(&mut last, NAME_BELOW, 5) == NOTHING);
+    last = placed;
+    assert!(rt; take_step(&mut last, READ_TEXT, 5) == PLACED);
+    last = placed;
+    assert!(rt; take_step(&mut last, NAME_BELOW, 6) == NOTHING);
+    tell_end(&mut last, PLACED, 0);
+    assert!(rt; take_step(&mut last, NAME_BELOW, 5) == NOTHING);
+    last = placed;
+    assert!(rt; take_step(&mut last, CLOSE_HANDLE, 5) == NOTHING);
+    assert!(rt; take_step(&mut last, NAME_BELOW, 5) == NOTHING);
+    last = placed;
+    assert!(rt; take_step(&mut last, 13, 5) == NOTHING);
+    assert!(rt; take_step(&mut last, NAME_BELOW, 5) == NOTHING);
+    Ok(())
+}
+
+// A link is read by its name as it is opened: its text is there, and then its directory had an entry.
+#[test]
+fn a_link_is_known_at_the_next_step(rt: HostRuntime) -> Result<(), Fail> {
+    let mut last = no_step();
+    assert!(rt; take_step(&mut last, OPEN, 5) == NOTHING);
+    tell_end(&mut last, LINK_READ, 9);
+    let read = last;
+    assert!(rt; take_step(&mut last, PARENT, 5) == NOTHING);
+    last = read;
+    assert!(rt; take_step(&mut last, READ_TEXT, 9) == LINK_READ);
+    assert!(rt; take_step(&mut last, CLOSE_HANDLE, 9) == NOTHING);
+    assert!(rt; take_step(&mut last, PARENT, 5) == FOLLOWED);
+    assert!(rt; take_step(&mut last, PARENT, 5) == NOTHING);
+    last = read;
+    assert!(rt; take_step(&mut last, READ_TEXT, 8) == NOTHING);
+    assert!(rt; take_step(&mut last, PARENT, 5) == NOTHING);
+    last = read;
+    assert!(rt; take_step(&mut last, CLOSE_HANDLE, 5) == NOTHING);
+    assert!(rt; take_step(&mut last, READ_TEXT, 9) == NOTHING);
+    last = read;
+    assert!(rt; take_step(&mut last, READ_TEXT, 9) == LINK_READ);
+    assert!(rt; take_step(&mut last, OPEN, 5) == NOTHING);
+    assert!(rt; take_step(&mut last, PARENT, 5) == NOTHING);
+    Ok(())
+}
+
+// An Open tells no place, and a question for a place reads no link.
+#[test]
+fn an_end_of_another_step_shows_nothing(rt: HostRuntime) -> Result<(), Fail> {
+    let mut last = no_step();
+    assert!(rt; take_step(&mut last, OPEN, 5) == NOTHING);
+    tell_end(&mut last, PLACED, 0);
+    assert!(rt; take_step(&mut last, NAME_BELOW, 5) == NOTHING);
+    tell_end(&mut last, LINK_READ, 9);
+    assert!(rt; take_step(&mut last, READ_TEXT, 9) == NOTHING);
     Ok(())
 }

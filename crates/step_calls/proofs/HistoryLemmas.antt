@@ -1,42 +1,44 @@
 -- What holds of every history: descriptors and changes.
 use Rattle.std.proofs.Common.{◌≡◌, ℕ, List, [], ◌∷◌, Bool, true, false, if◌then◌else◌, ◌&&◌, not, refl, sym, ap, subst, ◌∙◌}
 use Rattle.std.specs.Prelude.{◌==◌}
-use Rattle.std.proofs.lemmas.Bool.{eqb-true, false≢true}
+use Rattle.std.proofs.lemmas.Bool.{false≢true}
 use Rattle.system_calls.specs.Errors.{ENOENT, EINTR, EEXIST, EXDEV, ENOTDIR, ELOOP}
-use Rattle.step_calls.specs.History.{after_exchange, asked, asks, came_to, ends_by, fails, first, gone, has_followed, has_magic, is_ordinary, keeps_links, knows, next_after, not_ordinary, not_read, opened, stayed, there, unasked, waits, Exchange, opens_directory, opens_any, spares, asks_mount, asks_kind, asks_holder, asks_magic, asks_links, asks_layers, opens_to_read, reads, closes_read, asks_follow, reads_link, changes, closes, IsHistory, Next}
+use Rattle.step_calls.specs.History.{after_exchange, asked, asks, came_to, ends_by, fails, first, first_above, gone, has_followed, has_magic, is_ordinary, keeps_links, knows, next_after, not_ordinary, not_read, opened, stayed, there, unasked, waits, Exchange, opens_directory, opens_any, spares, asks_mount, asks_kind, asks_holder, asks_magic, asks_root, looks_above, compares_above, closes_above, asks_links, asks_layers, opens_to_read, reads, closes_read, asks_follow, reads_link, changes, closes, IsHistory, Next}
 use Rattle.step_calls.specs.Promises.{holds_after, holds_by, needs_opened, needs_read, reads_after, reads_by}
-use Rattle.step_calls.specs.declared.course.TheConstants.{OPEN_DIRECTORY, OPEN_ANY, READ, CLOSE_READ, NO_FOLLOW, LINKS, LAYERS, OPEN_TO_READ, READ_LINK, MAGIC, CHANGE, CLOSE, OPENED, TEXT, DONE, REFUSED, UNMADE}
+use Rattle.step_calls.specs.declared.course.TheConstants.{OPEN_DIRECTORY, OPEN_ANY, READ, CLOSE_READ, NO_FOLLOW, COMPARE_ABOVE, CLOSE_ABOVE, LINKS, LAYERS, OPEN_TO_READ, READ_LINK, MAGIC, CHANGE, CLOSE, OPENED, TEXT, DONE, REFUSED, UNMADE}
 use Rattle.step_calls.specs.declared.facts.Facts.{Facts}
 use Rattle.step_calls.specs.declared.facts.TheConstants.{IS_THERE, OPEN, DUP, PARENT, READ_TEXT, DIRECTORY}
-use Rattle.step_calls.proofs.Ends.{came_all, ends_all, gone_all, opened_all, stayed_all, there_all, unasked_all, unopened_all}
+use Rattle.step_calls.proofs.Ends.{came_all, ends_all, first_above_all, gone_all, opened_all, stayed_all, there_all, unasked_all, unopened_all}
 use Rattle.step_calls.proofs.MomentLemmas.{if_elim}
 
 -- ---- any property, turn by turn
 
 -- what comes next is one of these, in each case
-record Each (P : Next → Type 0) (f : Facts) (e : Exchange) (due : Next) : Type 0 where
-  mount : (k : ℕ) → P (knows 4 k)
-  kind : P (asks 5)
-  holder : (k : ℕ) → P (knows 6 k)
-  magic : (k : ℕ) → P (knows MAGIC k)
-  links : P (asks LINKS)
-  layers : P (asks LAYERS)
-  to_read : P (asks OPEN_TO_READ)
-  read : P (asks READ)
-  close_read : (error : ℕ) → P (fails CLOSE_READ error)
-  no_follow : P (asks NO_FOLLOW)
-  read_link : P (asks READ_LINK)
-  close : (behind error : ℕ) → P (waits CLOSE behind error)
-  spare : (how error : ℕ) → P (waits 3 how error)
-  directory : P (asks OPEN_DIRECTORY)
-  any : P (asks OPEN_ANY)
-  is_open : (k : ℕ) → P (knows OPENED k)
-  text : P (asks TEXT)
-  done : P (asks DONE)
-  refused : (error : ℕ) → P (fails REFUSED error)
-  unmade : (error : ℕ) → P (fails UNMADE error)
+pub record Each (P : Next → Type 0) (f : Facts) (e : Exchange) (due : Next) : Type 0 where
+  pub mount : (k : ℕ) → P (knows 4 k)
+  pub kind : P (asks 5)
+  pub holder : (k : ℕ) → P (knows 6 k)
+  pub magic : (k : ℕ) → P (knows MAGIC k)
+  pub compare : P (asks COMPARE_ABOVE)
+  pub close_above : P (asks CLOSE_ABOVE)
+  pub links : P (asks LINKS)
+  pub layers : P (asks LAYERS)
+  pub to_read : P (asks OPEN_TO_READ)
+  pub read : P (asks READ)
+  pub close_read : (error : ℕ) → P (fails CLOSE_READ error)
+  pub no_follow : P (asks NO_FOLLOW)
+  pub read_link : P (asks READ_LINK)
+  pub close : (behind error : ℕ) → P (waits CLOSE behind error)
+  pub spare : (how error : ℕ) → P (waits 3 how error)
+  pub directory : P (asks OPEN_DIRECTORY)
+  pub any : P (asks OPEN_ANY)
+  pub is_open : (k : ℕ) → P (knows OPENED k)
+  pub text : P (asks TEXT)
+  pub done : P (asks DONE)
+  pub refused : (error : ℕ) → P (fails REFUSED error)
+  pub unmade : (error : ℕ) → P (fails UNMADE error)
 
-each : (P : Next → Type 0) (f : Facts) (e : Exchange) (due : Next) → Each P f e due → P (after_exchange f e due)
+pub each : (P : Next → Type 0) (f : Facts) (e : Exchange) (due : Next) → Each P f e due → P (after_exchange f e due)
 each P f (opens_directory error) due c =
     if_elim P (error == 0) (opened f DIRECTORY) _
     (λ b. opened_all P f DIRECTORY (c.mount DIRECTORY) c.kind (λ l. c.links) (c.holder DIRECTORY) (c.is_open DIRECTORY))
@@ -66,6 +68,15 @@ each P f (asks_magic error) due c =
     if_elim P (error == EINTR) (knows MAGIC due.kind) _ (λ b. c.magic due.kind)
     (λ b. if_elim P (is_ordinary error) (knows OPENED due.kind) (waits CLOSE UNMADE (not_ordinary error)) (λ d. c.is_open due.kind)
     (λ d. c.close UNMADE (not_ordinary error)))
+each P f (asks_root error) due c =
+    if_elim P (error == 0) (came_to f DIRECTORY) (asks OPEN_DIRECTORY)
+    (λ b. came_all P f DIRECTORY (λ l. c.links) (c.holder DIRECTORY) (c.is_open DIRECTORY)) (λ b. c.directory)
+each P f (looks_above error) due c =
+    if_elim P (error == 0) (asks COMPARE_ABOVE) (asks OPEN_DIRECTORY) (λ b. c.compare) (λ b. c.directory)
+each P f (compares_above error) due c =
+    if_elim P (error == 0) (came_to f DIRECTORY) (asks CLOSE_ABOVE)
+    (λ b. came_all P f DIRECTORY (λ l. c.links) (c.holder DIRECTORY) (c.is_open DIRECTORY)) (λ b. c.close_above)
+each P f closes_above due c = c.directory
 each P f (asks_links error links) due c =
     if_elim P (error == 0) (if links == 0 then gone f else asks LAYERS) (unasked f error)
     (λ b. if_elim P (links == 0) (gone f) (asks LAYERS)
@@ -119,6 +130,8 @@ no_change f e due =
       kind = refl;
       holder = λ k. refl;
       magic = λ k. refl;
+      compare = refl;
+      close_above = refl;
       links = refl;
       layers = refl;
       to_read = refl;
@@ -215,6 +228,16 @@ holds_step f (asks_magic error) due was is =
     let P = λ (n : Next). was ≡ needs_opened f n.next in
     if_elim P (error == EINTR) (knows MAGIC due.kind) _ (λ b. is)
     (λ b. if_elim P (is_ordinary error) (knows OPENED due.kind) (waits CLOSE UNMADE (not_ordinary error)) (λ c. is) (λ c. is))
+holds_step f (asks_root error) due was is =
+    if_elim (λ (n : Next). (error == 0) ≡ needs_opened f n.next) (error == 0) (came_to f DIRECTORY) (asks OPEN_DIRECTORY)
+    (λ b. came_holds f (error == 0) DIRECTORY b) (λ b. b ∙ none (f.what == PARENT))
+holds_step f (looks_above error) due was is =
+    if_elim (λ (n : Next). (error == 0) ≡ needs_opened f n.next) (error == 0) (asks COMPARE_ABOVE) (asks OPEN_DIRECTORY)
+    (λ b. b) (λ b. b ∙ none (f.what == PARENT))
+holds_step f (compares_above error) due was is =
+    if_elim (λ (n : Next). was ≡ needs_opened f n.next) (error == 0) (came_to f DIRECTORY) (asks CLOSE_ABOVE)
+    (λ b. came_holds f was DIRECTORY is) (λ b. is)
+holds_step f closes_above due was is = none (f.what == PARENT)
 holds_step f (asks_links error links) due was is =
     let P = λ (n : Next). was ≡ needs_opened f n.next in
     if_elim P (error == 0) (if links == 0 then gone f else asks LAYERS) (unasked f error)
@@ -258,44 +281,28 @@ holds_step f closes due was is =
     if_elim (λ (n : Next). false ≡ needs_opened f n.next) (due.behind == REFUSED) (fails REFUSED due.error)
     (fails UNMADE due.error) (λ b. none (f.what == PARENT)) (λ b. none (f.what == PARENT))
 
-other : (n k m : ℕ) → (n == k) ≡ true → (k == m) ≡ false → (n == m) ≡ false
-other n k m same is = ap (λ (x : ℕ). x == m) (eqb-true n k same) ∙ is
+-- of no Parent nothing is open as its directory is looked at
+shut : (p : Bool) → p ≡ false → false ≡ (p && true)
+shut true is = sym is
+shut false is = refl
 
-shut : (p a b : Bool) → p ≡ false → (p && a) ≡ (p && b)
-shut true a b is = absurd (false≢true (sym is))
-shut false a b is = refl
-
-open_first : (p o : Bool) → p ≡ true → o ≡ true → (p && o) ≡ true
-open_first true true p o = refl
-open_first true false p o = o
-open_first false b p o = absurd (false≢true p)
-
-open_later : (p o : Bool) → o ≡ false → (p && o) ≡ (p && false)
-open_later p true o = absurd (false≢true (sym o))
-open_later p false o = refl
-
-holds_first : (f : Facts) → holds_after f [] ≡ needs_opened f (first f).next
+holds_first : (f : Facts) → false ≡ needs_opened f (first f).next
 holds_first f =
-    let P = λ (n : Next). ((f.what == PARENT) && f.opened) ≡ needs_opened f n.next in
-    let no = shut (f.what == PARENT) f.opened false in
+    let P = λ (n : Next). false ≡ needs_opened f n.next in
+    let n = none (f.what == PARENT) in
     if_elim P (f.what == OPEN) (if f.directory then asks OPEN_DIRECTORY else asks OPEN_ANY) _
-    (λ b. let n = no (other f.what OPEN PARENT b refl) in
-    if_elim P f.directory (asks OPEN_DIRECTORY) (asks OPEN_ANY) (λ c. n) (λ c. n))
-    (λ b. if_elim P (f.what == DUP) (asks OPEN_DIRECTORY) _ (λ c. no (other f.what DUP PARENT c refl))
-    (λ c. if_elim P (f.what == PARENT) (if f.opened then came_to f DIRECTORY else asks OPEN_DIRECTORY) _
-    (λ d. if_elim P f.opened (came_to f DIRECTORY) (asks OPEN_DIRECTORY)
-    (λ g. came_holds f ((f.what == PARENT) && f.opened) DIRECTORY (open_first (f.what == PARENT) f.opened d g))
-    (λ g. open_later (f.what == PARENT) f.opened g))
+    (λ b. if_elim P f.directory (asks OPEN_DIRECTORY) (asks OPEN_ANY) (λ c. n) (λ c. n))
+    (λ b. if_elim P (f.what == DUP) (asks OPEN_DIRECTORY) _ (λ c. n)
+    (λ c. if_elim P (f.what == PARENT) (first_above f) _ (λ d. first_above_all P f n n n)
     (λ d. if_elim P (f.what == READ_TEXT) (if f.own_text then asks READ_LINK else asks NO_FOLLOW) _
-    (λ g. if_elim P f.own_text (asks READ_LINK) (asks NO_FOLLOW) (λ h. no d) (λ h. no d))
-    (λ g. if_elim P (f.what == IS_THERE) (asks LINKS) (asks CHANGE)
-    (λ h. shut (f.what == PARENT) f.opened true d) (λ h. no d)))))
+    (λ g. if_elim P f.own_text (asks READ_LINK) (asks NO_FOLLOW) (λ h. n) (λ h. n))
+    (λ g. if_elim P (f.what == IS_THERE) (asks LINKS) (asks CHANGE) (λ h. shut (f.what == PARENT) d) (λ h. n)))))
 
 pub holds : (f : Facts) (history : List Exchange) → IsHistory f history
-    → holds_after f history ≡ needs_opened f (next_after f history).next
+    → holds_after history ≡ needs_opened f (next_after f history).next
 holds f [] is = holds_first f
 holds f (e ∷ older) is =
-    holds_step f e (next_after f older) (holds_after f older)
+    holds_step f e (next_after f older) (holds_after older)
     (holds f older is.1 ∙ ap (needs_opened f) (sym is.0))
 
 -- ---- the directory that is read
@@ -344,6 +351,15 @@ reads_step f (asks_magic error) due was is =
     let P = λ (n : Next). was ≡ needs_read n.next in
     if_elim P (error == EINTR) (knows MAGIC due.kind) _ (λ b. is)
     (λ b. if_elim P (is_ordinary error) (knows OPENED due.kind) (waits CLOSE UNMADE (not_ordinary error)) (λ c. is) (λ c. is))
+reads_step f (asks_root error) due was is =
+    let P = λ (n : Next). was ≡ needs_read n.next in
+    if_elim P (error == 0) (came_to f DIRECTORY) (asks OPEN_DIRECTORY) (λ b. came_all P f DIRECTORY (λ l. is) is is) (λ b. is)
+reads_step f (looks_above error) due was is =
+    if_elim (λ (n : Next). was ≡ needs_read n.next) (error == 0) (asks COMPARE_ABOVE) (asks OPEN_DIRECTORY) (λ b. is) (λ b. is)
+reads_step f (compares_above error) due was is =
+    let P = λ (n : Next). was ≡ needs_read n.next in
+    if_elim P (error == 0) (came_to f DIRECTORY) (asks CLOSE_ABOVE) (λ b. came_all P f DIRECTORY (λ l. is) is is) (λ b. is)
+reads_step f closes_above due was is = is
 reads_step f (asks_links error links) due was is =
     let P = λ (n : Next). was ≡ needs_read n.next in
     if_elim P (error == 0) (if links == 0 then gone f else asks LAYERS) (unasked f error)
@@ -380,9 +396,7 @@ reads_first f =
     if_elim P (f.what == OPEN) (if f.directory then asks OPEN_DIRECTORY else asks OPEN_ANY) _
     (λ b. if_elim P f.directory (asks OPEN_DIRECTORY) (asks OPEN_ANY) (λ c. refl) (λ c. refl))
     (λ b. if_elim P (f.what == DUP) (asks OPEN_DIRECTORY) _ (λ c. refl)
-    (λ c. if_elim P (f.what == PARENT) (if f.opened then came_to f DIRECTORY else asks OPEN_DIRECTORY) _
-    (λ d. if_elim P f.opened (came_to f DIRECTORY) (asks OPEN_DIRECTORY)
-    (λ g. came_all P f DIRECTORY (λ l. refl) refl refl) (λ g. refl))
+    (λ c. if_elim P (f.what == PARENT) (first_above f) _ (λ d. first_above_all P f refl refl refl)
     (λ d. if_elim P (f.what == READ_TEXT) (if f.own_text then asks READ_LINK else asks NO_FOLLOW) _
     (λ g. if_elim P f.own_text (asks READ_LINK) (asks NO_FOLLOW) (λ h. refl) (λ h. refl))
     (λ g. if_elim P (f.what == IS_THERE) (asks LINKS) (asks CHANGE) (λ h. refl) (λ h. refl)))))

@@ -1,12 +1,15 @@
+pub mod AboveLemmas
 pub mod Ends
 pub mod ErrorLemmas
 pub mod FewLemmas
 pub mod HistoryLemmas
+pub mod LastStepLemmas
 pub mod LeaveLemmas
 pub mod LinkLemmas
 pub mod MomentLemmas
 pub mod OpenLemmas
 pub mod ParentLemmas
 pub mod RefusalLemmas
+pub mod ThereLemmas
 pub mod ChangeLemmas
 pub mod RenameLemmas

@@ -10,7 +10,7 @@ use Rattle.tree_model.specs.declared.inode.Object.TheVariants as object
 use Rattle.tree_model.specs.declared.step.StepOf.TheVariants.{ReadLink}
 use Rattle.tree_model.specs.State.{State, object_at}
 use Rattle.tree_model.specs.Steps.{held, outcome, reads as reads_node}
-use Rattle.step_calls.specs.History.{after_exchange, asks, asked, ends_by, fails, first, has_followed, next_after, not_read, Exchange, opens_directory, opens_any, spares, asks_mount, asks_kind, asks_holder, asks_magic, asks_links, asks_layers, opens_to_read, reads, closes_read, asks_follow, reads_link, changes, closes, IsHistory, Next}
+use Rattle.step_calls.specs.History.{after_exchange, asks, asked, ends_by, fails, first, has_followed, next_after, not_read, Exchange, opens_directory, opens_any, spares, asks_mount, asks_kind, asks_holder, asks_magic, asks_root, looks_above, compares_above, closes_above, asks_links, asks_layers, opens_to_read, reads, closes_read, asks_follow, reads_link, changes, closes, IsHistory, Next}
 use Rattle.step_calls.specs.Moments.{moment, AreAnswers, IsNoLink, LinkSays, LinksWereRead, World}
 use Rattle.step_calls.specs.declared.course.TheConstants.{NO_FOLLOW, READ_LINK, TEXT, REFUSED, UNMADE}
 use Rattle.step_calls.specs.declared.facts.Facts.{Facts}
@@ -57,6 +57,10 @@ step w f now (asks_mount error) due links read none says was = absurd was
 step w f now (asks_kind error kind) due links read none says was = absurd was
 step w f now (asks_holder error type) due links read none says was = absurd was
 step w f now (asks_magic error) due links read none says was = absurd was
+step w f now (asks_root error) due links read none says was = absurd was
+step w f now (looks_above error) due links read none says was = absurd was
+step w f now (compares_above error) due links read none says was = absurd was
+step w f now closes_above due links read none says was = absurd was
 step w f now (asks_links error count) due links read none says was = absurd was
 step w f now (asks_layers error type) due links read none says was = absurd was
 step w f now (opens_to_read error) due links read none says was = absurd was

@@ -12,11 +12,12 @@ use Rattle.tree_model.specs.declared.step.StepOf.TheVariants.{Parent}
 use Rattle.tree_model.specs.declared.inode.Place.{Place}
 use Rattle.tree_model.specs.State.{State, TOP, is_dir, is_gone, object_at, parent, place_at}
 use Rattle.tree_model.specs.Steps.{held, is_full, outcome}
-use Rattle.step_calls.specs.History.{after_exchange, after_spare, asks, asked, came_to, ends_by, fails, first, gone, keeps_links, knows, next_after, not_opened, opened, stayed, there, unasked, waits, Exchange, opens_directory, opens_any, spares, asks_mount, asks_kind, asks_holder, asks_magic, asks_links, asks_layers, opens_to_read, reads, closes_read, asks_follow, reads_link, changes, closes, IsHistory, Next}
+use Rattle.step_calls.specs.History.{after_exchange, after_spare, asks, asked, came_to, ends_by, fails, first, gone, keeps_links, knows, next_after, not_opened, opened, stayed, there, unasked, waits, Exchange, opens_directory, opens_any, spares, asks_mount, asks_kind, asks_holder, asks_magic, asks_root, looks_above, compares_above, closes_above, asks_links, asks_layers, opens_to_read, reads, closes_read, asks_follow, reads_link, changes, closes, IsHistory, Next}
 use Rattle.step_calls.specs.Moments.{moment, AreAnswers, CouldNotAsk, IsGone, IsThere, IsWorld, OpensAbove, ParentSays, ParentsStood, Stays, World}
-use Rattle.step_calls.specs.declared.course.TheConstants.{OPEN_DIRECTORY, SPARE, MOUNT, LINKS, LAYERS, OPEN_TO_READ, READ, CLOSE_READ, CLOSE, OPENED, REFUSED, UNMADE}
+use Rattle.step_calls.specs.declared.course.TheConstants.{OPEN_DIRECTORY, SPARE, MOUNT, IS_ROOT, LOOK_ABOVE, COMPARE_ABOVE, CLOSE_ABOVE, LINKS, LAYERS, OPEN_TO_READ, READ, CLOSE_READ, CLOSE, OPENED, REFUSED, UNMADE}
 use Rattle.step_calls.specs.declared.facts.Facts.{Facts}
 use Rattle.step_calls.specs.declared.facts.TheConstants.{OPEN, PARENT, DIRECTORY}
+use Rattle.step_calls.proofs.Ends.{first_above_all}
 use Rattle.step_calls.proofs.MomentLemmas.{and_elim, if_elim}
 
 -- ---- what is known at each turn
@@ -41,6 +42,10 @@ Says w layered f history now next behind error kind =
     MatchBool (next == OPEN_DIRECTORY) (Unit {0})
     (MatchBool (next == SPARE) (behind ≡ OPEN_DIRECTORY)
     (MatchBool (next == MOUNT) ((kind ≡ DIRECTORY) × Above w now)
+    (MatchBool (next == IS_ROOT) (Unit {0})
+    (MatchBool (next == LOOK_ABOVE) (Unit {0})
+    (MatchBool (next == COMPARE_ABOVE) (Unit {0})
+    (MatchBool (next == CLOSE_ABOVE) (Unit {0})
     (MatchBool (next == LINKS) (Above w now)
     (MatchBool (next == LAYERS) ((a : Above w now) × ((layered ≡ true) ⊎ IsThere w a.n))
     (MatchBool (next == OPEN_TO_READ) (Above w now)
@@ -50,7 +55,7 @@ Says w layered f history now next behind error kind =
     (MatchBool (next == CLOSE) (behind ≡ REFUSED → WasGone w now)
     (MatchBool (next == OPENED) ((a : Above w now) × Led w f history now a.n)
     (MatchBool (next == REFUSED) (WasGone w now)
-    (MatchBool (next == UNMADE) (Unit {0}) ⊥)))))))))))
+    (MatchBool (next == UNMADE) (Unit {0}) ⊥)))))))))))))))
 
 abbrev Stood : World → Bool → Facts → List Exchange → ℕ → Next → Type 0
 Stood w layered f history now due = Says w layered f history now due.next due.behind due.error due.kind
@@ -190,11 +195,25 @@ step w layered f older now (asks_mount error) due parents world says was =
     let history = asks_mount error ∷ older in
     if_elim (Stood w layered f history (suc now)) (error == 0) (stayed f due.kind) (waits CLOSE UNMADE EXDEV)
     (λ b. subst (λ (k : ℕ). Stood w layered f history (suc now) (stayed f k)) (sym was.0)
-    (came w layered f history (suc now) DIRECTORY parents (later w now world says was.1)))
+    (came w layered f history (suc now) DIRECTORY parents (later w now world says.0 was.1)))
     (λ b r. absurd (omega (arith, r)))
 step w layered f older now (asks_kind error kind) due parents world says was = absurd was
 step w layered f older now (asks_holder error type) due parents world says was = absurd was
 step w layered f older now (asks_magic error) due parents world says was = absurd was
+step w layered f older now (asks_root error) due parents world says was =
+    let history = asks_root error ∷ older in
+    if_elim (Stood w layered f history (suc now)) (error == 0) (came_to f DIRECTORY) (asks OPEN_DIRECTORY)
+    (λ b. came w layered f history (suc now) DIRECTORY parents (now_above w (suc now) (says (eqb-true error 0 b))))
+    (λ b. tt)
+step w layered f older now (looks_above error) due parents world says was =
+    if_elim (Stood w layered f (looks_above error ∷ older) (suc now)) (error == 0) (asks COMPARE_ABOVE) (asks OPEN_DIRECTORY)
+    (λ b. tt) (λ b. tt)
+step w layered f older now (compares_above error) due parents world says was =
+    let history = compares_above error ∷ older in
+    if_elim (Stood w layered f history (suc now)) (error == 0) (came_to f DIRECTORY) (asks CLOSE_ABOVE)
+    (λ b. came w layered f history (suc now) DIRECTORY parents (now_above w (suc now) (says (eqb-true error 0 b))))
+    (λ b. tt)
+step w layered f older now closes_above due parents world says was = tt
 step w layered f older now (asks_links error links) due parents world says was =
     let history = asks_links error links ∷ older in
     if_elim (Stood w layered f history (suc now)) (error == 0) (if links == 0 then gone f else asks LAYERS) (unasked f error)
@@ -226,15 +245,15 @@ step w layered f older now (reads error) due parents world says was =
     if_elim (Stood w layered f history (suc now)) (error == EINTR) (asks READ) _ (λ b. a)
     (λ b. if_elim (Stood w layered f history (suc now)) (error == ENOENT) (fails CLOSE_READ ENOENT)
     (fails CLOSE_READ (if f.what == PARENT then 0 else error))
-    (λ c. (a, (λ none. absurd (omega (arith, none))), (λ some. removed_now w (suc now) (says.1 (eqb-true error ENOENT c)))))
+    (λ c. (a, (λ none. absurd (omega (arith, none))), (λ some. removed_now w (suc now) (says.1.0 (eqb-true error ENOENT c)))))
     (λ c. (
       a,
-      (λ none. read_by (error == 0) w older error a.n (suc now) refl a.stays says.2),
+      (λ none. read_by (error == 0) w older error a.n (suc now) refl a.stays says.1.1),
       (λ some. absurd (some (ap (λ (n : ℕ). if n == PARENT then 0 else error) parents))),
     )))
 step w layered f older now closes_read due parents world says was =
     let history = closes_read ∷ older in
-    let a = later w now world says was.0 in
+    let a = later w now world says.0 was.0 in
     if_elim (Stood w layered f history (suc now)) (due.error == 0) (there f 0) _
     (λ b. is_there w layered f history (suc now) 0 parents a (was.1 (eqb-true due.error 0 b)))
     (λ b. if_elim (Stood w layered f history (suc now)) (due.error == ENOENT) (gone f) (unasked f due.error)
@@ -251,22 +270,20 @@ step w layered f older now closes due parents world says was =
 
 -- ---- a history
 
-begins : (w : World) (layered : Bool) (f : Facts) → f.what ≡ PARENT → (f.opened ≡ true → OpensAbove w 0)
-    → Stood w layered f [] 0 (first f)
-begins w layered f parents at =
+begins : (w : World) (layered : Bool) (f : Facts) → f.what ≡ PARENT → Stood w layered f [] 0 (first f)
+begins w layered f parents =
     subst (λ (n : ℕ). Stood w layered f [] 0 (first (record f { what = n }))) (sym parents)
-    (if_elim (Stood w layered f [] 0) f.opened (came_to (record f { what = PARENT }) DIRECTORY) (asks OPEN_DIRECTORY)
-    (λ b. came w layered (record f { what = PARENT }) [] 0 DIRECTORY refl (now_above w 0 (at b))) (λ b. tt))
+    (first_above_all (Stood w layered f [] 0) f tt tt tt)
 
 stood : (w : World) (layered : Bool) (f : Facts) (history : List Exchange) → f.what ≡ PARENT → IsWorld w
-    → (f.opened ≡ true → OpensAbove w 0) → AreAnswers (ParentSays w layered) history → IsHistory f history
+    → AreAnswers (ParentSays w layered) history → IsHistory f history
     → Stood w layered f history (moment history) (next_after f history)
-stood w layered f [] parents world at says is = begins w layered f parents at
-stood w layered f (e ∷ older) parents world at says is =
+stood w layered f [] parents world says is = begins w layered f parents
+stood w layered f (e ∷ older) parents world says is =
     let due = next_after f older in
     step w layered f older (moment older) e due parents world says.0
     (subst (λ (n : ℕ). Says w layered f older (moment older) n due.behind due.error due.kind) (sym is.0)
-    (stood w layered f older parents world at says.1 is.1))
+    (stood w layered f older parents world says.1 is.1))
 
 -- ---- the step table
 
@@ -294,8 +311,8 @@ no_parent : (s : State) (x : ℕ) → is_gone s.nodes x ≡ true → parent s.no
 no_parent s x g = no_parent_by (x == TOP) (is_some (place_at s.nodes x)) s x refl refl g
 
 pub parents-stood : ParentsStood
-parents-stood w layered f history parents world dir at says is =
-    let all = stood w layered f history parents world at says is in
+parents-stood w layered f history parents world dir says is =
+    let all = stood w layered f history parents world says is in
     let due = next_after f history in (
       (λ ends.
           let known = subst (λ (n : ℕ). Says w layered f history (moment history) n due.behind due.error due.kind) ends all in (

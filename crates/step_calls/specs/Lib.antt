@@ -1,5 +1,6 @@
 pub mod Course
 pub mod History
+pub mod LastStep
 pub mod Leave
 pub mod Moments
 pub mod Changes

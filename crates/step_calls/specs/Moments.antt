@@ -1,6 +1,6 @@
 -- What an answer of Linux says of the tree at its moment: premises, each with the manual page that it is from. By these
 -- the answer to a step is the step table's at one of the moments.
-use Rattle.std.specs.Prelude.{◌≡◌, ◌≢◌, ◌⊎◌, ◌≤◌, ℕ, suc, List, [], ◌∷◌, Bool, true, false, length, Some, None}
+use Rattle.std.specs.Prelude.{◌≡◌, ◌≢◌, ◌⊎◌, ◌≤◌, ◌<◌, ℕ, suc, List, [], ◌∷◌, Bool, true, false, length, Some, None}
 use Rattle.path_text.specs.declared.errno.Errno.TheVariants.{NotFound, Invalid}
 use Rattle.system_calls.specs.Errors.{ENOENT}
 use Rattle.tree_model.specs.declared.answer.Answer.{Answer}
@@ -13,10 +13,10 @@ use Rattle.tree_model.specs.declared.step.StepOf.TheVariants.{Open, Parent, Read
 use Rattle.tree_model.specs.State.{State, child, is_dir, is_gone, object_at, parent}
 use Rattle.tree_model.specs.Steps.{held, is_full, kind_of, outcome}
 use Rattle.tree_model.specs.StepWith.{StepWith}
-use Rattle.step_calls.specs.History.{next_after, Exchange, opens_directory, opens_any, asks_kind, asks_links, asks_layers, opens_to_read, reads, reads_link, keeps_links, IsHistory}
-use Rattle.step_calls.specs.declared.course.TheConstants.{OPENED, TEXT, REFUSED}
+use Rattle.step_calls.specs.History.{next_after, Exchange, opens_directory, opens_any, asks_kind, asks_root, looks_above, compares_above, closes_above, asks_links, asks_layers, opens_to_read, reads, reads_link, keeps_links, IsHistory}
+use Rattle.step_calls.specs.declared.course.TheConstants.{OPENED, TEXT, DONE, REFUSED}
 use Rattle.step_calls.specs.declared.facts.Facts.{Facts}
-use Rattle.step_calls.specs.declared.facts.TheConstants.{OPEN, PARENT, READ_TEXT}
+use Rattle.step_calls.specs.declared.facts.TheConstants.{IS_THERE, OPEN, PARENT, READ_TEXT}
 
 -- ---- moments
 
@@ -103,12 +103,7 @@ OpensStood = (w : World) (f : Facts) (history : List Exchange) → f.what ≡ OP
     × ((next_after f history).next ≡ REFUSED
     → (n : ℕ) × (n ≤ moment history) × (table w n (Open w.handle w.name) ≡ Refused NotFound))
 
--- ---- Parent
-
--- openat(2) of `..` opens the directory above; of a removed directory the one that it last stood in
-pub record OpensAbove (w : World) (n : ℕ) : Type 0 where
-  pub above : (is_gone (w.states n).nodes w.node ≡ true) ⊎ (parent (w.states n).nodes w.node ≡ Some (w.on n))
-  pub is : object_at (w.states n).nodes (w.on n) ≡ Some object.Dir
+-- ---- whether a directory is there
 
 abbrev pub IsGone : World → ℕ → Type 0
 IsGone w n = is_gone (w.states n).nodes w.node ≡ true
@@ -117,21 +112,42 @@ abbrev pub IsThere : World → ℕ → Type 0
 IsThere w n = is_gone (w.states n).nodes w.node ≡ false
 
 -- LAYERED: the directory is on a file system that keeps the links of a removed one
+abbrev pub ThereSays : World → Bool → ℕ → Exchange → Type 0
+-- stat(2), rmdir(2): a removed directory has no link, but on such a file system, and in sysfs, where the kernel itself
+-- removes directories; one that has none is removed
+ThereSays w layered n (asks_links error links) =
+    error ≡ 0 → (links ≡ 0 → IsGone w (suc n)) × (links ≢ 0 → (layered ≡ true) ⊎ IsThere w (suc n))
+-- statfs(2): the type of the file system
+ThereSays w layered n (asks_layers error type) = error ≡ 0 → keeps_links type ≡ false → layered ≡ false
+-- open(2), getdents64(2): ENOENT is a removed directory's; of one that is there something is read
+ThereSays w layered n (opens_to_read error) = error ≡ ENOENT → IsGone w (suc n)
+ThereSays w layered n (reads error) = (error ≡ ENOENT → IsGone w (suc n)) × (error ≡ 0 → IsThere w (suc n))
+ThereSays w layered n _ = Unit {0}
+
+-- A directory that is said to be there was so at a moment of a call. One that is said to be gone is so by the last call.
+abbrev pub ThereStood : Type 0
+ThereStood = (w : World) (layered : Bool) (f : Facts) (history : List Exchange) → f.what ≡ IS_THERE
+    → ((n : ℕ) → IsGone w n → IsGone w (suc n)) → AreAnswers (ThereSays w layered) history → IsHistory f history
+    → ((next_after f history).next ≡ DONE → (n : ℕ) × (n < moment history) × IsThere w (suc n))
+    × ((next_after f history).next ≡ REFUSED → IsGone w (moment history))
+
+-- ---- Parent
+
+-- openat(2) of `..` opens the directory above; of a removed directory the one that it last stood in
+pub record OpensAbove (w : World) (n : ℕ) : Type 0 where
+  pub above : (is_gone (w.states n).nodes w.node ≡ true) ⊎ (parent (w.states n).nodes w.node ≡ Some (w.on n))
+  pub is : object_at (w.states n).nodes (w.on n) ≡ Some object.Dir
+
 abbrev pub ParentSays : World → Bool → ℕ → Exchange → Type 0
 ParentSays w layered n (opens_directory error) =
     (error ≡ 0 → OpensAbove w (suc n)) × (error ≡ ENOENT → IsGone w (suc n))
--- stat(2), rmdir(2): a removed directory has no link, but on such a file system, and in sysfs, where the kernel itself
--- removes directories; one that has none is removed
-ParentSays w layered n (asks_links error links) =
-    Stays w n × (error ≡ 0 → (links ≡ 0 → IsGone w (suc n))
-    × (links ≢ 0 → (layered ≡ true) ⊎ IsThere w (suc n)))
--- statfs(2): the type of the file system
-ParentSays w layered n (asks_layers error type) = Stays w n × (error ≡ 0 → keeps_links type ≡ false → layered ≡ false)
--- open(2), getdents64(2): ENOENT is a removed directory's; of one that is there something is read
-ParentSays w layered n (opens_to_read error) = Stays w n × (error ≡ ENOENT → IsGone w (suc n))
-ParentSays w layered n (reads error) =
-    Stays w n × (error ≡ ENOENT → IsGone w (suc n)) × (error ≡ 0 → IsThere w (suc n))
-ParentSays w layered n _ = Stays w n
+-- statx(2): `..` leads to what is open by then, the root or what was looked up. That look-up says nothing of `..`.
+ParentSays w layered n (asks_root error) = error ≡ 0 → OpensAbove w (suc n)
+ParentSays w layered n (looks_above error) = Unit {0}
+ParentSays w layered n (compares_above error) = error ≡ 0 → OpensAbove w (suc n)
+ParentSays w layered n closes_above = Unit {0}
+-- then the child is asked, while the step's own descriptor stays open
+ParentSays w layered n e = Stays w n × ThereSays w layered n e
 
 -- a file system's type, or a directory of one that keeps links, could not be asked
 abbrev pub CouldNotAsk : List Exchange → Type 0
@@ -141,12 +157,12 @@ CouldNotAsk (opens_to_read error ∷ older) = (error ≢ 0) ⊎ CouldNotAsk olde
 CouldNotAsk (reads error ∷ older) = (error ≢ 0) ⊎ CouldNotAsk older
 CouldNotAsk (e ∷ older) = CouldNotAsk older
 
--- What is opened, the step table opened at a moment: of a call, or right before the first, where the directory was open
--- already. Or the directory had been removed since the step before, at which it had an entry; or whether it was removed
--- could not be asked. And where the step is refused, the step table refused it so at a moment of a call.
+-- What is opened, the step table opened at a moment of a call. Or the directory had been removed since the step before,
+-- at which it had an entry; or whether it was removed could not be asked. And where the step is refused, the step table
+-- refused it so at a moment of a call.
 abbrev pub ParentsStood : Type 0
 ParentsStood = (w : World) (layered : Bool) (f : Facts) (history : List Exchange) → f.what ≡ PARENT → IsWorld w
-    → ((n : ℕ) → is_dir (w.states n).nodes w.node ≡ true) → (f.opened ≡ true → OpensAbove w 0)
+    → ((n : ℕ) → is_dir (w.states n).nodes w.node ≡ true)
     → AreAnswers (ParentSays w layered) history → IsHistory f history
     → ((next_after f history).next ≡ OPENED
     → (n : ℕ) × (n ≤ moment history)

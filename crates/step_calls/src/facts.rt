@@ -15,6 +15,12 @@ pub const PARENT: u8 = 3;
 /// A step: a link's text is read.
 pub const READ_TEXT: u8 = 4;
 
+/// A step: at which names an object stands below a directory.
+pub const NAME_BELOW: u8 = 5;
+
+/// A step: a handle is closed.
+pub const CLOSE_HANDLE: u8 = 7;
+
 /// The kinds of objects; 0 is one that isn't known.
 pub const DIRECTORY: u8 = 1;
 
@@ -36,8 +42,20 @@ pub struct Facts {
     pub mount: bool,
     /// OPEN: what is opened must be no magic link (proc(5)).
     pub no_magic: bool,
-    /// PARENT: the directory above is open already, and the child's `..` has just led to it.
-    pub opened: bool,
+    /// PARENT: the names are known by which the call came to the child, from the root on, one of them at least.
+    pub named: bool,
+    /// PARENT: they are one name: what is above the child is the root.
+    pub single: bool,
+    /// PARENT: the call goes on from there by a name. So the caller's own descriptor of the root will do.
+    pub goes_on: bool,
+    /// PARENT: the root is the calling thread's own root directory.
+    pub jailed: bool,
+    /// PARENT: a tree is removed.
+    pub clears: bool,
+    /// PARENT: each name is to be looked up by itself.
+    pub one_by_one: bool,
+    /// PARENT: there is openat2(2).
+    pub second: bool,
     /// PARENT: the child had an entry at the step before.
     pub lived: bool,
     /// READ_TEXT: the call wants the text itself, on each mount.

@@ -3,10 +3,11 @@ ghost use Rattle.std.specs.Prelude.{◌≡◌, ◌≤◌, ◌+◌, ◌⊎◌, tr
 ghost use Rattle.std.specs.List.{AllByRecursion};
 ghost use Rattle.step_calls.specs.Changes.{MakesStood, RemovalsStood};
 ghost use Rattle.step_calls.specs.History.{next_after, Exchange, IsHistory};
+ghost use Rattle.step_calls.specs.LastStep.{KnownByTheLast};
 ghost use Rattle.step_calls.specs.Leave.{NoMagicIsOpened, TextsAreFollowed};
-ghost use Rattle.step_calls.specs.Moments.{LinksWereRead, OpensStood, ParentsStood};
+ghost use Rattle.step_calls.specs.Moments.{LinksWereRead, OpensStood, ParentsStood, ThereStood};
 ghost use Rattle.step_calls.specs.Renames.{RenamesStood};
-ghost use Rattle.step_calls.specs.Promises.{costs, holds_after, needs_opened, needs_read, reads_after, NoError, RefusalsAreOwn};
+ghost use Rattle.step_calls.specs.Promises.{costs, holds_after, needs_opened, needs_read, reads_after, AboveIsFoundByLeave, NoError, RefusalsAreOwn};
 ghost use Rattle.step_calls.specs.declared.course.TheConstants.{CHANGE, OPENED, TEXT, DONE};
 ghost use Rattle.step_calls.specs.declared.facts.Facts.{Facts};
 
@@ -17,12 +18,18 @@ pub fn opens_stood()
     ensures { OpensStood }
 {}
 
-/// The same of the directory above (openat(2), stat(2), rmdir(2)). It may have been open already, since the names
-/// passed led to it: then it is of the moment before the first call. Removal is for good: so the child is asked
-/// afterwards whether it is there. That isn't asked of one that had an entry at the step before. And where
-/// removed directories keep links (overlayfs, cgroups) it can't be asked of one that may not be read.
+/// The same of the directory above (openat(2), stat(2), rmdir(2)), also where it was found by the names passed. Removal
+/// is for good: so the child is asked afterwards whether it is there. That isn't asked of one that had an entry at the
+/// step before. And where removed directories keep links (overlayfs, cgroups) it can't be asked of one that may not be
+/// read.
 pub fn parents_stood()
     ensures { ParentsStood }
+{}
+
+/// The same of the question whether a directory is there. One that is said to be there was so at a moment of a call;
+/// and one that is said to be gone was removed by the last of them.
+pub fn there_stood()
+    ensures { ThereStood }
 {}
 
 /// The same of a link's text (readlinkat(2)), which may have been read already.
@@ -49,14 +56,15 @@ pub fn renames_stood()
 /// each descriptor that isn't the answer is closed once.
 pub fn each_descriptor_is_closed_once()
     ensures own { (f : Facts) (history : List Exchange) → IsHistory f history
-        → holds_after f history ≡ needs_opened f (next_after f history).next }
+        → holds_after history ≡ needs_opened f (next_after f history).next }
     ensures read { (f : Facts) (history : List Exchange) → IsHistory f history
         → reads_after history ≡ needs_read (next_after f history).next }
 {}
 
 /// Where a step is made, nothing met an error but: a signal; that no descriptor was left, after which one was let go;
-/// ENOTDIR of a name that was then opened as what it is; a file system, or a directory of one that keeps links, that
-/// could not be asked; and an answer that a link is no magic one (proc(5)).
+/// ENOTDIR of a name that was then opened as what it is; a directory above that the names passed didn't lead to; a file
+/// system, or a directory of one that keeps links, that could not be asked; and an answer that a link is no magic one
+/// (proc(5)).
 pub fn no_error_is_passed_over()
     ensures { (f : Facts) (history : List Exchange) → IsHistory f history
         → ((next_after f history).next ≡ OPENED)
@@ -85,8 +93,22 @@ pub fn a_change_is_made_once()
         → history ≡ [] }
 {}
 
+/// The directory above is looked up by the names passed only where these are known, there is openat2(2), and the call
+/// neither removes a tree nor takes each name by itself or on the root's mount alone; and not in a jail. The root's own
+/// descriptor is it only for a call that goes on from there by a name, since no caller gets it back.
+pub fn above_is_found_by_leave()
+    ensures { AboveIsFoundByLeave }
+{}
+
 /// It comes to an end, unless descriptors are let go or signals come. There are three exchanges for each of the first,
-/// one for each of the others, and ten, at most.
+/// one for each of the others, and thirteen, at most.
 pub fn calls_are_few()
-    ensures { (f : Facts) (history : List Exchange) → IsHistory f history → length history ≤ costs history + 10 }
+    ensures { (f : Facts) (history : List Exchange) → IsHistory f history → length history ≤ costs history + 13 }
+{}
+
+/// Of all steps, in whatever order: what `take_step` says of one was shown by the last step before it, but for Closes of
+/// other handles. So a place is told again only where that step told it of the same handle; a text was read already only
+/// where that step read this link; and a directory had an entry only where two steps have just read a link in it.
+pub fn what_is_known_was_shown_last()
+    ensures { KnownByTheLast }
 {}

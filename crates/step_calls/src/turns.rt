@@ -4,17 +4,18 @@ ghost use Rattle.step_calls.specs.Course.{due_of, exchange_of, IsAt};
 ghost use Rattle.step_calls.specs.History.{after_exchange, first, is_question, Exchange};
 
 use crate::course::{
-    CHANGE, CLOSE, CLOSE_READ, Course, KIND, LAYERS, LINKS, MAGIC, MAY_HOLD_MAGIC, MOUNT,
-    NO_FOLLOW, OPEN_ANY, OPEN_DIRECTORY, OPEN_TO_READ, OPENED, READ, READ_LINK, SPARE, asks,
+    CHANGE, CLOSE, CLOSE_ABOVE, CLOSE_READ, COMPARE_ABOVE, Course, IS_ROOT, KIND, LAYERS, LINKS,
+    LOOK_ABOVE, MAGIC, MAY_HOLD_MAGIC, MOUNT, NO_FOLLOW, OPEN_ANY, OPEN_DIRECTORY, OPEN_TO_READ,
+    OPENED, READ, READ_LINK, SPARE, asks,
 };
-use crate::facts::{Answer, DIRECTORY, DUP, Facts, IS_THERE, OPEN, PARENT, READ_TEXT};
+use crate::facts::{Answer, DUP, Facts, IS_THERE, OPEN, PARENT, READ_TEXT};
 use crate::looks::{
     after_change, after_close, after_close_read, after_follow, after_layers, after_links,
     after_open_to_read, after_read, after_read_link,
 };
 use crate::opens::{
-    after_any, after_directory, after_holder, after_kind, after_magic, after_mount, after_spare,
-    came_to,
+    after_any, after_compare_above, after_directory, after_holder, after_is_root, after_kind,
+    after_look_above, after_magic, after_mount, after_spare, first_above,
 };
 
 fn first(facts: &Facts) -> Course
@@ -29,13 +30,7 @@ fn first(facts: &Facts) -> Course
             }
         }
         DUP => asks(OPEN_DIRECTORY),
-        PARENT => {
-            if facts.opened {
-                came_to(facts, DIRECTORY)
-            } else {
-                asks(OPEN_DIRECTORY)
-            }
-        }
+        PARENT => first_above(facts),
         READ_TEXT => {
             if facts.own_text {
                 asks(READ_LINK)
@@ -66,6 +61,10 @@ fn after(facts: &Facts, course: Course, answer: &Answer) -> Course
         KIND => after_kind(facts, answer.error, answer.kind),
         MAY_HOLD_MAGIC => after_holder(answer.error, answer.number, course.kind),
         MAGIC => after_magic(answer.error, course.kind),
+        IS_ROOT => after_is_root(facts, answer.error),
+        LOOK_ABOVE => after_look_above(answer.error),
+        COMPARE_ABOVE => after_compare_above(facts, answer.error),
+        CLOSE_ABOVE => asks(OPEN_DIRECTORY),
         LINKS => after_links(facts, answer.error, answer.number),
         LAYERS => after_layers(facts, answer.error, answer.number),
         OPEN_TO_READ => after_open_to_read(facts, answer.error),
@@ -81,9 +80,12 @@ fn after(facts: &Facts, course: Course, answer: &Answer) -> Course
 /// Takes what the system call gave that was next, and says what comes next. `facts` are those of the beginning. Where
 /// the step has ended, nothing changes. Takes no memory.
 ///
-/// EINTR (4) of a call that changes nothing has that call made again. After EMFILE (24) or ENFILE (23) of an openat(2)
-/// that opens the step's object, a descriptor is let go, and the object is opened again. ENOTDIR (20) of a name that
-/// was opened with O_DIRECTORY has it opened without. A change is made once, whatever it gave.
+/// The directory above is looked up by the names passed before `..` is opened, where these are known and nothing speaks
+/// against it. Only if `..` of the child leads to what was found is that what the step opens; else `..` is opened.
+///
+/// EINTR (4) of a call that changes nothing has that call made again, but for that look-up. After EMFILE (24) or ENFILE
+/// (23) of an openat(2) that opens the step's object, a descriptor is let go, and the object is opened again. ENOTDIR
+/// (20) of a name that was opened with O_DIRECTORY has it opened without. A change is made once, whatever it gave.
 ///
 /// Errors: the step is refused by an error that `is_refusal` has for it: of openat(2), of readlinkat(2), where ENOENT
 /// (2) of what is no link is EINVAL (22), of the change; and by ENOENT where a directory was removed. Any other ends it
