@@ -104,19 +104,22 @@ struct inroot_left {
  */
 void inroot_parts_ahead(struct inroot_kept *kept, uint8_t from, unsigned char *room, size_t size, struct inroot_left *left);
 
-/* Names that a call has passed: the handle in whose directory the first was opened, how many, and whether that is closed now. */
+/*
+ * Names that a call has passed: how many, and whether the directory is closed now in which the first was opened. DUE: they are all
+ * parts but the last, and the step that is due opens that one in the directory that they led to, or is the Parent of it for `..`.
+ */
 struct inroot_ran {
-    uint64_t dir;
     size_t names;
-    bool shut;
+    bool shut, due;
 };
 
 /*
- * Tells a call that the names of a text, a slash between each two, were passed as directories, as by one openat2(2) with
- * RESOLVE_NO_SYMLINKS. It passes those that it was due to open, one in another, and tells the step that is due behind them. What is
- * opened so has numbers that count up from NUMBER, and counts as closed where the call closes it. `kept` holds a call.
+ * Tells a call that one openat2(2) with RESOLVE_NO_SYMLINKS led along the parts of a text, a slash between each two, FROM a
+ * directory: so that all but the last were passed as directories. It passes those of them that it was due to open, one in another,
+ * and tells the step that is due behind them. What is opened so has numbers that count up from NUMBER, and counts as closed where
+ * the call closes it. `kept` holds a call.
  */
-void inroot_pass_names(struct inroot_kept *kept, const unsigned char *text, size_t length, uint64_t number,
+void inroot_pass_names(struct inroot_kept *kept, const unsigned char *text, size_t length, uint64_t from, uint64_t number,
                        struct inroot_told *told, unsigned char *room, size_t size, struct inroot_ran *ran);
 
 /*
@@ -571,17 +574,43 @@ enum inroot_look {
     INROOT_LOOK_CLOSE, INROOT_LOOK_READ_LAST, INROOT_LOOK_ALONE, INROOT_LOOK_PASSED, INROOT_LOOK_LINK, INROOT_LOOK_ENDS,
 };
 
+/* What comes behind a name: another name; nothing, but for a slash or `.`; or `..`, or a name that is too long. */
+enum inroot_behind { INROOT_BEHIND_NAME, INROOT_BEHIND_END, INROOT_BEHIND_OTHER };
+
 /*
  * So many names, and the number of the first of them that was a LINKED one last, from 0 on, or any higher one. What is behind them:
  * `..`; or the walk ENDS there, and if so behind a slash or `.`. They begin at the root; a link was followed before. What the call
  * asks for: it walks the whole path; only a directory is of use; a link at the end is meant itself; it stays on the root's mount;
  * each name is opened alone, since it asks for that or no look-up can be made; it reads links by their names; nobody asks of which
- * kind the object is.
+ * kind the object is. A driver reads whether the first is the last part of the path, and what is BEHIND the first (`enum
+ * inroot_behind`).
  */
 struct inroot_coming_names {
     size_t names, linked;
-    bool up, ends, dot, at_root, behind_link, walks_whole, directory, itself, stays, one_by_one, reads, any_kind;
+    bool up, ends, dot, at_root, behind_link, walks_whole, directory, itself, stays, one_by_one, reads, any_kind, is_last;
+    uint8_t behind;
 };
+
+/* A request: the FLAGS of inroot.h, the operation; only a DIRECTORY is of use; its KIND is asked for; the root is a jail's. */
+struct inroot_looks_request {
+    uint32_t flags;
+    uint8_t op;
+    bool directory, kind, jailed;
+};
+
+/*
+ * The directory in which the names begin, and LINKED as above. No step was made: the names are the WHOLE path. It is the root; a
+ * link was followed before; its descriptor is HELD; there is ROOM for one handle more; the thread has openat2(2), as far as that is
+ * known.
+ */
+struct inroot_looks_spot {
+    size_t linked;
+    bool whole, at_root, behind_link, held, room, openat2;
+};
+
+/* What is known of the names that inroot_names_ahead() gave, by what the call asks for. */
+void inroot_looks_coming(const struct inroot_looks_request *request, const struct inroot_ahead_names *ahead,
+                         const struct inroot_looks_spot *spot, struct inroot_coming_names *coming);
 
 /*
  * How far a call has come with them, and what failed before. A driver reads what comes NEXT, on how many NAMES and whether UP behind
@@ -598,6 +627,9 @@ struct inroot_looks {
 
 /* Nothing has failed, or what failed is no longer ahead. */
 void inroot_looks_fresh(struct inroot_looks *looks);
+
+/* How many names are to be asked for, of those that come next. */
+size_t inroot_looks_most(const struct inroot_looks *looks, const struct inroot_looks_request *request, bool openat2);
 
 /* Begins on the names that come next. A driver may leave at any time, and begin on others, or on these again. */
 void inroot_looks_begin(struct inroot_looks *looks, const struct inroot_coming_names *coming);

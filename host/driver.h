@@ -30,6 +30,11 @@ enum inroot_way { INROOT_BY_ROOT, INROOT_BY_NAME, INROOT_SEEN_BELOW, INROOT_BY_P
 /* In place of a descriptor: one that was let go and can be opened again; the root of a jail, which needs none; none. */
 enum { INROOT_AWAY = -2, INROOT_JAILED = -3, INROOT_NONE = -1 };
 
+/* The library knows these flags and operations by their numbers (crates/look_ups). */
+_Static_assert(INROOT_ONE_BY_ONE == 32 && INROOT_NO_XDEV == 128 && INROOT_NO_MAGICLINKS == 512 && INROOT_BELOW == 4096, "flags");
+_Static_assert(INROOT_ASK_RESOLVE == 1 && INROOT_ASK_RESOLVE_NOFOLLOW == 2 && INROOT_ASK_READLINK == 3 &&
+               INROOT_ASK_MKDIR_ALL == 10, "operations");
+
 /* In the number of a handle without a slot: of a directory that was passed with others, or a link that was read by its name. */
 static const uint64_t INROOT_PASSED = UINT64_C(1) << 31;
 
@@ -70,9 +75,6 @@ struct inroot_request {
     enum inroot_kind *opened;      /* receives the kind of the opened object, or is NULL */
 };
 
-/* What comes behind a name: another name; nothing, but for a slash or `.`; or `..`, or a name that is too long. */
-enum inroot_behind { INROOT_BEHIND_NAME, INROOT_BEHIND_END, INROOT_BEHIND_OTHER };
-
 /*
  * Names that the proved call is due to open next, one in another, as the library gives them: a slash before each, and a NUL. The
  * driver may leave out the last ones.
@@ -80,8 +82,6 @@ enum inroot_behind { INROOT_BEHIND_NAME, INROOT_BEHIND_END, INROOT_BEHIND_OTHER 
 struct inroot_coming {
     struct inroot_ahead_names ahead;
     struct inroot_coming_names facts;
-    enum inroot_behind behind;     /* the first of them */
-    bool is_last;                  /* the first of them is the last part of the path */
     char text[INROOT_TEXT_MAX + 1];
 };
 
@@ -299,11 +299,10 @@ void inroot_run_ask(struct inroot_driver *d, struct inroot_coming *coming);
 enum inroot_look inroot_run_begin(struct inroot_driver *d, struct inroot_told *told, char *room, struct inroot_coming *coming,
                                   char *text, struct inroot_result *result);
 /*
- * The same for the object that is open behind these parts, a slash between each two: so many names, and one more or `..`. There
- * is no answer if another step is due behind the names: then it closes that object.
+ * The same for the object that is open behind these parts, a slash between each two: names, and one more or `..`. There is no
+ * answer if another step is due behind the names: then it closes that object.
  */
-struct inroot_result inroot_run_tell(struct inroot_driver *d, struct inroot_told *told, char *room, const char *parts,
-                                     size_t names);
+struct inroot_result inroot_run_tell(struct inroot_driver *d, struct inroot_told *told, char *room, const char *parts);
 void inroot_run_drop(struct inroot_driver *d);
 /* Asks of what kind an object is. Whether it could; else errno says why. */
 bool inroot_kind(int fd, enum inroot_kind *kind);
@@ -634,12 +633,6 @@ static inline bool inroot_walks_whole(const struct inroot_request *asked)
 static inline bool inroot_takes_link(const struct inroot_request *asked)
 {
     return asked->op == INROOT_ASK_RESOLVE_NOFOLLOW || asked->op == INROOT_ASK_READLINK;
-}
-
-/* Whether what the path means must be a directory. */
-static inline bool inroot_wants_directory(const struct inroot_request *asked)
-{
-    return asked->op == INROOT_ASK_MKDIR_ALL || asked->directory;
 }
 
 #endif

@@ -76,8 +76,7 @@ static struct inroot_result pass(struct inroot_driver *d, int fd, struct inroot_
     d->run.way = is_seen ? INROOT_SEEN_BELOW : INROOT_BY_NAME;
     d->run.passed = inroot_passed_put(d, told->handle, names, length);
     d->run.ends = false;
-    size_t count = inroot_count_names((const unsigned char *)names, length);
-    struct inroot_result result = inroot_run_tell(d, told, room, names, count - 1);
+    struct inroot_result result = inroot_run_tell(d, told, room, names);
     d->from.told = result.handle;
     d->from.copied = d->from.is_copy ? result.handle : 0;
     return result;

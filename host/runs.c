@@ -1,9 +1,10 @@
 /*
  * runs.c: names of a path that follow one another are passed by one openat2(2), which follows no link. Where it
- * succeeds, each of them stood in the one before it, at moments in their order. So the driver reports all but the
- * last part to the proved call, as directories that it passed, and answers the step that is due behind them by the
- * descriptor that it opened. The call counts the names that it was due to open, and no others. The proved library says
- * which system call comes next, on how many names and how, and how many are reported. docs/HOST-WHY.md has the argument.
+ * succeeds, each of them stood in the one before it, at moments in their order. So the driver reports its parts to the
+ * proved call, which passes all but the last as directories, and says whether the step that is due behind them opens
+ * that one. Then the driver answers it by the descriptor that was opened. The call counts the names that it was due to
+ * open, and no others. The proved library says what the request means for the names, which system call comes next, on how
+ * many names and how. docs/HOST-WHY.md has the argument.
  */
 #define _GNU_SOURCE
 #include "driver.h"
@@ -16,33 +17,28 @@
 
 /* ---- which names come next */
 
-/* Leaves out all but so many names, if there are more. */
-static void cut(struct inroot_coming *run, size_t names)
+/* What the library is to know of the request. */
+static struct inroot_looks_request request_of(const struct inroot_driver *d)
 {
-    size_t end = 0;
-    if (names >= run->ahead.names)
-        return;
-    for (size_t count = 0; count < names; count++)
-        end = (size_t)(strchr(run->text + end + 1, '/') - run->text);
-    run->ahead = (struct inroot_ahead_names){.names = names, .used = end};
-    run->text[end] = 0;
+    const struct inroot_request *asked = d->asked;
+    return (struct inroot_looks_request){
+        .flags = (uint32_t)asked->flags, .op = (uint8_t)asked->op, .directory = asked->directory,
+        .kind = asked->opened != NULL, .jailed = d->root == INROOT_JAILED,
+    };
 }
 
-static bool is_one_by_one(const struct inroot_driver *d)
+/* At most so many of them. */
+static void ask(struct inroot_driver *d, size_t most, struct inroot_coming *coming)
 {
-    return d->asked->flags & INROOT_ONE_BY_ONE || !inroot_has_openat2();
+    const uint64_t number = (uint64_t)d->serial << 32 | INROOT_PASSED;
+    inroot_names_ahead(d->kept, most, number, (unsigned char *)coming->text, INROOT_TEXT_MAX, &coming->ahead);
+    coming->text[coming->ahead.used] = 0;
 }
 
 void inroot_run_ask(struct inroot_driver *d, struct inroot_coming *coming)
 {
-    struct inroot_ahead_names *ahead = &coming->ahead;
-    const uint64_t number = (uint64_t)d->serial << 32 | INROOT_PASSED;
-    /* What comes behind the next name matters even if that is tried alone. */
-    const size_t most = is_one_by_one(d) || d->looks.most < 2 ? 2 : d->looks.most;
-    inroot_names_ahead(d->kept, most, number, (unsigned char *)coming->text, INROOT_TEXT_MAX, ahead);
-    coming->text[ahead->used] = 0;
-    coming->behind = ahead->names > 1 ? INROOT_BEHIND_NAME : ahead->ends ? INROOT_BEHIND_END : INROOT_BEHIND_OTHER;
-    coming->is_last = ahead->names == 1 && ahead->ends && !ahead->dot && inroot_walks_whole(d->asked);
+    const struct inroot_looks_request request = request_of(d);
+    ask(d, inroot_looks_most(&d->looks, &request, inroot_has_openat2()), coming);
 }
 
 /* The number of the first of the names that was a link last. That of none is higher than that of any. */
@@ -51,25 +47,12 @@ static size_t first_link(struct inroot_driver *d, uint64_t handle, const struct 
     return inroot_hints_first(d, handle, coming->text, coming->ahead.used - (coming->ahead.up ? 3 : 0));
 }
 
-/* What the library is to know of the names. Before any step the handle is 0. */
-static void find_facts(struct inroot_driver *d, uint64_t handle, struct inroot_coming *coming, size_t linked)
+/* Begins on the names that come next, of which this is known. */
+static void begin(struct inroot_driver *d, struct inroot_coming *coming, const struct inroot_looks_spot *spot)
 {
-    const struct inroot_request *asked = d->asked;
-    const int kept_from_reading = INROOT_ONE_BY_ONE | INROOT_NO_XDEV | INROOT_NO_MAGICLINKS;
-    coming->facts = (struct inroot_coming_names){
-        .names = coming->ahead.names,
-        .linked = linked,
-        .up = coming->ahead.up,
-        .ends = coming->ahead.ends,
-        .dot = coming->ahead.dot,
-        .at_root = handle == 0 || inroot_handles_slot(d, handle)->way == INROOT_BY_ROOT,
-        .behind_link = d->link != 0,
-        .walks_whole = inroot_walks_whole(asked),
-        .directory = inroot_wants_directory(asked),
-        .itself = inroot_takes_link(asked),
-        .stays = asked->flags & INROOT_NO_XDEV,
-        .reads = !(asked->flags & kept_from_reading),
-    };
+    const struct inroot_looks_request request = request_of(d);
+    inroot_looks_coming(&request, &coming->ahead, spot, &coming->facts);
+    inroot_looks_begin(&d->looks, &coming->facts);
 }
 
 /* ---- what comes next */
@@ -106,7 +89,8 @@ static uint32_t look_up_names(const struct passing *p)
 {
     struct inroot_run *run = &p->d->run;
     const struct inroot_looks *now = &p->d->looks;
-    cut(p->coming, now->names);
+    if (now->names < p->coming->ahead.names)
+        ask(p->d, now->names, p->coming);
     uint32_t error = look_up(p->d, p->dir, p->coming->text + 1);
     if (error)
         return error;
@@ -174,11 +158,11 @@ static void pass(struct passing *p)
 
 /* ---- the whole path, and the next names of one */
 
+/* The look-up itself shows whether there is openat2(2). */
 bool inroot_run_is_whole(struct inroot_driver *d, struct inroot_coming *path, size_t linked)
 {
-    find_facts(d, 0, path, linked);
-    path->facts.any_kind = (d->root != INROOT_JAILED || d->below) && d->asked->opened == NULL;
-    inroot_looks_begin(&d->looks, &path->facts);
+    const struct inroot_looks_spot spot = {.linked = linked, .whole = true, .held = true, .room = true, .openat2 = true};
+    begin(d, path, &spot);
     return d->looks.next == INROOT_LOOK_NAMES && d->looks.names == path->ahead.names;
 }
 
@@ -197,16 +181,19 @@ enum inroot_look inroot_run_begin(struct inroot_driver *d, struct inroot_told *t
                                   char *text, struct inroot_result *result)
 {
     struct passing p = {.d = d, .handle = told->handle, .coming = coming, .text = text};
-    find_facts(d, told->handle, coming, first_link(d, told->handle, coming));
-    if (inroot_handles_fd(d, told->handle, &p.dir) != 0)
-        coming->facts.reads = false, coming->facts.one_by_one = true;
-    if (is_one_by_one(d) || !inroot_handles_reserve(d))
-        coming->facts.one_by_one = true;
-    inroot_looks_begin(&d->looks, &coming->facts);
+    const struct inroot_looks_spot spot = {
+        .linked = first_link(d, told->handle, coming),
+        .at_root = inroot_handles_slot(d, told->handle)->way == INROOT_BY_ROOT,
+        .behind_link = d->link != 0,
+        .held = inroot_handles_fd(d, told->handle, &p.dir) == 0,
+        .room = inroot_handles_reserve(d),
+        .openat2 = inroot_has_openat2(),
+    };
+    begin(d, coming, &spot);
     pass(&p);
     if (d->looks.next == INROOT_LOOK_PASSED) {
         d->run.ends = coming->ahead.ends;
-        *result = inroot_run_tell(d, told, room, coming->text + 1, d->looks.passed);
+        *result = inroot_run_tell(d, told, room, coming->text + 1);
     } else if (d->looks.next == INROOT_LOOK_LINK) {
         *result = inroot_opened(d->link, INROOT_KIND_LINK);
     }
@@ -215,52 +202,16 @@ enum inroot_look inroot_run_begin(struct inroot_driver *d, struct inroot_told *t
 
 /* ---- what is reported of them */
 
-/* Whether the step that is due is the Open of this part in a directory, or the Parent of it where the part is `..`. */
-static bool is_due(const struct inroot_told *told, const char *room, uint64_t dir, const char *part, size_t length)
-{
-    if (told->handle != dir || !told->whole)
-        return false;
-    if (length == 2 && memcmp(part, "..", 2) == 0)
-        return told->what == INROOT_STEP_PARENT;
-    return told->what == INROOT_STEP_OPEN && told->first == length && memcmp(room, part, length) == 0;
-}
-
-/* Tells the call that a name was passed as a directory. Gives its handle, or zero where the name isn't due. */
-static uint64_t pass_one(struct inroot_driver *d, struct inroot_told *told, char *room, const char *name, size_t length)
-{
-    uint64_t dir = told->handle, number = inroot_handles_passed(d);
-    if (!is_due(told, room, dir, name, length))
-        return 0;
-    inroot_answer(d, inroot_opened(number, INROOT_KIND_DIR), "", 0, told, room);
-    if (told->what == INROOT_STEP_CLOSE && told->handle == dir)
-        inroot_answer(d, inroot_handles_close(d, dir), "", 0, told, room);
-    return number;
-}
-
-/* The same of several names, a slash between each two: the last one's handle, or zero where not all of them are due. */
-static uint64_t pass_names(struct inroot_driver *d, struct inroot_told *told, char *room, const char *text, size_t length,
-                           size_t names)
-{
-    struct inroot_ran ran;
-    uint64_t number = inroot_handles_passed(d);
-    inroot_pass_names(d->kept, (const unsigned char *)text, length, number, told, (unsigned char *)room, INROOT_ROOM, &ran);
-    if (ran.shut)
-        inroot_handles_close(d, ran.dir);
-    return ran.names == names ? number + names - 1 : 0;
-}
-
-struct inroot_result inroot_run_tell(struct inroot_driver *d, struct inroot_told *told, char *room, const char *parts,
-                                     size_t names)
+struct inroot_result inroot_run_tell(struct inroot_driver *d, struct inroot_told *told, char *room, const char *parts)
 {
     struct inroot_run *run = &d->run;
+    struct inroot_ran ran;
     const uint64_t from = told->handle;
-    const char *last = names > 0 ? strrchr(parts, '/') + 1 : parts;
-    size_t before = names > 0 ? (size_t)(last - parts) - 1 : 0;
-    uint64_t dir = from;
-    /* A single one takes less time by itself. */
-    if (names > 0)
-        dir = names == 1 ? pass_one(d, told, room, parts, before) : pass_names(d, told, room, parts, before, names);
-    if (!is_due(told, room, dir, last, strlen(last)) || !inroot_handles_reserve(d)) {
+    inroot_pass_names(d->kept, (const unsigned char *)parts, strlen(parts), from, inroot_handles_passed(d), told,
+                      (unsigned char *)room, INROOT_ROOM, &ran);
+    if (ran.shut)
+        inroot_handles_close(d, from);
+    if (!ran.due || !inroot_handles_reserve(d)) {
         inroot_run_drop(d);
         return (struct inroot_result){0};
     }

@@ -162,7 +162,7 @@ static void stand_at(struct inroot_driver *d, const struct inroot_told *step, co
 static struct inroot_result open_one(struct inroot_driver *d, const struct inroot_told *step, const char *name,
                                      const struct inroot_coming *coming)
 {
-    bool is_last = coming->is_last;
+    bool is_last = coming->facts.is_last;
     struct inroot_result result = open_alone(d, step, name, d->looks.directory, is_last);
     bool is_opened = result.what == INROOT_ANSWER_OPENED;
     inroot_looks_next(&d->looks, &coming->facts, is_opened ? 0 : ENOENT, 0);
@@ -179,9 +179,9 @@ static struct inroot_result open_one(struct inroot_driver *d, const struct inroo
 static void note_rest(struct inroot_driver *d, const struct inroot_coming *coming, const struct inroot_result *result)
 {
     bool is_opened = result->what == INROOT_ANSWER_OPENED;
-    if (is_opened && coming->behind == INROOT_BEHIND_END)
+    if (is_opened && coming->facts.behind == INROOT_BEHIND_END)
         inroot_error_note_end(d);
-    else if (!is_opened || result->kind != INROOT_KIND_DIR || coming->behind == INROOT_BEHIND_OTHER)
+    else if (!is_opened || result->kind != INROOT_KIND_DIR || coming->facts.behind == INROOT_BEHIND_OTHER)
         inroot_error_note_rest(d, is_opened);
 }
 

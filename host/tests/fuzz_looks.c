@@ -3,12 +3,14 @@
  * and any answers. What a program is asked for can be done: an object is asked about and closed while it is open, and it is
  * reported or closed in the end. A look-up follows no link, is of fewer names than the one before, opens a directory where
  * something follows, and is seen below the root only as the rest of the walk. What is reported was looked up last. It comes to an
- * end within the number of look-ups that there may be, whatever is hinted, and whatever failed before.
+ * end within the number of look-ups that there may be, whatever is hinted, and whatever failed before. What the numbers of a request
+ * mean for the names is looked at beside plain C.
  *
- * For libFuzzer, or with fuzz_main.c for stored cases. A case is bytes: names that come next, and the answers.
+ * For libFuzzer, or with fuzz_main.c for stored cases. A case is bytes: names that come next, and the answers; and requests.
  */
 #define _GNU_SOURCE
 #include "../calls.h"
+#include "../inroot.h"
 #include "fuzz_input.h"
 
 #include <errno.h>
@@ -46,6 +48,40 @@ static struct inroot_coming_names some_names(struct input *in)
     if (more == 255)
         coming.names = 0;
     return coming;
+}
+
+/* What the numbers of any request mean for the names, beside plain C. The same bytes are read as one. */
+static void must_be_of(struct input in, const struct inroot_looks *looks)
+{
+    static const int flags[] = {INROOT_ONE_BY_ONE, INROOT_NO_XDEV, INROOT_NO_MAGICLINKS, INROOT_BELOW, INROOT_BENEATH,
+                                INROOT_NO_LINKS};
+    const unsigned set = byte(&in), what = byte(&in), known = byte(&in);
+    const struct inroot_ahead_names ahead = {.names = what % 4, .up = (what & 12) == 4, .ends = (what & 12) == 8, .dot = what & 16};
+    const struct inroot_looks_spot spot = {
+        .linked = known % 3, .whole = known & 4, .at_root = known & 8, .behind_link = known & 16, .held = known & 32,
+        .room = known & 64, .openat2 = known & 128,
+    };
+    struct inroot_looks_request r = {.op = (uint8_t)(set >> 6 | (what & 192) >> 4), .directory = what & 32};
+    struct inroot_coming_names c;
+    r.kind = set & 1;
+    r.jailed = set & 2;
+    for (size_t one = 0; one < sizeof flags / sizeof *flags; one++)
+        r.flags |= set >> one & 1 ? (uint32_t)flags[one] : 0;
+    inroot_looks_coming(&r, &ahead, &spot, &c);
+    const bool link = r.op == INROOT_ASK_RESOLVE_NOFOLLOW || r.op == INROOT_ASK_READLINK;
+    const bool whole = link || r.op == INROOT_ASK_RESOLVE || r.op == INROOT_ASK_MKDIR_ALL;
+    const bool alone = r.flags & INROOT_ONE_BY_ONE;
+    const bool no_reads = alone || r.flags & (INROOT_NO_XDEV | INROOT_NO_MAGICLINKS);
+    MUST(c.names == ahead.names && c.up == ahead.up && c.ends == ahead.ends && c.dot == ahead.dot && c.linked == spot.linked);
+    MUST(c.at_root == (spot.whole || spot.at_root) && c.behind_link == spot.behind_link);
+    MUST(c.walks_whole == whole && c.itself == link);
+    MUST(c.directory == (r.directory || r.op == INROOT_ASK_MKDIR_ALL) && c.stays == ((r.flags & INROOT_NO_XDEV) != 0));
+    MUST(c.one_by_one == (alone || !spot.openat2 || !spot.held || !spot.room) && c.reads == (spot.held && !no_reads));
+    MUST(c.any_kind == (spot.whole && !r.kind && (!r.jailed || r.flags & INROOT_BELOW)));
+    MUST(c.is_last == (c.names == 1 && c.ends && !c.dot && whole));
+    MUST(c.behind == (c.names > 1 ? INROOT_BEHIND_NAME : c.ends ? INROOT_BEHIND_END : INROOT_BEHIND_OTHER));
+    const size_t most = inroot_looks_most(looks, &r, spot.openat2);
+    MUST(most == (alone || !spot.openat2 || looks->most < 2 ? 2 : looks->most));
 }
 
 /* Whether so many names are all of them, and what they lead to is what the path means. */
@@ -145,6 +181,7 @@ int LLVMFuzzerTestOneInput(const uint8_t *data, size_t size)
     inroot_looks_fresh(&looks);
     MUST(looks.bad == 0 && looks.most >= 4096);
     while (in.left > 0) {
+        must_be_of(in, &looks);
         step(&in, &looks);
         if (byte(&in) % 8 == 7)
             inroot_looks_fresh(&looks);

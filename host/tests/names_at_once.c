@@ -73,12 +73,12 @@ static bool are_left(uint8_t from, size_t size, const char *text, size_t parts, 
            memcmp(found, text, left.used) == 0 && found[left.used] == '#';
 }
 
-/* Whether of these names so many are passed, from that directory on. */
-static bool passes(const char *text, uint64_t number, uint64_t dir, size_t names, bool shut)
+/* Whether of the parts of this text so many are passed, from that directory on, and whether the last one is due then. */
+static bool passes(const char *text, uint64_t from, uint64_t number, size_t names, bool shut, bool due)
 {
     struct inroot_ran ran;
-    inroot_pass_names(&kept, (const unsigned char *)text, strlen(text), number, &told, room, ROOM, &ran);
-    return ran.dir == dir && ran.names == names && ran.shut == shut;
+    inroot_pass_names(&kept, (const unsigned char *)text, strlen(text), from, number, &told, room, ROOM, &ran);
+    return ran.names == names && ran.shut == shut && ran.due == due;
 }
 
 static bool tells(uint8_t what, uint64_t handle, uint64_t other)
@@ -104,7 +104,7 @@ static void names_but_for_the_last(void)
 {
     begin(INROOT_ASK_RESOLVE, "a/b/./f");
     IS(come_next(99, 16, "/a/b/f", 3, false, true));
-    IS(passes("a/b", 100, ROOT, 2, false));
+    IS(passes("a/b/f", ROOT, 100, 2, false, true));
     /* The last one is due in the directory that was opened last. */
     IS(opens(101, "f"));
     answer(INROOT_ANSWER_OPENED, 9, INROOT_KIND_FILE, 0, "");
@@ -118,12 +118,18 @@ static void names_but_for_the_last(void)
 static void names_that_are_not_next(void)
 {
     begin(INROOT_ASK_RESOLVE, "a/b/c");
-    IS(passes("a/x/c", 100, ROOT, 1, false));
+    IS(passes("a/x/c", ROOT, 100, 1, false, false));
     IS(opens(100, "b"));
-    IS(passes("x", 101, 100, 0, false));
+    IS(passes("x", 100, 101, 0, false, false));
+    IS(passes("..", 100, 101, 0, false, false));
+    /* In another directory none is due. */
+    IS(passes("b/c", ROOT, 101, 0, false, false));
+    IS(passes("b", ROOT, 101, 0, false, false));
+    /* The last part alone: nothing is passed. */
+    IS(passes("b", 100, 101, 0, false, true));
     IS(opens(100, "b"));
-    /* From a directory that is held: it is closed. */
-    IS(passes("b", 101, 100, 1, true));
+    /* From a directory that is held: it is closed. Behind a slash nothing is due. */
+    IS(passes("b/", 100, 101, 1, true, false));
     IS(opens(101, "c"));
     fails(101);
 }
@@ -137,8 +143,8 @@ static void as_far_as_they_fit(void)
     IS(come_next(99, 4, "/ab", 1, false, false));
     IS(come_next(99, 2, "", 0, false, false));
     IS(come_next(0, 15, "", 0, false, false));
-    /* A call that makes directories passes names as well. */
-    IS(passes("ab/c", 100, ROOT, 2, false));
+    /* A call that makes directories passes names as well. `..` is due behind them, as a Parent. */
+    IS(passes("ab/c/..", ROOT, 100, 2, false, true));
     IS(tells(INROOT_STEP_PARENT, 101, told.other));
     IS(come_next(99, 15, "", 0, false, false));
     fails(101);

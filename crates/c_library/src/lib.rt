@@ -125,16 +125,17 @@ pub extern "C" fn inroot_pass_names(
     alloc: Global,
     kept: &mut Kept,
     text: &[u8],
+    from: u64,
     number: u64,
     told: &mut Told,
     room: &mut [u8],
     ran: &mut Ran,
 )
     requires { IsSome (call_of kept.old.held) }
-    ensures { IfSome (call_of kept.old.held) (λ call. (turn : CallTurn) × IsRun call text.now number ran.new turn
+    ensures { IfSome (call_of kept.old.held) (λ call. (turn : CallTurn) × IsRun call text.now from number ran.new turn
         × IsTold turn kept.new.held told.new room.old room.new) }
 {
-    *ran = c_protocol::pass_names(alloc, kept, text, number, told, room);
+    *ran = c_protocol::pass_names(alloc, kept, text, from, number, told, room);
 }
 
 /// Whether a call whose names were passed at once opens what the last one is: `c_protocol::opens_at_once`.

@@ -3,8 +3,10 @@ ghost use Rattle.std.specs.Prelude.{◌≡◌, ◌∷◌, [], ℕ, Bool, List, t
 ghost use Rattle.look_ups.specs.declared.look_up.LookUp.{LookUp};
 ghost use Rattle.look_ups.specs.History.{exchange, is_question, Exchange, IsAt, MOST};
 ghost use Rattle.look_ups.specs.OneLook.{is_turn, turn_of, IsOneLook, Turn};
+ghost use Rattle.look_ups.specs.Request.{coming_of, most_ahead};
 
-use look_ups::{Coming, LookUp, OneLook};
+use c_protocol::Ahead;
+use look_ups::{Coming, LookUp, OneLook, Request, Spot};
 
 /// Nothing has failed in a call, or what failed is no longer ahead: `look_ups::fresh`.
 #[unsafe(no_mangle)]
@@ -14,6 +16,34 @@ pub extern "C" fn inroot_looks_fresh(looks: &mut LookUp)
     ensures met_link { looks.new.met_link ≡ false }
 {
     *looks = look_ups::fresh();
+}
+
+/// How many names are to be asked for: `look_ups::most_ahead`.
+#[unsafe(no_mangle)]
+pub extern "C" fn inroot_looks_most(looks: &LookUp, request: &Request, openat2: bool) -> usize
+    ensures { result ≡ most_ahead looks.now request.now openat2 }
+{
+    look_ups::most_ahead(looks, request, openat2)
+}
+
+/// What is known of the names that come next: `look_ups::coming_of`.
+#[unsafe(no_mangle)]
+pub extern "C" fn inroot_looks_coming(
+    request: &Request,
+    ahead: &Ahead,
+    spot: &Spot,
+    coming: &mut Coming,
+)
+    ensures { coming.new ≡ coming_of request.now ahead.now.names ahead.now.up ahead.now.ends ahead.now.dot spot.now }
+{
+    let Ahead {
+        names,
+        used: _,
+        up,
+        ends,
+        dot,
+    } = *ahead;
+    *coming = look_ups::coming_of(request, names, up, ends, dot, spot);
 }
 
 /// Begins on the names that come next: `look_ups::begin`.

@@ -17,6 +17,7 @@ mod SeenBelow
 mod FollowedAtOnce
 mod Refusing
 mod RunTurns
+mod RunTexts
 mod RunStates
 mod PassingWalks
 mod AheadStates

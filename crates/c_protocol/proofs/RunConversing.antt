@@ -98,7 +98,7 @@ singles (single x ∷ xs) heard onward =
 singles (run x ∷ xs) heard onward =
     let rest = singles xs x.heard onward.1 in
     let is_run = onward.0.1.1.1.0 in
-    let first = told (steps_of x.ran.dir x.number is_run.entered) heard x.heard onward.0.0 onward.0.1.1.0 onward.0.1.0 is_run.makes onward.0.1.1.1.1 in
+    let first = told (steps_of x.dir x.number is_run.entered) heard x.heard onward.0.0 onward.0.1.1.0 onward.0.1.0 is_run.makes onward.0.1.1.1.1 in
     let on = first.on rest.turns rest.is in
     record {
       turns = first.turns ++ rest.turns;

@@ -1,7 +1,9 @@
 -- How far a call has come by names, in the midst of the loops that pass them and lay them out.
-use Rattle.std.proofs.Common.{◌≡◌, ℕ, ◌+◌, ◌-◌, ◌<◌, ◌≤◌, Bool, List, [], ◌∷◌, ◌++◌, length, get_or, take, drop, refl, ap, sym, ◌∙◌, subst, arith, length-append}
-use Rattle.std.specs.Prelude.{◌&&◌}
-use Rattle.std.proofs.lemmas.List.{take_more}
+use Rattle.std.proofs.Common.{◌≡◌, ◌==◌, ◌⊎◌, ℕ, ◌+◌, ◌-◌, ◌<◌, ◌≤◌, Bool, false, List, [], ◌∷◌, ◌++◌, length, take, drop, refl, ap, sym, ◌∙◌, subst, arith, append_assoc, length-append}
+use Rattle.std.specs.Prelude.{◌↔◌, ◌&&◌, if◌then◌else◌, IsTrue}
+use Rattle.std.proofs.Math.Seq.{take-append_seam, drop-append_seam}
+use Rattle.std.proofs.lemmas.Bool.Decides.{nat_tests}
+use Rattle.std.proofs.lemmas.List.{length-map}
 use Rattle.path_text.specs.declared.name.TheConstants.{SLASH}
 use Rattle.path_text.specs.Print.{after_slashes}
 use Rattle.path_text.specs.Text.{between_slashes}
@@ -11,70 +13,121 @@ use Rattle.root_ops.specs.declared.call.CallTurn.TheVariants.{More}
 use Rattle.root_ops.specs.Ahead.{doing_ahead}
 use Rattle.root_ops.specs.Order.{due}
 use Rattle.root_ops.specs.View.{CallView}
-use Rattle.c_protocol.specs.Runs.{Makes, Entered, steps_of, dir_behind, is_shut, names_of, Enters, GoesUp, AsksFor, ends_in_dot, up_text, IsEnd, ComeNext}
+use Rattle.c_protocol.specs.Runs.{Makes, Entered, steps_of, dir_behind, is_shut, names_of, Enters, GoesUp, AsksFor, ends_in_dot, up_text, IsDue, IsEnd, IsRun, IsSaid, ComeNext, Opens, NUMBER_MAX}
 use Rattle.c_protocol.specs.declared.runs.Ahead.{Ahead}
+use Rattle.c_protocol.specs.declared.runs.Ran.{Ran}
+use Rattle.c_protocol.proofs.RunTexts.{some_part}
 use Rattle.c_protocol.proofs.RunTurns.{passes_one_more, one_dir_more, one_name_more, one_longer, counts_up, slashes_more, entered}
 use Rattle.path_text.proofs.Lists.{put}
 
 -- ---- names that are passed
 
-pub record Passing (call : CallView) (text : List ℕ) (from number yielded dir next : ℕ) (shut : Bool)
-    (turn : CallTurn) : Type 0 where
+-- so far, and the rest of the text
+pub record Passing (call : CallView) (text rest : List ℕ) (from number dir next : ℕ) (ran : Ran) (turn : CallTurn)
+    : Type 0 where
   pub so_far : List Entered
-  pub names : names_of so_far ≡ take yielded (between_slashes text)
-  pub count : length so_far ≡ yielded
-  pub counted : next ≡ number + length so_far
+  pub parts : between_slashes text ≡ names_of so_far ++ between_slashes rest
+  pub count : length so_far ≡ ran.names
+  pub counted : next ≡ number + ran.names
   pub here : dir ≡ dir_behind from number so_far
-  pub closed : shut ≡ is_shut so_far
+  pub closed : ran.shut ≡ is_shut so_far
   pub makes : Makes (steps_of from number so_far) (More call) turn
 
-first_shut : (ns : List Entered) (n : Entered) (shut : Bool) → length ns ≡ 0 → shut ≡ n.shut
-    → shut ≡ is_shut (ns ++ n ∷ [])
-first_shut [] n shut none is = is
-first_shut (m ∷ ms) n shut none is = let never : ⊥ = omega (arith, none) in absurd never
+pub none_passed : (call : CallView) (text : List ℕ) (from number : ℕ) (ran : Ran) → ran.names ≡ 0 → ran.shut ≡ false
+    → Passing call text text from number from number ran (More call)
+none_passed call text from number ran none unshut = record {
+  so_far = [];
+  parts = refl;
+  count = sym none;
+  counted = omega (arith, none);
+  here = refl;
+  closed = unshut;
+  makes = refl;
+}
 
-later_shut : (ns : List Entered) (n : Entered) (shut : Bool) → 0 < length ns → shut ≡ is_shut ns
-    → shut ≡ is_shut (ns ++ n ∷ [])
-later_shut [] n shut some is = let never : ⊥ = omega (arith, some) in absurd never
-later_shut (m ∷ ms) n shut some is = is
+-- the first one says whether the directory is closed
+shut_by : (ns : List Entered) (n : Entered) → is_shut (ns ++ n ∷ []) ≡ (if length ns == 0 then n.shut else is_shut ns)
+shut_by [] n = refl
+shut_by (m ∷ ms) n =
+    let some : (length (m ∷ ms) == 0) ≡ false = grind (arith, nat_tests) in
+    sym (ap (λ b. if b then n.shut else m.shut) some)
 
-module _ (call : CallView) (text : List ℕ) (from number yielded dir next : ℕ) (shut : Bool) (turn : CallTurn)
-    (was : Passing call text from number yielded dir next shut turn) (name : List ℕ) (closed : Bool) (last : CallTurn)
-    (more : ℕ)
-    (piece : (yielded < length (between_slashes text)) × (name ≡ get_or (between_slashes text) yielded name))
-    (step : Makes (steps_of dir next (record { name = name; shut = closed } ∷ [])) turn last)
-    (counts : more ≡ yielded + 1) where
-  abbrev this : Entered
-  this = record { name = name; shut = closed }
+pub one_passed : (call : CallView) (text rest behind name : List ℕ) (from number dir next : ℕ) (shut : Bool) (ran later : Ran)
+    (turn last : CallTurn) → Passing call text rest from number dir next ran turn
+    → between_slashes rest ≡ name ∷ between_slashes behind
+    → Makes (steps_of dir next (record { name = name; shut = shut } ∷ [])) turn last
+    → later ≡ record ran { names = ran.names + 1; shut = if ran.names == 0 then shut else ran.shut }
+    → Passing call text behind from number next (next + 1) later last
+one_passed call text rest behind name from number dir next shut ran later turn last was cut step is =
+    let this : Entered = record { name = name; shut = shut } in
+    let longer = one_longer was.so_far this in
+    let counted : next ≡ number + length was.so_far = omega (arith, was.counted, was.count) in
+    let names : later.names ≡ ran.names + 1 = ap (λ (r : Ran). r.names) is in
+    record {
+      so_far = was.so_far ++ this ∷ [];
+      parts = was.parts ∙ ap (λ ps. names_of was.so_far ++ ps) cut
+          ∙ sym (append_assoc (names_of was.so_far) (name ∷ []) (between_slashes behind))
+          ∙ ap (λ ns. ns ++ between_slashes behind) (sym (one_name_more was.so_far this));
+      count = omega (arith, longer, was.count, names);
+      counted = omega (arith, was.counted, names);
+      here = counted ∙ sym (counts_up number was.so_far) ∙ sym (one_dir_more from number was.so_far this);
+      closed = ap (λ (r : Ran). r.shut) is
+          ∙ ap (λ n. if n == 0 then shut else ran.shut) (sym was.count)
+          ∙ ap (λ b. if length was.so_far == 0 then shut else b) was.closed
+          ∙ sym (shut_by was.so_far this);
+      makes = passes_one_more from number dir next was.so_far this (More call) turn last was.here counted was.makes step;
+    }
 
-  passed : (now : Bool) → now ≡ is_shut (was.so_far ++ this ∷ [])
-      → Passing call text from number more next (next + 1) now last
-  passed now is =
-      record {
-        so_far = was.so_far ++ this ∷ [];
-        names = one_name_more was.so_far this ∙ ap (λ l. l ++ name ∷ []) was.names
-            ∙ ap (λ x. take yielded (between_slashes text) ++ x ∷ []) piece.1
-            ∙ sym (take_more (between_slashes text) yielded name piece.0)
-            ∙ ap (λ k. take k (between_slashes text)) (sym counts);
-        count = one_longer was.so_far this ∙ omega (arith, was.count, counts);
-        counted = let longer = one_longer was.so_far this in omega (arith, was.counted, longer);
-        here = was.counted ∙ sym (counts_up number was.so_far) ∙ sym (one_dir_more from number was.so_far this);
-        closed = is;
-        makes = passes_one_more from number dir next was.so_far this
-            (More call) turn last was.here was.counted was.makes step;
-      }
+-- ---- what a run is
 
-  pub first_passed : next ≡ number → Passing call text from number more next (next + 1) closed last
-  first_passed begins =
-      passed closed (first_shut was.so_far this closed (omega (arith, begins, was.counted)) refl)
+before : (ns : List Entered) (all ps : List (List ℕ)) → all ≡ names_of ns ++ ps
+    → (names_of ns ≡ take (length ns) all) × (drop (length ns) all ≡ ps)
+before ns all ps is =
+    let many = length-map ns (λ n. n.name) in (
+      sym (ap (take (length ns)) is ∙ ap (λ k. take k (names_of ns ++ ps)) (sym many) ∙ take-append_seam (names_of ns) ps),
+      ap (drop (length ns)) is ∙ ap (λ k. drop k (names_of ns ++ ps)) (sym many) ∙ drop-append_seam (names_of ns) ps,
+    )
 
-  pub later_passed : (next ≡ number → ⊥) → Passing call text from number more next (next + 1) shut last
-  later_passed goes_on =
-      passed shut (later_shut was.so_far this shut (some was.so_far refl) was.closed)
-    where
-      some : (ns : List Entered) → ns ≡ was.so_far → 0 < length ns
-      some [] e = absurd (goes_on (was.counted ∙ ap (λ l. number + length l) (sym e) ∙ omega arith))
-      some (m ∷ ms) e = omega arith
+run_is : (call : CallView) (text rest : List ℕ) (from number dir next : ℕ) (ran later : Ran) (turn : CallTurn)
+    → Passing call text rest from number dir next ran turn → later ≡ record ran { due = later.due }
+    → IsSaid turn dir next later.due (between_slashes rest) → IsRun call text from number later turn
+run_is call text rest from number dir next ran later turn was is said =
+    let cut = before was.so_far (between_slashes text) (between_slashes rest) was.parts in
+    let names : later.names ≡ ran.names = ap (λ (r : Ran). r.names) is in
+    let many : length was.so_far ≡ later.names = was.count ∙ sym names in
+    let counted : next ≡ number + later.names = omega (arith, was.counted, names) in
+    let one = subst (λ d. IsSaid turn d next later.due (between_slashes rest)) was.here said in
+    let two = subst (λ n. IsSaid turn (dir_behind from number was.so_far) n later.due (between_slashes rest)) counted one in
+    record {
+      entered = was.so_far;
+      names = cut.0 ∙ ap (λ k. take k (between_slashes text)) many;
+      count = many;
+      shut = ap (λ (r : Ran). r.shut) is ∙ was.closed;
+      makes = was.makes;
+      behind = subst (λ ps. IsSaid turn (dir_behind from number was.so_far) (number + later.names) later.due ps)
+          (sym cut.1 ∙ ap (λ k. drop k (between_slashes text)) many) two;
+    }
+
+-- a name was to be passed, and was not
+pub stops_there : (call : CallView) (text rest behind name : List ℕ) (from number dir next : ℕ) (ran : Ran) (turn : CallTurn)
+    → Passing call text rest from number dir next ran turn → ran.due ≡ false
+    → between_slashes rest ≡ name ∷ between_slashes behind → (next ≡ NUMBER_MAX) ⊎ (Opens turn dir name → ⊥)
+    → IsRun call text from number ran turn
+stops_there call text rest behind name from number dir next ran turn was undue cut why =
+    run_is call text rest from number dir next ran ran turn was refl
+    (subst (λ ps. IsSaid turn dir next ran.due ps) (sym cut) (said (between_slashes behind) (some_part behind)))
+  where
+    said : (ps : List (List ℕ)) → 0 < length ps → IsSaid turn dir next ran.due (name ∷ ps)
+    said [] some = let never : ⊥ = omega (arith, some) in absurd never
+    said (p ∷ ps) some = (undue, why)
+
+-- the last part is left
+pub ends_there : (call : CallView) (text rest : List ℕ) (from number dir next : ℕ) (ran later : Ran) (turn : CallTurn)
+    → Passing call text rest from number dir next ran turn → between_slashes rest ≡ rest ∷ []
+    → later ≡ record ran { due = later.due } → IsTrue later.due ↔ IsDue turn dir rest → IsRun call text from number later turn
+ends_there call text rest from number dir next ran later turn was last is said =
+    run_is call text rest from number dir next ran later turn was is
+    (subst (λ ps. IsSaid turn dir next later.due ps) (sym last) said)
 
 -- ---- names that are laid out
 

@@ -1,14 +1,16 @@
 -- Names that a call is told one after another, and what has been laid out of them.
-use Rattle.std.proofs.Common.{◌≡◌, ℕ, ◌+◌, Bool, List, [], ◌∷◌, ◌++◌, length, refl, ap, sym, ◌∙◌, subst, arith, append_assoc, length-append}
+use Rattle.std.proofs.Common.{◌≡◌, ℕ, ◌+◌, Bool, true, List, [], ◌∷◌, ◌++◌, length, refl, ap, sym, ◌∙◌, subst, arith, append_assoc, length-append}
 use Rattle.std.proofs.lemmas.List.{append-nil}
 use Rattle.path_text.specs.declared.name.TheConstants.{SLASH}
 use Rattle.path_text.specs.Print.{after_slashes}
+use Rattle.tree_model.specs.declared.answer.Answer.TheVariants as answers
+use Rattle.tree_model.specs.declared.step.Kind.TheVariants.{Dir}
 use Rattle.tree_model.specs.declared.step.StepOf.TheVariants.{Open}
 use Rattle.root_ops.specs.declared.call.CallTurn.{CallTurn}
 use Rattle.root_ops.specs.declared.call.CallTurn.TheVariants.{More, Done}
 use Rattle.root_ops.specs.Order.{due}
 use Rattle.root_ops.specs.View.{CallView}
-use Rattle.c_protocol.specs.Runs.{Made, Makes, Entered, as_directory, shuts, steps_of, dir_behind, names_of, Enters}
+use Rattle.c_protocol.specs.Runs.{Made, Makes, Entered, as_directory, shuts, steps_of, dir_behind, names_of, Closes, Enters, EntersOn, TakesOn}
 
 -- ---- turns after one another
 
@@ -64,6 +66,18 @@ pub entered : (call : CallView) (dir number : ℕ) (name : List ℕ) (shut : Boo
     → Enters call dir number shut last → Makes (steps_of dir number (record { name = name; shut = shut } ∷ [])) (More call) last
 entered call dir number name shut last is_due enters =
     (is_due, (enters.0, (enters.1.0, subst (λ ms. Makes ms enters.0 last) (sym (append-nil (shuts shut dir))) enters.1.1)))
+
+-- a directory was opened, and the one that has it closed
+pub enters_shut : (turn mid last : CallTurn) (dir number handle node : ℕ) (shut : Bool) → handle ≡ number
+    → node ≡ number → TakesOn turn (answers.Opened handle node Dir) mid → shut ≡ true → Closes mid dir
+    → TakesOn mid answers.Done last → EntersOn turn dir number shut last
+enters_shut (More call) (More next) last dir number handle node shut h n one is closes two =
+    let one' = subst (λ k. TakesOn (More call) (answers.Opened number k Dir) (More next)) n
+    (subst (λ k. TakesOn (More call) (answers.Opened k node Dir) (More next)) h one) in
+    subst (λ b. Enters call dir number b last) (sym is)
+    (More next, ((true, one'), (closes, (last, ((true, two), refl)))))
+enters_shut (More call) (Done reply) last dir number handle node shut h n one is closes two = absurd closes
+enters_shut (Done reply) mid last dir number handle node shut h n one is closes two = absurd one
 
 -- ---- one name more is laid out
 

@@ -17,9 +17,11 @@ use Rattle.c_protocol.specs.declared.runs.Ran.{Ran}
 
 -- ---- what passes
 
--- The program says that it passed the names of a text, by numbers from there on, and hears how many of them count.
+-- The program says that it was led along the parts of a text from a directory, by numbers from there on, and hears how
+-- many of them count as names that it passed.
 pub record Run : Type 0 where
   pub text : List ℕ
+  pub dir : ℕ
   pub number : ℕ
   pub ran : Ran
   pub heard : Heard
@@ -39,7 +41,7 @@ GoesOn heard (single x) = plain.GoesOn heard x
 GoesOn heard (run x) =
     (call : CallView)
     × ((call_of heard.kept ≡ Some call)
-    × ((turn : CallTurn) × (IsRun call x.text x.number x.ran turn × Hears turn x.heard)))
+    × ((turn : CallTurn) × (IsRun call x.text x.dir x.number x.ran turn × Hears turn x.heard)))
 
 -- the exchanges to a call's end
 abbrev pub Conversation : Heard → List Exchange → Type 0
@@ -64,7 +66,7 @@ abbrev pub AreOfRun : Run → List plain.Exchange → Type 0
 AreOfRun x turns =
     (entered : List Entered)
     × ((names_of entered ≡ take x.ran.names (between_slashes x.text))
-    × AreAnswers (steps_of x.ran.dir x.number entered) turns)
+    × AreAnswers (steps_of x.dir x.number entered) turns)
 
 abbrev pub StandFor : List Exchange → List plain.Exchange → Type 0
 StandFor [] turns = turns ≡ []

@@ -1,18 +1,21 @@
 -- Names of a path that a C program passes in the midst of a call by one openat2(2) with RESOLVE_NO_SYMLINKS, which
 -- looks each of them up in the one before it (path_resolution(7)). To the call these are single turns, whose answers it
 -- is told at once.
-use Rattle.std.specs.Prelude.{◌≡◌, ◌<◌, ◌≤◌, ◌&&◌, ℕ, ◌+◌, List, [], ◌∷◌, ◌++◌, Bool, true, false, length, map, take, drop}
+use Rattle.std.specs.Prelude.{◌≡◌, ◌<◌, ◌≤◌, ◌↔◌, ◌⊎◌, ◌&&◌, ℕ, ◌+◌, ◌-◌, ◌^◌, List, [], ◌∷◌, ◌++◌, Bool, true, false, if◌then◌else◌, length, map, take, drop, codes, IsTrue}
+use Rattle.path_text.specs.Name.{same_bytes}
 use Rattle.path_text.specs.declared.name.TheConstants.{SLASH}
 use Rattle.path_text.specs.declared.part.Part.{Part}
 use Rattle.path_text.specs.declared.part.Part.TheVariants.{Cur, Up, Named}
 use Rattle.path_text.specs.Print.{after_slashes}
 use Rattle.path_text.specs.Text.{between_slashes}
+use Rattle.tree_model.specs.declared.answer.Answer.{Answer}
 use Rattle.tree_model.specs.declared.step.StepOf.TheVariants.{Open, Parent, NameBelow, Close}
 use Rattle.tree_model.specs.StepWith.{StepWith}
 use Rattle.step_resolver.specs.Meaning.{is_too_long}
 use Rattle.root_ops.specs.declared.call.CallTurn.{CallTurn}
 use Rattle.root_ops.specs.declared.call.CallTurn.TheVariants.{More, Done}
 use Rattle.root_ops.specs.Ahead.{doing_ahead}
+use Rattle.root_ops.specs.TurnView.{turn_view, Keeps, TakesTo}
 use Rattle.root_ops.specs.Order.{due}
 use Rattle.root_ops.specs.View.{CallView}
 use Rattle.c_protocol.specs.Turns.{IsNext}
@@ -34,6 +37,16 @@ Makes [] turn last = turn ≡ last
 Makes (m ∷ ms) (More call) last =
     (due call.below call.doing ≡ m.step) × ((next : CallTurn) × (IsNext call m.answer [] next × Makes ms next last))
 Makes (m ∷ ms) (Done reply) last = ⊥
+
+-- a step is due
+abbrev pub GoesOn : CallTurn → Type 0
+GoesOn (More call) = Unit {0}
+GoesOn (Done reply) = ⊥
+
+-- what the answer to it makes of the turn
+abbrev pub TakesOn : CallTurn → Answer → CallTurn → Type 0
+TakesOn (More call) answer turn = TakesTo call.below call.doing answer (turn_view turn) × Keeps call.below turn
+TakesOn (Done reply) answer turn = ⊥
 
 -- ---- the steps of names
 
@@ -71,6 +84,10 @@ abbrev pub Enters : CallView → ℕ → ℕ → Bool → CallTurn → Type 0
 Enters call dir number shut last =
     (next : CallTurn) × (IsNext call (as_directory number) [] next × Makes (shuts shut dir) next last)
 
+abbrev pub EntersOn : CallTurn → ℕ → ℕ → Bool → CallTurn → Type 0
+EntersOn (More call) dir number shut last = Enters call dir number shut last
+EntersOn (Done reply) dir number shut last = ⊥
+
 -- whether the directory in which the first of them was opened is closed
 abbrev pub is_shut : List Entered → Bool
 is_shut [] = false
@@ -84,16 +101,47 @@ abbrev pub Opens : CallTurn → ℕ → List ℕ → Type 0
 Opens (More call) dir name = due call.below call.doing ≡ Open dir name
 Opens (Done reply) dir name = ⊥
 
+-- it is due to close this directory
+abbrev pub Closes : CallTurn → ℕ → Type 0
+Closes (More call) dir = due call.below call.doing ≡ Close dir
+Closes (Done reply) dir = ⊥
+
+-- it is due to go up from this directory
+abbrev pub GoesUp : CallTurn → ℕ → Type 0
+GoesUp (More call) dir = due call.below call.doing ≡ Parent dir
+GoesUp (Done reply) dir = ⊥
+
 -- ---- a run
 
--- The first names of the text, so many as are told, were passed from that directory on; the others are not the next
--- ones.
-pub record IsRun (call : CallView) (text : List ℕ) (number : ℕ) (ran : Ran) (turn : CallTurn) : Type 0 where
+-- the step that opens a part in a directory: `..` is the directory above (path_resolution(7))
+abbrev pub step_of : ℕ → List ℕ → StepWith ℕ
+step_of dir part = if same_bytes part (codes "..") then Parent dir else Open dir part
+
+abbrev pub IsDue : CallTurn → ℕ → List ℕ → Type 0
+IsDue (More call) dir part = due call.below call.doing ≡ step_of dir part
+IsDue (Done reply) dir part = ⊥
+
+-- the highest number of a handle
+abbrev pub NUMBER_MAX : ℕ
+NUMBER_MAX = 2 ^ 64 - 1
+
+-- What is said of the parts behind the names that were passed. If it is the last one, whether it is due to open that
+-- there. Else a name was to be passed there, and was not: it isn't due to open it, or no number is left.
+abbrev pub IsSaid : CallTurn → ℕ → ℕ → Bool → List (List ℕ) → Type 0
+IsSaid turn dir number is_due [] = ⊥
+IsSaid turn dir number is_due (part ∷ []) = IsTrue is_due ↔ IsDue turn dir part
+IsSaid turn dir number is_due (part ∷ next ∷ more) =
+    (is_due ≡ false) × ((number ≡ NUMBER_MAX) ⊎ (Opens turn dir part → ⊥))
+
+-- The first parts of the text, so many as are told, were passed as names from that directory on.
+pub record IsRun (call : CallView) (text : List ℕ) (dir number : ℕ) (ran : Ran) (turn : CallTurn) : Type 0 where
   pub entered : List Entered
   pub names : names_of entered ≡ take ran.names (between_slashes text)
   pub count : length entered ≡ ran.names
   pub shut : ran.shut ≡ is_shut entered
-  pub makes : Makes (steps_of ran.dir number entered) (More call) turn
+  pub makes : Makes (steps_of dir number entered) (More call) turn
+  pub behind : IsSaid turn (dir_behind dir number entered) (number + ran.names) ran.due
+      (drop ran.names (between_slashes text))
 
 -- ---- what comes next
 
@@ -108,10 +156,6 @@ up_text false = []
 up_text true = SLASH ∷ 46 ∷ 46 ∷ []
 
 -- what is due behind the names
-abbrev pub GoesUp : CallTurn → ℕ → Type 0
-GoesUp (More call) dir = due call.below call.doing ≡ Parent dir
-GoesUp (Done reply) dir = ⊥
-
 abbrev pub AsksFor : CallTurn → ℕ → Type 0
 AsksFor (More call) dir = (root : ℕ) × (due call.below call.doing ≡ NameBelow root dir)
 AsksFor (Done reply) dir = ⊥

@@ -11,8 +11,9 @@
 //! Nor where one system call has followed the links: `follows_at_once` says for which calls, and
 //! `links_seen_below_tell` what holds of them.
 //! In the midst of a call `names_ahead` says which names come next, and `pass_names` takes the call past those that one
-//! system call passed; by the law `conversations_with_runs_tell` that is as good as single turns. A path is taken apart
-//! into its directory's path and its last name by `split`, as the calls on one entry do it.
+//! system call passed, and says whether the step behind them is about what that opened; by the law
+//! `conversations_with_runs_tell` this is as good as single turns. A path is taken apart into its directory's path and
+//! its last name by `split`, as the calls on one entry do it.
 //! Whatever the answers are, a call closes what it opened (`conversations_close`), and after a step that wasn't made it
 //! does nothing else (`unmade_steps_end_calls`). Which errors of a system call are a step's own says `step_calls`, and
 //! `steps_are_refused_so` that the step table has no others.

@@ -1,10 +1,12 @@
 //! Names that follow one another in a call, for a C program that passes them by one system call.
-ghost use Rattle.std.specs.Prelude.{◌≡◌, ◌<◌, ◌≤◌, ◌↔◌, ◌&&◌, ◌∷◌, ◌++◌, ◌+◌, [], length, take, drop, nat_lt, IsTrue, IfSome, IsSome, None, MatchOption, List, ℕ, false};
-ghost use Rattle.tree_model.specs.declared.step.StepOf.TheVariants.{Open, Close};
+ghost use Rattle.std.specs.Prelude.{◌≡◌, ◌<◌, ◌≤◌, ◌↔◌, ◌==◌, ◌&&◌, ◌∷◌, ◌++◌, ◌+◌, ◌^◌, [], if◌then◌else◌, length, take, drop, nat_lt, IsTrue, IfSome, IsSome, None, MatchOption, List, ℕ, false};
+ghost use Rattle.path_text.specs.Text.{between_slashes};
+ghost use Rattle.tree_model.specs.declared.step.StepOf.TheVariants.{Open};
 ghost use Rattle.root_ops.specs.declared.call.CallTurn.{CallTurn};
-ghost use Rattle.root_ops.specs.Order.{due, steps_left};
-ghost use Rattle.root_ops.specs.TurnView.{turn_view, steps_to_come, Keeps, TakesTo};
-ghost use Rattle.c_protocol.specs.Runs.{steps_of, up_text, TakesPart, ComeNext, Enters, IsRun, LiesAt, Makes, Opens};
+ghost use Rattle.root_ops.specs.declared.call.CallTurn.TheVariants.{Done};
+ghost use Rattle.root_ops.specs.declared.reply.Reply.TheVariants as replies;
+ghost use Rattle.root_ops.specs.Order.{due};
+ghost use Rattle.c_protocol.specs.Runs.{steps_of, up_text, Closes, GoesOn, GoesUp, TakesOn, TakesPart, ComeNext, EntersOn, IsDue, IsRun, LiesAt, Makes, Opens};
 ghost use Rattle.c_protocol.specs.Turns.{call_of, IsTold};
 
 use crate::kept::Kept;
@@ -12,7 +14,7 @@ use crate::numbers::Told;
 use crate::told::lay_at;
 use crate::turns::keep;
 use path_text::{Part, SLASH};
-use root_ops::{Call, CallTurn};
+use root_ops::{Call, CallTurn, Reply};
 use std::alloc::Global;
 use std::mem;
 use tree_model::{Answer, HandleNo, Kind, Node, StepOf};
@@ -38,87 +40,119 @@ pub struct Ahead {
 #[repr(C)]
 #[derive(Clone, Copy, Debug, PartialEq, Eq)]
 pub struct Ran {
-    /// The handle of the directory in which the first of them was opened.
-    pub dir: u64,
     /// How many they are.
     pub names: usize,
-    /// Whether that directory counts as closed now.
+    /// Whether the directory in which the first of them was opened counts as closed now.
     pub shut: bool,
-}
-
-// The number of the directory in which it is due to open a name. Of another step any will do.
-fn dir_of(call: &Call) -> u64 {
-    match call.due() {
-        StepOf::Open(dir, _) => dir.number(),
-        _ => 0,
-    }
+    /// Whether they are all parts but the last, and the step that is due now is the last one's: the Open of that name
+    /// in the directory that they led to; of `..` the Parent of it.
+    pub due: bool,
 }
 
 // Whether it is due to open this name in this directory.
-fn opens(call: &Call, dir: u64, name: &[u8]) -> bool
-    ensures { IsTrue result ↔ (due call.now.below call.now.doing ≡ Open dir name.now) }
+fn opens(turn: &CallTurn, dir: u64, name: &[u8]) -> bool
+    ensures { IsTrue result ↔ Opens turn.now dir name.now }
 {
-    match call.due() {
-        StepOf::Open(from, next) => from.number() == dir && next.bytes() == name,
-        _ => false,
+    match turn {
+        CallTurn::More(call) => match call.due() {
+            StepOf::Open(from, next) => from.number() == dir && next.bytes() == name,
+            _ => false,
+        },
+        CallTurn::Done(_) => false,
+    }
+}
+
+// Whether it is due to go up from this directory.
+fn rises(turn: &CallTurn, dir: u64) -> bool
+    ensures { IsTrue result ↔ GoesUp turn.now dir }
+{
+    match turn {
+        CallTurn::More(call) => match call.due() {
+            StepOf::Parent(handle) => handle.number() == dir,
+            _ => false,
+        },
+        CallTurn::Done(_) => false,
+    }
+}
+
+// Whether it is due to open this part in this directory.
+fn is_due(turn: &CallTurn, dir: u64, part: &[u8]) -> bool
+    ensures { IsTrue result ↔ IsDue turn.now dir part.now }
+{
+    if part == b"..".as_slice() {
+        rises(turn, dir)
+    } else {
+        opens(turn, dir, part)
     }
 }
 
 // Whether it is due to close this directory.
-fn closes(call: &Call, dir: u64) -> bool
-    ensures { IsTrue result ↔ (due call.now.below call.now.doing ≡ Close dir) }
+fn closes(turn: &CallTurn, dir: u64) -> bool
+    ensures { IsTrue result ↔ Closes turn.now dir }
 {
-    match call.due() {
-        StepOf::Close(handle) => handle.number() == dir,
-        _ => false,
+    match turn {
+        CallTurn::More(call) => match call.due() {
+            StepOf::Close(handle) => handle.number() == dir,
+            _ => false,
+        },
+        CallTurn::Done(_) => false,
     }
 }
 
-// The turn after an answer, in place where it passes.
-fn taken(alloc: Global, mut call: Call, answer: Answer) -> CallTurn
-    ensures turn { TakesTo call.below call.doing answer (turn_view result) }
-    ensures kept { Keeps call.below result }
-    ensures fewer { steps_to_come result < steps_left call.below call.doing }
+// Takes the answer in place, where it passes.
+fn passes(turn: &mut CallTurn, answer: &Answer) -> bool
+    ensures turn { IsTrue result → TakesOn turn.old answer.now turn.new }
+    ensures left { result ≡ false → turn.new ≡ turn.old }
 {
-    if call.pass(&answer) {
-        return CallTurn::More(call);
+    match turn {
+        CallTurn::More(call) => call.pass(answer),
+        CallTurn::Done(_) => false,
     }
-    call.take(alloc, answer)
 }
 
-// A turn behind a name, and whether the directory that has the name was closed.
-struct Entry {
-    turn: CallTurn,
-    shut: bool,
+// Takes the answer to the step that is due. Only where it doesn't pass, the call is moved.
+fn take(alloc: Global, turn: &mut CallTurn, answer: Answer)
+    requires { GoesOn turn.old }
+    ensures { TakesOn turn.old answer turn.new }
+{
+    if passes(turn, &answer) {
+        return;
+    }
+    match mem::replace(turn, CallTurn::Done(Reply::Done)) {
+        CallTurn::More(call) => put(turn, call.take(alloc, answer)),
+        // It goes on.
+        CallTurn::Done(_) => unreachable!(),
+    }
+}
+
+// Puts a turn in the place of one that has ended.
+fn put(turn: &mut CallTurn, next: CallTurn)
+    requires { turn.old ≡ Done replies.Done }
+    ensures { turn.new ≡ next }
+{
+    match mem::replace(turn, next) {
+        CallTurn::Done(_stood_in) => {}
+        CallTurn::More(_lost) => unreachable!(),
+    }
 }
 
 // Tells the call that a directory was opened by this number, and that the one in which it was opened was closed, where
-// that is due then.
-fn enter(alloc: Global, call: Call, dir: u64, number: u64) -> Entry
-    ensures entered { Enters call dir number result.shut result.turn }
-    ensures fewer { steps_to_come result.turn < steps_left call.below call.doing }
+// that is due then. Gives whether it was.
+fn enter(alloc: Global, turn: &mut CallTurn, dir: u64, number: u64) -> bool
+    requires { GoesOn turn.old }
+    ensures { EntersOn turn.old dir number result turn.new }
 {
     let opened = Answer::Opened {
         handle: HandleNo::new(number),
         node: Node::new(number),
         kind: Kind::Dir,
     };
-    match taken(alloc, call, opened) {
-        CallTurn::More(call) => {
-            if closes(&call, dir) {
-                let turn = taken(alloc, call, Answer::Done);
-                return Entry { turn, shut: true };
-            }
-            Entry {
-                turn: CallTurn::More(call),
-                shut: false,
-            }
-        }
-        CallTurn::Done(reply) => Entry {
-            turn: CallTurn::Done(reply),
-            shut: false,
-        },
+    take(alloc, turn, opened);
+    let shut = closes(turn, dir);
+    if shut {
+        take(alloc, turn, Answer::Done);
     }
+    shut
 }
 
 // ---- what comes next
@@ -309,42 +343,15 @@ pub fn names_ahead(
 
 // ---- what was passed
 
-// The same as `Entry`, and whether the name was due.
-struct Tried {
-    turn: CallTurn,
-    passed: bool,
-    shut: bool,
-}
-
-// Passes this name, where it is due to be opened in this directory.
-fn try_name(alloc: Global, turn: CallTurn, dir: u64, number: u64, name: &[u8]) -> Tried
-    ensures which { IsTrue result.passed ↔ Opens turn dir name.now }
-    ensures passed { IsTrue result.passed
-        → Makes (steps_of dir number (record { name = name.now; shut = result.shut } ∷ [])) turn result.turn }
-    ensures left { result.passed ≡ false → result.turn ≡ turn }
+// Passes this name, where it is due to be opened in this directory, and gives whether that is closed.
+fn pass_name(alloc: Global, turn: &mut CallTurn, dir: u64, number: u64, name: &[u8]) -> Option<bool>
+    ensures { MatchOption result ((turn.new ≡ turn.old) × (Opens turn.old dir name.now → ⊥)) (λ shut.
+        Makes (steps_of dir number (record { name = name.now; shut = shut } ∷ [])) turn.old turn.new) }
 {
-    match turn {
-        CallTurn::More(call) => {
-            if !opens(&call, dir, name) {
-                return Tried {
-                    turn: CallTurn::More(call),
-                    passed: false,
-                    shut: false,
-                };
-            }
-            let Entry { turn, shut } = enter(alloc, call, dir, number);
-            Tried {
-                turn,
-                passed: true,
-                shut,
-            }
-        }
-        CallTurn::Done(reply) => Tried {
-            turn: CallTurn::Done(reply),
-            passed: false,
-            shut: false,
-        },
+    if !opens(turn, dir, name) {
+        return None;
     }
+    Some(enter(alloc, turn, dir, number))
 }
 
 // A turn behind names, and how many they are.
@@ -353,39 +360,58 @@ struct Course {
     ran: Ran,
 }
 
-// Passes the names of the text that come next, in their order.
-fn pass_text(alloc: Global, call: Call, text: &[u8], number: u64) -> Course
-    ensures { IsRun call text.now number result.ran result.turn }
+// The first part of a text, and what comes behind the slash after it. None where no slash is in it.
+fn first_part(text: &[u8]) -> Option<(&[u8], &[u8])>
+    ensures { MatchOption result (between_slashes text.now ≡ text.now ∷ [])
+        (λ cut. (between_slashes text.now ≡ cut.0.now ∷ between_slashes cut.1.now)
+        × (length cut.1.now < length text.now)) }
 {
-    let from = dir_of(&call);
+    match text.iter().position(|byte| *byte == SLASH) {
+        Some(end) => Some((&text[..end], &text[end + 1..])),
+        None => None,
+    }
+}
+
+// One name more, which is passed; the directory that has it is closed or not.
+fn with_name(ran: Ran, shut: bool) -> Ran
+    requires { ran.names + 1 < 2 ^ 64 }
+    ensures { result ≡ record ran { names = ran.names + 1; shut = if ran.names == 0 then shut else ran.shut } }
+{
+    Ran {
+        names: ran.names + 1,
+        shut: if ran.names == 0 { shut } else { ran.shut },
+        ..ran
+    }
+}
+
+// Passes the names of the text that come next, in their order and from this directory on, but for its last part.
+fn pass_parts(alloc: Global, call: Call, text: &[u8], from: u64, number: u64) -> Course
+    ensures { IsRun call text.now from number result.ran result.turn }
+{
+    let mut ran = Ran {
+        names: 0,
+        shut: false,
+        due: false,
+    };
     let mut turn = CallTurn::More(call);
     let mut dir = from;
     let mut next = number;
-    let mut shut = false;
-    for name in text.split(|byte| *byte == SLASH) {
+    let mut rest = text;
+    while let Some((name, behind)) = first_part(rest) {
         if next == u64::MAX {
-            break;
+            return Course { turn, ran };
         }
-        let Tried {
-            turn: then,
-            passed,
-            shut: closed,
-        } = try_name(alloc, turn, dir, next, name);
-        turn = then;
-        if !passed {
-            break;
-        }
-        if next == number {
-            shut = closed;
-        }
+        let Some(shut) = pass_name(alloc, &mut turn, dir, next, name) else {
+            return Course { turn, ran };
+        };
+        ran = with_name(ran, shut);
         dir = next;
         next += 1;
+        rest = behind;
     }
-    let names = (next - number) as usize;
     let ran = Ran {
-        dir: from,
-        names,
-        shut,
+        due: is_due(&turn, dir, rest),
+        ..ran
     };
     Course { turn, ran }
 }
@@ -400,18 +426,19 @@ fn pass_kept(
     alloc: Global,
     kept: Kept,
     text: &[u8],
+    from: u64,
     number: u64,
     told: &mut Told,
     room: &mut [u8],
 ) -> Passed
     requires { IsSome (call_of kept.held) }
-    ensures { IfSome (call_of kept.held) (λ call. (turn : CallTurn) × IsRun call text.now number result.ran turn
+    ensures { IfSome (call_of kept.held) (λ call. (turn : CallTurn) × IsRun call text.now from number result.ran turn
         × IsTold turn result.kept.held told.new room.old room.new) }
 {
     let mut held = kept.into_box();
     match held.call.take() {
         Some(call) => {
-            let Course { turn, ran } = pass_text(alloc, call, text, number);
+            let Course { turn, ran } = pass_parts(alloc, call, text, from, number);
             let kept = keep(alloc, held, turn, told, room);
             Passed { kept, ran }
         }
@@ -420,27 +447,31 @@ fn pass_kept(
     }
 }
 
-/// Tells a call that the names of a text, a slash between each two, were passed as directories: as by one openat2(2)
-/// with RESOLVE_NO_SYMLINKS, each in the one before it. Gives how many of them the call was due to open, one after
-/// another; at the first that it isn't it stops. The step is told then that is due behind them.
+/// Tells a call that one openat2(2) with RESOLVE_NO_SYMLINKS led along the parts of a text, a slash between each two,
+/// from this directory: so that each of them but the last was passed as a directory, in the one before it. Gives how
+/// many of these names the call was due to open, one after another; at the first that it isn't it stops. The step is
+/// told then that is due behind them, and `due` says whether that opens the last part in the directory that they led
+/// to. If so, the answer that something was opened is about just this: the Open of this name there, or of `..` the
+/// Parent.
 ///
 /// What is opened has numbers that count up from this one, and counts as closed where the call closes it. So does the
-/// directory in which the first name was opened, where `shut` says so. After fewer names than the text has, the
-/// call goes on as after any answers.
+/// directory in which the first name was opened, where `shut` says so. After fewer names than come before the last
+/// part, the call goes on as after any answers.
 pub fn pass_names(
     alloc: Global,
     kept: &mut Kept,
     text: &[u8],
+    from: u64,
     number: u64,
     told: &mut Told,
     room: &mut [u8],
 ) -> Ran
     requires { IsSome (call_of kept.old.held) }
-    ensures { IfSome (call_of kept.old.held) (λ call. (turn : CallTurn) × IsRun call text.now number result turn
+    ensures { IfSome (call_of kept.old.held) (λ call. (turn : CallTurn) × IsRun call text.now from number result turn
         × IsTold turn kept.new.held told.new room.old room.new) }
 {
     let before = mem::replace(kept, Kept::empty(alloc));
-    let Passed { kept: after, ran } = pass_kept(alloc, before, text, number, told, room);
+    let Passed { kept: after, ran } = pass_kept(alloc, before, text, from, number, told, room);
     *kept = after;
     ran
 }

@@ -49,15 +49,15 @@ pub next_is_kept : (before : Option Held) (answered : Answered) (bytes : List �
     → told.what < 32 → IsSome (call_of held)
 next_is_kept before = next_from (call_of before)
 
-run_from : (before : Option CallView) (text : List ℕ) (number : ℕ) (ran : Ran) (held : Option Held) (told : Told)
+run_from : (before : Option CallView) (text : List ℕ) (from number : ℕ) (ran : Ran) (held : Option Held) (told : Told)
     (old new : List ℕ) → IsSome before
-    → IfSome before (λ call. (turn : CallTurn) × IsRun call text number ran turn × IsTold turn held told old new)
+    → IfSome before (λ call. (turn : CallTurn) × IsRun call text from number ran turn × IsTold turn held told old new)
     → told.what < 32 → IsSome (call_of held)
-run_from None text number ran held told old new some is few = absurd (true≢false (sym some))
-run_from (Some call) text number ran held told old new some is few = is_kept is.0 held told old new is.2 few
+run_from None text from number ran held told old new some is few = absurd (true≢false (sym some))
+run_from (Some call) text from number ran held told old new some is few = is_kept is.0 held told old new is.2 few
 
-pub run_is_kept : (before : Option Held) (text : List ℕ) (number : ℕ) (ran : Ran) (held : Option Held) (told : Told)
+pub run_is_kept : (before : Option Held) (text : List ℕ) (from number : ℕ) (ran : Ran) (held : Option Held) (told : Told)
     (old new : List ℕ) → IsSome (call_of before)
-    → IfSome (call_of before) (λ call. (turn : CallTurn) × IsRun call text number ran turn × IsTold turn held told old new)
+    → IfSome (call_of before) (λ call. (turn : CallTurn) × IsRun call text from number ran turn × IsTold turn held told old new)
     → told.what < 32 → IsSome (call_of held)
 run_is_kept before = run_from (call_of before)

@@ -116,9 +116,9 @@ struct Behind {
     ran: Ran,
 }
 
-// Names are passed, whose numbers begin at this one.
+// The parts of a text are passed but for the last, by numbers that begin at this one.
 #[tactic(auto, using(crate::proofs::Keeping::run_is_kept))]
-fn passed(alloc: Global, before: Exchange, text: &str, number: u64) -> Behind
+fn passed(alloc: Global, before: Exchange, text: &str, from: u64, number: u64) -> Behind
     requires { IsSome (call_of before.kept.held) }
     ensures { result.exchange.told.what < 32 → IsSome (call_of result.exchange.kept.held) }
 {
@@ -131,6 +131,7 @@ fn passed(alloc: Global, before: Exchange, text: &str, number: u64) -> Behind
         alloc,
         &mut kept,
         text.as_bytes(),
+        from,
         number,
         &mut told,
         &mut room,
@@ -162,12 +163,12 @@ fn resolve_file(alloc: Global) -> Option<Exchange> {
     let now = answered(alloc, now, &opened(10, 100, 1), "");
     let now = at(now, told(1, 10, 0, 1, 0), "b\0")?;
     // the call has no `x` next; the directory that has `b` is closed then
-    let Behind { exchange, ran } = passed(alloc, now, "b/x/y", 11);
+    let Behind { exchange, ran } = passed(alloc, now, "b/x/y", 10, 11);
     let now = at(exchange, told(1, 11, 0, 1, 0), "f\0")?;
     let wanted = Ran {
-        dir: 10,
         names: 1,
         shut: true,
+        due: false,
     };
     if ran != wanted {
         return None;
@@ -179,22 +180,38 @@ fn resolve_file(alloc: Global) -> Option<Exchange> {
     Some(answered(alloc, now, &answer(3, 0, 0, 0, 0), "/a/b/f"))
 }
 
-// `a/b` is resolved and both names are passed at once, but then it isn't below the root.
+// `a/b/f` is resolved at once: the answer to the last Open is the file, but then it isn't below the root.
 fn resolve_moved(alloc: Global) -> Option<Exchange> {
-    let now = at(begun(alloc, 1, "a/b"), told(1, 3, 0, 1, 0), "a\0")?;
-    let Behind { exchange, ran } = passed(alloc, now, "a/b", 10);
-    let now = at(exchange, told(5, 11, 3, 0, 0), "")?;
+    let now = at(begun(alloc, 1, "a/b/f"), told(1, 3, 0, 1, 0), "a\0")?;
+    let Behind { exchange, ran } = passed(alloc, now, "a/b/f", 3, 9);
+    let now = at(exchange, told(1, 10, 0, 1, 0), "f\0")?;
     let wanted = Ran {
-        dir: 3,
         names: 2,
         shut: false,
+        due: true,
     };
     if ran != wanted {
         return None;
     }
+    let now = answered(alloc, now, &opened(11, 110, 2), "");
+    let now = at(now, told(7, 10, 0, 0, 0), "")?;
+    let now = answered(alloc, now, &answer(5, 0, 0, 0, 0), "");
+    let now = at(now, told(5, 11, 3, 0, 0), "")?;
     let now = answered(alloc, now, &answer(3, 0, 0, 0, 0), "");
     let now = at(now, told(7, 11, 0, 0, 0), "")?;
     Some(answered(alloc, now, &answer(5, 0, 0, 0, 0), ""))
+}
+
+// Whether what is said of the parts of a text from that directory on, where `a/../b` is resolved, is that so many names
+// were passed, and whether the last part is due.
+fn says(alloc: Global, text: &str, from: u64, names: usize, due: bool) -> bool {
+    match at(begun(alloc, 1, "a/../b"), told(1, 3, 0, 1, 0), "a\0") {
+        Some(now) => {
+            let Behind { exchange, ran } = passed(alloc, now, text, from, 10);
+            exchange.told.what < 32 && ran.names == names && ran.due == due
+        }
+        None => false,
+    }
 }
 
 fn ends_so(exchange: Option<Exchange>, told: Told, text: &str) -> bool {
@@ -209,6 +226,18 @@ fn calls_go_turn_by_turn(rt: HostRuntime) -> Result<(), Fail> {
     let alloc = rt.alloc();
     assert!(rt; ends_so(resolve_file(alloc), told(32, 12, 120, 0, 2), "/a/b/f\0"));
     assert!(rt; ends_so(resolve_moved(alloc), fault(EAGAIN), ""));
+    // `..` is due behind the first name, and a name in it is not; no name is passed that isn't due, in any directory
+    assert!(rt;
+        says(alloc, "a", 3, 0, true)
+            && says(alloc, "b", 3, 0, false)
+            && says(alloc, "..", 3, 0, false)
+    );
+    assert!(rt;
+        says(alloc, "a/..", 3, 1, true)
+            && says(alloc, "a/b", 3, 1, false)
+            && says(alloc, "b/..", 3, 0, false)
+            && says(alloc, "a/..", 4, 0, false)
+    );
     // a number of no operation
     assert!(rt; is_told(&begun(alloc, 0, "a"), fault(EINVAL), "----"));
     // a name that has no room

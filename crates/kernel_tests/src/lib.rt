@@ -45,6 +45,8 @@ mod records;
 #[cfg(test)]
 mod removals;
 #[cfg(test)]
+mod requests;
+#[cfg(test)]
 mod searches;
 #[cfg(test)]
 mod steps;

@@ -1,9 +1,9 @@
 //! Which system call comes next as names of a path are passed, by answers that the kernel gives.
 use look_ups::{
-    ALONE, CLOSE, COMPARE, Coming, ENDS, FROM_ROOT, KIND, LINK, LOOK_UP, LookUp, PASSED,
-    READ_FIRST, READ_LAST, a_link_that_is_meant_is_not_read, a_place_is_asked_by_the_look_up,
-    begin, each_object_is_closed_or_reported, fresh, look_ups_are_few,
-    names_are_opened_as_they_are_meant, next, no_look_up_follows_a_link,
+    ALONE, BEHIND_OTHER, CLOSE, COMPARE, Coming, ENDS, FROM_ROOT, KIND, LINK, LOOK_UP, LookUp,
+    PASSED, READ_FIRST, READ_LAST, a_link_that_is_meant_is_not_read,
+    a_place_is_asked_by_the_look_up, begin, each_object_is_closed_or_reported, fresh,
+    look_ups_are_few, names_are_opened_as_they_are_meant, next, no_look_up_follows_a_link,
     other_errors_end_the_look_ups, what_is_reported_was_opened,
     what_is_reported_was_passed_in_order,
 };
@@ -43,6 +43,8 @@ fn names(count: usize) -> Coming {
         one_by_one: false,
         reads: true,
         any_kind: false,
+        is_last: false,
+        behind: BEHIND_OTHER,
     }
 }
 

@@ -2,4 +2,5 @@ pub mod CaseLemmas
 pub mod FewLemmas
 pub mod FoundLemmas
 pub mod HistoryLemmas
+pub mod RequestLemmas
 pub mod OneLookLemmas

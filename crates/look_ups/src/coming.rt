@@ -35,6 +35,10 @@ pub struct Coming {
     pub reads: bool,
     /// Nobody asks of which kind the object is.
     pub any_kind: bool,
+    /// The first of them is the last part of the path.
+    pub is_last: bool,
+    /// What comes behind the first of them: BEHIND_NAME, BEHIND_END or BEHIND_OTHER.
+    pub behind: u8,
 }
 
 fn is_end(coming: &Coming) -> bool

@@ -1,11 +1,15 @@
 //! What holds of all histories, as laws: each function's contract is one, and its body is empty.
 ghost use Rattle.std.specs.Prelude.{◌≡◌, ◌≢◌, ◌<◌, ◌≤◌, ◌+◌, ◌*◌, ◌^◌, ◌⊎◌, ℕ, Bool, true, false, not, ◌&&◌, List, [], ◌∷◌, length, take};
+ghost use Rattle.system_calls.specs.OpenFlags.{has};
 ghost use Rattle.look_ups.specs.declared.coming.Coming.{Coming};
 ghost use Rattle.look_ups.specs.declared.look_up.LookUp.{LookUp};
 ghost use Rattle.look_ups.specs.declared.look_up.TheConstants.{PASSED, READ_LAST, ALONE};
-ghost use Rattle.look_ups.specs.Names.{comes_to_end, is_of_names};
+ghost use Rattle.look_ups.specs.declared.request.Request.{Request};
+ghost use Rattle.look_ups.specs.declared.request.Spot.{Spot};
+ghost use Rattle.look_ups.specs.Names.{comes_to_end, is_of_names, NO_XDEV as RESOLVE_NO_XDEV};
 ghost use Rattle.look_ups.specs.History.{is_look_up, next_after, Exchange, IsHistory};
-ghost use Rattle.look_ups.specs.Promises.{is_open_after, is_over, is_read, look_ups, needs_open, passed_of, Found, WereFound, FollowsNoLink, IsSeenBelow, OpensNames, WasOpenedAs};
+ghost use Rattle.look_ups.specs.Promises.{has_bit, is_open_after, is_over, is_read, look_ups, needs_open, passed_of, Found, WereFound, FollowsNoLink, IsSeenBelow, OpensNames, WasOpenedAs};
+ghost use Rattle.look_ups.specs.Request.{coming_of, ONE_BY_ONE, NO_XDEV, NO_MAGICLINKS};
 
 /// What a look-up opened is asked about or closed while it is open, and is open where it is reported. It isn't open as
 /// anything else comes. So each object that is opened is closed once, or reported.
@@ -82,4 +86,24 @@ pub fn look_ups_are_few()
         → 1 ≤ c.names → c.names ≤ 2048 → look_ups history ≤ 13 }
     ensures others { (c : Coming) (start : LookUp) (history : List Exchange) → IsHistory c start history
         → length history ≤ look_ups history + 4 }
+{}
+
+/// What the flags of a call mean for its look-ups and reads, whatever is known of the names. Under INROOT_ONE_BY_ONE
+/// none is looked up with others, and none from the root. A look-up stays on the mount (RESOLVE_NO_XDEV) exactly under
+/// INROOT_NO_XDEV. Under each of these and INROOT_NO_MAGICLINKS no link is read by its name.
+pub fn each_flag_is_kept()
+    ensures one_by_one { (r : Request) (names : ℕ) (up ends dot : Bool) (s : Spot) (start : LookUp)
+        (history : List Exchange) → IsHistory (coming_of r names up ends dot s) start history
+        → has r.flags ONE_BY_ONE ≡ true
+        → is_look_up (next_after (coming_of r names up ends dot s) start history).next ≡ false }
+    ensures stays { (r : Request) (names : ℕ) (up ends dot : Bool) (s : Spot) (start : LookUp)
+        (history : List Exchange) → IsHistory (coming_of r names up ends dot s) start history
+        → is_look_up (next_after (coming_of r names up ends dot s) start history).next ≡ true
+        → has_bit (next_after (coming_of r names up ends dot s) start history).resolve RESOLVE_NO_XDEV
+        ≡ has r.flags NO_XDEV }
+    ensures reads { (r : Request) (names : ℕ) (up ends dot : Bool) (s : Spot) (start : LookUp)
+        (history : List Exchange) → IsHistory (coming_of r names up ends dot s) start history
+        → is_read (next_after (coming_of r names up ends dot s) start history).next ≡ true
+        → (has r.flags ONE_BY_ONE ≡ false) × ((has r.flags NO_XDEV ≡ false)
+        × (has r.flags NO_MAGICLINKS ≡ false)) }
 {}
