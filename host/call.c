@@ -40,7 +40,7 @@ static struct inroot_result make(struct inroot_driver *d, struct inroot_told *st
     d->known = inroot_last_take(&d->last, step->what, step->handle);
     if (step->what == INROOT_STEP_CLOSE)
         return inroot_handles_close(d, step->handle);
-    if (d->from.dir >= 0 && inroot_from_begins(d, step, room, text, &result))
+    if (d->from.dir >= 0 && inroot_from_begins(d, step, room, text, length, &result))
         return result;
     result = inroot_make(d, step, room, text, length);
     d->changed |= result.what == INROOT_ANSWER_DONE && !is_found_again(d, step);

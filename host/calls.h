@@ -925,34 +925,41 @@ void inroot_entering_next(struct inroot_entering *entering, bool again, const st
 
 /* ---- how a call begins whose paths begin at a directory below the root. These take no memory. A PLACE has a slash before each name. */
 
-/* Whether a path begins at the directory: it isn't empty, and doesn't begin with a slash. */
-bool inroot_begins_there(const unsigned char *path, size_t length);
-
 size_t inroot_count_names(const unsigned char *place, size_t length);
 
-/* Whether the directory that stood at PLACE stands there still, by where it stands now. */
-bool inroot_is_same_place(const unsigned char *place, size_t length, const unsigned char *again, size_t again_length);
-
 /*
- * Lays the text that the call walks from the root: if the path begins at the directory, its names, a slash and the path; else the
- * path. How many bytes that are: at most 4,096, one more than a path has. The room has so many.
+ * Lays the text that the call walks from the root: where the path BEGINS at the directory, as a telling says, the names of PLACE, a
+ * slash and the path; else the path. How many bytes that are: at most 4,096, one more than a path has. The room has so many.
  */
-size_t inroot_join(const unsigned char *place, size_t place_length, const unsigned char *path, size_t path_length,
+size_t inroot_join(const unsigned char *place, size_t place_length, const unsigned char *path, size_t path_length, bool begins,
                    unsigned char *room, size_t size);
 
-/* What is done with a step: it is made; the names are reported as passed; the place is asked for once more, and they are if it holds. */
-enum inroot_telling_next { INROOT_TELLING_WALKS, INROOT_TELLING_TELLS, INROOT_TELLING_ASKS_AGAIN };
-
-/* Which walks begin with the names, and are still to be begun. */
-struct inroot_telling {
-    bool first, second;
+/*
+ * What is done with a step: it is made; the names are reported as passed; the place is asked for once more, and they are if it
+ * holds; it is a question for the place of the directory that was just reported, which the place answers; it isn't made, by EAGAIN.
+ */
+enum inroot_telling_next {
+    INROOT_TELLING_WALKS, INROOT_TELLING_TELLS, INROOT_TELLING_ASKS_AGAIN, INROOT_TELLING_ANSWERS, INROOT_TELLING_REFUSES,
 };
 
-void inroot_telling_begin(const unsigned char *place, size_t place_length, const unsigned char *first, size_t first_length,
-                          const unsigned char *second, size_t second_length, bool is_rename, struct inroot_telling *telling);
+/* Whether the FIRST and the SECOND walk begin with the names, and are still to be begun. A driver leaves all of it alone. */
+struct inroot_telling {
+    uint64_t root, told;
+    bool first, second, placed, waits, asks, lost;
+};
 
-/* IN_ROOT: the step is an Open in the root's own handle. PLACED: the step before it was a question for a place. */
-uint8_t inroot_telling_next(struct inroot_telling *telling, bool in_root, bool placed);
+/* By the root's own handle and the call's paths. Whether one of them begins at the directory, whose place is asked for then. */
+bool inroot_telling_begin(uint64_t root, const unsigned char *first, size_t first_length, const unsigned char *second,
+                          size_t second_length, bool is_rename, struct inroot_telling *telling);
+/* Takes the place, or none where it wasn't asked for. */
+void inroot_telling_found(struct inroot_telling *telling, const unsigned char *place, size_t length);
+/* WHAT the step is, but a Close, and of which handle. */
+uint8_t inroot_telling_next(struct inroot_telling *telling, uint8_t what, uint64_t handle);
+/* Behind ASKS_AGAIN: where the directory stands NOW. Returns whether it stands at the same names still, which are reported then. */
+bool inroot_telling_again(struct inroot_telling *telling, const unsigned char *place, size_t length, const unsigned char *now,
+                          size_t now_length);
+/* After a report: the handle that the call has on the directory, or 0 where it took none. */
+void inroot_telling_reported(struct inroot_telling *telling, uint64_t handle);
 
 /* ---- how much of a path is tried next, as as much as is there is opened. These take no memory. */
 

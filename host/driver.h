@@ -38,6 +38,9 @@ _Static_assert(INROOT_ASK_RESOLVE == 1 && INROOT_ASK_RESOLVE_NOFOLLOW == 2 && IN
 /* In the number of a handle without a slot: of a directory that was passed with others, or a link that was read by its name. */
 static const uint64_t INROOT_PASSED = UINT64_C(1) << 31;
 
+/* The root's own handle: the first of a call, in the first slot. */
+static const uint64_t INROOT_ROOT_HANDLE = UINT64_C(1) << 32;
+
 /*
  * Beside the steps of the proved call: the driver checks that /proc can distinguish the root from outside; it opens
  * what it made.
@@ -107,10 +110,8 @@ struct inroot_mount {
 struct inroot_from {
     int dir;                       /* the caller's descriptor of it, or INROOT_NONE */
     int fd;                        /* one that was opened at its names, or INROOT_NONE */
-    struct inroot_telling telling; /* which walks begin with its names, and are still to be begun */
-    bool unseen;                   /* the second path should begin at it, and no step has shown that it does */
+    struct inroot_telling telling; /* which walks begin with its names, and how far the call has come with them */
     const char *place;             /* the names, with a slash before each */
-    uint64_t told;                 /* the handle that a witness has just found there, or zero */
     bool is_copy;                  /* that descriptor is a copy of the caller's */
     uint64_t copied;               /* the handle that has it, or zero */
 };
@@ -498,14 +499,13 @@ struct inroot_joined {
 int inroot_from_join(struct inroot_driver *d, int root, int dir, const struct inroot_request *asked,
                      struct inroot_joined *joined);
 /*
- * Whether a walk begins there with this step. Then it reports the names to the proved call, as inroot_run_tell() does. Before the
- * second walk of a rename it asks for the directory's place anew.
+ * Whether the directory's names decide about this step. If a walk begins there with it, they are reported to the proved call, as by
+ * inroot_run_tell(); before the second walk of a rename the directory's place is asked for anew. If it is the question for the place
+ * that was just found, that is given. If it is to wait for the names, it isn't made.
  */
-bool inroot_from_begins(struct inroot_driver *d, struct inroot_told *told, char *room, char *text,
+bool inroot_from_begins(struct inroot_driver *d, struct inroot_told *told, char *room, char *text, size_t *length,
                         struct inroot_result *result);
 void inroot_from_end(struct inroot_driver *d);
-/* Whether the last question was for this handle's place. Then gives the same answer again. */
-bool inroot_from_tells(struct inroot_driver *d, uint64_t handle, char *text, size_t *length);
 
 /* give.c */
 /*

@@ -365,8 +365,6 @@ static struct inroot_result rename_entry(struct inroot_driver *d, const struct i
     int error = find(d, step->other, name, step->second, &new);
     if (error)
         return inroot_unmade(d, error);
-    if (d->from.unseen)
-        return inroot_unmade(d, EAGAIN);
     /* The modes have the kernel's own numbers. */
     unsigned int mode = step->detail | (d->asked->whiteout ? INROOT_WHITEOUT : 0);
     return changed(d, error_of(syscall(SYS_renameat2, old->dir, old->name, new.dir, new.name, mode)));
@@ -417,7 +415,7 @@ static struct inroot_result name_below(struct inroot_driver *d, const struct inr
     struct inroot_result result = {.what = INROOT_ANSWER_NAMES};
     if (d->known == INROOT_SHOWN_PLACED) {
         *length = d->placed_length;
-    } else if (!inroot_from_tells(d, step->handle, text, length)) {
+    } else {
         /* What is behind a place was in no run with what is before it. */
         inroot_looks_fresh(&d->looks);
         result = inroot_name_below(d, step, text, length);
@@ -464,7 +462,5 @@ struct inroot_result inroot_make(struct inroot_driver *d, struct inroot_told *st
         return inroot_unmade(d, ENAMETOOLONG);
     if (is_only_passed(d, step))
         return inroot_unmade(d, ENOMEM);
-    if (step->what != INROOT_STEP_NAME_BELOW)
-        d->from.told = 0;
     return step->what == INROOT_STEP_OPEN ? open_next(d, step, room, text) : make_other(d, step, room, text, length);
 }

@@ -1,5 +1,5 @@
 //! The text that a call walks from the root.
-ghost use Rattle.std.specs.Prelude.{◌≡◌, ◌≤◌, ◌<◌, ◌+◌, ◌-◌, ◌++◌, length, take, drop, min};
+ghost use Rattle.std.specs.Prelude.{◌≡◌, ◌≤◌, ◌<◌, ◌+◌, ◌-◌, ◌++◌, length, take, drop, min, nat_lt, if◌then◌else◌};
 ghost use Rattle.path_text.specs.declared.path.TheConstants.{TEXT_MAX};
 ghost use Rattle.path_text.specs.Name.{same_bytes};
 ghost use Rattle.path_text.specs.Text.{pieces};
@@ -7,8 +7,8 @@ ghost use Rattle.begin_below.specs.Paths.{begins_there, goes_below, joined, IsLa
 
 use path_text::{SLASH, TEXT_MAX};
 
-/// Whether a path begins at the directory: it doesn't begin with a slash, and isn't empty. Takes no memory.
-pub fn begins_there(path: &[u8]) -> bool
+// A path begins at the directory if it doesn't begin with a slash, and isn't empty.
+pub(crate) fn begins_there(path: &[u8]) -> bool
     ensures { result ≡ begins_there path.now }
 {
     match path.first() {
@@ -27,8 +27,8 @@ pub fn count_names(place: &[u8]) -> usize
         .count()
 }
 
-/// Whether a directory that stood at a place stands at the same names still, by where it stands now. Takes no memory.
-pub fn is_same_place(place: &[u8], again: &[u8]) -> bool
+// A directory that stood at a place stands at the same names still.
+pub(crate) fn is_same_place(place: &[u8], again: &[u8]) -> bool
     ensures { result ≡ same_bytes again.now place.now }
 {
     again == place
@@ -47,24 +47,31 @@ fn lay(text: &[u8], at: usize, room: &mut [u8]) -> usize
     at + size
 }
 
+pub(crate) fn has_names(place: &[u8]) -> bool
+    ensures { result ≡ nat_lt 0 (length (pieces place.now)) }
+{
+    count_names(place) > 0
+}
+
 fn goes_below(place: &[u8], path: &[u8]) -> bool
     ensures { result ≡ goes_below place.now path.now }
 {
-    begins_there(path) && count_names(place) > 0
+    begins_there(path) && has_names(place)
 }
 
 /// Lays the text that the call walks from the root at the room's beginning, and tells how many bytes that are. If the
-/// path begins at the directory, it is the names of the directory, a slash, and the path; else the path itself, as also
-/// where the directory is the root. `place` is where the directory stands: a slash before each name.
+/// path is one that begins at the directory, it is the names of the directory, a slash, and the path; else the path
+/// itself, as also where the directory is the root. `place` is where the directory stands: a slash before each name.
+/// `begins` is what a `Telling` says of the path.
 ///
 /// Of a text that is too long for a path 4,096 bytes are laid, one more than a path has. So a walk refuses it
 /// (ENAMETOOLONG). Takes no memory.
-pub fn join(place: &[u8], path: &[u8], room: &mut [u8]) -> usize
+pub fn join(place: &[u8], path: &[u8], begins: bool, room: &mut [u8]) -> usize
     requires { TEXT_MAX < length room.old }
-    ensures laid { IsLaid (joined place.now path.now) result room.old room.new }
+    ensures laid { IsLaid (if begins then joined place.now path.now else path.now) result room.old room.new }
     ensures within { result ≤ TEXT_MAX + 1 }
 {
-    if goes_below(place, path) {
+    if begins && goes_below(place, path) {
         let names = lay(&place[1..], 0, room);
         let behind = lay(&[SLASH], names, room);
         lay(path, behind, room)

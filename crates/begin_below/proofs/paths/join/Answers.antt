@@ -1,4 +1,5 @@
-use Rattle.std.proofs.Common.{◌≡◌, ◌-◌, ◌++◌, ◌∷◌, [], List, ℕ, length, take, drop, sym, subst, ◌∙◌}
+use Rattle.std.proofs.Common.{◌-◌, ◌++◌, ◌∷◌, [], List, ℕ, length, take, drop, sym, subst, ◌∙◌}
+use Rattle.std.proofs.lemmas.Bool.{cond-true}
 use Rattle.path_text.specs.declared.name.TheConstants.{SLASH}
 use Rattle.begin_below.specs.Paths.{IsLaid}
 use Rattle.begin_below.proofs.PathLemmas.{joined_is, laid_by, laid_nothing}
@@ -15,5 +16,6 @@ returns-then-goes_below-clause-laid c =
     c.lay-behind.result one c.lay-behind.ensures.used c.lay-behind.ensures.bytes in
     let three = laid_by (names ++ SLASH ∷ []) c.args.path.now first c.lay-behind.new.room c.lay.new.room
     c.lay-behind.result c.lay.result two c.lay.ensures.used c.lay.ensures.bytes in
+    let joins = joined_is c.args.place.now c.args.path.now (sym c.goes_below.ensures ∙ c.if-goes_below.true) in
     subst (λ (l : List ℕ). IsLaid l c.lay.result first c.lay.new.room)
-    (joined_is c.args.place.now c.args.path.now (sym c.goes_below.ensures ∙ c.if-goes_below.true)) three
+    (joins ∙ sym (cond-true c.args.begins _ _ c.if-begins.true)) three
