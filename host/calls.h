@@ -485,7 +485,7 @@ struct inroot_calling {
 void inroot_calling_begin(const struct inroot_calling_facts *facts, struct inroot_calling *calling);
 void inroot_calling_next(struct inroot_calling *calling, const struct inroot_calling_answer *answer);
 
-/* ---- which call comes next, as a file is opened, or made where it is missing. These take no memory. */
+/* ---- which call comes next, as a file is opened, or made, or made where it is missing. These take no memory. */
 
 /*
  * Three are calls on the path in the room: what is there is found, and opened; a file is made; the link that is there is read. If
@@ -497,17 +497,33 @@ enum inroot_course_next {
 
 /*
  * How far it has come. A driver reads what comes next, after a PAUSE of so many nanoseconds; the path, which is the room's first
- * LENGTH bytes; and the error with its step (INROOT_STEP_..) if it fails. It leaves all of it alone between two turns.
+ * LENGTH bytes; and the error with its step (INROOT_STEP_.., or 0) if it fails. It leaves all of it alone between two turns.
  */
 struct inroot_course {
     size_t length;
     uint32_t pause, links, between;
     uint8_t next, error, step;
-    bool follows, may_retry, again;
+    bool once, follows, may_retry, again;
 };
 
-/* Begins on the path that lies in the room. A link at its end is followed, unless NO_LINKS are. */
-void inroot_course_begin(size_t path_length, bool follows, bool no_links, bool may_retry, struct inroot_course *course);
+/* Begins on the path that lies in the room, by the flags of open(2). No link at its end is read where there are to be NO_LINKS. */
+void inroot_course_begin(size_t path_length, const struct inroot_opening *opening, bool no_links, bool may_retry,
+                         struct inroot_course *course);
+
+/*
+ * What a call is asked for: an operation (`enum inroot_op`); the mode of a new file, with its kind if it isn't opened as it is
+ * made, and the FLAGS by which it is. Only a DIRECTORY is of use; it is asked of which kind the object is; a new file is opened as
+ * it is made, or its name is opened, which the call GIVES; the text that is read is walked afterwards; the call takes INROOT_BELOW.
+ */
+struct inroot_course_request {
+    uint32_t bits, flags;
+    uint8_t op;
+    bool directory, asks_kind, opens, gives, walks, takes_below;
+};
+
+/* By the call that comes next. MODE is that of a new file. */
+void inroot_course_request(const struct inroot_opening *opening, uint32_t mode, uint8_t call,
+                           struct inroot_course_request *request);
 
 /*
  * Takes what the last call gave: an error, or 0 and the text of the link that was read. The room has 4,095 bytes at least, and its

@@ -1,6 +1,6 @@
 /*
  * use.c: opens an object that was found for reading and writing, makes and opens files, and gives the status of an
- * object.
+ * object. Which call comes next, and what that is asked for, the proved library says (crates/open_or_make, system_calls).
  */
 #define _GNU_SOURCE
 #include "driver.h"
@@ -23,27 +23,12 @@ _Static_assert(O_RDONLY == 0 && O_WRONLY == 01 && O_RDWR == 02 && O_CREAT == 010
 
 /* What is to be opened, and how; FLAGS are the call's. */
 struct use {
-    const char *path;
-    int flags;
+    int root, flags;
     mode_t mode;
     struct inroot_opening how;
 };
 
 /* ---- what is found */
-
-static int find(int root, const struct use *use, enum inroot_kind *kind)
-{
-    const struct inroot_request asked = {
-        .op = use->how.follows ? INROOT_ASK_RESOLVE : INROOT_ASK_RESOLVE_NOFOLLOW,
-        .flags = use->flags,
-        .first = use->path,
-        .second = "",
-        .directory = use->how.directory,
-        .opened = use->how.asks_kind ? kind : NULL,
-        .takes_below = true,
-    };
-    return inroot_carry_out_alone(root, &asked);
-}
 
 static ssize_t open_by_name(int proc, const char *name, void *how)
 {
@@ -70,104 +55,69 @@ static int use_found(int fd, enum inroot_kind kind, const struct use *use)
     }
 }
 
-static int open_found(int root, const struct use *use)
+/* Closes what was found, unless it is the reply. */
+static int give_found(int fd, enum inroot_kind kind, const struct use *use)
 {
-    enum inroot_kind kind = INROOT_KIND_FILE;
-    int fd = find(root, use, &kind);
-    if (fd < 0)
-        return fd;
     int used = use_found(fd, kind, use);
     if (used != fd)
         close(fd);
     return used < 0 ? inroot_error_alone(-used, "Reopen", "") : used;
 }
 
-/* ---- what is made */
+/* ---- calls. Proved functions say which comes next, and what it is asked for. */
 
-static int create(int root, const struct use *use)
+/* Makes a call on this path: a descriptor, or the length of the text that lies in the room; or -errno. */
+static int make(const struct use *use, uint8_t call, const char *path, enum inroot_kind *kind, char *room)
 {
-    const bool is_path = use->how.by_path;
+    struct inroot_course_request now;
+    inroot_course_request(&use->how, use->mode, call, &now);
     const struct inroot_request asked = {
-        .op = INROOT_ASK_MKFILE,
-        .flags = use->flags & ~INROOT_BELOW,
-        .first = use->path,
+        .op = (enum inroot_op)now.op,
+        .flags = now.takes_below ? use->flags : use->flags & ~INROOT_BELOW,
+        .first = path,
         .second = "",
-        .makes = is_path ? INROOT_MAKES_NEW : INROOT_MAKES_OPEN,
-        .bits = (is_path ? S_IFREG : 0) | use->mode,
-        .gives = is_path,
-        .open_flags = (int)use->how.made_flags,
+        .makes = now.opens ? INROOT_MAKES_OPEN : INROOT_MAKES_NEW,
+        .bits = now.bits,
+        .open_flags = (int)now.flags,
+        .directory = now.directory,
+        .follows = now.walks,
+        .gives = now.gives,
+        .takes_below = now.takes_below,
+        .opened = now.asks_kind ? kind : NULL,
     };
-    return inroot_carry_out_alone(root, &asked);
+    return (int)inroot_carry_out(use->root, &asked, room);
 }
 
-/* ---- what is found, or made where it is missing. Proved calls say what comes next. */
-
-/* Hands over what a call gave, with a link's text. */
-static int told(struct inroot_course *course, int result, const char *text, size_t length, char path[INROOT_TEXT_MAX + 1])
+/* Makes the call that comes next: its descriptor or -errno. */
+static int turn(const struct use *use, struct inroot_course *course, char path[INROOT_TEXT_MAX + 1])
 {
+    char text[INROOT_ROOM];
+    enum inroot_kind kind = INROOT_KIND_FILE;
+    inroot_wait(course->pause);
+    int result = make(use, course->next, path, &kind, text);
+    size_t length = course->next == INROOT_COURSE_READ_LINK && result > 0 ? (size_t)result : 0;
+    if (course->next == INROOT_COURSE_FIND && result >= 0)
+        result = give_found(result, kind, use);
     inroot_course_next(course, result < 0 ? (uint32_t)-result : 0, (const unsigned char *)text, length, (unsigned char *)path,
                        INROOT_TEXT_MAX);
     path[course->length] = 0;
     return result;
 }
 
-static int read_link(int root, const struct use *use, struct inroot_course *course, char path[INROOT_TEXT_MAX + 1])
-{
-    char text[INROOT_ROOM];
-    const struct inroot_request asked = {
-        .op = INROOT_ASK_READLINK, .flags = use->flags & ~INROOT_BELOW, .first = path, .second = "", .follows = true,
-    };
-    ssize_t length = inroot_carry_out(root, &asked, text);
-    return told(course, (int)length, text, length > 0 ? (size_t)length : 0, path);
-}
-
-/* Makes the call that comes next: its descriptor or -errno. */
-static int turn(int root, const struct use *use, struct inroot_course *course, char path[INROOT_TEXT_MAX + 1])
-{
-    inroot_wait(course->pause);
-    switch (course->next) {
-    case INROOT_COURSE_FIND:
-        return told(course, open_found(root, use), "", 0, path);
-    case INROOT_COURSE_CREATE:
-        return told(course, create(root, use), "", 0, path);
-    default:
-        return read_link(root, use, course, path);
-    }
-}
-
-/* USE has this path. */
-static int open_or_create(int root, const struct use *use, char path[INROOT_TEXT_MAX + 1])
-{
-    int result = 0;
-    struct inroot_course course;
-    inroot_course_begin(strlen(path), use->how.follows, use->flags & INROOT_NO_LINKS, !(use->flags & INROOT_NO_RETRY), &course);
-    while (course.next < INROOT_COURSE_ENDS)
-        result = turn(root, use, &course, path);
-    if (course.next == INROOT_COURSE_ENDS)
-        return result;
-    return inroot_error_alone(course.error, inroot_step_name(course.step), path);
-}
-
-/* ---- the calls */
-
-static int open_by(int root, const struct use *use, char path[INROOT_TEXT_MAX + 1])
-{
-    if (!use->how.makes)
-        return open_found(root, use);
-    return use->how.finds ? open_or_create(root, use, path) : create(root, use);
-}
-
 int inroot_openat(int root, const char *path, int open_flags, mode_t mode, int flags)
 {
-    int state;
+    int state, result = 0;
     char text[INROOT_TEXT_MAX + 1];
-    struct use use = {.path = text, .flags = flags, .mode = mode};
+    struct use use = {.root = root, .flags = flags, .mode = mode};
+    struct inroot_course course;
     inroot_copy(text, path);
     inroot_opening_of(&machine, (uint32_t)open_flags, mode, &use.how);
-    if (use.how.error)
-        return inroot_error_alone(use.how.error, "", text);
+    inroot_course_begin(strlen(text), &use.how, flags & INROOT_NO_LINKS, !(flags & INROOT_NO_RETRY), &course);
     pthread_setcancelstate(PTHREAD_CANCEL_DISABLE, &state);
-    int result = open_by(root, &use, text);
+    while (course.next < INROOT_COURSE_ENDS)
+        result = turn(&use, &course, text);
+    if (course.next == INROOT_COURSE_FAILS)
+        result = inroot_error_alone(course.error, inroot_step_name(course.step), text);
     pthread_setcancelstate(state, NULL);
     return result;
 }
@@ -189,13 +139,8 @@ int inroot_reopen(int fd, int open_flags)
 int inroot_stat(int root, const char *path, struct stat *about, int flags)
 {
     int state;
-    const struct use use = {
-        .path = path,
-        .flags = flags & ~INROOT_NOFOLLOW,
-        .how.follows = !(flags & INROOT_NOFOLLOW),
-    };
     pthread_setcancelstate(PTHREAD_CANCEL_DISABLE, &state);
-    int fd = find(root, &use, NULL);
+    int fd = inroot_open(root, path, flags);
     int result = fd;
     if (fd >= 0) {
         result = fstat(fd, about) == 0 ? 0 : inroot_error_alone(errno, "Stat", "");

@@ -8,7 +8,7 @@
 //! `host/calls.h`: what is kept is empty (zero) before the first call, and is left alone between two turns.
 #![tactic(auto)]
 
-ghost use Rattle.std.specs.Prelude.{◌≡◌, ◌≤◌, ◌∷◌, [], ℕ, List, not, true, false, ◌&&◌, drop, length, take, IfSome, IsSome};
+ghost use Rattle.std.specs.Prelude.{◌≡◌, ◌≤◌, ◌∷◌, [], ℕ, List, true, false, drop, length, take, IfSome, IsSome};
 ghost use Rattle.root_ops.specs.Ahead.{doing_ahead};
 ghost use Rattle.root_ops.specs.declared.call.CallTurn.{CallTurn};
 ghost use Rattle.c_protocol.specs.AtOnce.{misses_at_once, opens_at_once};
@@ -23,6 +23,7 @@ ghost use Rattle.place_protocol.specs.Texts.{texts_of};
 ghost use Rattle.path_text.specs.declared.path.TheConstants.{TEXT_MAX};
 ghost use Rattle.open_or_make.specs.Course.{exchange, IsAt};
 ghost use Rattle.open_or_make.specs.History.{asked_of, is_call, Asked as Wanted, Exchange};
+ghost use Rattle.open_or_make.specs.Requests.{request_of};
 ghost use Rattle.make_through_links.specs.History.{asked_of as making_asked, is_call as is_making_call, Asked as MakingAsked, Exchange as MakingExchange};
 ghost use Rattle.make_through_links.specs.Closing.{closing};
 ghost use Rattle.make_through_links.specs.Making.{exchange as making_exchange, IsAt as IsMakingAt, IsWithin};
@@ -44,7 +45,7 @@ mod ways;
 
 use c_protocol::{Ahead, Answered, Asked, Kept, Left, Parted, Ran, Told};
 use make_through_links::{Making, Outcome};
-use open_or_make::Course;
+use open_or_make::{Course, Request};
 use place_protocol::{Answer, Facts};
 use std::alloc::Global;
 use system_calls::{MachineFlags, Object, Opening, Use};
@@ -288,20 +289,33 @@ pub extern "C" fn inroot_place_next(
     *told = place_protocol::next(facts, told.what, answer, root, text, again);
 }
 
-/// Begins a call that opens a file, or makes it where it is missing: `open_or_make::begin`.
+/// Begins a call that opens a file, or makes it: `open_or_make::begin`.
 #[unsafe(no_mangle)]
 pub extern "C" fn inroot_course_begin(
     path_length: usize,
-    follows: bool,
+    opening: &Opening,
     no_links: bool,
     may_retry: bool,
     course: &mut Course,
 )
-    ensures begins { (room : List ℕ) → IsAt (asked_of (take path_length room) (follows && not no_links) may_retry)
-        [] course.new room }
+    ensures begins { (room : List ℕ) → IsAt (asked_of (take path_length room) opening.now no_links may_retry) []
+        course.new room }
     ensures same { course.new.length ≡ path_length }
 {
-    *course = open_or_make::begin(path_length, follows, no_links, may_retry);
+    *course = open_or_make::begin(path_length, opening, no_links, may_retry);
+}
+
+/// What each of its calls is asked for: `open_or_make::request_of`.
+#[unsafe(no_mangle)]
+pub extern "C" fn inroot_course_request(
+    opening: &Opening,
+    mode: u32,
+    call: u8,
+    request: &mut Request,
+)
+    ensures { request.new ≡ request_of opening.now mode call }
+{
+    *request = open_or_make::request_of(opening, mode, call);
 }
 
 /// Takes what the last of its calls gave, and says what comes next: `open_or_make::next`.

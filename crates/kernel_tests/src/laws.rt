@@ -6,6 +6,7 @@ fn laws_of_files() {
     open_or_make::what_is_given_was_found_or_made();
     open_or_make::what_is_there_is_given();
     open_or_make::what_is_missing_is_made();
+    open_or_make::flags_decide();
     open_or_make::links_are_followed_in_turn();
     open_or_make::no_link_is_read_without_leave();
     open_or_make::why_it_fails();

@@ -6,7 +6,7 @@ use Rattle.path_text.specs.Text.{is_empty}
 use Rattle.path_text.specs.declared.path.TheConstants.{TEXT_MAX}
 use Rattle.system_calls.specs.Errors.{ENAMETOOLONG, ELOOP}
 use Rattle.open_or_make.specs.Course.{due_of, exchange, Goes, IsAt, Keeps}
-use Rattle.open_or_make.specs.History.{after_link, after_met, calls, fails, is_between, is_call, is_link, links_read, meets, met_of, next_after, path_after, times_between, Asked, Due, Exchange, LINKS, STEP_READ_LINK}
+use Rattle.open_or_make.specs.History.{after_link, after_met, calls, fails, is_between, is_call, is_link, links_read, met_by, met_of, next_after, path_after, times_between, Asked, Due, Exchange, LINKS, STEP_READ_LINK}
 use Rattle.open_or_make.specs.Leads.{kept_length, led_to}
 use Rattle.open_or_make.specs.declared.course.Course.{Course}
 use Rattle.open_or_make.specs.declared.course.Met.{Met}
@@ -18,6 +18,7 @@ use Rattle.open_or_make.specs.declared.course.TheConstants.{FIND, READ_LINK}
 -- the same as `Keeps` of one call more, which met this and gave this text
 pub record KeepsMet (asked : Asked) (older : List Exchange) (text : List ℕ) (m : Met) (course : Course) (room : List ℕ) : Type 0 where
   pub path : take course.length room ≡ (if is_link m then led_to (path_after asked older) text else path_after asked older)
+  pub once : course.once ≡ asked.once
   pub follows : course.follows ≡ asked.follows
   pub may_retry : course.may_retry ≡ asked.may_retry
   pub links : course.links ≡ links_read asked older + (if is_link m then 1 else 0)
@@ -34,6 +35,7 @@ of_met asked older e course room goes = record {
   due = goes.due;
   keeps = λ call. let kept = goes.keeps call in record {
     path = kept.path;
+    once = kept.once;
     follows = kept.follows;
     may_retry = kept.may_retry;
     links = kept.links;
@@ -55,6 +57,7 @@ goes_stands asked older e course room keeps is =
       due = refl;
       keeps = λ call. record {
         path = keeps.path;
+        once = keeps.once;
         follows = keeps.follows;
         may_retry = keeps.may_retry;
         links = omega (arith, keeps.links);
@@ -123,6 +126,7 @@ goes_on asked older e course room new text kept l fits few bytes =
       due = sym (follows_due asked older e.text (omega (arith, fits, size_of asked older e course room text kept l)) (omega (arith, few, l.keeps.links)));
       keeps = λ call. record {
         path = now ∙ (kept_at ∙ leads);
+        once = l.keeps.once;
         follows = l.keeps.follows;
         may_retry = l.keeps.may_retry;
         links = omega (arith, l.keeps.links);
@@ -148,6 +152,8 @@ none_is_empty [] = refl
 none_is_empty (b ∷ bs) = ne_eqb (length (b ∷ bs)) 0 (λ none. omega arith)
 
 pub met_now : (asked : Asked) (older : List Exchange) (course : Course) (room text : List ℕ) (error : ℕ) (nothing : Bool) (m : Met) → Keeps asked older course room
-    → nothing ≡ (length text == 0) → meets course.follows course.next error nothing ≡ m → met_of asked (exchange course room error text) ≡ m
+    → nothing ≡ (length text == 0) → met_by course.once course.follows course.next error nothing ≡ m → met_of asked (exchange course room error text) ≡ m
 met_now asked older course room text error nothing m keeps none is =
-    ap (λ f. meets f course.next error (is_empty text)) (sym keeps.follows) ∙ (ap (meets course.follows course.next error) (sym (none ∙ none_is_empty text)) ∙ is)
+    ap (λ o. met_by o asked.follows course.next error (is_empty text)) (sym keeps.once)
+    ∙ (ap (λ f. met_by course.once f course.next error (is_empty text)) (sym keeps.follows)
+    ∙ (ap (met_by course.once course.follows course.next error) (sym (none ∙ none_is_empty text)) ∙ is))

@@ -6,7 +6,7 @@ use Rattle.path_text.specs.Text.{is_empty}
 use Rattle.path_text.specs.declared.path.TheConstants.{TEXT_MAX}
 use Rattle.system_calls.specs.Errors.{ENOENT, EAGAIN, EEXIST, EINVAL, ENAMETOOLONG, ELOOP}
 use Rattle.system_calls.specs.Tries.{is_due, pause_after}
-use Rattle.open_or_make.specs.History.{after_met, calls, fails, is_between, is_call, is_link, links_read, met_of, next_after, path_after, times_between, was_between, Asked, Exchange, IsHistory, IsNext, LINKS, STEP_MAKE_FILE, STEP_READ_LINK}
+use Rattle.open_or_make.specs.History.{after_met, calls, fails, is_between, is_call, is_link, links_read, meets, met_of, next_after, path_after, times_between, was_between, Asked, Exchange, IsHistory, IsNext, LINKS, STEP_MAKE_FILE, STEP_READ_LINK}
 use Rattle.open_or_make.specs.Leads.{led_to}
 use Rattle.open_or_make.specs.declared.course.Met.{Met}
 use Rattle.open_or_make.specs.declared.course.Met.TheVariants.{Missing, Stands, Link, Between, Other}
@@ -37,10 +37,15 @@ call_in call false false true missing stands follows false nothing true f g h so
 call_in call false false true missing stands follows false nothing false f g h some = tt
 call_in call false false false missing stands follows got nothing gone f g h some = elim (false≢true some) [ ]
 
+call_once : (once : Bool) (m : Met) (call : ℕ) → CallOf m call → CallOf (if once then Other else m) call
+call_once true m call is = tt
+call_once false m call is = is
+
 call_met : (asked : Asked) (e : Exchange) → is_call e.call ≡ true → CallOf (met_of asked e) e.call
 call_met asked e is =
-    call_in e.call (e.call == FIND) (e.call == CREATE) (e.call == READ_LINK) (e.error == ENOENT) (e.error == EEXIST) asked.follows (e.error == 0) (is_empty e.text)
-    ((e.error == EINVAL) || (e.error == ENOENT)) (eqb-true e.call FIND) (eqb-true e.call CREATE) (eqb-true e.call READ_LINK) is
+    call_once asked.once (meets asked.follows e.call e.error (is_empty e.text)) e.call
+    (call_in e.call (e.call == FIND) (e.call == CREATE) (e.call == READ_LINK) (e.error == ENOENT) (e.error == EEXIST) asked.follows (e.error == 0) (is_empty e.text)
+    ((e.error == EINVAL) || (e.error == ENOENT)) (eqb-true e.call FIND) (eqb-true e.call CREATE) (eqb-true e.call READ_LINK) is)
 
 pub call_of : (asked : Asked) (e : Exchange) (m : Met) → is_call e.call ≡ true → met_of asked e ≡ m → CallOf m e.call
 call_of asked e m is met = subst (λ n. CallOf n e.call) met (call_met asked e is)
@@ -178,8 +183,13 @@ few_by asked older e Between is (inr call) few =
 few_by asked older e Other is call few =
     few_end ENDS false (links_read asked older + 0) (times_between asked older + 0) (suc (length older)) (omega arith) (few_more asked older e is few)
 
+few_first : (good finds : Bool) → AreFew (if not good then FAILS else (if finds then FIND else CREATE)) false 0 0 0
+few_first true true = few_find false 0 0 0 (omega arith) (omega arith) (omega arith) (λ h. omega arith)
+few_first true false = few_create false 0 0 0 (omega arith) (omega arith) (omega arith)
+few_first false finds = few_end FAILS false 0 0 0 (omega arith) (omega arith)
+
 pub few : (asked : Asked) (history : List Exchange) → IsHistory asked history → Before asked history
-few asked [] h = few_find false 0 0 0 (omega arith) (omega arith) (omega arith) (λ h. omega arith)
+few asked [] h = few_first (asked.error == 0) asked.finds
 few asked (e ∷ older) h = few_by asked older e (met_of asked e) h.0 (call_met asked e h.0.is) (few asked older h.1)
 
 pub links-few : (asked : Asked) (e : Exchange) (older : List Exchange) → IsHistory asked (e ∷ older) → links_read asked older ≤ 40

@@ -7,7 +7,7 @@ use Rattle.path_text.specs.Text.{is_empty}
 use Rattle.path_text.specs.declared.path.TheConstants.{TEXT_MAX}
 use Rattle.system_calls.specs.Errors.{ENOENT, EAGAIN, EEXIST, EINVAL, ENAMETOOLONG, ELOOP}
 use Rattle.system_calls.specs.Tries.{is_due, pause_after, TRIES}
-use Rattle.open_or_make.specs.History.{after_met, calls, fails, is_call, is_link, links_read, met_of, next_after, path_after, times_between, was_between, Asked, Exchange, IsHistory, IsNext, LINKS, STEP_MAKE_FILE, STEP_READ_LINK}
+use Rattle.open_or_make.specs.History.{after_met, calls, fails, is_call, is_link, links_read, meets, met_of, next_after, path_after, times_between, was_between, Asked, Exchange, IsHistory, IsNext, LINKS, STEP_MAKE_FILE, STEP_READ_LINK}
 use Rattle.open_or_make.specs.Leads.{led_to}
 use Rattle.open_or_make.specs.Promises.{GaveNone, IsGiven, IsLastTry, IsOneTooMany, IsPathOf, IsTooLong, IsWhy}
 use Rattle.open_or_make.specs.declared.course.Met.{Met}
@@ -31,10 +31,18 @@ stands_in false missing false stands follows true false gone never is = cc
 stands_in false missing false stands follows false nothing true never is = cc
 stands_in false missing false stands follows false nothing false never is = cc
 
-never_stands : (asked : Asked) (e : Exchange) → asked.follows ≡ false → met_of asked e ≡ Stands → ⊥
-never_stands asked e never is =
+not_once : (once : Bool) (m : Met) → (m ≡ Stands → ⊥) → (if once then Other else m) ≡ Stands → ⊥
+not_once true m never is = cc
+not_once false m never is = never is
+
+never_met : (asked : Asked) (e : Exchange) → asked.follows ≡ false → meets asked.follows e.call e.error (is_empty e.text) ≡ Stands → ⊥
+never_met asked e never is =
     stands_in (e.call == FIND) (e.error == ENOENT) (e.call == CREATE) (e.error == EEXIST) asked.follows (e.error == 0) (is_empty e.text)
     ((e.error == EINVAL) || (e.error == ENOENT)) never is
+
+never_stands : (asked : Asked) (e : Exchange) → asked.follows ≡ false → met_of asked e ≡ Stands → ⊥
+never_stands asked e never is =
+    not_once asked.once (meets asked.follows e.call e.error (is_empty e.text)) (never_met asked e never) is
 
 missing_reads : (again due : Bool) (pause : ℕ)
     → (if not again then calls CREATE 0 else (if due then calls CREATE pause else fails EAGAIN STEP_MAKE_FILE)).next ≡ READ_LINK → ⊥
@@ -57,8 +65,13 @@ reads_by asked e older Link never is =
 reads_by asked e older Between never is = omega (arith, is)
 reads_by asked e older Other never is = omega (arith, is)
 
+first_reads : (good finds : Bool) → (if not good then FAILS else (if finds then FIND else CREATE)) ≡ READ_LINK → ⊥
+first_reads true true is = omega (arith, is)
+first_reads true false is = omega (arith, is)
+first_reads false finds is = omega (arith, is)
+
 no_reading : (asked : Asked) (older : List Exchange) → asked.follows ≡ false → (next_after asked older).next ≡ READ_LINK → ⊥
-no_reading asked [] never is = omega (arith, is)
+no_reading asked [] never is = first_reads (asked.error == 0) asked.finds is
 no_reading asked (e ∷ older) never is = reads_by asked e older (met_of asked e) (never_stands asked e never) is
 
 pub none_read : (asked : Asked) (history : List Exchange) → IsHistory asked history → asked.follows ≡ false → AllByRecursion (λ e. e.call ≢ READ_LINK) history
@@ -86,18 +99,26 @@ gave_in call false missing false stands follows true gone true there new f g h s
 gave_in call false missing false stands follows false gone true there new f g h some = inr (h refl, inr refl)
 gave_in call false missing false stands follows nothing gone false there new f g h some = elim (false≢true some) [ ]
 
-abbrev Gave : Asked → Exchange → Type 0
-Gave asked e = ((met_of asked e ≡ Other) × (e.call ≡ FIND ⊎ e.call ≡ CREATE)) ⊎ ((e.call ≡ READ_LINK) × ((met_of asked e ≡ Between) ⊎ (met_of asked e ≡ Link)))
+abbrev GaveBy : Met → ℕ → Type 0
+GaveBy m call = ((m ≡ Other) × (call ≡ FIND ⊎ call ≡ CREATE)) ⊎ ((call ≡ READ_LINK) × ((m ≡ Between) ⊎ (m ≡ Link)))
 
--- as a record, so that the error can be replaced
-gave_zero : (asked : Asked) (call : ℕ) (path text : List ℕ) → is_call call ≡ true → Gave asked (record { call = call; path = path; error = 0; text = text })
-gave_zero asked call path text is =
-    gave_in call (call == FIND) false (call == CREATE) false asked.follows (is_empty text) false (call == READ_LINK) refl refl
+gave_zero : (follows : Bool) (call : ℕ) (text : List ℕ) → is_call call ≡ true → GaveBy (meets follows call 0 (is_empty text)) call
+gave_zero follows call text is =
+    gave_in call (call == FIND) false (call == CREATE) false follows (is_empty text) false (call == READ_LINK) refl refl
     (eqb-true call FIND) (eqb-true call CREATE) (eqb-true call READ_LINK) is
 
-gave : (asked : Asked) (e : Exchange) → is_call e.call ≡ true → e.error ≡ 0 → Gave asked e
+gave_once : (once : Bool) (m : Met) (call : ℕ) → GaveBy m call → (once ≡ true) ⊎ GaveBy (if once then Other else m) call
+gave_once true m call by = inl refl
+gave_once false m call by = inr by
+
+-- either one call is all, or this is what it met
+gave : (asked : Asked) (e : Exchange) → is_call e.call ≡ true → e.error ≡ 0 → (asked.once ≡ true) ⊎ GaveBy (met_of asked e) e.call
 gave asked e is none =
-    subst (λ n. Gave asked (record { call = e.call; path = e.path; error = n; text = e.text })) (sym none) (gave_zero asked e.call e.path e.text is)
+    gave_once asked.once (meets asked.follows e.call e.error (is_empty e.text)) e.call
+    (subst (λ n. GaveBy (meets asked.follows e.call n (is_empty e.text)) e.call) (sym none) (gave_zero asked.follows e.call e.text is))
+
+all_met : (asked : Asked) (e : Exchange) → asked.once ≡ true → met_of asked e ≡ Other
+all_met asked e once = cond-true asked.once Other (meets asked.follows e.call e.error (is_empty e.text)) once
 
 not_a_call : (asked : Asked) (e : Exchange) (older : List Exchange) → met_of asked e ≡ Other → is_call (next_after asked (e ∷ older)).next ≡ true → ⊥
 not_a_call asked e older is goes =
@@ -105,12 +126,70 @@ not_a_call asked e older is goes =
 
 gave_none : (asked : Asked) (e : Exchange) (older : List Exchange) → is_call e.call ≡ true → is_call (next_after asked (e ∷ older)).next ≡ true → GaveNone e
 gave_none asked e older is goes = λ none.
-    elim (gave asked e is none) [ inl ended ↦ absurd (not_a_call asked e older ended.0 goes) | inr reads ↦ reads.0 ]
+    elim (gave asked e is none) [
+      | inl once ↦ absurd (not_a_call asked e older (all_met asked e once) goes)
+      | inr by ↦ elim by [ inl ended ↦ absurd (not_a_call asked e older ended.0 goes) | inr reads ↦ reads.0 ]
+    ]
 
 all_gave_none : (asked : Asked) (older : List Exchange) → IsHistory asked older → is_call (next_after asked older).next ≡ true → AllByRecursion GaveNone older
 all_gave_none asked [] h goes = tt
 all_gave_none asked (e ∷ older) h goes =
     (gave_none asked e older h.0.is goes, all_gave_none asked older h.1 (ap is_call (sym h.0.call) ∙ h.0.is))
+
+-- ---- where one call is all
+
+first_goes : (call : ℕ) (good finds : Bool) → call ≡ (if not good then FAILS else (if finds then FIND else CREATE)) → is_call call ≡ true
+    → (good ≡ true) × (((finds ≡ true) × (call ≡ FIND)) ⊎ ((finds ≡ false) × (call ≡ CREATE)))
+first_goes call true true by is = (refl, inl (refl, by))
+first_goes call true false by is = (refl, inr (refl, by))
+first_goes call false finds by is = elim (false≢true (sym (ap is_call by) ∙ is)) [ ]
+
+-- nothing comes before it
+alone : (asked : Asked) (e : Exchange) (older : List Exchange) → asked.once ≡ true → IsHistory asked (e ∷ older) → older ≡ []
+alone asked e [] once h = refl
+alone asked e (n ∷ more) once h = absurd (not_a_call asked n more (all_met asked n once) (ap is_call (sym h.0.call) ∙ h.0.is))
+
+only : (asked : Asked) (e : Exchange) (older : List Exchange) → asked.once ≡ true → IsHistory asked (e ∷ older)
+    → (asked.error ≡ 0) × (((asked.finds ≡ true) × (e.call ≡ FIND)) ⊎ ((asked.finds ≡ false) × (e.call ≡ CREATE)))
+only asked e [] once h =
+    let by = first_goes e.call (asked.error == 0) asked.finds h.0.call h.0.is in (eqb-true asked.error 0 by.0, by.1)
+only asked e (n ∷ more) once h = absurd (not_a_call asked n more (all_met asked n once) (ap is_call (sym h.0.call) ∙ h.0.is))
+
+pub once_few : (asked : Asked) (history : List Exchange) → IsHistory asked history → asked.once ≡ true → length history ≤ 1
+once_few asked [] h once = omega arith
+once_few asked (e ∷ older) h once = let none = alone asked e older once h in omega (arith, ap length none)
+
+pub once_finds : (asked : Asked) (history : List Exchange) → IsHistory asked history → asked.once ≡ true → asked.finds ≡ true
+    → AllByRecursion (λ e. e.call ≡ FIND) history
+once_finds asked [] h once finds = tt
+once_finds asked (e ∷ older) h once finds = (
+  elim (only asked e older once h).1 [ inl found ↦ found.1 | inr made ↦ absurd (false≢true (sym made.0 ∙ finds)) ],
+  once_finds asked older h.1 once finds,
+)
+
+pub once_makes : (asked : Asked) (history : List Exchange) → IsHistory asked history → asked.once ≡ true → asked.finds ≡ false
+    → AllByRecursion (λ e. e.call ≡ CREATE) history
+once_makes asked [] h once finds = tt
+once_makes asked (e ∷ older) h once finds = (
+  elim (only asked e older once h).1 [ inl found ↦ absurd (false≢true (sym finds ∙ found.0)) | inr made ↦ made.1 ],
+  once_makes asked older h.1 once finds,
+)
+
+first_error : (error : ℕ) (good finds : Bool) (call : ℕ) → (error == 0) ≡ good → call ≡ (if not good then FAILS else (if finds then FIND else CREATE))
+    → is_call call ≡ true → error ≡ 0
+first_error error true finds call is by goes = eqb-true error 0 is
+first_error error false finds call is by goes = elim (false≢true (sym (ap is_call by) ∙ goes)) [ ]
+
+pub refused_none : (asked : Asked) (history : List Exchange) → IsHistory asked history → asked.error ≢ 0 → history ≡ []
+refused_none asked [] h wrong = refl
+refused_none asked (e ∷ older) h wrong = absurd (wrong (called asked (e ∷ older) e older refl h))
+  where
+    called : (asked : Asked) (history : List Exchange) (e : Exchange) (older : List Exchange) → history ≡ e ∷ older → IsHistory asked (e ∷ older)
+        → asked.error ≡ 0
+    called asked history e [] is h = first_error asked.error (asked.error == 0) asked.finds e.call refl h.0.call h.0.is
+    called asked history e (n ∷ more) is h = called asked (n ∷ more) n more refl h.1
+
+-- ---- which reply it is
 
 link_ends : (long left : Bool)
     → (if long then fails ENAMETOOLONG STEP_READ_LINK else (if left then calls FIND 0 else fails ELOOP STEP_READ_LINK)).next ≡ ENDS → ⊥
@@ -129,7 +208,10 @@ pub given : (asked : Asked) (e : Exchange) (older : List Exchange) → IsHistory
     → IsGiven asked older e
 given asked e older h ends none =
     let by : e.call ≡ FIND ⊎ e.call ≡ CREATE =
-    elim (gave asked e h.0.is none) [ inl it ↦ it.1 | inr reads ↦ absurd (text_ends asked e older reads.1 ends) ] in
+    elim (gave asked e h.0.is none) [
+      | inl once ↦ elim (only asked e older once h).1 [ inl found ↦ inl found.1 | inr made ↦ inr made.1 ]
+      | inr by ↦ elim by [ inl it ↦ it.1 | inr reads ↦ absurd (text_ends asked e older reads.1 ends) ]
+    ] in
     record { by = by; path = h.0.path; others = all_gave_none asked older h.1 (ap is_call (sym h.0.call) ∙ h.0.is) }
 
 -- ---- paths

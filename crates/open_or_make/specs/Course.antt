@@ -14,6 +14,7 @@ exchange course room error text =
 -- its path lies at the room's beginning, and its numbers are those of the calls that were made
 pub record Keeps (asked : Asked) (history : List Exchange) (course : Course) (room : List ℕ) : Type 0 where
   pub path : take course.length room ≡ path_after asked history
+  pub once : course.once ≡ asked.once
   pub follows : course.follows ≡ asked.follows
   pub may_retry : course.may_retry ≡ asked.may_retry
   pub links : course.links ≡ links_read asked history

@@ -1,10 +1,11 @@
--- The calls that were made to open a file, or to make it where it is missing (open(2), O_CREAT without O_EXCL), and
--- which one comes next. A history has the last call first.
-use Rattle.std.specs.Prelude.{◌≡◌, ℕ, ◌+◌, List, [], ◌∷◌, ◌==◌, Bool, true, false, not, ◌||◌, if◌then◌else◌, nat_lt, length}
+-- The calls that were made to open a file, or to make it, also only where it is missing (open(2), O_CREAT and O_EXCL),
+-- and which one comes next. A history has the last call first.
+use Rattle.std.specs.Prelude.{◌≡◌, ℕ, ◌+◌, List, [], ◌∷◌, ◌==◌, Bool, true, false, not, ◌&&◌, ◌||◌, if◌then◌else◌, nat_lt, length}
 use Rattle.path_text.specs.Text.{is_empty}
 use Rattle.path_text.specs.declared.path.TheConstants.{TEXT_MAX}
 use Rattle.system_calls.specs.Errors.{ENOENT, EAGAIN, EEXIST, EINVAL, ENAMETOOLONG, ELOOP}
 use Rattle.system_calls.specs.Tries.{is_due, pause_after}
+use Rattle.system_calls.specs.declared.opening.Opening.{Opening}
 use Rattle.open_or_make.specs.Leads.{led_to}
 use Rattle.open_or_make.specs.declared.course.TheConstants.{FIND, CREATE, READ_LINK, ENDS, FAILS}
 use Rattle.open_or_make.specs.declared.course.Met.{Met}
@@ -25,14 +26,27 @@ STEP_MAKE_FILE = 9
 
 -- ---- what was asked, and what was got
 
--- the path, whether a link at its end may be followed, and whether it may be tried again
+-- the path; the error of the flags, or 0; whether what is there is looked for; whether one call is all; whether a link at
+-- the path's end may be followed; and whether it may be tried again
 pub record Asked : Type 0 where
   pub path : List ℕ
+  pub error : ℕ
+  pub finds : Bool
+  pub once : Bool
   pub follows : Bool
   pub may_retry : Bool
 
-abbrev pub asked_of : List ℕ → Bool → Bool → Asked
-asked_of path follows may_retry = record { path = path; follows = follows; may_retry = may_retry }
+-- Only what is both looked for and made, if it is missing, may take more than one call.
+abbrev pub asked_of : List ℕ → Opening → Bool → Bool → Asked
+asked_of path opening no_links may_retry =
+    record {
+      path = path;
+      error = opening.error;
+      finds = opening.finds;
+      once = not (opening.finds && opening.makes);
+      follows = opening.follows && not no_links;
+      may_retry = may_retry;
+    }
 
 -- One call on a path, and what it gave: an error's number, or 0 where it gave a descriptor, or a link's text.
 pub record Exchange : Type 0 where
@@ -54,8 +68,12 @@ meets follows call error nothing =
     else (if error == 0 then (if nothing then Between else Link)
     else (if (error == EINVAL) || (error == ENOENT) then Between else Other)))
 
+-- where one call is all, what it gives is the reply
+abbrev pub met_by : Bool → Bool → ℕ → ℕ → Bool → Met
+met_by once follows call error nothing = if once then Other else meets follows call error nothing
+
 abbrev pub met_of : Asked → Exchange → Met
-met_of asked e = meets asked.follows e.call e.error (is_empty e.text)
+met_of asked e = met_by asked.once asked.follows e.call e.error (is_empty e.text)
 
 abbrev pub is_link : Met → Bool
 is_link Link = true
@@ -121,9 +139,16 @@ after_met asked Link older text = after_link asked older text
 after_met asked Between older text = calls FIND 0
 after_met asked Other older text = calls ENDS 0
 
+abbrev pub first_call : ℕ → Bool → ℕ
+first_call error finds = if not (error == 0) then FAILS else (if finds then FIND else CREATE)
+
+-- flags that are refused make no call
+abbrev pub first_due : Asked → Due
+first_due asked = record { next = first_call asked.error asked.finds; pause = 0; error = asked.error; step = 0 }
+
 -- what comes next after these calls
 abbrev pub next_after : Asked → List Exchange → Due
-next_after asked [] = calls FIND 0
+next_after asked [] = first_due asked
 next_after asked (e ∷ older) = after_met asked (met_of asked e) older e.text
 
 -- ---- histories

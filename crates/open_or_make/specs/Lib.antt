@@ -2,3 +2,4 @@ pub mod Course
 pub mod History
 pub mod Leads
 pub mod Promises
+pub mod Requests

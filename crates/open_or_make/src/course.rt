@@ -1,13 +1,13 @@
 //! How far a call has come, and which call comes next.
-ghost use Rattle.std.specs.Prelude.{◌≡◌, ◌≤◌, ◌+◌, ℕ, List, [], ◌∷◌, Bool, true, false, not, ◌&&◌, length, take};
+ghost use Rattle.std.specs.Prelude.{◌≡◌, ◌≤◌, ◌+◌, ℕ, List, [], ◌∷◌, Bool, true, false, length, take};
 ghost use Rattle.path_text.specs.declared.path.TheConstants.{TEXT_MAX};
 ghost use Rattle.open_or_make.specs.Course.{exchange, Goes, IsAt, Keeps};
-ghost use Rattle.open_or_make.specs.History.{asked_of, is_call, meets, met_of, Asked, Exchange};
+ghost use Rattle.open_or_make.specs.History.{asked_of, first_call, is_call, meets, met_by, met_of, Asked, Exchange};
 
 use crate::leads::{kept_length, lay};
 use path_text::TEXT_MAX;
 use system_calls::errors::{EAGAIN, EEXIST, EINVAL, ELOOP, ENAMETOOLONG, ENOENT};
-use system_calls::next_try;
+use system_calls::{Opening, next_try};
 
 /// What is at the path's end is looked for, through links, and opened.
 pub const FIND: u8 = 1;
@@ -46,10 +46,13 @@ pub struct Course {
     pub between: u32,
     /// What comes next: FIND, CREATE or READ_LINK; ENDS or FAILS.
     pub next: u8,
-    /// If it is FAILS, the number of the error (errno(3)): ELOOP (40), ENAMETOOLONG (36) or EAGAIN (11). Else 0.
+    /// If it is FAILS, the number of the error (errno(3)): ELOOP (40), ENAMETOOLONG (36) or EAGAIN (11); or before any
+    /// call that of the flags, EINVAL (22). Else 0.
     pub error: u8,
-    /// If it is FAILS, the number of the step: 4 to read a link, 9 to make a file. Else 0.
+    /// If it is FAILS, the number of the step: 4 to read a link, 9 to make a file, 0 before any call. Else 0.
     pub step: u8,
+    /// One call is all: what is there is only looked for, or what is made must be missing.
+    pub once: bool,
     /// A link at the path's end may be followed.
     pub follows: bool,
     /// Where somebody comes in between, another try may be made.
@@ -90,6 +93,16 @@ fn meets(follows: bool, call: u8, error: u32, nothing: bool) -> Met
         Met::Between
     } else {
         Met::Other
+    }
+}
+
+fn met_by(course: Course, error: u32, nothing: bool) -> Met
+    ensures { result ≡ met_by course.once course.follows course.next error nothing }
+{
+    if course.once {
+        Met::Other
+    } else {
+        meets(course.follows, course.next, error, nothing)
     }
 }
 
@@ -173,11 +186,26 @@ fn lead_on(course: Course, text: &[u8], room: &mut [u8]) -> Course
     }
 }
 
-/// Begins a call on the path that lies at the beginning of a room, of so many bytes: whether a link at its end is
-/// followed, unless links are refused; and whether it may be tried again if somebody comes in between. Takes no memory.
-pub fn begin(path_length: usize, follows: bool, no_links: bool, may_retry: bool) -> Course
-    ensures begins { (room : List ℕ) → IsAt (asked_of (take path_length room) (follows && not no_links) may_retry)
-        [] result room }
+fn first_call(opening: &Opening) -> u8
+    ensures { result ≡ first_call opening.now.error opening.now.finds }
+{
+    if opening.error != 0 {
+        FAILS
+    } else if opening.finds {
+        FIND
+    } else {
+        CREATE
+    }
+}
+
+/// Begins a call on the path that lies at the beginning of a room, of so many bytes: what it does by the flags of
+/// open(2), in which no link is read if links are refused; and whether it may be tried again if somebody comes in
+/// between. Takes no memory. Errors: that of the flags.
+///
+/// If what is there is only looked for, one call finds it. If what is made must be missing, one call makes it.
+pub fn begin(path_length: usize, opening: &Opening, no_links: bool, may_retry: bool) -> Course
+    ensures begins { (room : List ℕ) → IsAt (asked_of (take path_length room) opening.now no_links may_retry) [] result
+        room }
     ensures same { result.length ≡ path_length }
 {
     Course {
@@ -185,10 +213,11 @@ pub fn begin(path_length: usize, follows: bool, no_links: bool, may_retry: bool)
         pause: 0,
         links: 0,
         between: 0,
-        next: FIND,
-        error: 0,
+        next: first_call(opening),
+        error: opening.error,
         step: 0,
-        follows: follows && !no_links,
+        once: !(opening.finds && opening.makes),
+        follows: opening.follows && !no_links,
         may_retry,
         again: false,
     }
@@ -198,7 +227,7 @@ pub fn begin(path_length: usize, follows: bool, no_links: bool, may_retry: bool)
 /// link's text, which is then handed over; or else it is the call's (errno(3)). The room has the next call's path at
 /// its beginning. It stays as it was where no call comes next. Takes no memory.
 ///
-/// If the last call found nothing, a file is made. If an entry is there by then, and a link may be followed, the link
+/// If one call is all, its reply is the reply. Else, if the last call found nothing, a file is made. If an entry is there by then, and a link may be followed, the link
 /// there is read, and the path to which it leads takes the path's place, at most 40 times. If somebody came in between,
 /// so that what stood there is no link or is gone, the path is looked at once more: there are 32 tries at most.
 ///
@@ -212,7 +241,7 @@ pub fn next(course: Course, error: u32, text: &[u8], room: &mut [u8]) -> Course
     ensures within { result.length ≤ length room.new }
     ensures ends { is_call result.next ≡ false → (room.new ≡ room.old) × (result.length ≡ course.length) }
 {
-    match meets(course.follows, course.next, error, text.is_empty()) {
+    match met_by(course, error, text.is_empty()) {
         Met::Missing => make_missing(course),
         Met::Stands => calls(course, READ_LINK, 0),
         Met::Link => lead_on(course, text, room),

@@ -25,17 +25,33 @@ pub fn what_is_there_is_given()
         → next_after asked (e ∷ older) ≡ calls ENDS 0 }
 {}
 
-/// The path is looked at first. What is missing is made. If an entry is there by then, and a link may be followed, it
-/// is read; and the path to which it leads is looked at, if that fits and there were fewer than 40 links.
+/// The path is looked at first, if it is to be looked for. What is missing is made, if more than one call may be made. If
+/// an entry is there by then, and a link may be followed, it is read; and the path to which it leads is looked at, if that
+/// fits and there were fewer than 40 links.
 pub fn what_is_missing_is_made()
-    ensures first { (asked : Asked) → next_after asked [] ≡ calls FIND 0 }
-    ensures missing { (asked : Asked) (e : Exchange) (older : List Exchange) → e.call ≡ FIND → e.error ≡ ENOENT
-        → was_between asked older ≡ false → next_after asked (e ∷ older) ≡ calls CREATE 0 }
-    ensures stands { (asked : Asked) (e : Exchange) (older : List Exchange) → asked.follows ≡ true → e.call ≡ CREATE
-        → e.error ≡ EEXIST → next_after asked (e ∷ older) ≡ calls READ_LINK 0 }
-    ensures link { (asked : Asked) (e : Exchange) (older : List Exchange) → e.call ≡ READ_LINK → e.error ≡ 0
-        → is_empty e.text ≡ false → length (led_to (path_after asked older) e.text) ≤ TEXT_MAX
+    ensures first { (asked : Asked) → asked.error ≡ 0 → asked.finds ≡ true → next_after asked [] ≡ calls FIND 0 }
+    ensures new { (asked : Asked) → asked.error ≡ 0 → asked.finds ≡ false → next_after asked [] ≡ calls CREATE 0 }
+    ensures missing { (asked : Asked) (e : Exchange) (older : List Exchange) → asked.once ≡ false → e.call ≡ FIND
+        → e.error ≡ ENOENT → was_between asked older ≡ false → next_after asked (e ∷ older) ≡ calls CREATE 0 }
+    ensures stands { (asked : Asked) (e : Exchange) (older : List Exchange) → asked.once ≡ false
+        → asked.follows ≡ true → e.call ≡ CREATE → e.error ≡ EEXIST
+        → next_after asked (e ∷ older) ≡ calls READ_LINK 0 }
+    ensures link { (asked : Asked) (e : Exchange) (older : List Exchange) → asked.once ≡ false → e.call ≡ READ_LINK
+        → e.error ≡ 0 → is_empty e.text ≡ false → length (led_to (path_after asked older) e.text) ≤ TEXT_MAX
         → links_read asked older < LINKS → next_after asked (e ∷ older) ≡ calls FIND 0 }
+{}
+
+/// Flags that are refused make no call. Where one call is all, it looks for what is there, or makes what must be missing,
+/// as the flags say, and there is no other.
+pub fn flags_decide()
+    ensures refused { (asked : Asked) (history : List Exchange) → IsHistory asked history → asked.error ≢ 0
+        → history ≡ [] }
+    ensures finds { (asked : Asked) (history : List Exchange) → IsHistory asked history → asked.once ≡ true
+        → asked.finds ≡ true → AllByRecursion (λ e. e.call ≡ FIND) history }
+    ensures makes { (asked : Asked) (history : List Exchange) → IsHistory asked history → asked.once ≡ true
+        → asked.finds ≡ false → AllByRecursion (λ e. e.call ≡ CREATE) history }
+    ensures few { (asked : Asked) (history : List Exchange) → IsHistory asked history → asked.once ≡ true
+        → length history ≤ 1 }
 {}
 
 /// Each call's path is the one that was asked for, as long as no link was read. Then it is the path to which the link

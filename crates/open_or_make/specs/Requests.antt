@@ -1,0 +1,70 @@
+-- What each call is asked for, by the flags of open(2).
+use Rattle.std.specs.Prelude.{ℕ, ◌^◌, ◌==◌, true, false, not, if◌then◌else◌, bit_or}
+use Rattle.system_calls.specs.declared.opening.Opening.{Opening}
+use Rattle.open_or_make.specs.declared.course.TheConstants.{FIND, CREATE}
+use Rattle.open_or_make.specs.declared.requests.Request.{Request}
+
+-- the operations, as c_protocol numbers them
+abbrev pub RESOLVE : ℕ
+RESOLVE = 1
+
+abbrev pub RESOLVE_NOFOLLOW : ℕ
+RESOLVE_NOFOLLOW = 2
+
+abbrev pub READLINK : ℕ
+READLINK = 3
+
+abbrev pub MKFILE : ℕ
+MKFILE = 4
+
+-- the kind of a regular file in a mode (inode(7))
+abbrev pub S_IFREG : ℕ
+S_IFREG = 2 ^ 15
+
+-- O_NOFOLLOW and O_DIRECTORY are the walk's; whether its last check may be the kernel's, too
+abbrev pub finding : Opening → Request
+finding opening =
+    record {
+      bits = 0;
+      flags = 0;
+      op = if opening.follows then RESOLVE else RESOLVE_NOFOLLOW;
+      directory = opening.directory;
+      asks_kind = opening.asks_kind;
+      opens = false;
+      gives = false;
+      walks = false;
+      takes_below = true;
+    }
+
+-- Under O_PATH open(2) makes nothing, so that the file is made by mknod(2), which takes its kind, and its name is opened.
+abbrev pub creating : Opening → ℕ → Request
+creating opening mode =
+    record {
+      bits = if opening.by_path then bit_or mode S_IFREG else mode;
+      flags = opening.made_flags;
+      op = MKFILE;
+      directory = false;
+      asks_kind = false;
+      opens = not opening.by_path;
+      gives = opening.by_path;
+      walks = false;
+      takes_below = false;
+    }
+
+abbrev pub reading : Request
+reading =
+    record {
+      bits = 0;
+      flags = 0;
+      op = READLINK;
+      directory = false;
+      asks_kind = false;
+      opens = false;
+      gives = false;
+      walks = true;
+      takes_below = false;
+    }
+
+abbrev pub request_of : Opening → ℕ → ℕ → Request
+request_of opening mode call =
+    if call == FIND then finding opening else (if call == CREATE then creating opening mode else reading)
