@@ -980,9 +980,8 @@ void inroot_telling_reported(struct inroot_telling *telling, uint64_t handle);
 /* ---- how much of a path is tried next, as as much as is there is opened. These take no memory. */
 
 /*
- * So many of the path's first pieces are opened: all of them as what they mean, fewer as a directory, none as the one
- * where the path begins. A descriptor is closed. If it ENDS, what is there is open. If it FAILS, nothing is, and
- * there is an error.
+ * So many of the path's first pieces are opened, as a trial says. A descriptor is closed. If it ENDS, what is there is open. If it
+ * FAILS, nothing is, and there is an error.
  */
 enum inroot_search_next {
     INROOT_SEARCH_TRY = 1, INROOT_SEARCH_CLOSE, INROOT_SEARCH_ENDS, INROOT_SEARCH_FAILS,
@@ -1004,6 +1003,17 @@ void inroot_search_begin(const unsigned char *text, size_t length, struct inroot
 
 /* Takes what a try gave: 0 and a DESCRIPTOR, or an error. After a close neither is looked at. */
 void inroot_search_next(struct inroot_search *search, uint32_t error, uint32_t descriptor);
+
+/* What a try opens: so many bytes of the path, or `.` in the place of none (DOT), by this operation; only a DIRECTORY is of use. */
+struct inroot_trial {
+    size_t length;
+    uint8_t op;
+    bool directory, dot;
+};
+
+/* The whole path's link at the end is followed if it FOLLOWS. */
+void inroot_search_trial(const struct inroot_search *search, const unsigned char *text, size_t length, bool follows,
+                         struct inroot_trial *trial);
 
 /* How many bytes of a path have so many of its first pieces, with the slashes behind them. */
 size_t inroot_beginning(const unsigned char *text, size_t length, size_t pieces);

@@ -1,5 +1,5 @@
 /*
- * partial.c: as much of a path as is there, and what is left of it. Which beginning of the path is tried next, the
+ * partial.c: as much of a path as is there, and what is left of it. Which beginning of the path is tried next, and how, the
  * proved library says (crates/open_partial).
  */
 #define _GNU_SOURCE
@@ -17,23 +17,23 @@ struct cut {
     size_t length;
 };
 
-/* Opens so many pieces of the text. All but the whole text end in a slash, and are a directory. */
-static int open_pieces(const struct cut *cut, size_t pieces, bool is_whole)
+/* Opens the first pieces of the text that are tried. */
+static int open_pieces(const struct cut *cut, const struct inroot_search *search)
 {
-    char *text = cut->text;
-    size_t end = inroot_beginning((const unsigned char *)text, cut->length, pieces);
-    char behind = text[end];
-    text[end] = 0;
+    struct inroot_trial now;
+    inroot_search_trial(search, (const unsigned char *)cut->text, cut->length, cut->follows, &now);
+    char *end = cut->text + now.length, behind = *end;
+    *end = 0;
     const struct inroot_request asked = {
-        .op = is_whole && !cut->follows ? INROOT_ASK_RESOLVE_NOFOLLOW : INROOT_ASK_RESOLVE,
+        .op = (enum inroot_op)now.op,
         .flags = cut->flags,
-        .first = end > 0 || is_whole ? text : ".",
+        .first = now.dot ? "." : cut->text,
         .second = "",
         .from = cut->from,
-        .directory = !is_whole,
+        .directory = now.directory,
     };
     int fd = inroot_carry_out_alone(cut->root, &asked);
-    text[end] = behind;
+    *end = behind;
     return fd;
 }
 
@@ -44,7 +44,7 @@ static void turn(const struct cut *cut, struct inroot_search *search)
     if (search->next == INROOT_SEARCH_CLOSE)
         close((int)search->about);
     else
-        fd = open_pieces(cut, search->tried, search->tried == search->pieces);
+        fd = open_pieces(cut, search);
     inroot_search_next(search, fd < 0 ? (uint32_t)-fd : 0, fd < 0 ? 0 : (uint32_t)fd);
 }
 

@@ -7,9 +7,10 @@ ghost use Rattle.give_entry.specs.History.{is_question as is_giving_question, Ex
 ghost use Rattle.give_entry.specs.Made.{Made};
 ghost use Rattle.open_partial.specs.Beginnings.{IsBeginning};
 ghost use Rattle.open_partial.specs.History.{exchange, is_question, Exchange, IsAt};
+ghost use Rattle.open_partial.specs.Trials.{trial_of};
 
 use give_entry::{Answer, Facts, Giving};
-use open_partial::Search;
+use open_partial::{Search, Trial};
 
 /// Begins to open a descriptor of the entry that a call has made: `give_entry::begin`.
 #[unsafe(no_mangle)]
@@ -54,6 +55,21 @@ pub extern "C" fn inroot_search_next(search: &mut Search, error: u32, descriptor
     ensures over { is_question search.old.next ≡ false → search.new ≡ search.old }
 {
     *search = open_partial::next(*search, error, descriptor);
+}
+
+/// What a try opens, and how: `open_partial::trial_of`.
+#[unsafe(no_mangle)]
+pub extern "C" fn inroot_search_trial(
+    search: &Search,
+    text: &[u8],
+    follows: bool,
+    trial: &mut Trial,
+)
+    ensures beginning { IsBeginning text.now search.now.tried trial.new.length }
+    ensures within { trial.new.length ≤ length text.now }
+    ensures exact { trial.new ≡ trial_of search.now follows trial.new.length }
+{
+    *trial = open_partial::trial_of(search, text, follows);
 }
 
 /// How many bytes of a path have its first pieces: `open_partial::beginning`.

@@ -69,6 +69,16 @@ fn laws_of_whole_calls() {
 }
 
 #[test]
+fn laws_of_parts_of_paths() {
+    open_partial::what_is_given_is_there();
+    open_partial::the_whole_path_is_tried_first();
+    open_partial::parts_are_opened_as_directories();
+    open_partial::each_descriptor_is_closed_once_or_given();
+    open_partial::why_it_fails();
+    open_partial::tries_are_few();
+}
+
+#[test]
 fn laws_of_walks_into_directories() {
     enter_directory::what_is_entered_was_found_below();
     enter_directory::each_descriptor_is_closed_once();

@@ -1,5 +1,5 @@
 //! How much of a path is tried next, by what tries before gave.
-use open_partial::{CLOSE, ENDS, FAILS, Search, TRY, begin, beginning, next};
+use open_partial::{CLOSE, ENDS, FAILS, Search, TRY, Trial, begin, beginning, next, trial_of};
 use std::test::Fail;
 
 const ENOENT: u32 = 2;
@@ -92,6 +92,60 @@ fn another_error_closes_what_is_open(rt: HostRuntime) -> Result<(), Fail> {
     assert!(rt; fails(&next(two, EACCES, 0), EACCES));
     let failed = next(next(two, 0, 7), EACCES, 0);
     assert!(rt; closes(&failed, 7) && fails(&next(failed, 0, 0), EACCES));
+    Ok(())
+}
+
+#[test]
+fn a_part_is_opened_as_a_directory(rt: HostRuntime) -> Result<(), Fail> {
+    let text = b"a/b".as_slice();
+    let whole = begin(text);
+    let as_meant = Trial {
+        length: 3,
+        op: 1,
+        directory: false,
+        dot: false,
+    };
+    assert!(rt; trial_of(&whole, text, true) == as_meant);
+    assert!(rt; trial_of(&whole, text, false) == Trial { op: 2, ..as_meant });
+    let one = next(whole, ENOENT, 0);
+    let part = Trial {
+        length: 2,
+        op: 1,
+        directory: true,
+        dot: false,
+    };
+    assert!(rt; trial_of(&one, text, false) == part && trial_of(&one, text, true) == part);
+    let none = next(one, ENOENT, 0);
+    let here = Trial {
+        length: 0,
+        dot: true,
+        ..part
+    };
+    assert!(rt; tries(&none, 0) && trial_of(&none, text, false) == here);
+    Ok(())
+}
+
+#[test]
+fn no_piece_may_be_the_whole_path_or_a_slash(rt: HostRuntime) -> Result<(), Fail> {
+    let whole = Trial {
+        length: 0,
+        op: 2,
+        directory: false,
+        dot: false,
+    };
+    assert!(rt; trial_of(&begin(&[]), &[], false) == whole);
+    assert!(rt; trial_of(&begin(b"//"), b"//", false) == Trial { length: 2, ..whole });
+    let text = b"/a/b".as_slice();
+    let none = next(next(begin(text), ENOENT, 0), ENOENT, 0);
+    assert!(rt;
+        trial_of(&none, text, true)
+            == Trial {
+                length: 1,
+                op: 1,
+                directory: true,
+                dot: false
+            }
+    );
     Ok(())
 }
 

@@ -1,4 +1,5 @@
 pub mod BeginningLemmas
 pub mod FewLemmas
 pub mod SearchLemmas
+pub mod TrialLemmas
 pub mod Turns

@@ -1,3 +1,4 @@
 pub mod Beginnings
 pub mod History
 pub mod Promises
+pub mod Trials

@@ -1,7 +1,9 @@
 //! What holds of every search, as laws over its exchanges: each function's contract is one, and its body is empty.
-ghost use Rattle.std.specs.Prelude.{◌≡◌, ◌≢◌, ◌≤◌, ◌+◌, ◌-◌, ◌*◌, ◌^◌, ℕ, List, [], ◌∷◌, length};
+ghost use Rattle.std.specs.Prelude.{◌≡◌, ◌≢◌, ◌≤◌, ◌+◌, ◌-◌, ◌*◌, ◌^◌, ℕ, Bool, false, true, if◌then◌else◌, List, [], ◌∷◌, length};
 ghost use Rattle.open_partial.specs.History.{next_after, Exchange, IsHistory};
 ghost use Rattle.open_partial.specs.Promises.{open_after, tries, IsClosed, IsFound, IsWhy};
+ghost use Rattle.open_partial.specs.Trials.{trial_of, RESOLVE, RESOLVE_NOFOLLOW};
+ghost use Rattle.open_partial.specs.declared.search.Search.{Search};
 ghost use Rattle.open_partial.specs.declared.search.TheConstants.{TRY, CLOSE, ENDS, FAILS};
 
 /// What is given was opened by a try of so many pieces. Either these are all of the path's, or a try of one piece more
@@ -15,6 +17,16 @@ pub fn what_is_given_is_there()
 pub fn the_whole_path_is_tried_first()
     ensures next { (pieces : ℕ) → (next_after pieces []).next ≡ TRY }
     ensures pieces { (pieces : ℕ) → (next_after pieces []).tried ≡ pieces }
+{}
+
+/// The whole path is opened as what it means, with its link at the end or without, as was asked. Less of it is opened
+/// as a directory, and links are followed to it.
+pub fn parts_are_opened_as_directories()
+    ensures whole { (search : Search) (follows : Bool) (bytes : ℕ) → search.tried ≡ search.pieces
+        → ((trial_of search follows bytes).op ≡ (if follows then RESOLVE else RESOLVE_NOFOLLOW))
+        × (((trial_of search follows bytes).directory ≡ false) × ((trial_of search follows bytes).dot ≡ false)) }
+    ensures part { (search : Search) (follows : Bool) (bytes : ℕ) → search.tried ≢ search.pieces
+        → ((trial_of search follows bytes).op ≡ RESOLVE) × ((trial_of search follows bytes).directory ≡ true) }
 {}
 
 /// What is given is open in the end, and nothing else is that a try opened. If it fails, nothing is. It closes what is

@@ -1,5 +1,5 @@
 //! Which system call comes next as much of a path as is there is opened, by what those before gave: how many pieces
-//! of the path are tried, which descriptor is closed, and where what is left begins.
+//! of the path are tried and how, which descriptor is closed, and where what is left begins.
 //!
 //! A C driver makes the calls, one at a time, and hands over what a call gave. No function makes a call or takes
 //! memory.
@@ -8,10 +8,12 @@
 mod beginnings;
 mod laws;
 mod search;
+mod trials;
 
 pub use beginnings::beginning;
 pub use laws::{
-    each_descriptor_is_closed_once_or_given, the_whole_path_is_tried_first, tries_are_few,
-    what_is_given_is_there, why_it_fails,
+    each_descriptor_is_closed_once_or_given, parts_are_opened_as_directories,
+    the_whole_path_is_tried_first, tries_are_few, what_is_given_is_there, why_it_fails,
 };
 pub use search::{CLOSE, ENDS, FAILS, Search, TRY, begin, next};
+pub use trials::{Trial, trial_of};
