@@ -291,24 +291,44 @@ struct inroot_sorted {
 void inroot_sort_names(const unsigned char *text, size_t text_length, unsigned char *room, size_t size,
                        struct inroot_sorted *sorted);
 
-/* ---- whether a mount stands at the root directory, by two texts of proc(5). These take no memory. */
+/* ---- whether a mount stands at the thread's root directory, by statx(2), or by two texts of proc(5). These take no memory. */
 
-/* What was read of mountinfo so far. A driver reads whether the line of the mount was FOUND, and leaves the others alone. */
+/*
+ * FDINFO of a descriptor of the root directory is read, and mountinfo opened: openat(2). The bytes of mountinfo that come next
+ * are read: read(2). It is closed. Or nothing comes: a mount stands there; or none does, or nobody can tell.
+ */
+enum inroot_own_root_next {
+    INROOT_OWN_OPEN = 1, INROOT_OWN_READ, INROOT_OWN_CLOSE, INROOT_OWN_YES, INROOT_OWN_NO,
+};
+
+/* What statx(2) said of the root directory: the attributes, and the MASK of those that can be told; or an error. */
+struct inroot_own_look {
+    uint64_t mask, attributes;
+    uint32_t error;
+};
+
+/* What was read of mountinfo so far. */
 struct inroot_mounts {
     size_t at;
     uint8_t fields;
     bool holds, found;
 };
 
-void inroot_mounts_begin(struct inroot_mounts *mounts);
+/* A driver reads what comes NEXT. It leaves all of it alone between two turns. */
+struct inroot_own_root {
+    struct inroot_mounts mounts;
+    uint8_t next;
+};
+
+void inroot_own_root_begin(const struct inroot_own_look *look, struct inroot_own_root *own);
 
 /*
- * Reads the bytes of mountinfo that come next. `found`: a whole line so far begins with the number that FDINFO has behind `mnt_id:`
- * and a tab, and its fifth field is a slash alone. FDINFO is what proc(5) has of a descriptor of the root directory, the same in each
- * call. What is mounted over that directory has another number.
+ * Takes what the last demand gave: 0, or an error; and the bytes of mountinfo that were read, none at its end. A mount stands
+ * there if a whole line so far begins with the number that FDINFO has behind `mnt_id:` and a tab, and its fifth field is a slash
+ * alone. FDINFO is the same in each call, and empty where it can't be read. What is mounted over the directory has another number.
  */
-void inroot_mounts_read(const unsigned char *fdinfo, size_t fdinfo_length, const unsigned char *part, size_t length,
-                        struct inroot_mounts *mounts);
+void inroot_own_root_next(const unsigned char *fdinfo, size_t fdinfo_length, uint32_t error, const unsigned char *part,
+                          size_t length, struct inroot_own_root *own);
 
 /* ---- what is asked of Linux, and what its answers mean, by numbers alone. These take no memory, and need no call under way. */
 

@@ -28,30 +28,41 @@ static size_t read_about_root(int proc, unsigned char *about, size_t size)
     return got > 0 ? (size_t)got : 0;
 }
 
-/* By the mounts that the thread sees (proc(5)): before Linux 5.8 there is no other way. If they can't be read, there is none. */
-static bool is_mounted(int proc)
-{
-    unsigned char about[256], part[1024];
-    struct inroot_mounts mounts;
-    size_t known = read_about_root(proc, about, sizeof about);
-    int fd = openat(proc, "thread-self/mountinfo", O_RDONLY | O_CLOEXEC);
-    if (fd < 0)
-        return false;
-    inroot_mounts_begin(&mounts);
-    for (ssize_t got; !mounts.found && ((got = read(fd, part, sizeof part)) > 0 || (got < 0 && errno == EINTR));)
-        inroot_mounts_read(about, known, part, got > 0 ? (size_t)got : 0, &mounts);
-    close(fd);
-    return mounts.found;
-}
-
-static bool is_mount_root(int proc)
+/* Asks statx(2), where the headers have it (Linux 5.8). */
+static struct inroot_own_look look_at_root(void)
 {
 #ifdef STATX_ATTR_MOUNT_ROOT
+    _Static_assert(STATX_ATTR_MOUNT_ROOT == 0x2000, "the number of crates/kernel_text");
     struct statx about;
-    if (statx(AT_FDCWD, "/", AT_NO_AUTOMOUNT, STATX_TYPE, &about) == 0 && about.stx_attributes_mask & STATX_ATTR_MOUNT_ROOT)
-        return about.stx_attributes & STATX_ATTR_MOUNT_ROOT;
+    if (statx(AT_FDCWD, "/", AT_NO_AUTOMOUNT, STATX_TYPE, &about) == 0)
+        return (struct inroot_own_look){.mask = about.stx_attributes_mask, .attributes = about.stx_attributes};
 #endif
-    return is_mounted(proc);
+    return (struct inroot_own_look){.error = ENOSYS};
+}
+
+/* What statx(2) doesn't tell, the mounts do that the thread sees (proc(5)). The library says which answer counts. */
+static bool is_mount_root(int proc)
+{
+    unsigned char about[256], part[1024];
+    struct inroot_own_root own;
+    const struct inroot_own_look look = look_at_root();
+    size_t known = 0;
+    int fd = INROOT_NONE;
+    inroot_own_root_begin(&look, &own);
+    while (own.next < INROOT_OWN_YES) {
+        ssize_t got;
+        switch (own.next) {
+        case INROOT_OWN_OPEN:
+            known = read_about_root(proc, about, sizeof about);
+            fd = openat(proc, "thread-self/mountinfo", O_RDONLY | O_CLOEXEC);
+            got = fd < 0 ? fd : 0;
+            break;
+        case INROOT_OWN_READ: got = read(fd, part, sizeof part); break;
+        default: got = close(fd);
+        }
+        inroot_own_root_next(about, known, got < 0 ? (uint32_t)errno : 0, part, got > 0 ? (size_t)got : 0, &own);
+    }
+    return own.next == INROOT_OWN_YES;
 }
 
 bool inroot_own_root_tells(struct inroot_driver *d, int proc)

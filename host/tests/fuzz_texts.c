@@ -179,25 +179,38 @@ static bool has_root(const unsigned char *text, size_t length)
     return false;
 }
 
+/* Whether a mount stands at the root directory by this mountinfo, read in two parts, or one where it has found it or the end. */
+static bool stands(const unsigned char *about, size_t known, const unsigned char *text, size_t first, size_t length)
+{
+    const struct inroot_own_look untold = {.error = ENOSYS};
+    struct inroot_own_root own;
+    inroot_own_root_begin(&untold, &own);
+    MUST(own.next == INROOT_OWN_OPEN);
+    inroot_own_root_next(about, known, 0, NULL, 0, &own);
+    size_t at = 0, end = first;
+    while (own.next == INROOT_OWN_READ) {
+        inroot_own_root_next(about, known, EINTR, NULL, 0, &own);
+        MUST(own.next == INROOT_OWN_READ);
+        inroot_own_root_next(about, known, 0, text + at, end - at, &own);
+        at = end, end = length;
+    }
+    MUST(own.next == INROOT_OWN_CLOSE);
+    inroot_own_root_next(about, known, 0, NULL, 0, &own);
+    MUST(own.next == INROOT_OWN_YES || own.next == INROOT_OWN_NO);
+    return own.next == INROOT_OWN_YES;
+}
+
 /* Mountinfo, in two parts; few bytes, so that lines come about. A text without `mnt_id:` names no mount. */
 static void mounts(size_t size, const uint8_t *bytes, size_t length)
 {
     static const unsigned char about[] = "pos:\t0\nmnt_id:\ta\n";
-    struct inroot_mounts all, parts, none;
     const size_t first = size < length ? size : length;
     unsigned char *text = copy_of(bytes, length);
     for (size_t at = 0; at < length; at++)
         text[at] = (unsigned char)"/ \na / a "[bytes[at] % 9];
-    inroot_mounts_begin(&all);
-    inroot_mounts_begin(&parts);
-    inroot_mounts_begin(&none);
-    inroot_mounts_read(about, sizeof about - 1, text, length, &all);
-    inroot_mounts_read(about, sizeof about - 1, text, first, &parts);
-    MUST(parts.found == has_root(text, first));
-    inroot_mounts_read(about, sizeof about - 1, text + first, length - first, &parts);
-    MUST(all.found == has_root(text, length) && parts.found == all.found);
-    inroot_mounts_read(text, length, (const unsigned char *)"a 1 1 / /\n", 10, &none);
-    MUST(!none.found);
+    MUST(stands(about, sizeof about - 1, text, length, length) == has_root(text, length));
+    MUST(stands(about, sizeof about - 1, text, first, length) == has_root(text, first > 0 ? length : 0));
+    MUST(!stands(text, length, (const unsigned char *)"a 1 1 / /\n", 10, 10));
     free(text);
 }
 

@@ -1,24 +1,25 @@
-//! Whether a mount stands at a process's root directory, by the texts of its fdinfo and its mountinfo.
-ghost use Rattle.std.specs.Prelude.{◌≡◌, ◌++◌, [], ℕ, List};
-ghost use Rattle.kernel_text.specs.Mounts.{has_root_mount, IsRead};
+//! Whether a mount stands at a thread's root directory: statx(2) says so, or else its mounts do.
+ghost use Rattle.std.specs.Prelude.{◌≡◌, ◌∷◌, [], ℕ, List, true, false};
+ghost use Rattle.kernel_text.specs.OwnRoot.{is_turn, turn_of, IsOwn, Turn};
+ghost use Rattle.kernel_text.specs.declared.own_root.OwnLook.{OwnLook as Look};
 
-use kernel_text::Mounts;
+use kernel_text::{OwnLook, OwnRoot};
 
-/// Begins to read a mountinfo: `kernel_text::begin_mounts`.
+/// Begins with what statx(2) said: `kernel_text::begin_own`.
 #[unsafe(no_mangle)]
-pub extern "C" fn inroot_mounts_begin(mounts: &mut Mounts)
-    ensures { (fdinfo : List ℕ) → IsRead fdinfo [] mounts.new }
+pub extern "C" fn inroot_own_root_begin(look: &OwnLook, own: &mut OwnRoot)
+    ensures { (fdinfo : List ℕ) → IsOwn look.now fdinfo [] own.new }
 {
-    *mounts = kernel_text::begin_mounts();
+    *own = kernel_text::begin_own(look);
 }
 
-/// Reads on in a mountinfo: `kernel_text::read_mounts`.
+/// Takes what the last demand gave, and says what comes next: `kernel_text::next_own`.
 #[unsafe(no_mangle)]
-pub extern "C" fn inroot_mounts_read(fdinfo: &[u8], part: &[u8], mounts: &mut Mounts)
-    ensures reads { (text : List ℕ) → IsRead fdinfo.now text mounts.old
-        → IsRead fdinfo.now (text ++ part.now) mounts.new }
-    ensures found { (text : List ℕ) → IsRead fdinfo.now text mounts.old
-        → mounts.new.found ≡ has_root_mount fdinfo.now (text ++ part.now) }
+pub extern "C" fn inroot_own_root_next(fdinfo: &[u8], error: u32, part: &[u8], own: &mut OwnRoot)
+    ensures goes { (look : Look) (turns : List Turn) → IsOwn look fdinfo.now turns own.old
+        → is_turn own.old.next ≡ true
+        → IsOwn look fdinfo.now (turn_of own.old.next error part.now ∷ turns) own.new }
+    ensures over { is_turn own.old.next ≡ false → own.new ≡ own.old }
 {
-    *mounts = kernel_text::read_mounts(fdinfo, *mounts, part);
+    *own = kernel_text::next_own(fdinfo, *own, error, part);
 }

@@ -1,3 +1,4 @@
 pub mod ListingLemmas
 pub mod MountLemmas
+pub mod OwnRootLemmas
 pub mod PlaceLemmas

@@ -1,4 +1,5 @@
 pub mod Listing
 pub mod Mounts
+pub mod OwnRoot
 pub mod Place
 pub mod Records

@@ -79,8 +79,8 @@ had_entry (s ∷ older) dir =
     if s.what == CLOSE_HANDLE then not (dir == s.handle) && had_entry older dir
     else (s.what == READ_TEXT) && was_read older s.handle dir
 
--- Nothing is known of a step but what the last one has shown of the same object: not behind a change, nor behind an Open
--- or a Close of it.
+-- Nothing is known of a step but what the last one has shown of the same object. So nothing is known behind a change,
+-- an Open that read no link, or a Close of the object.
 abbrev pub KnownByTheLast : Type 0
 KnownByTheLast = (steps : List Step) (what handle : ℕ)
     → (known_of (last_of steps) what handle ≡ PLACED

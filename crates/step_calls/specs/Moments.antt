@@ -124,7 +124,7 @@ ThereSays w layered n (opens_to_read error) = error ≡ ENOENT → IsGone w (suc
 ThereSays w layered n (reads error) = (error ≡ ENOENT → IsGone w (suc n)) × (error ≡ 0 → IsThere w (suc n))
 ThereSays w layered n _ = Unit {0}
 
--- A directory that is said to be there was so at a moment of a call. One that is said to be gone is so by the last call.
+-- A directory that is said to be there was so at a moment of a call. One that is said to be gone is so by the last.
 abbrev pub ThereStood : Type 0
 ThereStood = (w : World) (layered : Bool) (f : Facts) (history : List Exchange) → f.what ≡ IS_THERE
     → ((n : ℕ) → IsGone w n → IsGone w (suc n)) → AreAnswers (ThereSays w layered) history → IsHistory f history

@@ -94,8 +94,8 @@ RefusalsAreOwn = (f : Facts) (history : List Exchange) → f.what ≢ IS_THERE �
 
 -- ---- the directory above, by the names passed
 
--- Nothing is looked up but to find the directory above, where the names are known and openat2(2) is there; not as a tree
--- is removed, nor where each name goes by itself or must be on the root's mount.
+-- It is the directory above that is looked for, its names are known, and openat2(2) is there. No tree is removed, and
+-- no name must go by itself or be on the root's mount.
 pub record IsByNames (f : Facts) : Type 0 where
   pub what : f.what ≡ PARENT
   pub named : f.named ≡ true

@@ -13,7 +13,7 @@ pub const PLACED: u8 = 1;
 /// The link was read by its name, as it was opened.
 pub const LINK_READ: u8 = 2;
 
-/// The directory had a link as an entry, which was read by its name as it was opened. After that its text was asked for.
+/// The directory had a link as an entry, which was read by its name as it was opened. Then its text was asked for.
 pub const FOLLOWED: u8 = 3;
 
 /// The last step, as far as it bears on the next one. All of it is 0 before the first. C keeps it, and leaves it alone.
@@ -139,8 +139,8 @@ pub fn take_step(last: &mut LastStep, what: u8, handle: u64) -> u8
     known
 }
 
-/// Says how the step ended that was taken last: PLACED, a NameBelow told the names; LINK_READ, an Open read the name as a
-/// link, which has the handle `gave` now. Of any other end nothing is to be said. Takes no memory.
+/// Says how the step ended that was taken last: PLACED, a NameBelow told the names; LINK_READ, an Open read the name as
+/// a link, which has the handle `gave` now. Of any other end nothing is to be said. Takes no memory.
 pub fn tell_end(last: &mut LastStep, how: u8, gave: u64)
     ensures { last.new ≡ ended last.old how gave }
 {

@@ -106,9 +106,9 @@ pub fn calls_are_few()
     ensures { (f : Facts) (history : List Exchange) → IsHistory f history → length history ≤ costs history + 13 }
 {}
 
-/// Of all steps, in whatever order: what `take_step` says of one was shown by the last step before it, but for Closes of
-/// other handles. So a place is told again only where that step told it of the same handle; a text was read already only
-/// where that step read this link; and a directory had an entry only where two steps have just read a link in it.
+/// Of all steps, in whatever order: what `take_step` says of one was shown by the last step before it, but for Closes
+/// of other handles. So a place is told again only where that step told it of the same handle; a text was read already
+/// only where that step read this link; and a directory had an entry only where two steps have just read a link in it.
 pub fn what_is_known_was_shown_last()
     ensures { KnownByTheLast }
 {}
