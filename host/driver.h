@@ -571,7 +571,7 @@ struct inroot_work {
 };
 /* Makes the step, as the library says: FACTS, and how it ENDS in the course. */
 void inroot_by_calls(struct inroot_driver *d, struct inroot_work *work);
-/* Whether somebody removed the directory; and whether somebody may have: it is on overlayfs or in a cgroup, and can't be read. */
+/* Whether somebody removed the directory; and whether somebody may have: it is on overlayfs, btrfs or in a cgroup, and can't be read. */
 bool inroot_is_dead(int fd);
 bool inroot_may_be_dead(int fd);
 

@@ -106,7 +106,7 @@
  * If the name of a non-directory ends in ` (deleted)`, nobody can say that it wasn't removed: the kernel writes just this
  * behind the path of a removed object. So a call that opens it or looks at it gives EAGAIN, at every try, but for one with
  * INROOT_BELOW where there is openat2(2). It is made, renamed and removed as any other. A directory of such a name on
- * overlayfs or in a cgroup gives the same, if it may not be read.
+ * overlayfs, on btrfs or in a cgroup gives the same, if it may not be read.
  *
  * A call follows no link on a mount with nosymfollow (mount(8)): ELOOP. The protection of fs.protected_symlinks
  * (proc_sys_fs(5)) doesn't apply: a call follows a link in a sticky directory that all may write to, whoever made it,

@@ -90,7 +90,7 @@ pub record OpenIsMade (x : Linux) (nodes : ℕ → ℕ) (m calls dir : ℕ) (nam
 
 -- Parent of a directory. `parents_stood` has three exceptions; here they are supposed not to be met: a child that isn't
 -- asked whether it is there, since it had an entry at the step before, is there still; and its file system, and a
--- directory of one that keeps links (overlayfs, cgroups), could be asked.
+-- directory of one that keeps links (overlayfs, cgroups, btrfs), could be asked.
 pub record ParentIsMade (x : Linux) (nodes : ℕ → ℕ) (m calls dir : ℕ) (answer : Answer) : Type 0 where
   pub facts : Facts
   pub history : List Exchange

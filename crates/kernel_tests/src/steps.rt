@@ -44,6 +44,10 @@ const CGROUP: u64 = 0x0027_e0eb;
 
 const CGROUP2: u64 = 0x6367_7270;
 
+const RDTGROUP: u64 = 0x0765_5821;
+
+const BTRFS: u64 = 0x9123_683e;
+
 // ST_NOSYMFOLLOW of statfs(2)
 const NOSYMFOLLOW: u64 = 0x2000;
 
@@ -181,7 +185,9 @@ fn removed_directories_have_no_parent(rt: HostRuntime) -> Result<(), Fail> {
     assert!(rt; layers.next == LAYERS && says(&facts, layers, EXT4).next == OPENED);
     let open = says(&facts, layers, OVERLAYFS);
     assert!(rt; open.next == OPEN_TO_READ && fails(&facts, open, EACCES).next == OPENED);
-    assert!(rt; says(&facts, layers, CGROUP) == open && says(&facts, layers, CGROUP2) == open);
+    for other in &[CGROUP, CGROUP2, RDTGROUP, BTRFS] {
+        assert!(rt; says(&facts, layers, *other) == open);
+    }
     let read = works(&facts, open);
     assert!(rt; read.next == READ);
     let there = works(&facts, read);

@@ -28,6 +28,12 @@ CGROUP = 2613483
 abbrev pub CGROUP2 : ℕ
 CGROUP2 = 1667723888
 
+abbrev pub RDTGROUP : ℕ
+RDTGROUP = 124082209
+
+abbrev pub BTRFS : ℕ
+BTRFS = 2435016766
+
 -- ST_NOSYMFOLLOW
 abbrev pub NOSYMFOLLOW : ℕ
 NOSYMFOLLOW = 8192
@@ -227,9 +233,10 @@ abbrev pub unasked : Facts → ℕ → Next
 unasked f error = if f.what == PARENT then waits CLOSE UNMADE error else fails UNMADE error
 
 -- a removed directory has no link (stat(2)); but on overlayfs one of a lower layer keeps some, and so does a removed
--- control group (cgroups(7))
+-- control group (cgroups(7)), a resctrl group, and a subvolume of btrfs (btrfs-subvolume(8))
 abbrev pub keeps_links : ℕ → Bool
-keeps_links type = (type == OVERLAYFS) || ((type == CGROUP2) || (type == CGROUP))
+keeps_links type =
+    (type == OVERLAYFS) || ((type == CGROUP2) || ((type == CGROUP) || ((type == RDTGROUP) || (type == BTRFS))))
 
 abbrev pub after_links : Facts → ℕ → ℕ → Next
 after_links f error links = if error == 0 then (if links == 0 then gone f else asks LAYERS) else unasked f error

@@ -16,6 +16,10 @@ const CGROUP: u64 = 0x0027_e0eb;
 
 const CGROUP2: u64 = 0x6367_7270;
 
+const RDTGROUP: u64 = 0x0765_5821;
+
+const BTRFS: u64 = 0x9123_683e;
+
 const NOSYMFOLLOW: u64 = 0x2000;
 
 fn gone(facts: &Facts) -> Course
@@ -68,7 +72,9 @@ pub(crate) fn after_links(facts: &Facts, error: u32, links: u64) -> Course
 fn keeps_links(file_system: u64) -> bool
     ensures { result ≡ keeps_links file_system }
 {
-    file_system == OVERLAYFS || (file_system == CGROUP2 || file_system == CGROUP)
+    file_system == OVERLAYFS
+        || (file_system == CGROUP2
+            || (file_system == CGROUP || (file_system == RDTGROUP || file_system == BTRFS)))
 }
 
 pub(crate) fn after_layers(facts: &Facts, error: u32, file_system: u64) -> Course
