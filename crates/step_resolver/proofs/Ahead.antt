@@ -17,11 +17,11 @@ part_asked follow Cur = refl
 part_asked follow Up = refl
 part_asked follow (Named n) = refl
 
-parts_followed : (ps : List Part) → map part_of (followed ps) ≡ ps
+pub parts_followed : (ps : List Part) → map part_of (followed ps) ≡ ps
 parts_followed [] = refl
 parts_followed (p ∷ ps) = ap (λ q. q ∷ map part_of (followed ps)) (part_asked true p) ∙ ap (λ qs. p ∷ qs) (parts_followed ps)
 
-parts_asked : (follow : Bool) (ps : List Part) → map part_of (asked follow ps) ≡ ps
+pub parts_asked : (follow : Bool) (ps : List Part) → map part_of (asked follow ps) ≡ ps
 parts_asked follow [] = refl
 parts_asked follow (p ∷ []) = ap (λ q. q ∷ []) (part_asked follow p)
 parts_asked follow (p ∷ q ∷ ps) =

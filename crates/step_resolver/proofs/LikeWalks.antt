@@ -8,6 +8,7 @@ use Rattle.path_text.specs.declared.part.Part.TheVariants as part
 use Rattle.handles.specs.Objects.{ReachedObject}
 use Rattle.walk_plan.specs.Plan.{PlanState, next_part, first_part, after_first, own_after_next, is_own, is_single, is_name, IsNameAnd, stayed, comes_from_own, follows_next_link}
 use Rattle.walk_plan.specs.Same.{last_part, follows_last, SameOwn, SameToCome}
+use Rattle.step_resolver.specs.Ahead.{part_of}
 use Rattle.step_resolver.specs.Asked.{AskedPart, Cur, Up, Named, ask, asked, followed, follows}
 use Rattle.step_resolver.specs.Like.{LikeHeld, LikePlaces, LikeOnward, LikeAfters}
 use Rattle.step_resolver.specs.Order.{Todo, todo}
@@ -15,6 +16,7 @@ use Rattle.step_resolver.specs.Renamed.{LikeWalks}
 use Rattle.step_resolver.specs.View.{own_to_come, todo_of, name_in, walking_of, IsAtName, MayFollow}
 use Rattle.step_resolver.specs.declared.pending.AfterClose.TheVariants.{Onward, Judges}
 use Rattle.step_resolver.specs.declared.pending.Pending.TheVariants.{Opening, Reading, Rising, Judging, Duping, Ending}
+use Rattle.step_resolver.proofs.Ahead.{parts_followed, parts_asked}
 use Rattle.step_resolver.proofs.WalkParts.{ask_own}
 
 -- what says the same as one of two that say the same says the same as the other
@@ -22,25 +24,6 @@ pub as_told : (A B C : Type 0) → A ↔ B → B ↔ C → A ↔ C
 as_told A B C ab bc = ((λ a. bc.0 (ab.0 a)), (λ c. ab.1 (bc.1 c)))
 
 -- ---- parts, by what is asked of them
-
-abbrev unasked : AskedPart → Part
-unasked Cur = part.Cur
-unasked Up = part.Up
-unasked (Named follow n) = part.Named n
-
-unasked_ask : (follow : Bool) (p : Part) → unasked (ask follow p) ≡ p
-unasked_ask follow part.Cur = refl
-unasked_ask follow part.Up = refl
-unasked_ask follow (part.Named n) = refl
-
-unasked_followed : (ps : List Part) → map unasked (followed ps) ≡ ps
-unasked_followed [] = refl
-unasked_followed (p ∷ ps) = cc (unasked_ask true p, unasked_followed ps)
-
-unasked_asked : (follow : Bool) (ps : List Part) → map unasked (asked follow ps) ≡ ps
-unasked_asked follow [] = refl
-unasked_asked follow (p ∷ []) = cc (unasked_ask follow p)
-unasked_asked follow (p ∷ q ∷ ps) = cc (unasked_ask true p, unasked_asked follow (q ∷ ps))
 
 -- a link at the very last part is followed, or that part is no name
 abbrev last_followed : List AskedPart → Bool
@@ -74,7 +57,7 @@ own_asked p q same =
 
 asked_own : (p q : PlanState) → own_to_come p ≡ own_to_come q → SameOwn p q
 asked_own p q same = (
-  sym (unasked_asked (follows p.goal) p.own) ∙ (ap (map unasked) same ∙ unasked_asked (follows q.goal) q.own),
+  sym (parts_asked (follows p.goal) p.own) ∙ (ap (map part_of) same ∙ parts_asked (follows q.goal) q.own),
   sym (asked_last (follows p.goal) p.own) ∙ (ap last_followed same ∙ asked_last (follows q.goal) q.own),
 )
 
@@ -86,7 +69,7 @@ come_to p q same =
     let inner : followed p.inner ≡ followed q.inner = cc in
     let own : own_to_come p ≡ own_to_come q = cc in
     let left : p.links_left ≡ q.links_left = cc in
-    (sym (unasked_followed p.inner) ∙ (ap (map unasked) inner ∙ unasked_followed q.inner), asked_own p q own, left)
+    (sym (parts_followed p.inner) ∙ (ap (map part_of) inner ∙ parts_followed q.inner), asked_own p q own, left)
 
 -- ---- the next part, which is a name
 

@@ -5,7 +5,6 @@ use Rattle.std.proofs.lemmas.List.{reverse-reverse, reverse-append, map-append}
 use Rattle.std.proofs.lemmas.Bool.Decides.{nat_tests}
 use Rattle.path_text.specs.declared.errno.Errno.{Errno}
 use Rattle.path_text.specs.declared.errno.Errno.TheVariants.{NotFound, NoMemory, CrossRoot}
-use Rattle.path_text.specs.declared.part.Part.{Part}
 use Rattle.path_text.specs.Text.{text_fault, parts_of, begins_with_slash}
 use Rattle.path_text.specs.Names.{same_names}
 use Rattle.tree_model.specs.declared.answer.Answer.{Answer}
@@ -14,11 +13,11 @@ use Rattle.handles.specs.Objects.{ReachedObject}
 use Rattle.handles.proofs.SameNames.{same_where_equal, other_where_not}
 use Rattle.walk_plan.specs.declared.goal.Goal.{Goal}
 use Rattle.walk_plan.specs.declared.goal.Goal.TheVariants.{Follow, NoFollow, Deepest}
-use Rattle.walk_plan.specs.Plan.{PlanState, is_own, comes_from_own, after_first, stayed, through, through_fault, first_fault, leads_out}
-use Rattle.step_resolver.specs.Asked.{AskedPart, ask, asked, follows, followed, is_deepest}
-use Rattle.step_resolver.specs.Order.{Way, Handle, Position, root_itself, holds, Todo, todo, gives, onward, Walking, reading, judging, ending, more, closing, goes_on, end_of, found, partial, handles_of, gives_up, refusal_of, refused_open, from_link, take}
+use Rattle.walk_plan.specs.Plan.{PlanState, after_first, stayed, through, through_fault, first_fault, leads_out}
+use Rattle.step_resolver.specs.Asked.{AskedPart, ask, followed, is_deepest}
+use Rattle.step_resolver.specs.Order.{Way, Position, root_itself, holds, Todo, todo, gives, onward, Walking, reading, judging, ending, more, closing, goes_on, handles_of, gives_up, refusal_of, refused_open, from_link, take}
 use Rattle.step_resolver.specs.declared.walk.Root.{Root}
-use Rattle.step_resolver.specs.View.{way_of, handle_of, own_to_come, place_of, numbers_of, todo_of, check_refusal, MayFollow}
+use Rattle.step_resolver.specs.View.{way_of, handle_of, place_of, numbers_of, todo_of, check_refusal, MayFollow}
 use Rattle.step_resolver.proofs.WalkParts.{handles_at}
 
 -- ---- a name that wasn't opened
@@ -67,28 +66,6 @@ own_names names = rw (reverse-reverse names) (same_where_equal names names refl)
 pub judging_stands : (way : Way) (o : ReachedObject) (names : List (List ℕ)) (rest : Todo)
     → take way true (judging (handle_of o) (reverse names) rest) (Names names) ≡ goes_on way (holds (handle_of o) (reverse names)) rest
 judging_stands way o names rest = rw (own_names names) refl
-
-ending_stands : (way : Way) (o : ReachedObject) (names : List (List ℕ)) (rest : List AskedPart)
-    → take way true (ending (handle_of o) (reverse names) rest) (Names names) ≡ end_of (handle_of o) (reverse names) rest
-ending_stands way o names rest = rw (own_names names) refl
-
--- where the caller's own parts come next, the rest of them is part of what is found
-end_of-rest : (handle : Handle) (names : List (List ℕ)) (goal : Bool) (inner own : List Part) → inner ≡ [] → comes_from_own inner own ≡ true → end_of handle names (asked goal own) ≡ partial handle names (asked goal own)
-end_of-rest handle names goal inner [] none is = cc (rw none at is)
-end_of-rest handle names goal inner (p ∷ []) none is = refl
-end_of-rest handle names goal inner (p ∷ q ∷ ps) none is = refl
-
-end_of-none : (handle : Handle) (names : List (List ℕ)) (goal : Bool) (inner own : List Part) → inner ≡ [] → comes_from_own inner own ≡ false → end_of handle names (asked goal own) ≡ found handle names
-end_of-none handle names goal inner [] none is = refl
-end_of-none handle names goal inner (p ∷ ps) none is = cc (rw none at is)
-
-pub ending_partial : (way : Way) (o : ReachedObject) (p : PlanState) → p.inner ≡ [] → is_own p ≡ true
-    → take way true (ending (handle_of o) (reverse p.names) (own_to_come p)) (Names p.names) ≡ partial (handle_of o) (reverse p.names) (own_to_come p)
-ending_partial way o p none is = ending_stands way o p.names (own_to_come p) ∙ end_of-rest (handle_of o) (reverse p.names) (follows p.goal) p.inner p.own none is
-
-pub ending_found : (way : Way) (o : ReachedObject) (p : PlanState) → p.inner ≡ [] → is_own p ≡ false
-    → take way true (ending (handle_of o) (reverse p.names) (own_to_come p)) (Names p.names) ≡ found (handle_of o) (reverse p.names)
-ending_found way o p none is = ending_stands way o p.names (own_to_come p) ∙ end_of-none (handle_of o) (reverse p.names) (follows p.goal) p.inner p.own none is
 
 -- ---- a link's text
 

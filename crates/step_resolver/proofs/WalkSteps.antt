@@ -13,10 +13,7 @@ use Rattle.path_text.specs.Names.{same_names}
 use Rattle.tree_model.specs.declared.answer.Answer.{Answer}
 use Rattle.tree_model.specs.declared.answer.Answer.TheVariants.{Opened, Text, Names, NotBelow}
 use Rattle.walk_plan.specs.declared.goal.Goal.{Goal}
-use Rattle.walk_plan.specs.Plan.{PlanState, begun, leads_out}
-use Rattle.path_text.specs.declared.flags.Flags.{Flags}
-use Rattle.step_resolver.specs.declared.walk.Root.{Root}
-use Rattle.step_resolver.specs.View.{way_from, todo_of}
+use Rattle.walk_plan.specs.Plan.{PlanState, leads_out}
 use Rattle.step_resolver.specs.Asked.{AskedPart, Cur, Up, Named, ask, asked, followed, follows}
 use Rattle.step_resolver.specs.Meaning.{LINKS_MAX, is_too_long}
 use Rattle.step_resolver.specs.Order.{Way, Handle, Position, root_itself, holds, Todo, todo, After, gives, onward, judges, Walking, opening, reading, rising, judging, duping, ending, closing, Turn, more, found, partial, failed, names_of, handles_of, is_dir_position, is_followed, gives_up, at_end, in_directory, on_part, on_own, on_parts, goes_on, begins, for_walk, comes, closes, refusal_of, with_room, follows_link, enters, refused_open, from_link, read_text, end_of, judged, refused_rise, take, steps_for, steps_after, steps_left}
@@ -210,11 +207,6 @@ asked_length follow (p ∷ q ∷ ps) = ap (λ (k : ℕ). suc k) (asked_length fo
 pub plan_made : (b : Bool) (p q : PlanState) (error : Errno) → Ok p ≡ (if b then Err error else Ok q) → (b ≡ false) × (p ≡ q)
 plan_made true p q error e = cc (e)
 plan_made false p q error e = (refl, cc (e))
-
--- a plan that was made is gone on with from the root
-pub begun_goes_on : (root : Root) (path : Reading) (goal : Goal) (flags : Flags) → leads_out path.absolute flags ≡ false
-    → goes_on (way_from root goal flags) root_itself (todo_of (begun path goal flags)) ≡ begins (way_from root goal flags) path
-begun_goes_on root path goal flags within = sym (rw within refl)
 
 -- a walk begins with few steps to come
 pub begins_few : (way : Way) (path : Reading) → length path.parts ≤ PARTS_MAX → FewerThan (suc STEPS_MAX) (begins way path)

@@ -56,10 +56,6 @@ arrived-lowers b (object d c reads) a l h =
     subst (λ (n : ℕ). n ≤ b) same l
 arrived-lowers b (fails error reads) a l h = cc
 
-pub arrival-and_then_object : (m : Meant) → arrival (and_then m (λ e c. object e c [])) ≡ arrival m
-arrival-and_then_object (object d b reads) = refl
-arrival-and_then_object (fails error reads) = refl
-
 -- no part adds to the links left
 pub part_arrived-lowers : (g : Ground) (d : ℕ) (p : AskedPart) (b : ℕ) (a : Arrived) → arrival (part_means (meant g) g d p b) ≡ Ok a → a.links ≤ b
 part_arrived-lowers g d p b a h = arrived-lowers b (part_means (meant g) g d p b) a (part_means-lowers (meant g) (meant-lowers g) g d p b) h
@@ -116,7 +112,7 @@ module _ (g : Ground) (follow slash : Bool) (pieces : List (List ℕ)) (at : ℕ
 
 -- ---- links
 
-asked_true : (ps : List Part) → asked true ps ≡ followed ps
+pub asked_true : (ps : List Part) → asked true ps ≡ followed ps
 asked_true [] = refl
 asked_true (p ∷ []) = refl
 asked_true (p ∷ q ∷ ps) = ap (λ qs. ask true p ∷ qs) (asked_true (q ∷ ps))

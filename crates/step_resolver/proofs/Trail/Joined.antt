@@ -30,18 +30,6 @@ module _ (timeline : Timeline) where
   from_earlier le (through t text b mid is sub rest) = through t text b mid (link_earlier le is) sub rest
   from_earlier le (into t text b is sub) = into t text b (link_earlier le is) sub
 
-  -- a walk that ends later
-  pub to_later : {ps : List AskedPart} {s z : Spot} {next : Option AskedPart} (m : ℕ) → z.moment ≤ m
-      → Trail timeline ps s z next → Trail timeline ps s (later m z) next
-  to_later m le (all k l) = all m (le_trans l le)
-  to_later m le (before k l) = before m (le_trans l le)
-  to_later m le (stay dir t) = stay dir (to_later m le t)
-  to_later m le (top is t) = top is (to_later m le t)
-  to_later m le (climb t u e names is rest) = climb t u e names is (to_later m le rest)
-  to_later m le (down t c is entered rest) = down t c is entered (to_later m le rest)
-  to_later m le (through t text b mid is sub rest) = through t text b mid is sub (to_later m le rest)
-  to_later m le (into t text b is sub) = into t text b is (to_later m le sub)
-
   -- a trail, then what follows it
   pub appended : {ps qs : List AskedPart} {s mid z : Spot} {next : Option AskedPart} → Trail timeline ps s mid None
       → Trail timeline qs mid z next → Trail timeline (ps ++ qs) s z next

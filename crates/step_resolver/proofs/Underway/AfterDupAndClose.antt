@@ -14,11 +14,12 @@ use Rattle.step_resolver.specs.Asked.{AskedPart}
 use Rattle.step_resolver.specs.Trail.{Spot, Trail}
 use Rattle.step_resolver.specs.Order.{Handle, root_itself, holds, todo, After, gives, onward, judges, Walking, opening, reading, rising, judging, duping, ending, closing, handles_of, take, due, is_close, IsWant}
 use Rattle.step_resolver.specs.Order.{end_of as ends_with}
+use Rattle.step_resolver.specs.Renamed.{walk_after_handles}
 use Rattle.step_resolver.specs.WalkHistory.{WalkInHistory, state_at, timeline, start}
 use Rattle.step_resolver.specs.Failures.{TellsError, MetRefusal}
 use Rattle.step_resolver.proofs.Trail.Joined.{own_earlier}
 use Rattle.step_resolver.proofs.Underway.StepOutcomes.{IsLess, Close-is_less, Opening, too_many, no_object, is_opened, opening_of, dup_is}
-use Rattle.step_resolver.proofs.Underway.WalkInvariant.{Lived, StepAt, held_at, IsNotIn, handles_kept, handles_more, handles_less, root_open, held_kept, held_less, held_node, spot_at, going_later, trail_at, handles_after, GoodEnd, EndsAt, at_all, at_missing, GoodAfter, GoodClosing, GoodWalk, FoundAt, Good}
+use Rattle.step_resolver.proofs.Underway.WalkInvariant.{Lived, StepAt, held_at, IsNotIn, handles_kept, handles_more, handles_less, root_open, held_kept, held_less, held_node, spot_at, going_later, trail_at, GoodEnd, EndsAt, at_all, at_missing, GoodAfter, GoodClosing, GoodWalk, FoundAt, Good}
 use Rattle.step_resolver.proofs.Underway.HandleCount.{few_held, refusal_told}
 use Rattle.step_resolver.proofs.Underway.NextPart.{gave_up, closes_good}
 use Rattle.step_resolver.proofs.Underway.HandlesHeld.{kept_on, more_on, position_kept, position_less}
@@ -115,7 +116,7 @@ module _ {w : WalkInHistory} (lived : Lived w) (now t : ℕ) (room : Bool) (h : 
   gone : IsLess (state_at w t) w.actor (state_at w (suc t)) h
   gone = subst (λ s. IsLess (state_at w t) w.actor s h) (sym is.after) (Close-is_less (state_at w t) w.actor h)
 
-  after_now : (a : After) → GoodAfter w now a → IsNotIn h (handles_after a) → GoodAfter w (suc t) a
+  after_now : (a : After) → GoodAfter w now a → IsNotIn h (walk_after_handles a) → GoodAfter w (suc t) a
   after_now (gives error) g out = g
   after_now (onward position (todo inner own b)) g out =
       (going_later (le_trans is.at.later (le-suc t)) g.0, position_less w t position gone out (position_kept w now t position is.kept g.1))

@@ -13,9 +13,10 @@ use Rattle.step_resolver.specs.Asked.{AskedPart, Cur, Up, Named}
 use Rattle.step_resolver.specs.Meaning.{is_too_long}
 use Rattle.step_resolver.specs.Trail.{Timeline, Spot, Trail, all, before, stay, top, climb, down, through, into}
 use Rattle.step_resolver.specs.Order.{Position, root_itself, holds, todo, After, gives, onward, judges, opening, Turn, more, handles_of, is_dir_position, is_dir_kind, gives_up, at_end, at_top, in_directory, on_part, on_own, on_parts, goes_on, comes, closes}
+use Rattle.step_resolver.specs.Renamed.{walk_after_handles}
 use Rattle.step_resolver.specs.WalkHistory.{WalkInHistory, timeline, start}
 use Rattle.step_resolver.specs.Failures.{TellsError}
-use Rattle.step_resolver.proofs.Underway.WalkInvariant.{Lived, HandlesAre, node_at, spot_at, IsPositionHeld, Going, GoesFor, stop_at, passed_on, AllApart, handles_after, at_all, GoodAfter, Good}
+use Rattle.step_resolver.proofs.Underway.WalkInvariant.{Lived, HandlesAre, node_at, spot_at, IsPositionHeld, Going, GoesFor, stop_at, passed_on, AllApart, at_all, GoodAfter, Good}
 
 pub names_not_empty : (n : List ℕ) (ns : List (List ℕ)) → n ∷ ns ≡ [] → ⊥
 names_not_empty n ns e = cc e
@@ -166,13 +167,15 @@ module _ {w : WalkInHistory} (lived : Lived w) where
       → HandlesAre w now (handles_of position) → Good w now (goes_on w.way position (todo inner own b))
   goes_on_good now position inner own b g held are = parts_good now position inner own b g held are
 
-  comes_good : (now : ℕ) (after : After) → GoodAfter w now after → HandlesAre w now (handles_after after) → Good w now (comes w.way after)
+  comes_good : (now : ℕ) (after : After) → GoodAfter w now after → HandlesAre w now (walk_after_handles after)
+      → Good w now (comes w.way after)
   comes_good now (gives error) good are = (good, are)
   comes_good now (onward position (todo inner own b)) good are = goes_on_good now position inner own b good.0 good.1 are
   comes_good now (judges handle names rest) good are = (good, are)
 
   -- closings, and what comes after them
-  pub closes_good : (now : ℕ) (hs : List ℕ) (after : After) → GoodAfter w now after → AllApart hs (handles_after after)
-      → HandlesAre w now (hs ++ handles_after after) → Good w now (closes w.way hs after)
+  pub closes_good : (now : ℕ) (hs : List ℕ) (after : After) → GoodAfter w now after
+      → AllApart hs (walk_after_handles after)
+      → HandlesAre w now (hs ++ walk_after_handles after) → Good w now (closes w.way hs after)
   closes_good now [] after good apart are = comes_good now after good are
   closes_good now (h ∷ hs) after good apart are = record { comes = good; apart = apart; handles = are }

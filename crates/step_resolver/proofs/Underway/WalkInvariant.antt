@@ -18,6 +18,7 @@ use Rattle.step_resolver.specs.Asked.{AskedPart, Up, Named, is_deepest}
 use Rattle.step_resolver.specs.Meaning.{is_too_long}
 use Rattle.step_resolver.specs.Trail.{Timeline, Spot, Trail, all, before, IsOwnFrom, IsChildAt}
 use Rattle.step_resolver.specs.Order.{Handle, Position, root_itself, holds, Todo, todo, After, gives, onward, judges, Walking, opening, reading, rising, judging, duping, ending, closing, Turn, more, found, partial, failed, names_of, handles_of, Line, answered, no_room, not_made}
+use Rattle.step_resolver.specs.Renamed.{walk_after_handles}
 use Rattle.step_resolver.specs.WalkHistory.{WalkInHistory, end_of, state_at, timeline, parts_of_walk, start}
 use Rattle.step_resolver.specs.Failures.{IsMissingAt, IsWithinLink, TellsError}
 use Rattle.step_resolver.specs.Headline.{StoodAt}
@@ -59,36 +60,37 @@ abbrev pub IsNotIn : ℕ → List ℕ → Type 0
 IsNotIn k [] = Unit {0}
 IsNotIn k (h ∷ hs) = (k ≢ h) × IsNotIn k hs
 
-abbrev pub AreFresh : WalkInHistory → List ℕ → Type 0
-AreFresh w [] = Unit {0}
-AreFresh w (h ∷ hs) = (held_at w 0 h ≡ None) × AreFresh w hs
+-- none of these was open
+abbrev pub AllNew : (ℕ → Option ℕ) → List ℕ → Type 0
+AllNew old [] = Unit {0}
+AllNew old (h ∷ hs) = (old h ≡ None) × AllNew old hs
+
+-- a handle is among the new ones, or it isn't in the list
+pub new_or_out : (old : ℕ → Option ℕ) (k : ℕ) (hs : List ℕ) → AllNew old hs → IsNotIn k hs ⊎ (old k ≡ None)
+new_or_out old k [] new = inl tt
+new_or_out old k (h ∷ hs) new = on (k == h) refl (new_or_out old k hs new.1)
+  where
+    on_rest : k ≢ h → IsNotIn k hs ⊎ (old k ≡ None) → IsNotIn k (h ∷ hs) ⊎ (old k ≡ None)
+    on_rest ne (inl out) = inl (ne, out)
+    on_rest ne (inr none) = inr none
+
+    on : (b : Bool) → (k == h) ≡ b → IsNotIn k hs ⊎ (old k ≡ None) → IsNotIn k (h ∷ hs) ⊎ (old k ≡ None)
+    on true e rest = inr (ap old (eqb-true k h e) ∙ new.0)
+    on false e rest = on_rest (eqb-false k h e) rest
 
 -- these are the walk's own, and the others are as the window found them
 pub record HandlesAre (w : WalkInHistory) (m : ℕ) (hs : List ℕ) : Type 0 where
   pub others : (k : ℕ) → IsNotIn k hs → held_at w m k ≡ held_at w 0 k
-  pub fresh : AreFresh w hs
+  pub fresh : AllNew (held_at w 0) hs
 
 pub handles_kept : {w : WalkInHistory} {m t : ℕ} {hs : List ℕ} → ((h : ℕ) → held_at w t h ≡ held_at w m h) → HandlesAre w m hs → HandlesAre w t hs
 handles_kept kept are = record { others = λ k out. kept k ∙ are.others k out; fresh = are.fresh }
-
--- a handle is among the fresh ones, or it isn't in the list
-fresh_or_out : (w : WalkInHistory) (k : ℕ) (hs : List ℕ) → AreFresh w hs → IsNotIn k hs ⊎ (held_at w 0 k ≡ None)
-fresh_or_out w k [] fresh = inl tt
-fresh_or_out w k (h ∷ hs) fresh = on (k == h) refl (fresh_or_out w k hs fresh.1)
-  where
-    on_rest : k ≢ h → IsNotIn k hs ⊎ (held_at w 0 k ≡ None) → IsNotIn k (h ∷ hs) ⊎ (held_at w 0 k ≡ None)
-    on_rest ne (inl out) = inl (ne, out)
-    on_rest ne (inr none) = inr none
-
-    on : (b : Bool) → (k == h) ≡ b → IsNotIn k hs ⊎ (held_at w 0 k ≡ None) → IsNotIn k (h ∷ hs) ⊎ (held_at w 0 k ≡ None)
-    on true e rest = inr (ap (held_at w 0) (eqb-true k h e) ∙ fresh.0)
-    on false e rest = on_rest (eqb-false k h e) rest
 
 pub handles_more : {w : WalkInHistory} {t h x : ℕ} {hs : List ℕ} → HandlesAre w t hs
     → IsMore (state_at w t) w.actor (state_at w (suc t)) h x → HandlesAre w (suc t) (h ∷ hs)
 handles_more {w} {t} {h} {x} {hs} are is = record {
   others = λ k out. is.others k out.0 ∙ are.others k out.1;
-  fresh = (on (fresh_or_out w h hs are.fresh), are.fresh);
+  fresh = (on (new_or_out (held_at w 0) h hs are.fresh), are.fresh);
 }
   where
     on : IsNotIn h hs ⊎ (held_at w 0 h ≡ None) → held_at w 0 h ≡ None
@@ -104,7 +106,7 @@ handles_less {w} {t} {h} {hs} are is = record { others = λ k out. on k out (k =
     on k out false e = is.others k (eqb-false k h e) ∙ are.others k (eqb-false k h e, out)
 
 -- the root's handle isn't one of the walk's own, and stays open
-root_is_out : {w : WalkInHistory} → Lived w → (hs : List ℕ) → AreFresh w hs → IsNotIn w.way.root hs
+root_is_out : {w : WalkInHistory} → Lived w → (hs : List ℕ) → AllNew (held_at w 0) hs → IsNotIn w.way.root hs
 root_is_out lived [] fresh = tt
 root_is_out {w} lived (h ∷ hs) fresh = ((λ e. none-some w.root (sym fresh.0 ∙ ap (held_at w 0) (sym e) ∙ lived.root)), root_is_out lived hs fresh.1)
 
@@ -250,12 +252,6 @@ within_link w true p position (todo inner own b) g not_own = absurd (not_own ref
 
 -- ---- a walk under way
 
--- what the walk holds for what comes after closings
-abbrev pub handles_after : After → List ℕ
-handles_after (gives error) = []
-handles_after (onward position rest) = handles_of position
-handles_after (judges handle names rest) = handle.number ∷ []
-
 abbrev pub AllApart : List ℕ → List ℕ → Type 0
 AllApart [] hs = Unit {0}
 AllApart (k ∷ ks) hs = IsNotIn k hs × AllApart ks hs
@@ -327,8 +323,8 @@ GoodAfter w now (judges handle names rest) = GoodJudging w now handle names rest
 
 pub record GoodClosing (w : WalkInHistory) (now : ℕ) (h : ℕ) (hs : List ℕ) (after : After) : Type 0 where
   pub comes : GoodAfter w now after
-  pub apart : AllApart (h ∷ hs) (handles_after after)
-  pub handles : HandlesAre w now (h ∷ hs ++ handles_after after)
+  pub apart : AllApart (h ∷ hs) (walk_after_handles after)
+  pub handles : HandlesAre w now (h ∷ hs ++ walk_after_handles after)
 
 abbrev pub GoodWalk : WalkInHistory → ℕ → Walking → Type 0
 GoodWalk w now (opening position own follow n rest) = GoodOpening w now position own follow n rest
