@@ -1,5 +1,4 @@
 pub mod OwnEvents
-pub mod Happening
 pub mod WalkParts
 pub mod MakeAllNames
 pub mod Within
@@ -14,4 +13,5 @@ pub mod MappedLists
 pub mod LikeCalls
 pub mod LikeStages
 pub mod LikeFrames
+pub mod TableErrors
 pub mod RacedCalls

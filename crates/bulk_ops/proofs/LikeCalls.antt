@@ -9,7 +9,8 @@ use Rattle.bulk_ops.specs.Renamed.{numbers_by, handle_by, way_by, walking_by, le
 use Rattle.step_resolver.proofs.Renumbered.{like_walks_agree}
 
 module _ (f g : ℕ → ℕ) where
-  handles_agree : (held held' : Handle) → handle_by (λ h. 0) held ≡ handle_by (λ h. 0) held' → f held.number ≡ g held'.number → handle_by f held ≡ handle_by g held'
+  pub handles_agree : (held held' : Handle) → handle_by (λ h. 0) held ≡ handle_by (λ h. 0) held'
+      → f held.number ≡ g held'.number → handle_by f held ≡ handle_by g held'
   handles_agree held held' like same = ap (λ (x : Handle). record x { number = f held.number }) like ∙ ap (λ (n : ℕ). record held' { number = n }) same
 
   ways_agree : (way way' : Way) → way_by (λ h. 0) way ≡ way_by (λ h. 0) way' → f way.root ≡ g way'.root → way_by f way ≡ way_by g way'

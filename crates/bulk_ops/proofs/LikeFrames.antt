@@ -8,7 +8,7 @@ use Rattle.bulk_ops.specs.RemoveAllOrder.{Level, dirs}
 use Rattle.bulk_ops.specs.RemoveAllView.{name_at, level_of, levels_of, dirs_of}
 use Rattle.bulk_ops.specs.Renamed.{numbers_by, level_by, levels_by, levels_handles}
 use Rattle.bulk_ops.specs.declared.remove_all.frame.Frame.{Frame}
-use Rattle.bulk_ops.proofs.MappedLists.{same_lengths, same_at, more, same_more, onto_reverse, whole}
+use Rattle.bulk_ops.proofs.MappedLists.{same_lengths, same_at, more, onto_reverse, whole}
 
 -- ---- names from a place on
 
@@ -67,10 +67,6 @@ alike_lengths frames others e = same_lengths level_alone frames others (alike_fr
 pub alike_at : (frames others : List Frame) (i : ℕ) (f g : Frame) → levels_by (λ h. 0) (levels_of frames) ≡ levels_by (λ h. 0) (levels_of others) → i < length frames → f ≡ get_or frames i f → g ≡ get_or others i g
     → level_alone f ≡ level_alone g
 alike_at frames others i f g e = same_at level_alone frames others i f g (alike_frames frames others e)
-
-pub alike_more : (frames others : List Frame) (i : ℕ) (f g : Frame) → map level_alone (take i frames) ≡ map level_alone (take i others) → i < length frames → i < length others → f ≡ get_or frames i f → g ≡ get_or others i g
-    → level_alone f ≡ level_alone g → map level_alone (take (i + 1) frames) ≡ map level_alone (take (i + 1) others)
-alike_more = same_more level_alone
 
 pub all_alike : (frames others : List Frame) (i : ℕ) → length frames ≡ i → length others ≡ i → map level_alone (take i frames) ≡ map level_alone (take i others)
     → levels_by (λ h. 0) (levels_of frames) ≡ levels_by (λ h. 0) (levels_of others)

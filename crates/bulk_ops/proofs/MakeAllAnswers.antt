@@ -31,12 +31,11 @@ use Rattle.step_resolver.proofs.Underway.StepOutcomes.{IsMore, IsLess, Close-is_
 use Rattle.step_resolver.proofs.Underway.WalkInvariant.{Lived, StepAt, held_at, HandlesAre, handles_kept, handles_more, handles_less, root_open, IsHeld, held_kept, held_less, old_is_other, dir_at}
 use Rattle.step_resolver.proofs.Underway.HandleCount.{few_held}
 use Rattle.step_resolver.proofs.Underway.HandlesHeld.{handles_swapped, kept_on, more_on}
-use Rattle.step_resolver.proofs.Underway.LegalHistory.{TreeLaws}
+use Rattle.step_resolver.proofs.Underway.LegalHistory.{TreeLaws, IsAlone}
 use Rattle.step_resolver.proofs.Underway.NextPart.{a_directory, no_directory}
 use Rattle.bulk_ops.specs.MakeAllOrder.{making, opening, leaving, ending, closing, MakeTurn, more, made, rest_fault, rest_names, gives_up, take, enters}
 use Rattle.bulk_ops.specs.MakeAllTells.{into, AtName, Reach, not_begun, begun, MayDo, MakingCause, full, gone, missing, not_directory, astray}
 use Rattle.bulk_ops.specs.WalkFirst.{event_at, LeavesEntries}
-use Rattle.bulk_ops.proofs.Happening.{IsAlone}
 use Rattle.bulk_ops.proofs.MakeAllGood.{DidUntil, Chained, OnWay, Shown, OnWayIn, Failing, GoodCall, GoodTurn, did_further, gives_up_good, goes_down_good, chained_later, MakeCase, dir_gone, is_there, no_number, is_made, make_case, BelowCase, stands_there, stands_elsewhere, stands_nowhere, below_case, below_kept, below_nodes}
 
 -- each name of a rest without fault is short enough
@@ -145,8 +144,9 @@ module _ {w : WalkInHistory} (lived : Lived w) (now t : ℕ) (held : Handle) (na
         (fails_here TooMany (kept_on is (ap (λ r. r.after) o)) (inl (nodes_left (ap (λ r. r.after) o)))
         (full t (MakeDir held.number n) (event_as (MakeDir held.number n) is (Refused TooMany) (is.told ∙ ap (λ r. r.answer) o)) (ap (λ r. r.answer) o)
         (inr (leb-true NUMBERS_MAX (length s.nodes) many))))
-    on_case (is_made nodes one_more e o) =
-        let after : (state_at w (suc t)).nodes ≡ s.nodes ++ made_inode ∷ [] = ap (λ (x : State). x.nodes) (is.after ∙ ap (λ r. r.after) o) ∙ one_more in
+    on_case (is_made alive e o) =
+        let after : (state_at w (suc t)).nodes ≡ s.nodes ++ made_inode ∷ [] = ap (λ (x : State). x.nodes)
+        (is.after ∙ ap (λ r. r.after) o) in
         made_as Done (is.told ∙ ap (λ r. r.answer) o)
         (to_opening (λ h. ap (λ x. holding x w.actor h) (is.after ∙ ap (λ r. r.after) o) ∙ is.kept h)
         (inr (record {
@@ -324,9 +324,6 @@ module _ (laws : TreeLaws) {w : WalkInHistory} (lived : Lived w) (now t : ℕ) (
       (is : StepAt w now t (NameBelow w.way.root held.number) answer) where
     abbrev last : Chained w now way.p held names []
     last = way.chained
-
-    judged_by : List (List ℕ) → Bool → MakeTurn
-    judged_by told b = if b then made held names else gives_up (held.number ∷ []) Raced
 
     kept : (h : ℕ) → held_at w (suc t) h ≡ held_at w now h
     kept = below_kept lived now t held.number held.node names answer is (root_open lived way.handles) last.is_held.is_open

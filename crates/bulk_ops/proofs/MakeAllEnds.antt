@@ -20,13 +20,12 @@ use Rattle.step_resolver.specs.Failures.{TellsWant}
 use Rattle.step_resolver.specs.Headline.{IsNewHandle, OpensDeepest}
 use Rattle.step_resolver.proofs.TurnsTell.{is_machine}
 use Rattle.step_resolver.proofs.Underway.WalkInvariant.{Lived, StepAt, held_at, HandlesAre, IsHeld}
-use Rattle.step_resolver.proofs.Underway.LegalHistory.{lived}
+use Rattle.step_resolver.proofs.Underway.LegalHistory.{lived, IsAlone, Rests, HappensAlone, before_or_from}
 use Rattle.step_resolver.proofs.Underway.OwnSteps.{own_events_leave_nodes}
 use Rattle.step_resolver.proofs.Ends.EveryWalk.{tree_laws, walks_tell}
 use Rattle.bulk_ops.specs.MakeAllOrder.{Making, walking, making, opening, leaving, ending, closing, MakeTurn, more, made, failed, begins, rest_fault, rest_names, gives_up, begins_to_make, after_walk, take, due, under_way, calls, LeadsTo}
 use Rattle.bulk_ops.specs.MakeAllTells.{stays, DeepestAt, start_of, Reach, not_begun, begun, MayDo, Did, of_walk, no_directory, of_rest, for_want, MadeLast, MakeTells, MakesTell}
 use Rattle.bulk_ops.specs.WalkFirst.{walk_part}
-use Rattle.bulk_ops.proofs.Happening.{IsAlone, Rests, HappensAlone, before_or_from}
 use Rattle.bulk_ops.proofs.WalkParts.{walked_to, state_then, happens_on, leaves_so}
 use Rattle.bulk_ops.proofs.Within.{walk_of_making, short_told, want_first, want_behind}
 use Rattle.bulk_ops.proofs.MakeAllGood.{DidUntil, OnWay, Failing, LastAt, GoodCall, GoodTurn, goes_down_good}

@@ -25,10 +25,10 @@ use Rattle.handles.proofs.SameNames.{same_where_equal}
 use Rattle.step_resolver.proofs.Underway.WalkInvariant.{Lived, StepAt, held_at, HandlesAre, IsHeld, held_kept}
 use Rattle.step_resolver.proofs.Underway.AfterParent.{names_same, reversed_same}
 use Rattle.step_resolver.proofs.Underway.HandlesHeld.{kept_on}
+use Rattle.step_resolver.proofs.Underway.LegalHistory.{IsAlone, before_or_from}
 use Rattle.bulk_ops.specs.MakeAllOrder.{Making, walking, making, opening, leaving, ending, closing, MakeTurn, more, made, failed, rest_fault, rest_names, gives_up, goes_down}
 use Rattle.bulk_ops.specs.MakeAllTells.{OpenedDown, DeepestAt, start_of, Reach, begun, MayDo, Cause, IsThere}
 use Rattle.bulk_ops.specs.WalkFirst.{LeavesEntries}
-use Rattle.bulk_ops.proofs.Happening.{IsAlone, before_or_from}
 
 -- ---- what is known
 
@@ -141,17 +141,21 @@ chained_later le kept c = record {
 
 -- ---- MakeDir
 
+abbrev pub with_directory : State → ℕ → List ℕ → List Inode
+with_directory s d n = s.nodes ++ record { object = Dir; place = Some (record { parent = d; name = n }) } ∷ []
+
 -- what MakeDir is answered in a directory
 pub data MakeCase (s : State) (d : ℕ) (n : List ℕ) (o : Outcome) : Type 0 where
   dir_gone : is_gone s.nodes d ≡ true → o ≡ refused s NotFound → MakeCase s d n o
   is_there : (x : ℕ) → child s.nodes d n ≡ Some x → o ≡ refused s Exists → MakeCase s d n o
   no_number : nat_le NUMBERS_MAX (length s.nodes) ≡ true → o ≡ refused s TooMany → MakeCase s d n o
-  is_made : (nodes : List Inode) → nodes ≡ s.nodes ++ record { object = Dir; place = Some (record { parent = d; name = n }) } ∷ [] → makes s.nodes d n Dir ≡ Ok nodes
-      → o ≡ record { answer = Done; after = record { nodes = nodes; handles = s.handles } } → MakeCase s d n o
+  is_made : is_gone s.nodes d ≡ false → makes s.nodes d n Dir ≡ Ok (with_directory s d n)
+      → o ≡ record { answer = Done; after = record { nodes = with_directory s d n; handles = s.handles } }
+      → MakeCase s d n o
 
 module _ (s : State) (d : ℕ) (n : List ℕ) where
   abbrev with_number : Bool → Result (List Inode) Errno
-  with_number b = refuse_if b (Err TooMany) (Ok (s.nodes ++ record { object = Dir; place = Some (record { parent = d; name = n }) } ∷ []))
+  with_number b = refuse_if b (Err TooMany) (Ok (with_directory s d n))
 
   abbrev with_name : Bool → Result (List Inode) Errno
   with_name b = refuse_if b (Err Exists) (with_number (nat_le NUMBERS_MAX (length s.nodes)))
@@ -168,19 +172,22 @@ module _ (s : State) (d : ℕ) (n : List ℕ) where
       to_place : makes s.nodes d n Dir ≡ in_place (is_gone s.nodes d)
       to_place = ap in_dir dir
 
-      on_number : makes s.nodes d n Dir ≡ with_number (nat_le NUMBERS_MAX (length s.nodes)) → (b : Bool) → nat_le NUMBERS_MAX (length s.nodes) ≡ b
-          → MakeCase s d n (changes s (makes s.nodes d n Dir))
-      on_number q true e = no_number e (ap (changes s) (q ∙ ap with_number e))
-      on_number q false e = is_made _ refl (q ∙ ap with_number e) (ap (changes s) (q ∙ ap with_number e))
+      on_number : is_gone s.nodes d ≡ false → makes s.nodes d n Dir ≡ with_number (nat_le NUMBERS_MAX (length s.nodes))
+          → (b : Bool)
+          → nat_le NUMBERS_MAX (length s.nodes) ≡ b → MakeCase s d n (changes s (makes s.nodes d n Dir))
+      on_number g q true e = no_number e (ap (changes s) (q ∙ ap with_number e))
+      on_number g q false e = is_made g (q ∙ ap with_number e) (ap (changes s) (q ∙ ap with_number e))
 
-      on_name : makes s.nodes d n Dir ≡ with_name (is_some (child s.nodes d n)) → (o : Option ℕ) → child s.nodes d n ≡ o
+      on_name : is_gone s.nodes d ≡ false → makes s.nodes d n Dir ≡ with_name (is_some (child s.nodes d n))
+          → (o : Option ℕ) → child s.nodes d n ≡ o
           → MakeCase s d n (changes s (makes s.nodes d n Dir))
-      on_name q (Some x) e = is_there x e (ap (changes s) (q ∙ ap (λ o. with_name (is_some o)) e))
-      on_name q None e = on_number (q ∙ ap (λ o. with_name (is_some o)) e) (nat_le NUMBERS_MAX (length s.nodes)) refl
+      on_name g q (Some x) e = is_there x e (ap (changes s) (q ∙ ap (λ o. with_name (is_some o)) e))
+      on_name g q None e = on_number g (q ∙ ap (λ o. with_name (is_some o)) e)
+          (nat_le NUMBERS_MAX (length s.nodes)) refl
 
       on_gone : (b : Bool) → is_gone s.nodes d ≡ b → MakeCase s d n (changes s (makes s.nodes d n Dir))
       on_gone true e = dir_gone e (ap (changes s) (to_place ∙ ap in_place e))
-      on_gone false e = on_name (to_place ∙ ap in_place e) (child s.nodes d n) refl
+      on_gone false e = on_name e (to_place ∙ ap in_place e) (child s.nodes d n) refl
 
 pub make_case : (s : State) (a h : ℕ) (n : List ℕ) (d : ℕ) → held s a h ≡ Some d → is_dir s.nodes d ≡ true → MakeCase s d n (outcome s a (MakeDir h n))
 make_case s a h n d e dir =

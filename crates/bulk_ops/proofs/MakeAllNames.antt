@@ -4,23 +4,22 @@ use Rattle.std.proofs.Common.{◌+◌, sym, ap, subst, ◌∙◌, not-suc-le-zer
 use Rattle.std.proofs.lemmas.List.{drop_more, reverse-append, reverse-reverse}
 use Rattle.std.proofs.lemmas.Option.{same_Some, slice_get_within, get_or_from_slice_get}
 use Rattle.path_text.specs.declared.errno.Errno.{Errno}
-use Rattle.path_text.specs.declared.errno.Errno.TheVariants.{Exists, NotDir, TooLong, Raced, NoMemory}
+use Rattle.path_text.specs.declared.errno.Errno.TheVariants.{Exists, NotDir, Raced, NoMemory}
 use Rattle.path_text.specs.declared.part.Part.{Part}
-use Rattle.path_text.specs.declared.part.Part.TheVariants as part
 use Rattle.path_text.specs.Name.{is_component, component_fault, name_fault}
 use Rattle.path_text.specs.Names.{same_names}
 use Rattle.tree_model.specs.declared.answer.Answer.{Answer}
 use Rattle.tree_model.specs.declared.answer.Answer.TheVariants.{Opened, Text, Names, NotBelow, Listed, Done, Refused}
-use Rattle.tree_model.specs.declared.step.StepOf.TheVariants.{Open, MakeDir}
 use Rattle.handles.specs.declared.owner.Owner.{Owner}
 use Rattle.handles.specs.Objects.{ReachedObject, StandingObject, reached_by}
-use Rattle.handles.proofs.SameNames.{same_where_equal, other_where_not}
+use Rattle.handles.proofs.SameNames.{other_where_not}
 use Rattle.step_resolver.specs.Asked.{asked}
 use Rattle.step_resolver.specs.Meaning.{is_too_long}
 use Rattle.step_resolver.specs.Order.{Way, Handle, refusal_of, is_dir_kind}
 use Rattle.step_resolver.specs.View.{handle_of, check_refusal}
 use Rattle.step_resolver.specs.TurnView.{standing_handle}
-use Rattle.bulk_ops.specs.MakeAllOrder.{Making, making, opening, leaving, ending, MakeTurn, more, made, rest_fault, rest_names, gives_up, goes_down, begins_to_make, raced_if_missing, refused_make, enters, due}
+use Rattle.step_resolver.proofs.Meaning.PlainResolution.{asked_true}
+use Rattle.bulk_ops.specs.MakeAllOrder.{Making, making, opening, leaving, ending, MakeTurn, more, made, rest_fault, rest_names, gives_up, goes_down, begins_to_make, raced_if_missing, refused_make, enters}
 use Rattle.bulk_ops.specs.MakeAllOrder.{take as takes}
 use Rattle.bulk_ops.specs.MakeAllView.{MakingView, IsTurn, at_next, gone_into, passed, to_come, fault_in, names_in}
 use Rattle.bulk_ops.specs.declared.make_all.Chain.{Chain}
@@ -30,22 +29,10 @@ use Rattle.bulk_ops.specs.declared.turn.BulkTurn.{BulkTurn}
 
 -- the rest of the caller's parts, as they were asked
 pub fault_asked : (rest : List Part) → rest_fault (asked true rest) ≡ fault_in rest
-fault_asked [] = refl
-fault_asked (part.Cur ∷ []) = refl
-fault_asked (part.Up ∷ []) = refl
-fault_asked (part.Named n ∷ []) = refl
-fault_asked (part.Cur ∷ q ∷ rest) = fault_asked (q ∷ rest)
-fault_asked (part.Up ∷ q ∷ rest) = refl
-fault_asked (part.Named n ∷ q ∷ rest) = ap (λ f. if is_too_long n then Some TooLong else f) (fault_asked (q ∷ rest))
+fault_asked rest = ap rest_fault (asked_true rest)
 
 pub names_asked : (rest : List Part) → rest_names (asked true rest) ≡ names_in rest
-names_asked [] = refl
-names_asked (part.Cur ∷ []) = refl
-names_asked (part.Up ∷ []) = refl
-names_asked (part.Named n ∷ []) = refl
-names_asked (part.Cur ∷ q ∷ rest) = names_asked (q ∷ rest)
-names_asked (part.Up ∷ q ∷ rest) = names_asked (q ∷ rest)
-names_asked (part.Named n ∷ q ∷ rest) = ap (λ (ns : List (List ℕ)). n ∷ ns) (names_asked (q ∷ rest))
+names_asked rest = ap rest_names (asked_true rest)
 
 -- a part that isn't too long is a name
 pub named : (n : List ℕ) → component_fault n ≡ None → is_too_long n ≡ false → name_fault n ≡ None
@@ -99,14 +86,6 @@ comes_next k xs name less e =
     next.left ∙ ap (λ (n : List ℕ). n ∷ drop (suc k) xs) (same_Some next.name name (sym next.is ∙ e))
 
 -- ---- what is due
-
-pub due_making : (way : Way) (held : ReachedObject) (chain : Chain) (name : List ℕ) (left : List (List ℕ)) → to_come chain ≡ name ∷ left
-    → MakeDir held.handle name ≡ due way (at_next (making (handle_of held) (passed chain)) (handle_of held) (passed chain) (to_come chain))
-due_making way held chain name left e = sym (ap (λ (ns : List (List ℕ)). due way (at_next (making (handle_of held) (passed chain)) (handle_of held) (passed chain) ns)) e)
-
-pub due_opening : (way : Way) (held : ReachedObject) (chain : Chain) (name : List ℕ) (left : List (List ℕ)) → to_come chain ≡ name ∷ left
-    → Open held.handle name ≡ due way (at_next (opening (handle_of held) (passed chain)) (handle_of held) (passed chain) (to_come chain))
-due_opening way held chain name left e = sym (ap (λ (ns : List (List ℕ)). due way (at_next (opening (handle_of held) (passed chain)) (handle_of held) (passed chain) ns)) e)
 
 -- ---- turns
 
@@ -202,13 +181,6 @@ module _ (way : Way) (held : ReachedObject) (chain : Chain) (less : chain.done <
       ∙ sym (opened_takes owner answer new e)
 
 -- ---- the last directory
-
-pub ended_made : (way : Way) (held : ReachedObject) (all : List (List ℕ)) (answer : Answer) → answer ≡ Names all
-    → made (handle_of held) (reverse all) ≡ takes way true (ending (handle_of held) (reverse all)) answer
-ended_made way held all answer e =
-    sym (ap (λ (a : Answer). takes way true (ending (handle_of held) (reverse all)) a) e
-    ∙ ap (λ b. if b then made (handle_of held) (reverse all) else gives_up (held.handle ∷ []) Raced)
-    (ap (same_names all) (reverse-reverse all) ∙ same_where_equal all all refl))
 
 pub ended_raced : (way : Way) (held : ReachedObject) (all : List (List ℕ)) (answer : Answer) → answer ≢ Names all
     → gives_up (held.handle ∷ []) (check_refusal answer) ≡ takes way true (ending (handle_of held) (reverse all)) answer

@@ -21,7 +21,8 @@ use Rattle.bulk_ops.specs.declared.turn.BulkTurn.{BulkTurn}
 use Rattle.bulk_ops.proofs.MakeAllSteps.{refused_within, needs_no_room}
 use Rattle.bulk_ops.proofs.MakeAllEnds.{makes_tell}
 
-refusal_needs_no_room : (way : Way) (room : Bool) (call : Making) (error : Errno) → take way true call (Refused error) ≡ take way room call (Refused error)
+pub refusal_needs_no_room : (way : Way) (room : Bool) (call : Making) (error : Errno)
+    → take way true call (Refused error) ≡ take way room call (Refused error)
 refusal_needs_no_room way room (walking w) error =
     needs_no_room _ _ (refused_within way w error) true room ∙ ap (after_walk room) (walk_needs_no_room way room w error)
 refusal_needs_no_room way room (making held names n left) error = refl

@@ -25,10 +25,6 @@ module _ {A B : Type 0} (f : A → B) where
       let P : ℕ → Type 0 = λ n. map f (take n (a ∷ xs)) ≡ f a ∷ (map f (take i xs) ++ f x ∷ []) in
       subst P (sym e) (ap (λ ys. f a ∷ ys) (more xs i x (omega arith) p))
 
-  pub same_more : (xs ys : List A) (i : ℕ) (x y : A) → map f (take i xs) ≡ map f (take i ys) → i < length xs → i < length ys → x ≡ get_or xs i x → y ≡ get_or ys i y → f x ≡ f y
-      → map f (take (i + 1) xs) ≡ map f (take (i + 1) ys)
-  same_more xs ys i x y e lt lt' p q r = more xs i x lt p ∙ (ap (λ zs. zs ++ f x ∷ []) e ∙ (ap (λ z. map f (take i ys) ++ z ∷ []) r ∙ sym (more ys i y lt' q)))
-
   pub onto_reverse : (xs : List A) → map f (reverse xs) ≡ reverse (map f xs)
   onto_reverse [] = refl
   onto_reverse (x ∷ xs) =

@@ -1,13 +1,13 @@
 -- A bulk call that failed with EAGAIN met a step of another that changes entries: were there none, what it held would stand
 -- where it stood, and what it made would be there.
-use Rattle.std.specs.Prelude.{◌≡◌, ℕ, zero, suc, ◌+◌, ◌-◌, ◌≤◌, ◌⊎◌, ◌==◌, ◌&&◌, List, [], ◌∷◌, ◌++◌, Bool, true, false, not, if◌then◌else◌, length, Option, Some, None, Ok, Err, is_some, nat_le, refl}
+use Rattle.std.specs.Prelude.{◌≡◌, ℕ, zero, suc, ◌+◌, ◌-◌, ◌≤◌, ◌⊎◌, ◌==◌, ◌&&◌, List, [], ◌∷◌, ◌++◌, Bool, true, false, not, length, Option, Some, None, Ok, Err, is_some, nat_le, refl}
 use Rattle.std.proofs.Common.{sym, ap, subst, ◌∙◌, inl, inr, le_trans, add-zero, append-nil, append_assoc, arith}
 use Rattle.std.proofs.Math.Nat.{le-suc}
 use Rattle.std.proofs.Math.Bool.{and-false}
 use Rattle.std.proofs.lemmas.Bool.{false≢true}
 use Rattle.std.proofs.lemmas.Option.{none-some}
 use Rattle.path_text.specs.declared.errno.Errno.{Errno}
-use Rattle.path_text.specs.declared.errno.Errno.TheVariants.{NotFound, Raced, Exists, NotDir, TooMany, TooLong}
+use Rattle.path_text.specs.declared.errno.Errno.TheVariants.{NotFound, Raced, Exists, NotDir, TooMany}
 use Rattle.tree_model.specs.declared.inode.Inode.{Inode}
 use Rattle.tree_model.specs.declared.inode.Object.TheVariants.{Dir}
 use Rattle.tree_model.specs.declared.inode.Place.{Place}
@@ -17,9 +17,7 @@ use Rattle.tree_model.specs.Entries.{refuse_if, makes}
 use Rattle.tree_model.proofs.Children.{entry, place_at-child, child-entry}
 use Rattle.tree_model.proofs.Places.{place_at-append}
 use Rattle.tree_model.proofs.PlaceLaws.{stands_at_one_way}
-use Rattle.step_resolver.specs.Asked.{AskedPart, Cur, Up, Named}
 use Rattle.step_resolver.specs.Changes.{changes_by_others}
-use Rattle.step_resolver.specs.Meaning.{is_too_long}
 use Rattle.step_resolver.specs.Trail.{Spot}
 use Rattle.step_resolver.specs.Order.{IsWant}
 use Rattle.step_resolver.specs.WalkHistory.{WalkInHistory, IsWalkInHistory, begin_of, timeline}
@@ -38,6 +36,7 @@ use Rattle.bulk_ops.specs.WalkFirst.{LeavesEntries, walk_part, TellsWalkFailed}
 use Rattle.bulk_ops.proofs.MakeAllEnds.{makes_tell}
 use Rattle.bulk_ops.proofs.RemovingAll.EachEnd.{every_call_tells}
 use Rattle.bulk_ops.proofs.WalkParts.{same_nodes, own_within}
+use Rattle.bulk_ops.proofs.TableErrors.{no_fault, rest_other, raced, raced_is_other}
 use Rattle.tree_model.proofs.Standing.{Stands-append}
 
 -- ---- nodes that are only added to
@@ -173,16 +172,6 @@ module _ (w : WalkInHistory) (is : IsWalkInHistory w) (none : changes_by_others 
 
 -- ---- each call
 
-no_rest_fault : (rest : List AskedPart) → rest_fault rest ≡ Some Raced → ⊥
-no_rest_fault [] e = cc (e)
-no_rest_fault (Cur ∷ rest) e = no_rest_fault rest e
-no_rest_fault (Up ∷ rest) e = cc (e)
-no_rest_fault (Named follow n ∷ rest) e = on (is_too_long n) e (no_rest_fault rest)
-  where
-    on : (b : Bool) → (if b then Some TooLong else rest_fault rest) ≡ Some Raced → (rest_fault rest ≡ Some Raced → ⊥) → ⊥
-    on true q later = cc (q)
-    on false q later = later q
-
 walk_met : (w : WalkInHistory) → IsWalkInHistory w → TellsWalkFailed w Raced → 1 ≤ changes_by_others w.actor w.window
 walk_met w is failed = raced_walk_met w is failed.walked
 
@@ -190,7 +179,8 @@ module _ (w : WalkInHistory) (is : IsWalkInHistory w) (root : is_gone (begin_of 
   by_unbegun : (error : Errno) → UnbegunCause w error → error ≡ Raced → 1 ≤ changes_by_others w.actor w.window
   by_unbegun error (of_walk failed) same = walk_met w is (subst (TellsWalkFailed w) same failed)
   by_unbegun error (no_directory handle names walked other) same = cc (same)
-  by_unbegun error (of_rest p e) same = absurd (no_rest_fault p.rest (e ∙ ap (λ (x : Errno). Some x) same))
+  by_unbegun error (of_rest p e) same = absurd (no_fault raced (rest_fault p.rest) error
+      (rest_other raced raced_is_other p.rest) (ap raced same) e)
 
   by_cause : (reach : Reach w) → Did w reach → Cause w reach Raced → 1 ≤ changes_by_others w.actor w.window
   by_cause not_begun did cause = by_unbegun Raced cause refl

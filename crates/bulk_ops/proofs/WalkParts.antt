@@ -17,11 +17,10 @@ use Rattle.step_resolver.specs.Order as walk
 use Rattle.step_resolver.specs.Headline.{IsNewHandle}
 use Rattle.step_resolver.specs.WalkHistory.{WalkInHistory, IsWalkInHistory, begin_of, end_of, state_at, timeline, own_events}
 use Rattle.step_resolver.proofs.DrivenWalks.{joined_events}
-use Rattle.step_resolver.proofs.Underway.LegalHistory.{IsRest, one_less, whole_rest, nothing_more, lived}
+use Rattle.step_resolver.proofs.Underway.LegalHistory.{IsRest, one_less, whole_rest, nothing_more, lived, HappensAlone, lines_happen_alone, lines_happen_from}
 use Rattle.step_resolver.proofs.Ends.EveryWalk.{tree_laws}
 use Rattle.step_resolver.proofs.Ends.WalksMean.{every_walk}
 use Rattle.bulk_ops.specs.WalkFirst.{LeavesEntries, walk_part, rest_part, WalkedTo, after_walk}
-use Rattle.bulk_ops.proofs.Happening.{HappensAlone, lines_happen, lines_happen_from}
 use Rattle.bulk_ops.proofs.OwnEvents.{Cut, cut, own_both}
 
 -- ---- a walk from a later moment before its own first event
@@ -102,7 +101,7 @@ own_within w t own = on (slice_get w.window t) refl
     on None q = absurd (false≢true (sym (ap (is_by w.actor) q) ∙ own))
     on (Some event) q = slice_get_within w.window t event q
 
-in_front : {A : Type 0} (xs ys : List A) (t : ℕ) → t < length xs → slice_get (xs ++ ys) t ≡ slice_get xs t
+pub in_front : {A : Type 0} (xs ys : List A) (t : ℕ) → t < length xs → slice_get (xs ++ ys) t ≡ slice_get xs t
 in_front [] ys t less = absurd (not-suc-le-zero less)
 in_front (x ∷ xs) ys zero less = refl
 in_front (x ∷ xs) ys (suc t) less = in_front xs ys t (le_of_suc-le-suc less)
@@ -114,7 +113,7 @@ module _ (w : WalkInHistory) (is : IsWalkInHistory w) (end : walk.Turn) (walked 
   -- the lines after it happen in the window after it
   pub happens_after : HappensAlone (after_walk walked) 0 walked.rest
   happens_after =
-      lines_happen others_handles_stay (after_walk walked)
+      lines_happen_alone others_handles_stay (after_walk walked)
       (subst (λ s. IsLegal s walked.later) (sym (after_events-append w.opening w.before walked.window)) legal_after) walked.own_later
 
   -- the events after it are what is left of the window then

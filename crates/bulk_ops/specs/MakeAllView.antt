@@ -1,20 +1,18 @@
 -- What a contract sees of a call to MkdirAll, and what its turns are in the order of steps.
-use Rattle.std.specs.Prelude.{◌≡◌, ◌≤◌, ◌<◌, ℕ, suc, ◌+◌, ◌*◌, List, [], ◌∷◌, Bool, length, take, drop, reverse, Option, Some, None, if◌then◌else◌}
+use Rattle.std.specs.Prelude.{◌≡◌, ◌≤◌, ◌<◌, ℕ, suc, ◌+◌, ◌*◌, List, [], ◌∷◌, Bool, length, take, drop, reverse, Option}
 use Rattle.path_text.specs.declared.errno.Errno.{Errno}
-use Rattle.path_text.specs.declared.errno.Errno.TheVariants.{NotFound, TooLong}
 use Rattle.path_text.specs.declared.part.Part.{Part}
-use Rattle.path_text.specs.declared.part.Part.TheVariants.{Cur, Up, Named}
 use Rattle.path_text.specs.declared.path.TheConstants.{PARTS_MAX}
 use Rattle.path_text.specs.Reading.{Reading}
 use Rattle.tree_model.specs.declared.answer.Answer.{Answer}
 use Rattle.handles.specs.declared.owner.Owner.{Owner}
 use Rattle.handles.specs.Objects.{ReachedObject}
 use Rattle.walk_plan.specs.declared.goal.Goal.TheVariants.{Deepest}
-use Rattle.step_resolver.specs.Meaning.{is_too_long}
+use Rattle.step_resolver.specs.Asked.{followed}
 use Rattle.step_resolver.specs.Order.{Way, Handle}
 use Rattle.step_resolver.specs.View.{handle_of, numbers_of, way_from}
 use Rattle.step_resolver.specs.TurnView.{STEPS_MAX, standing_handle}
-use Rattle.bulk_ops.specs.MakeAllOrder.{Making, walking, making, opening, leaving, ending, closing, MakeTurn, more, made, failed, starts, steps_left}
+use Rattle.bulk_ops.specs.MakeAllOrder.{Making, walking, making, opening, leaving, ending, closing, MakeTurn, more, made, failed, rest_fault, rest_names, starts, steps_left}
 use Rattle.bulk_ops.specs.MakeAllOrder.{take as takes}
 use Rattle.bulk_ops.specs.declared.make_all.Call.{Call}
 use Rattle.bulk_ops.specs.declared.make_all.Chain.{Chain}
@@ -115,14 +113,8 @@ MAKE_STEPS_MAX = STEPS_MAX + (3 * PARTS_MAX + 2)
 
 -- why nothing is made
 abbrev pub fault_in : List Part → Option Errno
-fault_in [] = None
-fault_in (Cur ∷ rest) = fault_in rest
-fault_in (Up ∷ rest) = Some NotFound
-fault_in (Named n ∷ rest) = if is_too_long n then Some TooLong else fault_in rest
+fault_in rest = rest_fault (followed rest)
 
 -- its names
 abbrev pub names_in : List Part → List (List ℕ)
-names_in [] = []
-names_in (Cur ∷ rest) = names_in rest
-names_in (Up ∷ rest) = names_in rest
-names_in (Named n ∷ rest) = n ∷ names_in rest
+names_in rest = rest_names (followed rest)

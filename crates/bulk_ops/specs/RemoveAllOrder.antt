@@ -65,15 +65,6 @@ pub data Turn : Type 0 where
 abbrev pub dirs : List Level → List ℕ
 dirs levels = map (λ level. level.dir) levels
 
--- what was opened by the name under way
-abbrev pub opened_at : Stage → List ℕ
-opened_at removes_file = []
-opened_at opens = []
-opened_at (lists h) = h ∷ []
-opened_at (shuts h) = h ∷ []
-opened_at (leaves h) = h ∷ []
-opened_at removes_dir = []
-
 -- and it before these
 abbrev pub before : Stage → List ℕ → List ℕ
 before removes_file hs = hs

@@ -6,9 +6,10 @@ use Rattle.path_text.specs.declared.errno.Errno.TheVariants.{NotDir, Busy}
 use Rattle.tree_model.specs.declared.inode.Inode.{Inode}
 use Rattle.tree_model.specs.declared.inode.Place.{Place}
 use Rattle.tree_model.specs.State.{child, is_dir, is_within, at_place}
-use Rattle.step_resolver.specs.Asked.{follows, is_deepest}
-use Rattle.step_resolver.specs.Meaning.{Meant, object, fails, reading_means}
-use Rattle.step_resolver.specs.Footprint.{ground, is_want}
+use Rattle.step_resolver.specs.Asked.{is_deepest}
+use Rattle.step_resolver.specs.Headline.{whole_meaning}
+use Rattle.step_resolver.specs.Meaning.{object, fails}
+use Rattle.step_resolver.specs.Footprint.{is_want}
 use Rattle.step_resolver.specs.FootprintLaws.{IsQuiet}
 use Rattle.step_resolver.specs.WalkHistory.{WalkInHistory, IsWalkInHistory, begin_of, end_of}
 use Rattle.bulk_ops.specs.RemoveAllOrder.{Turn, more, removed, failed, begins, LeadsTo}
@@ -41,15 +42,11 @@ cleared_rows nodes dir target = how_many_from (is_at_or_below nodes (child nodes
 
 -- ---- what a quiet call's end is
 
--- what the directory part of the path means in the tree as the window begins
-abbrev pub directory_means : WalkInHistory → Meant
-directory_means w = reading_means (ground w) w.path (follows w.way.goal)
-
--- It means this object.
+-- In the tree as the window begins, the directory part of the path means this object.
 pub record IsFoundAt (w : WalkInHistory) (dir : ℕ) : Type 0 where
   pub links : ℕ
   pub reads : List Place
-  pub means : directory_means w ≡ object dir links reads
+  pub means : whole_meaning w ≡ object dir links reads
 
 -- It is a directory; the target in it went with every row below it, nothing else was changed, and the count is the
 -- number of these rows.
@@ -63,7 +60,7 @@ pub record QuietRemoved (w : WalkInHistory) (target : List ℕ) (count : ℕ) : 
 -- the directory part fails so
 pub record MeansFailure (w : WalkInHistory) (error : Errno) : Type 0 where
   pub reads : List Place
-  pub means : directory_means w ≡ fails error reads
+  pub means : whole_meaning w ≡ fails error reads
 
 -- ENOTDIR: it means what is no directory
 pub record MeansNoDirectory (w : WalkInHistory) (error : Errno) : Type 0 where

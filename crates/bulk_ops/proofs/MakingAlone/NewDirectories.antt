@@ -1,20 +1,13 @@
 -- A tree with one directory more: it is found, it is empty, and what stood stands.
-use Rattle.std.proofs.Common.{◌≡◌, ⊎_elim, ℕ, suc, ◌==◌, ◌&&◌, Bool, true, false, not, List, [], ◌∷◌, ◌++◌, length, Option, Some, None, is_some, nat_le, Result, Ok, Err, refl, sym, ap, ◌∙◌, subst, arith}
+use Rattle.std.proofs.Common.{◌≡◌, ⊎_elim, ℕ, suc, ◌==◌, ◌&&◌, true, false, not, List, [], ◌∷◌, ◌++◌, length, Option, Some, None, is_some, refl, sym, ap, ◌∙◌, arith}
 use Rattle.std.specs.Option.{option_map}
 use Rattle.std.proofs.lemmas.Bool.{false≢true}
 use Rattle.std.proofs.lemmas.Option.{same_Some}
 use Rattle.std.proofs.Math.Bool.{and-false}
-use Rattle.path_text.specs.declared.errno.Errno.{Errno}
-use Rattle.path_text.specs.declared.errno.Errno.TheVariants.{NotFound, BadHandle, Exists, NotDir, TooMany}
-use Rattle.tree_model.specs.declared.answer.Answer.TheVariants.{Done}
 use Rattle.tree_model.specs.declared.inode.Inode.{Inode}
 use Rattle.tree_model.specs.declared.inode.Object.{Object}
 use Rattle.tree_model.specs.declared.inode.Object.TheVariants.{Dir}
-use Rattle.tree_model.specs.declared.step.StepOf.TheVariants.{MakeDir}
-use Rattle.tree_model.specs.declared.tree.TheConstants.{NUMBERS_MAX}
-use Rattle.tree_model.specs.State.{State, TOP, Stands, object_at, place_at, child, is_dir, is_directory, is_gone}
-use Rattle.tree_model.specs.Entries.{refuse_if, with_some, makes}
-use Rattle.tree_model.specs.Steps.{Outcome, outcome, refused, changes, held}
+use Rattle.tree_model.specs.State.{TOP, Stands, object_at, place_at, child, is_dir, is_directory, is_gone}
 use Rattle.tree_model.specs.Trees.{IsTree}
 use Rattle.tree_model.proofs.Places.{object_at-append, place_at-append, place_at-last, place_at-one_more, slice_get-last}
 use Rattle.tree_model.proofs.Children.{entry, place_at-child, child-entry}
@@ -70,41 +63,3 @@ module _ (nodes : List Inode) (tree : IsTree nodes) (d : ℕ) (n : List ℕ) (di
   pub new_stands : (r : ℕ) (names : List (List ℕ)) → is_dir nodes r ≡ true → Stands nodes r d names → Stands with_new r (length nodes) (n ∷ names)
   new_stands r names root st =
       (λ e. no_dir_yet (ap (λ x. is_dir nodes x) e ∙ root), (d, (new_stands_there, Stands-append nodes (new_inode ∷ []) r d names st)))
-
--- what MakeDir of a missing name is answered in a directory
-pub data NewCase (s : State) (d : ℕ) (n : List ℕ) (o : Outcome) : Type 0 where
-  dir_gone : is_gone s.nodes d ≡ true → o ≡ refused s NotFound → NewCase s d n o
-  no_number : o ≡ refused s TooMany → NewCase s d n o
-  is_new : is_gone s.nodes d ≡ false
-      → o ≡ record { answer = Done; after = record { nodes = s.nodes ++ record { object = Dir; place = Some (record { parent = d; name = n }) } ∷ []; handles = s.handles } }
-      → NewCase s d n o
-
-module _ (s : State) (d : ℕ) (n : List ℕ) where
-  abbrev if_number : Bool → Result (List Inode) Errno
-  if_number b = refuse_if b (Err TooMany) (Ok (s.nodes ++ record { object = Dir; place = Some (record { parent = d; name = n }) } ∷ []))
-
-  abbrev if_name : Option ℕ → Result (List Inode) Errno
-  if_name o = refuse_if (is_some o) (Err Exists) (if_number (nat_le NUMBERS_MAX (length s.nodes)))
-
-  abbrev if_gone : Bool → Result (List Inode) Errno
-  if_gone b = refuse_if b (Err NotFound) (if_name (child s.nodes d n))
-
-  abbrev if_dir : Bool → Result (List Inode) Errno
-  if_dir b = refuse_if (not b) (Err NotDir) (if_gone (is_gone s.nodes d))
-
-  new_of : is_dir s.nodes d ≡ true → child s.nodes d n ≡ None → NewCase s d n (changes s (makes s.nodes d n Dir))
-  new_of dir missing = on_gone (is_gone s.nodes d) refl
-    where
-      on_number : is_gone s.nodes d ≡ false → makes s.nodes d n Dir ≡ if_number (nat_le NUMBERS_MAX (length s.nodes)) → (b : Bool)
-          → nat_le NUMBERS_MAX (length s.nodes) ≡ b → NewCase s d n (changes s (makes s.nodes d n Dir))
-      on_number g q true e = no_number (ap (changes s) (q ∙ ap if_number e))
-      on_number g q false e = is_new g (ap (changes s) (q ∙ ap if_number e))
-
-      on_gone : (b : Bool) → is_gone s.nodes d ≡ b → NewCase s d n (changes s (makes s.nodes d n Dir))
-      on_gone true e = dir_gone e (ap (changes s) (ap if_dir dir ∙ ap if_gone e))
-      on_gone false e = on_number e (ap if_dir dir ∙ ap if_gone e ∙ ap if_name missing) (nat_le NUMBERS_MAX (length s.nodes)) refl
-
-pub new_case : (s : State) (a h : ℕ) (n : List ℕ) (d : ℕ) → held s a h ≡ Some d → is_dir s.nodes d ≡ true → child s.nodes d n ≡ None
-    → NewCase s d n (outcome s a (MakeDir h n))
-new_case s a h n d e dir missing =
-    subst (NewCase s d n) (sym (ap (λ o. with_some o (refused s BadHandle) (λ x. changes s (makes s.nodes x n Dir))) e)) (new_of s d n dir missing)

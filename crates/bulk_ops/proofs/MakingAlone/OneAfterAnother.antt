@@ -26,7 +26,8 @@ use Rattle.step_resolver.specs.Footprint.{is_want}
 use Rattle.step_resolver.proofs.Underway.StepOutcomes.{IsMore, with_handle-is_more, IsLess, Close-is_less, Opening, too_many, no_object, is_opened, opening_of, OpenCase, no_dir, no_child, at_child, open_case}
 use Rattle.bulk_ops.specs.MakeAllOrder.{Making, walking, making, opening, leaving, ending, closing, MakeTurn, more, made, failed, gives_up, goes_down, take, due, LeadsTo}
 use Rattle.bulk_ops.specs.MakeAllQuiet.{chain_of, last_of, MakeMeant, refuses, gives, rest_means, IsMeantEnd, IsPartOf, MakingComesTo, IsOver}
-use Rattle.bulk_ops.proofs.MakingAlone.NewDirectories.{length-one_more, dir_stays, with_new, new_inode, new_is_dir, new_not_gone, new_is_found, new_is_empty, new_stands, NewCase, dir_gone, no_number, is_new, new_case}
+use Rattle.bulk_ops.proofs.MakeAllGood.{MakeCase, dir_gone, is_there, no_number, is_made, make_case}
+use Rattle.bulk_ops.proofs.MakingAlone.NewDirectories.{length-one_more, dir_stays, with_new, new_inode, new_is_dir, new_not_gone, new_is_found, new_is_empty, new_stands}
 
 -- ---- what is known
 
@@ -185,15 +186,18 @@ module _ (a : ℕ) (way : Way) (r : ℕ) (base : List Inode) (meant : MakeMeant)
       ),
     )
 
-    on_new : NewCase s held.node n (outcome s a (MakeDir held.number n)) → Onward room (making held names n left) (outcome s a (MakeDir held.number n))
+    on_new : MakeCase s held.node n (outcome s a (MakeDir held.number n))
+        → Onward room (making held names n left) (outcome s a (MakeDir held.number n))
     unfolding goal_with
     on_new (dir_gone g o) = subst (Onward room (making held names n left)) (sym o)
         (λ tree. inr (lacks.goal ∙ ap (goal_with s.nodes held.node (n ∷ left)) g, lacks.none_made g))
-    on_new (no_number o) = subst (Onward room (making held names n left)) (sym o) (λ tree. inl (refl, lacks_part s held names n left ready lacks))
-    on_new (is_new g o) = subst (Onward room (making held names n left)) (sym o) (λ tree. made_now g tree)
+    on_new (is_there x found o) = absurd (none-some x (sym lacks.missing ∙ found))
+    on_new (no_number many o) = subst (Onward room (making held names n left)) (sym o)
+        (λ tree. inl (refl, lacks_part s held names n left ready lacks))
+    on_new (is_made g e o) = subst (Onward room (making held names n left)) (sym o) (λ tree. made_now g tree)
 
     making_good : Onward room (making held names n left) (outcome s a (MakeDir held.number n))
-    making_good = on_new (new_case s a held.number n held.node ready.is_open ready.dir lacks.missing)
+    making_good = on_new (make_case s a held.number n held.node ready.is_open ready.dir)
 
   -- ---- Open
 

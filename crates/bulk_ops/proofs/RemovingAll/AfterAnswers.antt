@@ -22,10 +22,10 @@ use Rattle.step_resolver.proofs.Underway.StepOutcomes.{IsMore, IsLess, Close-is_
 use Rattle.step_resolver.proofs.Underway.StepOutcomes as step_is
 use Rattle.step_resolver.proofs.Underway.WalkInvariant.{Lived, StepAt, held_at, IsNotIn, dir_at}
 use Rattle.step_resolver.proofs.Underway.HandlesHeld.{kept_on, more_on}
+use Rattle.step_resolver.proofs.Underway.LegalHistory.{AloneAt, not_below}
 use Rattle.bulk_ops.specs.RemoveAllOrder.{Level, Stage, removes_file, lists, shuts, leaves, removes_dir, End, fails, removes, Removing, walking, clearing, closing, Turn, more, removed, failed, dirs, before, closes, is_due, gives_up, next_entry, finished, enters, file_removed, opened, listed, dir_removed, take, due_at}
 use Rattle.bulk_ops.specs.RemoveAllOrder as order
 use Rattle.bulk_ops.specs.RemoveAllTells.{under, removals, one_more_if, is_removal, TakesAway, LeavesEntries, IsOn, ClosesAt, AllClose, TellsFault}
-use Rattle.bulk_ops.proofs.Happening.{AloneAt, not_below}
 use Rattle.bulk_ops.proofs.RemovingAll.StepAnswers.{without, FileCase, no_dir, no_entry, at_dir, gone, file_case, DirCase, not_in_dir, no_such_entry, at_no_dir, not_empty, dir_gone, dir_case, list_is}
 use Rattle.bulk_ops.proofs.RemovingAll.Underway.{Holds, holds_kept, holds_more, holds_less, same_all, same_but, Inner, inner_moved, IsAt, at_moved, new_is_out, Spot, spot, TookAway, up_to, IsAtStage, Tally, wants_of_rest, tally_next, LastSoFar, Clears, Ends, Good, closes_good, due_good}
 

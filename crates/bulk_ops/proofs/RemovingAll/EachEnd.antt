@@ -16,7 +16,7 @@ use Rattle.step_resolver.specs.Asked.{is_deepest}
 use Rattle.step_resolver.specs.WalkHistory.{WalkInHistory, IsWalkInHistory, begin_of, end_of, timeline}
 use Rattle.step_resolver.specs.Failures.{HandlesStay, TellsWant}
 use Rattle.step_resolver.specs.Headline.{Opens}
-use Rattle.step_resolver.proofs.Underway.LegalHistory.{lived}
+use Rattle.step_resolver.proofs.Underway.LegalHistory.{lived, AloneAt, Rests, HappensAlone, before_or_from}
 use Rattle.step_resolver.proofs.Underway.WalkInvariant.{Lived}
 use Rattle.step_resolver.proofs.Underway.OwnSteps.{own_events_leave_nodes}
 use Rattle.step_resolver.proofs.Ends.EveryWalk.{tree_laws, walks_tell}
@@ -26,7 +26,6 @@ use Rattle.bulk_ops.specs.RemoveAllOrder as order
 use Rattle.bulk_ops.specs.WalkFirst.{LeavesEntries, walk_part, WalkedTo, after_walk}
 use Rattle.bulk_ops.specs.RemoveAllTells.{removals, one_more_if, is_removal, TakesAway, OnlyTakesAway, IsLastOnTarget, IsClose, IsBounded, Parts, Tells, RemoveAllTells}
 use Rattle.bulk_ops.proofs.RemovingAll.Bounded.{lines_bounded, clearing_begins}
-use Rattle.bulk_ops.proofs.Happening.{AloneAt, Rests, HappensAlone, before_or_from}
 use Rattle.bulk_ops.proofs.WalkParts.{walked_to, happens_after, there, is_held, after_is}
 use Rattle.bulk_ops.proofs.RemovingAll.Underway.{Holds, wants_of_rest, TookAway, LastSoFar, Good, due_good}
 use Rattle.bulk_ops.proofs.RemovingAll.AfterAnswers.{file_good, dir_good, open_good, list_good, close_good, closing_good, not_made_good}

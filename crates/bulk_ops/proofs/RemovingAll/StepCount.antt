@@ -1,19 +1,19 @@
 -- Each answer leaves fewer steps to come.
-use Rattle.std.specs.Prelude.{◌≡◌, ℕ, zero, suc, ◌+◌, ◌*◌, ◌<◌, ◌≤◌, List, [], ◌∷◌, Bool, true, false, length}
+use Rattle.std.specs.Prelude.{ℕ, zero, suc, ◌+◌, ◌*◌, ◌<◌, List, [], ◌∷◌, Bool, true, false, length}
 use Rattle.std.proofs.Common.{subst, arith}
 use Rattle.path_text.specs.declared.errno.Errno.{Errno}
 use Rattle.path_text.specs.declared.errno.Errno.TheVariants.{NotFound, NoMemory, Busy, NotDir, IsDir, NotEmpty}
 use Rattle.tree_model.specs.declared.answer.Answer.{Answer}
 use Rattle.tree_model.specs.declared.answer.Answer.TheVariants.{Opened, Listed, Done, Refused}
 use Rattle.tree_model.specs.declared.step.Kind.TheVariants as kind
-use Rattle.step_resolver.specs.Order.{Way, Walking, refusal_of}
+use Rattle.step_resolver.specs.Order.{Way, refusal_of}
 use Rattle.step_resolver.specs.Order as walk
 use Rattle.step_resolver.proofs.WalkSteps.{FewerThan as FewerOnWalk, take_lowers as walk_lowers, a_step_left}
 use Rattle.bulk_ops.specs.declared.remove_all.clearing.TheConstants.{CLEARING_STEPS_MAX}
 use Rattle.bulk_ops.specs.declared.turn.BulkTurn.{BulkTurn}
 use Rattle.bulk_ops.specs.declared.turn.BulkTurn.TheVariants as outcome
-use Rattle.bulk_ops.specs.RemoveAllOrder.{Level, Stage, removes_file, opens, lists, shuts, leaves, removes_dir, End, fails, removes, Removing, walking, clearing, closing, Turn, more, removed, failed, dirs, before, ends, closes, is_due, next_entry, enters, gives_up, walked, for_call, file_removed, opened, listed, dir_removed, take, steps_left}
-use Rattle.bulk_ops.specs.RemoveAllTurnView.{IsTurn, BeginsTo, TakesTo, steps_to_come}
+use Rattle.bulk_ops.specs.RemoveAllOrder.{Level, Stage, removes_file, opens, lists, shuts, leaves, removes_dir, End, fails, removes, Removing, walking, clearing, closing, Turn, more, removed, failed, dirs, before, ends, closes, is_due, next_entry, enters, gives_up, walked, file_removed, opened, listed, dir_removed, take, steps_left}
+use Rattle.bulk_ops.specs.RemoveAllTurnView.{IsTurn, TakesTo, steps_to_come}
 
 -- fewer than this many steps are left, where the call goes on
 abbrev pub FewerThan : ℕ → Turn → Type 0
@@ -28,15 +28,6 @@ ended k (removes count) = tt
 closed : (k : ℕ) (hs : List ℕ) (end : End) → length hs < k → FewerThan k (closes hs end)
 closed k [] end few = ended k end
 closed k (h ∷ hs) end few = omega arith
-
--- what was opened by the name under way is one handle more at most
-one_more : (stage : Stage) (hs : List ℕ) → length (before stage hs) ≤ suc (length hs)
-one_more removes_file hs = omega arith
-one_more opens hs = omega arith
-one_more (lists h) hs = omega arith
-one_more (shuts h) hs = omega arith
-one_more (leaves h) hs = omega arith
-one_more removes_dir hs = omega arith
 
 -- steps of clearing are left, each of which counts twice, and so many handles are held
 due_few : (k : ℕ) (stage : Stage) (level : Level) (above : List Level) (count left : ℕ)
@@ -123,16 +114,3 @@ lowers k (outcome.Failed error) turn some is few = some
 pub taken_lowers : (removing : Removing) (answer : Answer) (result : BulkTurn Removing) → TakesTo removing answer result → steps_to_come result < steps_left removing
 taken_lowers removing answer result taken =
     lowers (steps_left removing) result (take taken.0 removing answer) (a_call_left removing) taken.1 (take_lowers taken.0 removing answer)
-
-pub begun_few : (way : Way) (target : List ℕ) (w : Walking) (most : ℕ) (result : BulkTurn Removing) → walk.steps_left w ≤ most → BeginsTo way target w result
-    → steps_to_come result ≤ most + (2 * CLEARING_STEPS_MAX + 1)
-begun_few way target w most (outcome.More call) few begun = on begun.0 begun.1
-  where
-    on : (room : Bool) → for_call room (more (walking way target w)) ≡ more call → steps_left call ≤ most + (2 * CLEARING_STEPS_MAX + 1)
-    on true e =
-        let fewer : FewerThan (suc (most + (2 * CLEARING_STEPS_MAX + 1))) (more call) = subst (FewerThan (suc (most + (2 * CLEARING_STEPS_MAX + 1)))) e (omega arith) in
-        omega (arith, fewer)
-    on false e = cc (e)
-begun_few way target w most (outcome.Made standing) few begun = absurd begun.1
-begun_few way target w most (outcome.Removed count) few begun = omega arith
-begun_few way target w most (outcome.Failed error) few begun = omega arith

@@ -20,7 +20,8 @@ use Rattle.bulk_ops.specs.RemoveAllTurnView.{IsTurn, TakesTo, StartsTo}
 use Rattle.bulk_ops.specs.RemoveAllTurnsTell.{histories, TellsTaken, TellsBegun}
 use Rattle.bulk_ops.proofs.RemovingAll.EachEnd.{every_call_tells}
 
-refusal_needs_no_room : (room : Bool) (call : Removing) (error : Errno) → take true call (Refused error) ≡ take room call (Refused error)
+pub refusal_needs_no_room : (room : Bool) (call : Removing) (error : Errno)
+    → take true call (Refused error) ≡ take room call (Refused error)
 refusal_needs_no_room room (walking way target w) error = ap (walked way target) (walk_needs_no_room way room w error)
 refusal_needs_no_room room (clearing removes_file level above count left) error = refl
 refusal_needs_no_room room (clearing opens level above count left) error = refl

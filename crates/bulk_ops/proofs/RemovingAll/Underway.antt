@@ -14,17 +14,13 @@ use Rattle.step_resolver.specs.Order.{Line}
 use Rattle.step_resolver.specs.WalkHistory.{WalkInHistory, state_at, timeline}
 use Rattle.step_resolver.specs.Failures.{TellsWant}
 use Rattle.step_resolver.proofs.Underway.StepOutcomes.{IsMore, IsLess}
-use Rattle.step_resolver.proofs.Underway.WalkInvariant.{held_at, IsNotIn}
+use Rattle.step_resolver.proofs.Underway.WalkInvariant.{held_at, IsNotIn, AllNew, new_or_out}
+use Rattle.step_resolver.proofs.Underway.LegalHistory.{IsAlone, before_or_from, less_or_same}
 use Rattle.bulk_ops.specs.declared.remove_all.clearing.TheConstants.{CLEARING_STEPS_MAX}
 use Rattle.bulk_ops.specs.RemoveAllOrder.{Level, Stage, removes_file, opens, lists, shuts, leaves, removes_dir, End, fails, removes, walking, clearing, closing, Turn, more, removed, failed, dirs, before, closes, is_due}
 use Rattle.bulk_ops.specs.RemoveAllTells.{Down, here, under, outermost, removals, one_more_if, event_at, TakesAway, LeavesEntries, IsOn, ClosesAt, AllClose, TellsFault}
-use Rattle.bulk_ops.proofs.Happening.{IsAlone, before_or_from, less_or_same}
 
 -- ---- handles
-
-abbrev pub AllNew : (ℕ → Option ℕ) → List ℕ → Type 0
-AllNew b [] = Unit {0}
-AllNew b (h ∷ hs) = (b h ≡ None) × AllNew b hs
 
 -- these handles are the call's own, and the others are as `b` has them
 pub record Holds (c : WalkInHistory) (b : ℕ → Option ℕ) (m : ℕ) (hs : List ℕ) : Type 0 where
@@ -33,18 +29,6 @@ pub record Holds (c : WalkInHistory) (b : ℕ → Option ℕ) (m : ℕ) (hs : Li
 
 pub holds_kept : {c : WalkInHistory} {b : ℕ → Option ℕ} {m t : ℕ} {hs : List ℕ} → ((h : ℕ) → held_at c t h ≡ held_at c m h) → Holds c b m hs → Holds c b t hs
 holds_kept kept is = record { others = λ k out. kept k ∙ is.others k out; fresh = is.fresh }
-
-new_or_out : (b : ℕ → Option ℕ) (k : ℕ) (hs : List ℕ) → AllNew b hs → IsNotIn k hs ⊎ (b k ≡ None)
-new_or_out b k [] fresh = inl tt
-new_or_out b k (h ∷ hs) fresh = on (k == h) refl (new_or_out b k hs fresh.1)
-  where
-    on_rest : k ≢ h → IsNotIn k hs ⊎ (b k ≡ None) → IsNotIn k (h ∷ hs) ⊎ (b k ≡ None)
-    on_rest ne (inl out) = inl (ne, out)
-    on_rest ne (inr none) = inr none
-
-    on : (q : Bool) → (k == h) ≡ q → IsNotIn k hs ⊎ (b k ≡ None) → IsNotIn k (h ∷ hs) ⊎ (b k ≡ None)
-    on true e rest = inr (ap b (eqb-true k h e) ∙ fresh.0)
-    on false e rest = on_rest (eqb-false k h e) rest
 
 pub holds_more : {c : WalkInHistory} {b : ℕ → Option ℕ} {t h x : ℕ} {hs : List ℕ} → Holds c b t hs
     → IsMore (state_at c t) c.actor (state_at c (suc t)) h x → Holds c b (suc t) (h ∷ hs)

@@ -20,8 +20,8 @@ use Rattle.step_resolver.specs.Order.{Handle, Line, answered, no_room, not_made,
 use Rattle.step_resolver.specs.WalkHistory.{WalkInHistory, state_at, timeline}
 use Rattle.step_resolver.proofs.Underway.StepOutcomes.{read_is}
 use Rattle.step_resolver.proofs.Underway.WalkInvariant.{StepAt, held_at}
+use Rattle.step_resolver.proofs.Underway.LegalHistory.{AloneAt, HappensAlone}
 use Rattle.bulk_ops.specs.RemoveAllTells.{LeavesEntries, AllLeaveEntries}
-use Rattle.bulk_ops.proofs.Happening.{AloneAt, HappensAlone}
 use Rattle.root_ops.specs.declared.aim.Change.{Change}
 use Rattle.root_ops.specs.declared.aim.Wanted.{Wanted}
 use Rattle.root_ops.specs.declared.aim.Wanted.TheVariants as wants

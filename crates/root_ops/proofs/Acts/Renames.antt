@@ -21,8 +21,8 @@ use Rattle.step_resolver.specs.WalkHistory.{WalkInHistory, begin_of, state_at, t
 use Rattle.step_resolver.proofs.Underway.HandleCount.{same_count}
 use Rattle.step_resolver.proofs.Underway.StepOutcomes.{with_handle-is_more, Close-is_less}
 use Rattle.step_resolver.proofs.Underway.WalkInvariant.{held_at}
+use Rattle.step_resolver.proofs.Underway.LegalHistory.{AloneAt, HappensAlone, not_below}
 use Rattle.bulk_ops.specs.RemoveAllTells.{event_at, LeavesEntries, AllLeaveEntries}
-use Rattle.bulk_ops.proofs.Happening.{AloneAt, HappensAlone, not_below}
 use Rattle.root_ops.specs.declared.aim.Renaming.{Renaming}
 use Rattle.root_ops.specs.declared.aim.Wanted.TheVariants as wants
 use Rattle.root_ops.specs.declared.below.Below.{Below}

@@ -19,12 +19,13 @@ use Rattle.step_resolver.specs.Order as walk
 use Rattle.step_resolver.specs.Footprint.{IsMeant, is_want}
 use Rattle.step_resolver.specs.FootprintLaws.{IsQuiet}
 use Rattle.step_resolver.specs.FootprintLaws as quiet_walk
+use Rattle.step_resolver.specs.Headline.{whole_meaning}
 use Rattle.step_resolver.specs.WalkHistory.{WalkInHistory, IsWalkInHistory, begin_of, end_of, state_at, timeline}
 use Rattle.step_resolver.proofs.Ends.WalksMean.{quiet_walks_mean}
 use Rattle.step_resolver.proofs.DrivenWalks.{joined_events}
 use Rattle.bulk_ops.specs.RemoveAllOrder.{Turn, more, removed, failed, walked, begins, LeadsTo}
 use Rattle.bulk_ops.specs.RemoveAllTells.{removals, OnlyTakesAway, IsLastOnTarget, TellsFault, walk_part, Parts, clearing_part, TellsGivenUp, TellsWalkFailed, Tells}
-use Rattle.bulk_ops.specs.RemoveAllQuiet.{is_at_or_below, cleared, cleared_rows, directory_means, IsFoundAt, QuietRemoved, MeansFailure, QuietFailed, is_short, IsQuietEnd, QuietRemoveAll}
+use Rattle.bulk_ops.specs.RemoveAllQuiet.{is_at_or_below, cleared, cleared_rows, IsFoundAt, QuietRemoved, MeansFailure, QuietFailed, is_short, IsQuietEnd, QuietRemoveAll}
 use Rattle.bulk_ops.proofs.RemovingAll.EachEnd.{every_call_tells}
 use Rattle.bulk_ops.proofs.RemovingAll.Parts.{walk_removes_none}
 use Rattle.bulk_ops.proofs.RemovingAll.Quiet.Gone.{placed, placed-without}
@@ -42,11 +43,13 @@ behind (x ∷ xs) ys t event e = let later = behind xs ys t event e in (suc late
 
 -- ---- what a meaning says
 
-found_at : (w : WalkInHistory) (meant : Meant) (handle : Handle) (names : List (List ℕ)) → directory_means w ≡ meant → IsMeant meant (walk.found handle names) → IsFoundAt w handle.node
+found_at : (w : WalkInHistory) (meant : Meant) (handle : Handle) (names : List (List ℕ)) → whole_meaning w ≡ meant
+    → IsMeant meant (walk.found handle names) → IsFoundAt w handle.node
 found_at w (object x b reads) handle names e is = record { links = b; reads = reads; means = e ∙ ap (λ y. object y b reads) (sym is) }
 found_at w (fails error reads) handle names e is = elim is [ ]
 
-fails_so : (w : WalkInHistory) (meant : Meant) (error : Errno) → directory_means w ≡ meant → IsMeant meant (walk.failed error) → MeansFailure w error
+fails_so : (w : WalkInHistory) (meant : Meant) (error : Errno) → whole_meaning w ≡ meant
+    → IsMeant meant (walk.failed error) → MeansFailure w error
 fails_so w (object x b reads) error e is = elim is [ ]
 fails_so w (fails cause reads) error e is = record { reads = reads; means = e ∙ ap (λ y. fails y reads) (sym is) }
 
@@ -74,7 +77,7 @@ module _ (w : WalkInHistory) (target : List ℕ) (is : IsWalkInHistory w) (quiet
   walk_end = quiet_walks_mean first (walk.found parts.handle parts.names) parts.walked.is_walk parts.walked.leads tt first_quiet refl
 
   pub found : IsFoundAt w dir
-  found = found_at w (directory_means w) parts.handle parts.names refl (walk_end.means shallow)
+  found = found_at w (whole_meaning w) parts.handle parts.names refl (walk_end.means shallow)
 
   begins_there : begin_of second ≡ end_of first
   begins_there = after_events-append w.opening w.before parts.walked.window
@@ -241,7 +244,7 @@ no_want Loop e = refl
 walk_failed : (w : WalkInHistory) (error : Errno) → IsWalkInHistory w → IsQuiet w → is_deepest w.way.goal ≡ false → TellsWalkFailed w error → is_short error ≡ false → QuietFailed w error
 walk_failed w error is quiet shallow failure enough =
     let end = quiet_walks_mean w (walk.failed error) is failure.walked tt quiet (no_want error enough) in
-    record { nodes = end.nodes; why = inl (fails_so w (directory_means w) error refl (end.means shallow)) }
+    record { nodes = end.nodes; why = inl (fails_so w (whole_meaning w) error refl (end.means shallow)) }
 
 quietly : (w : WalkInHistory) (target : List ℕ) (end : Turn) → IsWalkInHistory w → IsQuiet w → is_deepest w.way.goal ≡ false
     → LeadsTo (begins w.way target w.path) w.lines end → Tells w target end → IsQuietEnd w target end
