@@ -2,7 +2,6 @@
 use Rattle.std.proofs.Common.{◌≡◌, ℕ, List, Bool, true, false, refl, sym, ◌∙◌, ap}
 use Rattle.path_text.specs.declared.errno.Errno.TheVariants.{NoMemory}
 use Rattle.path_text.specs.Reading.{Reading}
-use Rattle.tree_model.specs.declared.answer.Answer.{Answer}
 use Rattle.walk_plan.specs.declared.goal.Goal.TheVariants.{Follow}
 use Rattle.step_resolver.specs.Order.{Way, Line}
 use Rattle.step_resolver.specs.Order as walk
@@ -20,7 +19,7 @@ use Rattle.bulk_ops.proofs.RemovingAll.TurnsTell.{is_machine as removing_machine
 use Rattle.root_ops.proofs.Within.{making_of_call, removing_of_call}
 use Rattle.root_ops.specs.declared.below.Below.{Below}
 use Rattle.root_ops.specs.Order.{Reply, CallTurn, ends, fault, making, removing, make_way, makes, removing_turn, under_way, calls, LeadsTo}
-use Rattle.root_ops.specs.TurnView.{Either, TakesTo}
+use Rattle.root_ops.specs.TurnView.{Either}
 use Rattle.root_ops.proofs.Rooms.{FindsNone, first_turn}
 
 -- ---- the first turn
@@ -55,18 +54,6 @@ clears_by below name path outcome turn started by =
     (by (remove.starts (way_from below.root Follow below.flags) started.0 name path) started.1)
 
 -- ---- each answer
-
--- to a step of a MkdirAll on this way
-pub made_by : (below : Below) (call : MakingView) (answer : Answer) (outcome : BulkTurn MakingView) (turn : CallTurn) → call.way ≡ make_way below
-    → making_view.TakesTo call.way call.making answer outcome → ((to : make.MakeTurn) → making_view.IsTurn outcome to → turn ≡ makes to)
-    → TakesTo below (making call.making) answer turn
-made_by below call answer outcome turn same taken by =
-    (taken.0, by (make.take call.way taken.0 call.making answer) taken.1 ∙ ap (λ way. makes (make.take way taken.0 call.making answer)) same)
-
-pub cleared_by : (below : Below) (call : remove.Removing) (answer : Answer) (outcome : BulkTurn remove.Removing) (turn : CallTurn)
-    → removing_view.TakesTo call answer outcome → ((to : remove.Turn) → removing_view.IsTurn outcome to → turn ≡ removing_turn to)
-    → TakesTo below (removing call) answer turn
-cleared_by below call answer outcome turn taken by = (taken.0, by (remove.take taken.0 call answer) taken.1)
 
 -- ---- the lines of a bulk call
 

@@ -15,8 +15,10 @@ pub mod FirstWalks
 pub mod Resolves
 pub mod BulkReplies
 pub mod DrivenCalls
+pub mod HandlesRenamed
 pub mod LikeCalls
 pub mod Blind
+pub mod ChangeErrors
 pub mod NotRaced
 pub mod VainCalls
 pub mod OwnHandles

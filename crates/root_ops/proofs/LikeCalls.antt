@@ -1,13 +1,12 @@
 -- Requests and calls that are the same but for their handles, each of which gets one number in both.
-use Rattle.std.specs.Prelude.{◌≡◌, ℕ, List, [], ◌∷◌, ◌++◌, refl}
+use Rattle.std.specs.Prelude.{◌≡◌, ℕ, List, ◌++◌}
 use Rattle.std.proofs.Common.{◌∙◌, sym, ap}
 use Rattle.tree_model.specs.StepWith.{StepWith}
 use Rattle.tree_model.specs.declared.step.StepOf.TheVariants as steps
 use Rattle.tree_model.specs.declared.answer.Answer.{Answer}
 use Rattle.tree_model.specs.declared.answer.Answer.TheVariants as answers
 use Rattle.handles.specs.Objects.{StandingObject}
-use Rattle.step_resolver.specs.Order.{Handle, Position, root_itself, holds, handles_of, Walking, After as WalkAfter}
-use Rattle.step_resolver.specs.Order as walk
+use Rattle.step_resolver.specs.Order.{Walking}
 use Rattle.root_ops.specs.declared.aim.Aim.{Aim}
 use Rattle.root_ops.specs.declared.aim.Aim.TheVariants as aims
 use Rattle.root_ops.specs.declared.below.Below.{Below}
@@ -16,55 +15,18 @@ use Rattle.root_ops.specs.declared.op.Op.TheVariants as ops
 use Rattle.root_ops.specs.declared.op.Request.{Request}
 use Rattle.root_ops.specs.Order.{Reply, After, Doing, opened, link_text, done, count, stepped, kept, fault, gives, acts, walking, acting, checking, closing, making, removing, releasing}
 use Rattle.root_ops.specs.View.{CallView}
-use Rattle.root_ops.specs.Renamed.{numbers_by, handle_by, position_by, walk_after_by, walking_by, making_by, removing_by, step_by, answer_by, standing_by, reply_by, after_by, aim_by, doing_by, below_by, op_by, request_by, call_by, walk_after_handles, walking_handles, step_handles, answer_handles, reply_handles, after_handles, aim_handles, doing_handles, call_handles, op_handles, LikeAnswersAgree, LikeRequestsAgree, LikeCallsAgree}
+use Rattle.root_ops.specs.Renamed.{numbers_by, handle_by, walking_by, making_by, removing_by, step_by, answer_by, standing_by, reply_by, after_by, aim_by, doing_by, below_by, op_by, request_by, call_by, walking_handles, step_handles, answer_handles, reply_handles, after_handles, aim_handles, doing_handles, call_handles, op_handles, LikeAnswersAgree, LikeRequestsAgree, LikeCallsAgree}
 use Rattle.step_resolver.proofs.Renumbered.{like_walks_agree}
-use Rattle.bulk_ops.proofs.LikeCalls.{like_making_agrees, like_removing_agrees}
+use Rattle.bulk_ops.proofs.LikeCalls.{handles_agree, like_making_agrees, like_removing_agrees}
+use Rattle.root_ops.proofs.HandlesRenamed.{same_long, numbers_apart, walking_numbers, step_numbers}
 
 -- ---- how many handles there are is seen without their numbers
 
-both_lists : (hs ks : List ℕ) → numbers_by (λ h. 0) (hs ++ ks) ≡ numbers_by (λ h. 0) hs ++ numbers_by (λ h. 0) ks
-both_lists [] ks = refl
-both_lists (h ∷ hs) ks = ap (λ ns. 0 ∷ ns) (both_lists hs ks)
-
-step_zeros : (s : StepWith ℕ) → numbers_by (λ h. 0) (step_handles s) ≡ step_handles (step_by (λ h. 0) s)
-step_zeros (steps.Open h n) = refl
-step_zeros (steps.Dup h) = refl
-step_zeros (steps.Parent h) = refl
-step_zeros (steps.ReadLink h) = refl
-step_zeros (steps.NameBelow r h) = refl
-step_zeros (steps.List h) = refl
-step_zeros (steps.Close h) = refl
-step_zeros (steps.MakeDir h n) = refl
-step_zeros (steps.MakeFile h n) = refl
-step_zeros (steps.MakeLink h n text) = refl
-step_zeros (steps.RemoveFile h n) = refl
-step_zeros (steps.RemoveDir h n) = refl
-step_zeros (steps.Rename h n k m mode) = refl
-
 step_counts : (s t : StepWith ℕ) → step_by (λ h. 0) s ≡ step_by (λ h. 0) t → numbers_by (λ h. 0) (step_handles s) ≡ numbers_by (λ h. 0) (step_handles t)
-step_counts s t e = step_zeros s ∙ (ap step_handles e ∙ sym (step_zeros t))
-
-place_zeros : (p : Position) → numbers_by (λ h. 0) (handles_of p) ≡ handles_of (position_by (λ h. 0) p)
-place_zeros root_itself = refl
-place_zeros (holds handle names) = refl
-
-after_zeros : (a : WalkAfter) → numbers_by (λ h. 0) (walk_after_handles a) ≡ walk_after_handles (walk_after_by (λ h. 0) a)
-after_zeros (walk.gives error) = refl
-after_zeros (walk.onward position rest) = place_zeros position
-after_zeros (walk.judges handle names rest) = refl
-
-walk_zeros : (w : Walking) → numbers_by (λ h. 0) (walking_handles w) ≡ walking_handles (walking_by (λ h. 0) w)
-walk_zeros (walk.opening position own follow n rest) = place_zeros position
-walk_zeros (walk.reading position link rest) = both_lists (handles_of position) (link.number ∷ []) ∙ ap (λ ns. ns ++ 0 ∷ []) (place_zeros position)
-walk_zeros (walk.rising handle names rest) = refl
-walk_zeros (walk.judging handle names rest) = refl
-walk_zeros (walk.duping rest) = refl
-walk_zeros (walk.ending handle names rest) = refl
-walk_zeros (walk.closing h hs after) =
-    ap (λ ns. 0 ∷ ns) (both_lists hs (walk_after_handles after) ∙ ap (λ ns. numbers_by (λ h. 0) hs ++ ns) (after_zeros after))
+step_counts s t e = sym (step_numbers (λ h. 0) s) ∙ (ap step_handles e ∙ step_numbers (λ h. 0) t)
 
 walk_counts : (w v : Walking) → walking_by (λ h. 0) w ≡ walking_by (λ h. 0) v → numbers_by (λ h. 0) (walking_handles w) ≡ numbers_by (λ h. 0) (walking_handles v)
-walk_counts w v e = walk_zeros w ∙ (ap walking_handles e ∙ sym (walk_zeros v))
+walk_counts w v e = sym (walking_numbers (λ h. 0) w) ∙ (ap walking_handles e ∙ walking_numbers (λ h. 0) v)
 
 abbrev call_of : Below → Doing → CallView
 call_of below doing = record { below = below; doing = doing }
@@ -72,27 +34,12 @@ call_of below doing = record { below = below; doing = doing }
 module _ (f g : ℕ → ℕ) where
   -- ---- two lists after one another
 
-  first_agrees : (hs ks ms ns : List ℕ) → numbers_by (λ h. 0) hs ≡ numbers_by (λ h. 0) ks → numbers_by f (hs ++ ms) ≡ numbers_by g (ks ++ ns)
-      → numbers_by f hs ≡ numbers_by g ks
-  first_agrees [] [] ms ns e p = cc
-  first_agrees (h ∷ hs) (k ∷ ks) ms ns e p =
-      let first : f h ≡ g k = cc in
-      let others : numbers_by f hs ≡ numbers_by g ks =
-      first_agrees hs ks ms ns (let q : numbers_by (λ h. 0) hs ≡ numbers_by (λ h. 0) ks = cc in q) (let q : numbers_by f (hs ++ ms) ≡ numbers_by g (ks ++ ns) = cc in q) in
-      cc
-  first_agrees hs ks ms ns e p = cc
-
-  second_agrees : (hs ks ms ns : List ℕ) → numbers_by (λ h. 0) hs ≡ numbers_by (λ h. 0) ks → numbers_by f (hs ++ ms) ≡ numbers_by g (ks ++ ns)
-      → numbers_by f ms ≡ numbers_by g ns
-  second_agrees [] [] ms ns e p = p
-  second_agrees (h ∷ hs) (k ∷ ks) ms ns e p =
-      second_agrees hs ks ms ns (let q : numbers_by (λ h. 0) hs ≡ numbers_by (λ h. 0) ks = cc in q) (let q : numbers_by f (hs ++ ms) ≡ numbers_by g (ks ++ ns) = cc in q)
-  second_agrees hs ks ms ns e p = cc
+  both_agree : (hs ks ms ns : List ℕ) → numbers_by (λ h. 0) hs ≡ numbers_by (λ h. 0) ks
+      → numbers_by f (hs ++ ms) ≡ numbers_by g (ks ++ ns)
+      → (numbers_by f hs ≡ numbers_by g ks) × (numbers_by f ms ≡ numbers_by g ns)
+  both_agree hs ks ms ns e p = numbers_apart f g hs ks ms ns (same_long hs ks e) p
 
   -- ---- steps and answers
-
-  handles_agree : (h k : Handle) → handle_by (λ h. 0) h ≡ handle_by (λ h. 0) k → f h.number ≡ g k.number → handle_by f h ≡ handle_by g k
-  handles_agree h k e p = ap (λ (x : Handle). record x { number = f h.number }) e ∙ ap (λ (n : ℕ). record k { number = n }) p
 
   pub steps_agree : (s t : StepWith ℕ) → step_by (λ h. 0) s ≡ step_by (λ h. 0) t → numbers_by f (step_handles s) ≡ numbers_by g (step_handles t) → step_by f s ≡ step_by g t
   steps_agree (steps.Open h n) (steps.Open k m) e p = cc
@@ -153,7 +100,7 @@ module _ (f g : ℕ → ℕ) where
       let held : handle_by (λ h. 0) handle ≡ handle_by (λ h. 0) other = cc in
       let same : names ≡ others = cc in
       let number : f handle.number ≡ g other.number = cc in
-      let handles : handle_by f handle ≡ handle_by g other = handles_agree handle other held number in
+      let handles : handle_by f handle ≡ handle_by g other = handles_agree f g handle other held number in
       cc
   replies_agree (link_text text) (link_text other) e p = cc
   replies_agree done done e p = cc
@@ -167,7 +114,8 @@ module _ (f g : ℕ → ℕ) where
   acts_agree : (s t : StepWith ℕ) (hs ks : List ℕ) → step_by (λ h. 0) s ≡ step_by (λ h. 0) t → numbers_by (λ h. 0) hs ≡ numbers_by (λ h. 0) ks
       → numbers_by f (step_handles s ++ hs) ≡ numbers_by g (step_handles t ++ ks) → (step_by f s ≡ step_by g t) × (numbers_by f hs ≡ numbers_by g ks)
   acts_agree s t hs ks e d p =
-      (steps_agree s t e (first_agrees (step_handles s) (step_handles t) hs ks (step_counts s t e) p), second_agrees (step_handles s) (step_handles t) hs ks (step_counts s t e) p)
+      let both = both_agree (step_handles s) (step_handles t) hs ks (step_counts s t e) p in
+      (steps_agree s t e both.0, both.1)
 
   afters_agree : (a b : After) → after_by (λ h. 0) a ≡ after_by (λ h. 0) b → numbers_by f (after_handles a) ≡ numbers_by g (after_handles b) → after_by f a ≡ after_by g b
   afters_agree (gives r) (gives s) e p = ap gives (replies_agree r s (let q : reply_by (λ h. 0) r ≡ reply_by (λ h. 0) s = cc in q) p)
@@ -192,8 +140,9 @@ module _ (f g : ℕ → ℕ) where
       let walks : walking_by (λ h. 0) w ≡ walking_by (λ h. 0) v = cc in
       let aims : aim_by (λ h. 0) a ≡ aim_by (λ h. 0) b = cc in
       let counts : numbers_by (λ h. 0) (walking_handles w) ≡ numbers_by (λ h. 0) (walking_handles v) = walk_counts w v walks in
-      let walked : walking_by f w ≡ walking_by g v = like_walks_agree f g w v walks (first_agrees (walking_handles w) (walking_handles v) (aim_handles a) (aim_handles b) counts p) in
-      let aimed : aim_by f a ≡ aim_by g b = aims_agree a b aims (second_agrees (walking_handles w) (walking_handles v) (aim_handles a) (aim_handles b) counts p) in
+      let both = both_agree (walking_handles w) (walking_handles v) (aim_handles a) (aim_handles b) counts p in
+      let walked : walking_by f w ≡ walking_by g v = like_walks_agree f g w v walks both.0 in
+      let aimed : aim_by f a ≡ aim_by g b = aims_agree a b aims both.1 in
       cc
   doings_agree (acting wanted s hs) (acting other t ks) e p =
       let both : (step_by f s ≡ step_by g t) × (numbers_by f hs ≡ numbers_by g ks) =
@@ -205,8 +154,9 @@ module _ (f g : ℕ → ℕ) where
       let afters : after_by (λ h. 0) a ≡ after_by (λ h. 0) b = cc in
       let first : f h ≡ g k = cc in
       let left : numbers_by f (hs ++ after_handles a) ≡ numbers_by g (ks ++ after_handles b) = cc in
-      let others : numbers_by f hs ≡ numbers_by g ks = first_agrees hs ks (after_handles a) (after_handles b) lists left in
-      let next : after_by f a ≡ after_by g b = afters_agree a b afters (second_agrees hs ks (after_handles a) (after_handles b) lists left) in
+      let both = both_agree hs ks (after_handles a) (after_handles b) lists left in
+      let others : numbers_by f hs ≡ numbers_by g ks = both.0 in
+      let next : after_by f a ≡ after_by g b = afters_agree a b afters both.1 in
       cc
   doings_agree (making m) (making n) e p = ap making (like_making_agrees f g m n (let q : making_by (λ h. 0) m ≡ making_by (λ h. 0) n = cc in q) p)
   doings_agree (removing r) (removing s) e p = ap removing (like_removing_agrees f g r s (let q : removing_by (λ h. 0) r ≡ removing_by (λ h. 0) s = cc in q) p)

@@ -30,10 +30,6 @@ IsLower below k (more doing) = (steps_left below doing < k) × ((is_of_bulk doin
 IsLower below k (ends reply) = Unit {0}
 
 module _ (below : Below) where
-  closes_lower : (k : ℕ) (hs : List ℕ) (after : After) → length hs + steps_after after < k → length hs + steps_after after ≤ 5 → IsLower below k (closes hs after)
-  closes_lower k [] (gives reply) few five = tt
-  closes_lower k [] (acts wanted step hs) few five = (omega arith, (refl, λ e. omega arith))
-  closes_lower k (h ∷ hs) after few five = (omega arith, (refl, λ e. omega arith))
 
   pub either_lower : (k : ℕ) (b : Bool) (t u : CallTurn) → IsLower below k t → IsLower below k u → IsLower below k (if b then t else u)
   either_lower k true t u lower other = lower

@@ -6,10 +6,8 @@ use Rattle.path_text.specs.declared.errno.Errno.TheVariants.{NoMemory}
 use Rattle.path_text.specs.declared.path.Split.{Split}
 use Rattle.path_text.specs.Reading.{Reading}
 use Rattle.path_text.specs.Text.{text_fault, reading_of}
-use Rattle.root_ops.specs.declared.below.Below.{Below}
-use Rattle.root_ops.specs.declared.op.Op.{Op}
-use Rattle.root_ops.specs.Order.{CallTurn, ends, fault, unless_fault, lacks, begins, begins_without}
-use Rattle.root_ops.specs.TurnView.{Either, StartsTo}
+use Rattle.root_ops.specs.Order.{CallTurn, ends, fault, unless_fault, lacks}
+use Rattle.root_ops.specs.TurnView.{Either}
 
 -- what a text was read as, where it was read
 abbrev pub IsRead : Option Errno → Reading → Reading → Type 0
@@ -58,8 +56,3 @@ pub unsplit_by : (next : Result Split Errno → CallTurn) (split : Result Split 
     → turn ≡ ends (fault error) → Either (next split) (ends (fault NoMemory)) turn
 unsplit_by next (Ok s) error turn over is by = (false, by ∙ ap (λ (e : Errno). ends (fault e)) is)
 unsplit_by next (Err f) error turn over is by = (true, by ∙ (sym (over error) ∙ ap next is))
-
--- a first turn with memory or without
-pub starts_by : (below : Below) (op : Op) (turn : CallTurn) → Either (begins below op) (begins_without below op) turn → StartsTo below op turn
-starts_by below op turn (true, e) = (true, e)
-starts_by below op turn (false, e) = (false, e)

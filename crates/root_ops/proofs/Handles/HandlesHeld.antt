@@ -1,5 +1,5 @@
 -- The handles that a call holds, and what a step of its own makes of them.
-use Rattle.std.specs.Prelude.{◌≡◌, ◌≢◌, ◌⊎◌, ℕ, ◌==◌, List, [], ◌∷◌, Bool, true, false, not, length, slice_get, Option, Some, None, refl}
+use Rattle.std.specs.Prelude.{◌≡◌, ◌⊎◌, ℕ, ◌==◌, List, ◌∷◌, Bool, true, false, not, length, slice_get, Option, Some, None, refl}
 use Rattle.std.proofs.Common.{sym, ap, subst, ◌∙◌, inl, inr}
 use Rattle.std.proofs.lemmas.Bool.{eqb-true, eqb-false}
 use Rattle.path_text.specs.declared.errno.Errno.{Errno}
@@ -16,41 +16,25 @@ use Rattle.tree_model.specs.Steps.{Outcome, outcome, refused, answered, opens, r
 use Rattle.tree_model.specs.Entries.{refuse_if, with_some}
 use Rattle.tree_model.proofs.StepLaws.{handles_are_left}
 use Rattle.step_resolver.proofs.Underway.StepOutcomes.{IsMore, IsLess, with_handle-is_more, OpenCase, no_dir, no_child, at_child, open_case, Opening, too_many, no_object, is_opened, opening_of}
-use Rattle.step_resolver.proofs.Underway.WalkInvariant.{IsNotIn}
+use Rattle.step_resolver.proofs.Underway.WalkInvariant.{IsNotIn, AllNew, new_or_out}
 use Rattle.root_ops.specs.declared.aim.Change.{Change}
 use Rattle.root_ops.specs.declared.aim.Change.TheVariants as changes
 use Rattle.root_ops.specs.declared.aim.Renaming.{Renaming}
 use Rattle.root_ops.specs.Order.{change_step, rename_step, is_single}
 
 module _ (a : ℕ) (old : State) where
-  abbrev pub AreFresh : List ℕ → Type 0
-  AreFresh [] = Unit {0}
-  AreFresh (h ∷ hs) = (held old a h ≡ None) × AreFresh hs
-
   -- these are the call's own, and the actor's others are as they were
   pub record HandlesAre (now : State) (hs : List ℕ) : Type 0 where
     pub others : (k : ℕ) → IsNotIn k hs → held now a k ≡ held old a k
-    pub fresh : AreFresh hs
+    pub fresh : AllNew (held old a) hs
 
   pub kept : (now new : State) (hs : List ℕ) → ((h : ℕ) → held new a h ≡ held now a h) → HandlesAre now hs → HandlesAre new hs
   kept now new hs same are = record { others = λ k out. same k ∙ are.others k out; fresh = are.fresh }
 
-  fresh_or_out : (k : ℕ) (hs : List ℕ) → AreFresh hs → IsNotIn k hs ⊎ (held old a k ≡ None)
-  fresh_or_out k [] fresh = inl tt
-  fresh_or_out k (h ∷ hs) fresh = on (k == h) refl (fresh_or_out k hs fresh.1)
-    where
-      on_rest : k ≢ h → IsNotIn k hs ⊎ (held old a k ≡ None) → IsNotIn k (h ∷ hs) ⊎ (held old a k ≡ None)
-      on_rest ne (inl out) = inl (ne, out)
-      on_rest ne (inr none) = inr none
-
-      on : (b : Bool) → (k == h) ≡ b → IsNotIn k hs ⊎ (held old a k ≡ None) → IsNotIn k (h ∷ hs) ⊎ (held old a k ≡ None)
-      on true e rest = inr (ap (held old a) (eqb-true k h e) ∙ fresh.0)
-      on false e rest = on_rest (eqb-false k h e) rest
-
   pub one_more : (now new : State) (h x : ℕ) (hs : List ℕ) → HandlesAre now hs → IsMore now a new h x → HandlesAre new (h ∷ hs)
   one_more now new h x hs are is = record {
     others = λ k out. is.others k out.0 ∙ are.others k out.1;
-    fresh = (on (fresh_or_out h hs are.fresh), are.fresh);
+    fresh = (on (new_or_out (held old a) h hs are.fresh), are.fresh);
   }
     where
       on : IsNotIn h hs ⊎ (held old a h ≡ None) → held old a h ≡ None

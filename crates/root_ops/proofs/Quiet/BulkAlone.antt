@@ -4,7 +4,7 @@ use Rattle.std.specs.Option.{option_map}
 use Rattle.std.proofs.lemmas.Bool.{false≢true}
 use Rattle.std.proofs.lemmas.Option.{none-some, same_Some}
 use Rattle.path_text.specs.declared.errno.Errno.{Errno}
-use Rattle.path_text.specs.declared.errno.Errno.TheVariants.{NotFound, NoMemory, Busy, NotDir, TooMany, BookFull, TooLong}
+use Rattle.path_text.specs.declared.errno.Errno.TheVariants.{NoMemory, Busy, NotDir, TooMany, BookFull}
 use Rattle.path_text.specs.declared.path.Split.{Split as SplitPath}
 use Rattle.path_text.specs.Reading.{Reading}
 use Rattle.tree_model.specs.declared.answer.Answer.TheVariants.{Refused}
@@ -15,8 +15,7 @@ use Rattle.tree_model.specs.Steps.{kind_of}
 use Rattle.tree_model.specs.History.{IsLegal, after_events}
 use Rattle.walk_plan.specs.declared.goal.Goal.{Goal}
 use Rattle.walk_plan.specs.declared.goal.Goal.TheVariants.{Follow, Deepest}
-use Rattle.step_resolver.specs.Asked.{AskedPart, Cur, Up, Named}
-use Rattle.step_resolver.specs.Meaning.{resolution, is_too_long}
+use Rattle.step_resolver.specs.Meaning.{resolution}
 use Rattle.step_resolver.specs.Deepest as meant_path
 use Rattle.step_resolver.specs.Order.{Way, Handle, Line, answered, no_room, not_made, events_of}
 use Rattle.step_resolver.specs.Order as walk
@@ -41,6 +40,7 @@ use Rattle.bulk_ops.proofs.MakeAllEnds.{makes_tell}
 use Rattle.bulk_ops.proofs.MakingAlone.WalkFirst.{nothing_made, quiet_makes_mean}
 use Rattle.bulk_ops.proofs.RemovingAll.EachEnd.{every_call_tells}
 use Rattle.bulk_ops.proofs.RemovingAll.Quiet.Whole.{quiet_remove_all, found, partly, nothing_cleared, window_is}
+use Rattle.bulk_ops.proofs.TableErrors.{AreOthers, no_fault, rest_other}
 use Rattle.root_ops.specs.Meaning.{Caller, Whole, is_open, counts, fails, made, makes_along, clears as clears_in, unless_error, directory_of}
 use Rattle.root_ops.specs.Meaning as meaning
 use Rattle.root_ops.specs.Order.{Reply, opened, count, fault, ends, make_way, makes, removing_turn, LeadsTo}
@@ -63,15 +63,8 @@ refused_met a (no_room made answer ∷ lines) (suc t) step e = inr (refused_met 
 refused_met a (not_made error ∷ lines) t step e = inr (refused_met a lines t step e)
 
 -- what the rest of a path is refused for is no want
-rest_no_want : (rest : List AskedPart) (error : Errno) → rest_fault rest ≡ Some error → is_want error ≡ false
-rest_no_want [] error e = absurd (none-some error e)
-rest_no_want (Cur ∷ rest) error e = rest_no_want rest error e
-rest_no_want (Up ∷ rest) error e = ap is_want (sym (same_Some NotFound error e))
-rest_no_want (Named follow n ∷ rest) error e = on (is_too_long n) e (λ q. rest_no_want rest error q)
-  where
-    on : (b : Bool) → (if b then Some TooLong else rest_fault rest) ≡ Some error → (rest_fault rest ≡ Some error → is_want error ≡ false) → is_want error ≡ false
-    on true q others = ap is_want (sym (same_Some TooLong error q))
-    on false q others = others q
+no_wants : AreOthers is_want
+no_wants = record { missing = refl; there = refl; no_dir = refl; dir = refl; invalid = refl; long = refl; full = refl }
 
 -- where nothing was made yet, that is a part of what is meant
 pub nothing_made_yet : (c : Caller) (path : Reading) → IsPart c.tree.nodes c.tree.nodes (makes_along c path).nodes
@@ -136,7 +129,8 @@ module _ (c : Caller) (has : HasRoot c.tree c.actor c.below.root.handle c.root) 
     met_unbegun : (error : Errno) → is_want error ≡ true → UnbegunCause w error → MetWant lines error
     met_unbegun error want (of_walk failed) = met_by lines w refl error want failed.true_once
     met_unbegun error want (no_directory handle names walked other) = absurd (false≢true want)
-    met_unbegun error want (of_rest p is) = absurd (false≢true (sym (rest_no_want p.rest error is) ∙ want))
+    met_unbegun error want (of_rest p is) = absurd (no_fault is_want (rest_fault p.rest) error
+        (rest_other is_want no_wants p.rest) want is)
 
     met_making : (p : DeepestAt w) (error : Errno) → is_want error ≡ true → MakingCause w p error → MetWant lines error
     met_making p error want (for_want is tells) = want_met lines error tells
