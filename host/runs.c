@@ -177,6 +177,38 @@ bool inroot_run_whole(struct inroot_driver *d, int root, struct inroot_coming *p
     return d->looks.next == INROOT_LOOK_PASSED;
 }
 
+/* ---- what is reported of them */
+
+/* Answers the step that is due, from a directory on, by what was opened; or closes that. */
+static struct inroot_result answer(struct inroot_driver *d, const struct inroot_told *told, const char *room, uint64_t from, bool due)
+{
+    struct inroot_run *run = &d->run;
+    if (!due || !inroot_handles_reserve(d)) {
+        inroot_run_drop(d);
+        return (struct inroot_result){0};
+    }
+    inroot_error_note(d, told, room);
+    if (run->ends)
+        inroot_error_note_end(d);
+    else
+        inroot_error_note_rest(d, told->what == INROOT_STEP_OPEN);
+    uint64_t handle = inroot_handles_put(d, run->fd, run->kind, run->way, from);
+    inroot_passed_end(d, handle, run->passed);
+    run->fd = INROOT_NONE;
+    return inroot_opened(handle, run->kind);
+}
+
+struct inroot_result inroot_run_tell(struct inroot_driver *d, struct inroot_told *told, char *room, const char *parts)
+{
+    struct inroot_ran ran;
+    const uint64_t from = told->handle;
+    inroot_pass_names(d->kept, (const unsigned char *)parts, strlen(parts), from, inroot_handles_passed(d), told,
+                      (unsigned char *)room, INROOT_ROOM, &ran);
+    if (ran.shut)
+        inroot_handles_close(d, from);
+    return answer(d, told, room, from, ran.due);
+}
+
 enum inroot_look inroot_run_begin(struct inroot_driver *d, struct inroot_told *told, char *room, struct inroot_coming *coming,
                                   char *text, struct inroot_result *result)
 {
@@ -191,39 +223,17 @@ enum inroot_look inroot_run_begin(struct inroot_driver *d, struct inroot_told *t
     };
     begin(d, coming, &spot);
     pass(&p);
-    if (d->looks.next == INROOT_LOOK_PASSED) {
-        d->run.ends = coming->ahead.ends;
-        *result = inroot_run_tell(d, told, room, coming->text + 1);
-    } else if (d->looks.next == INROOT_LOOK_LINK) {
+    if (d->looks.next == INROOT_LOOK_LINK)
         *result = inroot_opened(d->link, INROOT_KIND_LINK);
-    }
-    return (enum inroot_look)d->looks.next;
-}
-
-/* ---- what is reported of them */
-
-struct inroot_result inroot_run_tell(struct inroot_driver *d, struct inroot_told *told, char *room, const char *parts)
-{
-    struct inroot_run *run = &d->run;
-    struct inroot_ran ran;
-    const uint64_t from = told->handle;
-    inroot_pass_names(d->kept, (const unsigned char *)parts, strlen(parts), from, inroot_handles_passed(d), told,
-                      (unsigned char *)room, INROOT_ROOM, &ran);
-    if (ran.shut)
-        inroot_handles_close(d, from);
-    if (!ran.due || !inroot_handles_reserve(d)) {
-        inroot_run_drop(d);
-        return (struct inroot_result){0};
-    }
-    inroot_error_note(d, told, room);
-    if (run->ends)
-        inroot_error_note_end(d);
+    if (d->looks.next != INROOT_LOOK_PASSED)
+        return (enum inroot_look)d->looks.next;
+    d->run.ends = coming->ahead.ends;
+    /* Before any is passed, the first of the names that come next is due. */
+    if (d->looks.passed > 0)
+        *result = inroot_run_tell(d, told, room, coming->text + 1);
     else
-        inroot_error_note_rest(d, told->what == INROOT_STEP_OPEN);
-    uint64_t handle = inroot_handles_put(d, run->fd, run->kind, run->way, from);
-    inroot_passed_end(d, handle, run->passed);
-    run->fd = INROOT_NONE;
-    return inroot_opened(handle, run->kind);
+        *result = answer(d, told, room, told->handle, true);
+    return INROOT_LOOK_PASSED;
 }
 
 void inroot_run_drop(struct inroot_driver *d)

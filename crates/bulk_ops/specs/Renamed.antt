@@ -1,6 +1,6 @@
 -- Bulk calls with the numbers of their handles replaced by others; everything else stays.
 use Rattle.std.specs.Prelude.{◌≡◌, ℕ, List, [], ◌∷◌, ◌++◌}
-pub use Rattle.step_resolver.specs.Renamed.{numbers_by, root_by, way_by, handle_by, position_by, walk_after_by, walking_by, walk_turn_by, walk_after_handles, walking_handles}
+pub use Rattle.step_resolver.specs.Renamed.{numbers_by, root_by, way_by, handle_by, position_by, walk_after_by, walking_by, walk_after_handles, walking_handles}
 use Rattle.bulk_ops.specs.MakeAllOrder as make
 use Rattle.bulk_ops.specs.RemoveAllOrder as remove
 use Rattle.bulk_ops.specs.Renumbered.{for_handles}
@@ -8,9 +8,6 @@ use Rattle.bulk_ops.specs.Renumbered as all
 
 abbrev pub making_by : (ℕ → ℕ) → make.Making → make.Making
 making_by f = all.making_by (for_handles f)
-
-abbrev pub make_turn_by : (ℕ → ℕ) → make.MakeTurn → make.MakeTurn
-make_turn_by f = all.make_turn_by (for_handles f)
 
 abbrev pub level_by : (ℕ → ℕ) → remove.Level → remove.Level
 level_by f = all.level_by (for_handles f)
@@ -23,9 +20,6 @@ stage_by f = all.stage_by (for_handles f)
 
 abbrev pub removing_by : (ℕ → ℕ) → remove.Removing → remove.Removing
 removing_by f = all.removing_by (for_handles f)
-
-abbrev pub remove_turn_by : (ℕ → ℕ) → remove.Turn → remove.Turn
-remove_turn_by f = all.remove_turn_by (for_handles f)
 
 -- ---- the handles themselves, one by one
 

@@ -2,7 +2,7 @@
 use Rattle.std.specs.Prelude.{◌≡◌, ℕ, List, [], ◌∷◌, ◌++◌, Option, Some, None}
 use Rattle.std.specs.Option.{option_map}
 use Rattle.handles.specs.Objects.{StandingObject}
-pub use Rattle.root_ops.specs.Renamed.{numbers_by, root_by, way_by, handle_by, position_by, walk_after_by, walking_by, walk_turn_by, walk_after_handles, walking_handles, making_by, make_turn_by, level_by, levels_by, stage_by, removing_by, remove_turn_by, making_handles, stage_handles, levels_handles, removing_handles, step_by, answer_by, standing_by, reply_by, after_by, aim_by, doing_by, call_turn_by, below_by, op_by, request_by, call_by, step_handles, answer_handles, reply_handles, after_handles, aim_handles, doing_handles, call_handles, op_handles}
+pub use Rattle.root_ops.specs.Renamed.{numbers_by, root_by, way_by, handle_by, position_by, walk_after_by, walking_by, walk_after_handles, walking_handles, making_by, level_by, levels_by, stage_by, removing_by, making_handles, stage_handles, levels_handles, removing_handles, step_by, answer_by, standing_by, reply_by, after_by, aim_by, doing_by, call_turn_by, below_by, op_by, request_by, call_by, step_handles, answer_handles, reply_handles, after_handles, aim_handles, doing_handles, call_handles, op_handles}
 use Rattle.root_ops.specs.View.{CallView}
 use Rattle.call_plans.specs.declared.plan.Planned.{Planned}
 use Rattle.call_plans.specs.declared.plan.Planned.TheVariants as plans

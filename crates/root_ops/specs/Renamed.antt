@@ -5,7 +5,7 @@ use Rattle.tree_model.specs.declared.answer.Answer.TheVariants as answers
 use Rattle.tree_model.specs.StepWith.{StepWith}
 use Rattle.tree_model.specs.declared.step.StepOf.TheVariants as steps
 use Rattle.handles.specs.Objects.{StandingObject}
-pub use Rattle.bulk_ops.specs.Renamed.{numbers_by, root_by, way_by, handle_by, position_by, walk_after_by, walking_by, walk_turn_by, walk_after_handles, walking_handles, making_by, make_turn_by, level_by, levels_by, stage_by, removing_by, remove_turn_by, making_handles, stage_handles, levels_handles, removing_handles}
+pub use Rattle.bulk_ops.specs.Renamed.{numbers_by, root_by, way_by, handle_by, position_by, walk_after_by, walking_by, walk_after_handles, walking_handles, making_by, level_by, levels_by, stage_by, removing_by, making_handles, stage_handles, levels_handles, removing_handles}
 use Rattle.root_ops.specs.declared.aim.Aim.{Aim}
 use Rattle.root_ops.specs.declared.aim.Aim.TheVariants as aims
 use Rattle.root_ops.specs.declared.below.Below.{Below}

@@ -1,7 +1,7 @@
 -- Walks with the numbers of their handles replaced by others; everything else stays.
 use Rattle.std.specs.Prelude.{◌≡◌, ℕ, List, [], ◌∷◌, ◌++◌}
 use Rattle.step_resolver.specs.declared.walk.Root.{Root}
-use Rattle.step_resolver.specs.Order.{Way, Handle, Position, root_itself, holds, After, gives, onward, judges, Walking, opening, reading, rising, judging, duping, ending, closing, Turn, more, found, partial, failed, handles_of}
+use Rattle.step_resolver.specs.Order.{Way, Handle, Position, root_itself, holds, After, gives, onward, judges, Walking, opening, reading, rising, judging, duping, ending, closing, more, found, partial, failed, handles_of}
 use Rattle.step_resolver.specs.Renumbered.{for_handles}
 use Rattle.step_resolver.specs.Renumbered as all
 
@@ -25,9 +25,6 @@ walk_after_by f = all.walk_after_by (for_handles f)
 
 abbrev pub walking_by : (ℕ → ℕ) → Walking → Walking
 walking_by f = all.walking_by (for_handles f)
-
-abbrev pub walk_turn_by : (ℕ → ℕ) → Turn → Turn
-walk_turn_by f = all.walk_turn_by (for_handles f)
 
 -- ---- the handles themselves, one by one
 
