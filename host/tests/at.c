@@ -262,9 +262,11 @@ static void exchanged(int root_or_jail)
             expect(inode_of(dir, "x") != 0, "it wasn't made in the directory");
             swaps = true;
             fails(inroot_open(at, "other", flags[with] | retry), ENOENT, "what is in the other directory");
+            expect(!swaps, "nobody came in between as a file was looked for");
             swaps = true;
             got = inroot_rename(at, "x", "y", 0, flags[with] | retry);
             expect(got == 0 || got == -EAGAIN || (retry && got == -ENOENT), "a rename with %d: %d", flags[with] | retry, got);
+            expect(!swaps, "nobody came in between as a file was renamed");
             swaps = false;
             unlinkat(dir, "x", 0);
             unlinkat(dir, "y", 0);
