@@ -94,6 +94,22 @@ abbrev pub is_known : List Exchange → Bool
 is_known [] = true
 is_known (e ∷ older) = known_by e (is_known older)
 
+-- Which names the path has now is still to be said: at the beginning, since a link was read, and since `..` was opened or
+-- the root took its place. It is said where the library finds that the call begins so, or goes on so.
+abbrev pub waits_by : Exchange → Bool → Bool
+waits_by (begins error) was = was && not (error == 0)
+waits_by (reads error bytes) was = true
+waits_by (goes error absolute) was = was && not (error == 0)
+waits_by to_top was = true
+waits_by (looks_above error) was = true
+waits_by (opens_parent error) was = true
+waits_by (rises error) was = was && not (error == 0)
+waits_by _ was = was
+
+abbrev pub waits : List Exchange → Bool
+waits [] = true
+waits (e ∷ older) = waits_by e (waits older)
+
 -- a name is looked up
 abbrev pub looks_up : ℕ → Bool
 looks_up next =

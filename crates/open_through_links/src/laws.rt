@@ -1,7 +1,8 @@
 //! What holds of every history, as laws over its exchanges: each function's contract is one, and its body is empty.
 ghost use Rattle.std.specs.Prelude.{◌≡◌, ◌≤◌, ◌+◌, ◌*◌, true, false, List, length};
 ghost use Rattle.open_through_links.specs.History.{next_after, Exchange, IsHistory};
-ghost use Rattle.open_through_links.specs.Promises.{all_yes, is_held, is_known, is_open, is_placed, is_said, is_seen, looks_up, may_be_followed, needs_open, rises_in};
+ghost use Rattle.open_through_links.specs.Promises.{all_yes, is_held, is_known, is_open, is_placed, is_said, is_seen};
+ghost use Rattle.open_through_links.specs.Promises.{looks_up, may_be_followed, needs_open, rises_in, waits};
 ghost use Rattle.open_through_links.specs.declared.passage.Facts.{Facts};
 ghost use Rattle.open_through_links.specs.declared.passage.TheConstants.{GOES, OPENS, PLACE, SHUT, STEPS};
 
@@ -10,6 +11,16 @@ ghost use Rattle.open_through_links.specs.declared.passage.TheConstants.{GOES, O
 pub fn where_it_opens_all_said_yes()
     ensures { (f : Facts) (history : List Exchange) → IsHistory f history → (next_after f history).next ≡ OPENS
         → all_yes history ≡ true }
+{}
+
+/// No name of the path is looked up or read, and nothing is given, before it is known which names the path has: right
+/// at the beginning, after each link that was read, and after each `..`, the library was asked whether the call begins
+/// or goes on so, and said yes. So none of these questions was left out.
+pub fn names_are_opened_once_they_are_said()
+    ensures looked_up { (f : Facts) (history : List Exchange) → IsHistory f history
+        → looks_up (next_after f history).next ≡ true → waits history ≡ false }
+    ensures given { (f : Facts) (history : List Exchange) → IsHistory f history → (next_after f history).next ≡ OPENS
+        → waits history ≡ false }
 {}
 
 /// The object that is given, the kernel has seen below the root, and it was the one at the names in the directory that

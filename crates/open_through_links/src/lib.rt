@@ -10,7 +10,8 @@ mod turns;
 
 pub use laws::{
     calls_are_few, each_descriptor_is_closed_or_given, links_are_followed_by_leave,
-    nothing_is_opened_above_before_its_place, what_is_given_was_seen, where_it_opens_all_said_yes,
+    names_are_opened_once_they_are_said, nothing_is_opened_above_before_its_place,
+    what_is_given_was_seen, where_it_opens_all_said_yes,
 };
 pub use passage::{
     ABOVE, AHEAD, Answer, BEGINS, COMPARE, DIRECTORY, END, ENDS, ENTER, FOLLOWS, FROM_HERE,
