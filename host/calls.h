@@ -145,33 +145,57 @@ bool inroot_misses_at_once(const struct inroot_asked *asked, const unsigned char
 bool inroot_follows_at_once(const struct inroot_asked *asked, const unsigned char *path, size_t path_length);
 
 /*
- * The four that follow are asked as a call goes on a path through links, one after another, each of the path that the one before it
- * gave: from the root, a slash before each part. The first is true of a resolve that follows links, of a PATH that has names and `..`
+ * The five that follow are asked as a call goes on a path through links, one after another, each of the path that the one before
+ * it gave: from the root, a slash before each part. The first is true of a resolve that follows links, of a PATH that has names
  * alone and is not refused for its slash at the beginning; WHOLE is that path, with a slash before it.
  */
 bool inroot_begins_through(const struct inroot_asked *asked, const unsigned char *path, size_t path_length,
                            const unsigned char *whole, size_t whole_length);
 
 /*
- * Behind a link: AT bytes of the path are names that were passed; those up to START are opened, each in the one before it; the name
- * from START to END is a link there, with this TEXT; so many LINKS were followed before, at most 39. The text has names and `..` alone,
- * and doesn't lead out. NEXT is the path then: the text stands in the link's place, of which START bytes were passed; or, where
- * it begins with a slash, in that of all up to there, of which none were.
+ * What comes next on a path (enum inroot_comes): how many names were PASSED, and how many are AHEAD, before a link or to the
+ * end. Where `..` comes, the names passed without the last have UPPER bytes; the name of a link that comes is to END. What isn't
+ * said is zero.
  */
-bool inroot_goes_through(const struct inroot_asked *asked, size_t links, const unsigned char *whole, size_t whole_length, size_t at,
-                         size_t start, size_t end, const unsigned char *text, size_t text_length, const unsigned char *next,
-                         size_t next_length);
+struct inroot_path_ahead {
+    size_t passed, ahead, upper, end;
+    uint8_t comes;
+};
 
 /*
- * Behind `..`, which comes behind the names passed: the directory above was asked for its PLACE, which is these names less the last.
- * NEXT is the path then, of which these were passed.
+ * AT bytes are the names passed. A name that was a link last begins at LINK, or none does where that is no place behind these. If
+ * that link is LEFT to the steps, all is.
  */
-bool inroot_rises_through(const unsigned char *whole, size_t whole_length, size_t at, const unsigned char *place,
-                          size_t place_length, const unsigned char *next, size_t next_length);
+void inroot_look_ahead(const unsigned char *whole, size_t whole_length, size_t at, size_t link, bool left,
+                       struct inroot_path_ahead *ahead);
+
+/* How a call goes on: LENGTH bytes of a room are its path then, and AT of these the names passed. If it doesn't, all is zero. */
+struct inroot_next_path {
+    size_t length, at;
+    bool goes_on, absolute;
+};
+
+/*
+ * Behind a link: AT bytes of the path are names that were passed; those up to START are opened, each in the one before it; the
+ * name from START to END is a link there, with this TEXT; so many LINKS were followed before, at most 39. The text has names and
+ * `..` alone, and doesn't lead out. The path then is laid at the room's beginning, if it fits: the text stands in the link's
+ * place, of which START bytes were passed; or, where it is ABSOLUTE, that is begins with a slash, in that of all up to there, of
+ * which none were. A call doesn't go on if `..` comes there behind a name, at the end, or more often than names were passed.
+ */
+void inroot_goes_through(const struct inroot_asked *asked, size_t links, const unsigned char *whole, size_t whole_length, size_t at,
+                         size_t start, size_t end, const unsigned char *text, size_t text_length, unsigned char *room, size_t size,
+                         struct inroot_next_path *next);
+
+/*
+ * Behind `..`, which comes behind the names passed: the directory above was asked for its PLACE, which is these names less the
+ * last. The path then is laid at the room's beginning, if it fits: of it these were passed.
+ */
+void inroot_rises_through(const unsigned char *whole, size_t whole_length, size_t at, const unsigned char *place,
+                          size_t place_length, unsigned char *room, size_t size, struct inroot_next_path *next);
 
 /*
  * At the end: names alone are left, and lead to an object of this KIND, which is no link, and stands at the whole path when it is
- * asked for its PLACE. Then the reply is what was opened. None of the four takes memory, or needs a call under way.
+ * asked for its PLACE. Then the reply is what was opened. None of the five takes memory, or needs a call under way.
  * docs/HOST-WHY.md has the argument.
  */
 bool inroot_ends_through(const unsigned char *whole, size_t whole_length, size_t at, uint8_t kind, const unsigned char *place,

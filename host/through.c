@@ -1,16 +1,15 @@
 /*
  * through.c: a path with links, on which the driver takes no turn. Each link is read by its name in the directory that is held, and
- * its text is put in its place; what the last one leads to is looked up from the root. After each link, after each `..`, and at the
- * end the proved library says whether a call with these answers to its steps would go on so, and reply so. It also says which call
- * comes next (crates/open_through_links). Where it says no, or a system call fails, the steps decide. docs/HOST-WHY.md has the
- * argument.
+ * what the last one leads to is looked up from the root. The proved library lays out the path behind each link and each `..`, if
+ * a call with these answers to its steps goes on so, and says at the end whether it replies so. It says what comes next on the
+ * path, and which call comes next (crates/open_through_links). Where it says no, or a system call fails, the steps decide.
+ * docs/HOST-WHY.md has the argument.
  */
 #define _GNU_SOURCE
 #include "driver.h"
 #include "openat2.h"
 
 #include <fcntl.h>
-#include <string.h>
 #include <unistd.h>
 
 /* A call, how far it has come, and what is open. */
@@ -23,10 +22,10 @@ struct walk {
     struct inroot_slot slot;       /* the object, or none yet */
     size_t link;                   /* the next one begins there */
     bool is_known;                 /* `link` is, as the call begins */
-    size_t at;                     /* so many bytes of the path are the names passed */
-    size_t length;
+    struct inroot_path_ahead seen; /* what comes next */
+    size_t at, length;             /* so many bytes of the path are the names passed; and all of it */
     char *path, *then;             /* the path from the root, a slash before each part, and a NUL; a room for what it is next */
-    char *text;                    /* a room for what is read: a link's text, behind the first byte; a place */
+    char *text;                    /* a room for what is read: a link's text, or a place */
     size_t told;                   /* so long that is */
 };
 
@@ -52,7 +51,7 @@ static uint32_t enter(struct walk *w)
 {
     const char *names = w->path + w->at + 1;
     const size_t length = w->link - w->at - 1;
-    if (memchr(names, '/', length) == NULL)
+    if (w->seen.ahead == 1)
         return held(w, inroot_followed_enter(w->dir, names, length));
     w->path[w->link] = 0;
     int fd = inroot_look_up(w->d, w->dir, names, O_DIRECTORY, 0);
@@ -67,118 +66,64 @@ static const unsigned char *bytes(const char *text)
     return (const unsigned char *)text;
 }
 
-/* The path has then this text before what is behind so many of its bytes. */
-static bool put(struct walk *w, size_t before, const char *text, size_t length, size_t behind, size_t *whole)
+static unsigned char *room(char *text)
 {
-    *whole = before + length + (w->length - behind);
-    if (*whole > INROOT_TEXT_MAX)
-        return false;
-    memcpy(w->then, w->path, before);
-    memcpy(w->then + before, text, length);
-    memcpy(w->then + before + length, w->path + behind, w->length - behind + 1);
-    return true;
+    return (unsigned char *)text;
 }
 
-static void go_on(struct walk *w, size_t at, size_t length)
+/* The path is now what the library has laid out, if it says that the call goes on so. Gives 0 then. */
+static uint32_t go_on(struct walk *w, const struct inroot_next_path *next)
 {
+    if (!next->goes_on)
+        return 1;
     char *before = w->path;
     w->path = w->then;
     w->then = before;
-    w->at = at;
-    w->length = length;
-}
-
-/* How many names begin between these places. */
-static size_t names_in(const struct walk *w, size_t from, size_t to)
-{
-    size_t names = 0;
-    for (; from < to; from++)
-        names += w->path[from] == '/';
-    return names;
-}
-
-static bool is_up(const char *part)
-{
-    return strncmp(part, "/..", 3) == 0 && (part[3] == '/' || part[3] == 0);
-}
-
-/* Whether `..` comes up behind a name, leads above the root, or ends the path: the steps go there. */
-static bool is_for_steps(const struct walk *w)
-{
-    const char *rest = w->path + w->at;
-    size_t up = 0;
-    for (; is_up(rest); rest += 3)
-        up++;
-    const size_t left = strlen(rest);
-    const bool goes_up = strstr(rest, "/../") != NULL || (left >= 3 && strcmp(rest + left - 3, "/..") == 0);
-    return left == 0 || goes_up || (up > 0 && up > names_in(w, 0, w->at));
+    w->path[next->length] = 0;
+    w->length = next->length;
+    w->at = next->at;
+    return 0;
 }
 
 /* Says what comes next: a link that is hinted at, `..`, or names alone. */
 static uint32_t look_ahead(struct walk *w, struct inroot_through_answer *answer)
 {
-    bool by_steps = false;
+    bool left = false;
     if (!w->is_known)
-        w->link = inroot_hints_in(w->d, w->path, w->at, w->length, &by_steps);
+        w->link = inroot_hints_in(w->d, w->path, w->at, w->length, &left);
     w->is_known = false;
-    const bool is_link = w->link != INROOT_NO_HINT;
-    answer->passed = names_in(w, 0, w->at);
-    answer->ahead = names_in(w, w->at, is_link ? w->link : w->length);
-    if (by_steps)
-        answer->comes = INROOT_COMES_LEFT;
-    else if (is_up(w->path + w->at))
-        answer->comes = INROOT_COMES_UP;
-    else
-        answer->comes = is_link ? INROOT_COMES_LINK : INROOT_COMES_END;
+    inroot_look_ahead(bytes(w->path), w->length, w->at, w->link, left, &w->seen);
+    answer->passed = w->seen.passed;
+    answer->ahead = w->seen.ahead;
+    answer->comes = w->seen.comes;
     return 0;
 }
 
 /* ---- a link */
 
-static size_t end_of(const struct walk *w)
-{
-    return w->link + 1 + strcspn(w->path + w->link + 1, "/");
-}
-
 static uint32_t read_link(struct walk *w, struct inroot_through_answer *answer)
 {
-    const size_t end = end_of(w);
-    ssize_t got = inroot_followed_text(w->dir, w->path + w->link + 1, end - w->link - 1, w->text + 1);
+    const size_t end = w->seen.end;
+    ssize_t got = inroot_followed_text(w->dir, w->path + w->link + 1, end - w->link - 1, w->text);
     if (got < 0)
         inroot_hints_leave(w->d, w->path, end, false);
     w->told = answer->number = got < 0 ? 0 : (uint64_t)got;
     return got < 0;
 }
 
-/* Puts the text of the link in its place. Whether the call goes on so. A link that the steps follow is left to them from now on. */
-static bool goes(struct walk *w, bool absolute)
+/* Puts the text of the link in its place. A link that the steps follow is left to them from now on. */
+static uint32_t goes(struct walk *w, struct inroot_through_answer *answer)
 {
-    size_t whole;
-    char *before = w->path;
-    const size_t end = end_of(w), at = absolute ? 0 : w->link;
-    /* A slash comes before a text that has none. */
-    w->text[0] = '/';
-    const bool goes_on = put(w, at, w->text + absolute, w->told + !absolute, end, &whole) &&
-                         inroot_goes_through(w->numbers, w->course.links, bytes(w->path), w->length, w->at, w->link, end,
-                                             bytes(w->text + 1), w->told, bytes(w->then), whole);
-    if (goes_on)
-        go_on(w, at, whole);
-    if (goes_on && !is_for_steps(w))
-        return true;
-    inroot_hints_leave(w->d, before, end, true);
-    return false;
+    struct inroot_next_path next;
+    inroot_goes_through(w->numbers, w->course.links, bytes(w->path), w->length, w->at, w->link, w->seen.end, bytes(w->text),
+                        w->told, room(w->then), INROOT_TEXT_MAX, &next);
+    if (!next.goes_on)
+        inroot_hints_leave(w->d, w->path, w->seen.end, true);
+    answer->absolute = next.absolute;
+    return go_on(w, &next);
 }
 
 /* ---- `..` */
-
-/* How long the names passed are without the last one. */
-static size_t upper_of(const struct walk *w)
-{
-    size_t upper = w->at;
-    while (w->path[--upper] != '/')
-        ;
-    return upper;
-}
 
 static uint32_t open_above(struct walk *w, int fd, enum inroot_way way)
 {
@@ -208,15 +153,11 @@ static uint32_t hold_top(struct walk *w)
     return 0;
 }
 
-static bool rises(struct walk *w)
+static uint32_t rises(struct walk *w)
 {
-    size_t whole;
-    const size_t upper = upper_of(w);
-    if (!put(w, upper, "", 0, w->at + 3, &whole) ||
-        !inroot_rises_through(bytes(w->path), w->length, w->at, bytes(w->text), w->told, bytes(w->then), whole))
-        return false;
-    go_on(w, upper, whole);
-    return true;
+    struct inroot_next_path next;
+    inroot_rises_through(bytes(w->path), w->length, w->at, bytes(w->text), w->told, room(w->then), INROOT_TEXT_MAX, &next);
+    return go_on(w, &next);
 }
 
 /* ---- the end */
@@ -263,8 +204,7 @@ static uint32_t shut(struct walk *w)
 static bool begins(const struct walk *w)
 {
     const struct inroot_driver *d = w->d;
-    return !is_for_steps(w) &&
-           inroot_begins_through(w->numbers, bytes(d->asked->first), d->first_length, bytes(w->path), w->length);
+    return inroot_begins_through(w->numbers, bytes(d->asked->first), d->first_length, bytes(w->path), w->length);
 }
 
 /* Makes the call that comes next, or answers the question. Gives 0 where it worked, or the answer is yes. */
@@ -276,15 +216,15 @@ static uint32_t turn(struct walk *w, struct inroot_through_answer *answer)
     case INROOT_THROUGH_ENTER: return enter(w);
     case INROOT_THROUGH_READ: return read_link(w, answer);
     case INROOT_THROUGH_FOLLOWS: return inroot_followed_mount(w->dir, &answer->number);
-    case INROOT_THROUGH_GOES: return !goes(w, answer->absolute = w->text[1] == '/');
+    case INROOT_THROUGH_GOES: return goes(w, answer);
     case INROOT_THROUGH_TO_ROOT: hold(w, w->root); return 0;
     case INROOT_THROUGH_IS_ROOT: return !inroot_above_is_root(w->root, w->dir);
     case INROOT_THROUGH_TO_TOP: return hold_top(w);
     case INROOT_THROUGH_ABOVE:
-        return open_above(w, inroot_above_look(w->d, w->root, w->dir, w->path, upper_of(w)), INROOT_SEEN_BELOW);
+        return open_above(w, inroot_above_look(w->d, w->root, w->dir, w->path, w->seen.upper), INROOT_SEEN_BELOW);
     case INROOT_THROUGH_PARENT: return open_above(w, inroot_parent_of(w->d, w->dir), INROOT_BY_PARENT);
     case INROOT_THROUGH_PLACE_ABOVE: return !find_above(w);
-    case INROOT_THROUGH_RISES: return !rises(w);
+    case INROOT_THROUGH_RISES: return rises(w);
     case INROOT_THROUGH_FROM_TOP: return open_object(w, w->dir, w->path + 1, RESOLVE_BENEATH);
     case INROOT_THROUGH_FROM_ROOT: return open_object(w, w->root, w->path + 1, RESOLVE_BENEATH);
     case INROOT_THROUGH_COMPARE: return !compare(w);

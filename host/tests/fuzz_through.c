@@ -1,7 +1,7 @@
 /*
- * fuzz_through: the proved library's functions that say how a call goes on through links, on any paths, with any texts of links, and
- * where it says that the call replies, a conversation with just these answers to its steps: it must reply so. And no other place, no
- * other path and no name more or less is taken.
+ * fuzz_through: the proved library's functions that lay out how a call goes on through links, on any paths, with any texts of links.
+ * The path is compared with the one that is laid out here. Where the library says that the call replies, a conversation with just
+ * these answers to its steps follows: it must reply so. And no other place and no name more or less is taken.
  *
  * For libFuzzer, or with fuzz_main.c for stored cases. A case is bytes: what is asked for, and what comes next on the path each time.
  */
@@ -22,7 +22,7 @@ struct passage {
 };
 
 static struct passage passed[MOST + 1];
-static unsigned char path[ROOM], next[ROOM];
+static unsigned char path[ROOM], wanted[ROOM], next[ROOM], other[ROOM];
 static size_t length, at, links, count;
 
 static const char *const paths[] = {"a", "a/b", "/a/b/c", "l/x", "a/../b", "../a", "a/", "./a", "a//b", "", "/", "d/l/f"};
@@ -38,24 +38,74 @@ static size_t name_end(size_t from)
 
 static void lay(const void *bytes, size_t size, size_t *used)
 {
-    memcpy(next + *used, bytes, size);
+    memcpy(wanted + *used, bytes, size);
     *used += size;
 }
 
-static void go_on(size_t used, size_t stands)
+/* Whether the call goes on, with the path that was laid out here, of which so many bytes are passed then. */
+static bool go_on(const struct inroot_next_path *on, size_t used, size_t stands, bool absolute)
 {
+    if (!on->goes_on) {
+        MUST(on->length == 0 && on->at == 0 && !on->absolute);
+        MUST(next[0] == '#' || memcmp(next, wanted, used) == 0);
+        return false;
+    }
+    MUST(on->length == used && on->at == stands && on->absolute == absolute);
+    MUST(memcmp(next, wanted, used) == 0 && next[used] == '#');
     memcpy(path, next, used);
     length = used;
     at = stands;
-    count++;
+    return true;
+}
+
+static size_t names_in(size_t from, size_t to)
+{
+    size_t names = 0;
+    for (; from < to; from++)
+        names += path[from] == '/';
+    return names;
+}
+
+static bool comes_up(void)
+{
+    return at + 3 <= length && memcmp(path + at, "/..", 3) == 0 && (at + 3 == length || path[at + 3] == '/');
+}
+
+static size_t upper_of(void)
+{
+    size_t upper = at;
+    while (upper > 0 && path[--upper] != '/')
+        ;
+    return upper;
+}
+
+/* What comes next, where a link is hinted at in that place, or none is. */
+static void look_ahead(size_t link)
+{
+    struct inroot_path_ahead ahead;
+    const bool up = comes_up(), is_link = !up && link < length;
+    inroot_look_ahead(path, length, at, link, false, &ahead);
+    MUST(ahead.comes == (up ? INROOT_COMES_UP : is_link ? INROOT_COMES_LINK : INROOT_COMES_END));
+    MUST(ahead.passed == names_in(0, at) && ahead.ahead == (up ? 0 : names_in(at, is_link ? link : length)));
+    MUST(ahead.upper == (up ? upper_of() : 0) && ahead.end == (is_link ? name_end(link) : 0));
+    inroot_look_ahead(path, length, at, link, true, &ahead);
+    MUST(ahead.comes == INROOT_COMES_LEFT && ahead.passed == 0 && ahead.ahead == 0 && ahead.upper == 0 && ahead.end == 0);
+}
+
+static bool goes(const struct inroot_asked *asked, size_t followed, size_t start, size_t end, const char *text, size_t room)
+{
+    struct inroot_next_path on;
+    inroot_goes_through(asked, followed, path, length, at, start, end, (const unsigned char *)text, strlen(text), other, room, &on);
+    return on.goes_on;
 }
 
 /* So many names, and one more that is a link. */
-static bool follow(const struct inroot_asked *asked, struct input *in, size_t names, const char *text)
+static bool follow(const struct inroot_asked *asked, size_t names, const char *text)
 {
     size_t start = at, used = 0, size = strlen(text);
     for (size_t name = 0; name < names; name++)
         start = name_end(start);
+    look_ahead(start);
     size_t end = name_end(start), before = text[0] == '/' ? 0 : start;
     if (start >= length || length + size + 1 >= PATH_MAX)
         return false;
@@ -64,31 +114,33 @@ static bool follow(const struct inroot_asked *asked, struct input *in, size_t na
         lay("/", 1, &used);
     lay(text, size, &used);
     lay(path + end, length - end, &used);
-    const unsigned char *bytes = (const unsigned char *)text;
-    bool goes = inroot_goes_through(asked, links, path, length, at, start, end, bytes, size, next, used);
-    /* Another byte of what comes next, one less, and one more are refused. */
-    size_t other = byte(in) % used;
-    next[other] ^= 1;
-    MUST(!inroot_goes_through(asked, links, path, length, at, start, end, bytes, size, next, used));
-    next[other] ^= 1;
-    MUST(!inroot_goes_through(asked, links, path, length, at, start, end, bytes, size, next, used - 1));
-    MUST(!goes || !inroot_goes_through(asked, links, path, length, at, start, end - 1, bytes, size, next, used));
-    MUST(!inroot_goes_through(asked, 40, path, length, at, start, end, bytes, size, next, used));
-    if (!goes)
+    /* A room that is a byte too short, a link too many, and another end of the name are refused. */
+    MUST(!goes(asked, links, start, end, text, used - 1) && !goes(asked, 40, start, end, text, ROOM));
+    MUST(!goes(asked, links, start, end, text, ROOM) || !goes(asked, links, start, end - 1, text, ROOM));
+    struct inroot_next_path on;
+    memset(next, '#', ROOM);
+    inroot_goes_through(asked, links, path, length, at, start, end, (const unsigned char *)text, size, next, ROOM, &on);
+    if (!go_on(&on, used, before, text[0] == '/'))
         return false;
     links++;
     passed[count].names = names;
-    passed[count].text = text;
-    go_on(used, before);
+    passed[count++].text = text;
     return true;
+}
+
+static bool rises(const unsigned char *place, size_t place_length, size_t room)
+{
+    struct inroot_next_path on;
+    inroot_rises_through(path, length, at, place, place_length, other, room, &on);
+    return on.goes_on;
 }
 
 static bool rise(void)
 {
-    size_t upper = at, used = 0;
-    while (upper > 0 && path[--upper] != '/')
-        ;
+    size_t used = 0;
+    const size_t upper = upper_of();
     struct passage *now = &passed[count];
+    look_ahead(SIZE_MAX);
     memcpy(now->place, path, upper);
     now->place_length = upper;
     if (upper == 0)
@@ -97,15 +149,18 @@ static bool rise(void)
         return false;
     lay(path, upper, &used);
     lay(path + at + 3, length - at - 3, &used);
-    bool rises = inroot_rises_through(path, length, at, now->place, now->place_length, next, used);
-    MUST(!rises || (at > 0 && memcmp(path + at, "/..", 3) == 0));
-    MUST(!inroot_rises_through(path, length, at, path, length, next, used));
-    MUST(upper == 0 || !inroot_rises_through(path, length, at, now->place, now->place_length - 1, next, used));
-    if (!rises)
+    MUST(!rises(now->place, now->place_length, used - (used > 0)) || used == 0);
+    MUST(!rises(path, length, ROOM));
+    MUST(upper == 0 || !rises(now->place, now->place_length - 1, ROOM));
+    struct inroot_next_path on;
+    memset(next, '#', ROOM);
+    inroot_rises_through(path, length, at, now->place, now->place_length, next, ROOM, &on);
+    MUST(!on.goes_on || (at > 0 && comes_up()));
+    if (!go_on(&on, used, upper, false))
         return false;
     now->names = 0;
     now->text = NULL;
-    go_on(used, upper);
+    count++;
     return true;
 }
 
@@ -195,11 +250,11 @@ int LLVMFuzzerTestOneInput(const uint8_t *data, size_t size)
     memset(&passed[0].names, 0, sizeof passed[0].names);
     if (!inroot_begins_through(&asked, bytes, strlen(first), path, length))
         return 0;
-    MUST(asked.op == INROOT_ASK_RESOLVE && !asked.no_links);
+    MUST(asked.op == INROOT_ASK_RESOLVE && !asked.no_links && strstr(first, "..") == NULL);
     MUST(!inroot_begins_through(&asked, bytes, strlen(first), path, length - 1));
     for (unsigned what = byte(&in); count < MOST && what % 16 != 15; what = byte(&in)) {
-        bool goes = what % 16 == 14 ? rise() : follow(&asked, &in, what % 4, texts[byte(&in) % (sizeof texts / sizeof *texts)]);
-        if (!goes)
+        bool goes_on = what % 16 == 14 ? rise() : follow(&asked, what % 4, texts[byte(&in) % (sizeof texts / sizeof *texts)]);
+        if (!goes_on)
             return 0;
         passed[count].names = 0;
     }

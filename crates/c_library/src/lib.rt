@@ -8,15 +8,18 @@
 //! `host/calls.h`: what is kept is empty (zero) before the first call, and is left alone between two turns.
 #![tactic(auto)]
 
-ghost use Rattle.std.specs.Prelude.{◌≡◌, ◌≤◌, ◌∷◌, [], ℕ, List, true, false, drop, length, take, IfSome, IsSome};
+ghost use Rattle.std.specs.Prelude.{◌≡◌, ◌≤◌, ◌+◌, ◌∷◌, [], ℕ, List, true, false, drop, length, take, IfSome, IsSome};
 ghost use Rattle.root_ops.specs.Ahead.{doing_ahead};
 ghost use Rattle.root_ops.specs.declared.call.CallTurn.{CallTurn};
 ghost use Rattle.c_protocol.specs.AtOnce.{misses_at_once, opens_at_once};
 ghost use Rattle.c_protocol.specs.FollowedAtOnce.{follows_at_once};
 ghost use Rattle.c_protocol.specs.Left.{IsLeft};
 ghost use Rattle.c_protocol.specs.Runs.{ComeNext, IsRun};
-ghost use Rattle.c_protocol.specs.Split.{IsParted};
-ghost use Rattle.c_protocol.specs.Through.{begins_through, ends_through, goes_through, rises_through};
+ghost use Rattle.c_protocol.specs.Split.{IsCutAt, IsParted};
+ghost use Rattle.c_protocol.specs.Through.{begins_through, ends_through, from_place, goes_through, rises_through};
+ghost use Rattle.c_protocol.specs.Through.{with_text};
+ghost use Rattle.c_protocol.specs.ThroughAhead.{laid_if, leads_on, look_ahead, next_above, next_behind};
+ghost use Rattle.open_through_links.specs.declared.passage.TheConstants.{UP};
 ghost use Rattle.c_protocol.specs.Turns.{call_of, IsBegun, IsNext, IsTold};
 ghost use Rattle.place_protocol.specs.Told.{begun, facts_after_number, question_of, TellsNext};
 ghost use Rattle.place_protocol.specs.Texts.{texts_of};
@@ -43,7 +46,7 @@ mod steps;
 mod walks;
 mod ways;
 
-use c_protocol::{Ahead, Answered, Asked, Kept, Left, Parted, Ran, Told};
+use c_protocol::{Ahead, Answered, Asked, Kept, Left, NextPath, Parted, PathAhead, Ran, Told};
 use make_through_links::{Making, Outcome};
 use open_or_make::{Course, Request};
 use place_protocol::{Answer, Facts};
@@ -166,12 +169,27 @@ pub extern "C" fn inroot_follows_at_once(asked: &Asked, path: &[u8]) -> bool
 /// Whether a call may go on a path by names and links alone: `c_protocol::begins_through`.
 #[unsafe(no_mangle)]
 pub extern "C" fn inroot_begins_through(asked: &Asked, path: &[u8], whole: &[u8]) -> bool
-    ensures { result ≡ begins_through asked.now path.now whole.now }
+    ensures { result ≡ begins_through asked.now path.now whole.now && leads_on (record { path = whole.now; at = 0 }) }
 {
     c_protocol::begins_through(asked, path, whole)
 }
 
-/// Whether a call goes on so behind a link: `c_protocol::goes_through`.
+/// What comes next on such a path: `c_protocol::look_ahead`.
+#[unsafe(no_mangle)]
+pub extern "C" fn inroot_look_ahead(
+    whole: &[u8],
+    at: usize,
+    link: usize,
+    left: bool,
+    ahead: &mut PathAhead,
+)
+    ensures exact { ahead.new ≡ look_ahead (record { path = whole.now; at = at }) link left ahead.new.upper }
+    ensures upper { ahead.new.comes ≡ UP → IsCutAt (take at whole.now) (ahead.new.upper + 1) }
+{
+    *ahead = c_protocol::look_ahead(whole, at, link, left);
+}
+
+/// How a call goes on behind a link: `c_protocol::goes_through`.
 #[unsafe(no_mangle)]
 pub extern "C" fn inroot_goes_through(
     asked: &Asked,
@@ -181,19 +199,32 @@ pub extern "C" fn inroot_goes_through(
     start: usize,
     end: usize,
     text: &[u8],
-    next: &[u8],
-) -> bool
-    ensures { result ≡ goes_through asked.now links (record { path = whole.now; at = at }) start end text.now next.now }
+    room: &mut [u8],
+    next: &mut NextPath,
+)
+    ensures exact { next.new ≡ next_behind asked.now links (record { path = whole.now; at = at }) start end text.now
+        room.old }
+    ensures bytes { room.new ≡ laid_if
+        (goes_through asked.now links (record { path = whole.now; at = at }) start end text.now)
+        (with_text whole.now start end text.now) room.old }
 {
-    c_protocol::goes_through(asked, links, whole, at, start, end, text, next)
+    *next = c_protocol::goes_through(asked, links, whole, at, start, end, text, room);
 }
 
-/// Whether a call goes on so above: `c_protocol::rises_through`.
+/// How a call goes on above: `c_protocol::rises_through`.
 #[unsafe(no_mangle)]
-pub extern "C" fn inroot_rises_through(whole: &[u8], at: usize, place: &[u8], next: &[u8]) -> bool
-    ensures { result ≡ rises_through (record { path = whole.now; at = at }) place.now next.now }
+pub extern "C" fn inroot_rises_through(
+    whole: &[u8],
+    at: usize,
+    place: &[u8],
+    room: &mut [u8],
+    next: &mut NextPath,
+)
+    ensures exact { next.new ≡ next_above (record { path = whole.now; at = at }) place.now room.old }
+    ensures bytes { room.new ≡ laid_if (rises_through (record { path = whole.now; at = at }) place.now)
+        (from_place (record { path = whole.now; at = at }) place.now) room.old }
 {
-    c_protocol::rises_through(whole, at, place, next)
+    *next = c_protocol::rises_through(whole, at, place, room);
 }
 
 /// Whether a call ends so: `c_protocol::ends_through`.

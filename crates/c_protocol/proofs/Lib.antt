@@ -7,7 +7,9 @@ mod Passing
 mod PassingNames
 mod AtOnce
 mod StepsSeen
+mod ThroughLaid
 mod ThroughTexts
+mod ThroughUps
 mod ThroughStands
 mod PassingThrough
 mod SplitLemmas

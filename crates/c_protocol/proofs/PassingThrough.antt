@@ -1,5 +1,5 @@
 -- A resolve whose names and links are passed at once is led, line by line, to its reply.
-use Rattle.std.proofs.Common.{◌≡◌, ◌<◌, ℕ, zero, suc, ◌+◌, ◌-◌, Bool, true, false, not, ◌==◌, nat_le, nat_lt, length, get_or, List, [], ◌∷◌, ◌++◌, map, reverse, take, drop, refl, sym, ap, ◌∙◌, subst, arith, length-append}
+use Rattle.std.proofs.Common.{◌≡◌, ◌<◌, ℕ, zero, suc, ◌+◌, Bool, true, false, not, ◌==◌, nat_le, nat_lt, length, get_or, List, [], ◌∷◌, ◌++◌, map, reverse, take, drop, refl, sym, ap, ◌∙◌, subst, arith, length-append}
 use Rattle.std.specs.Prelude.{if◌then◌else◌, is_none, Some, None}
 use Rattle.std.specs.List.{list_all}
 use Rattle.std.proofs.lemmas.Bool.{eqb-true, ltb-true, not-true}
@@ -39,11 +39,12 @@ use Rattle.c_protocol.specs.AtOnce.{Passed, opens_kind, opens, closes, lines_fro
 use Rattle.c_protocol.specs.Numbers.{op_of, kind_of, below_asked}
 use Rattle.c_protocol.specs.Outright.{call_in}
 use Rattle.c_protocol.specs.Through as through
-use Rattle.c_protocol.specs.Through.{are_steps, is_way, inner_text, is_spliced, place_text, before_text, Stand, passes_to, may_follow, ends_through, Passage, link, above, IsWay, Spot, top, spot_at, spot_in, spot_after, enters, rises, lines_on, opened_at, OpensThroughTell}
+use Rattle.c_protocol.specs.Through.{are_steps, is_way, inner_text, place_text, Stand, passes_to, ends_through, Passage, link, above, IsWay, Spot, top, spot_at, spot_in, spot_after, enters, rises, lines_on, opened_at, OpensThroughTell}
+use Rattle.c_protocol.specs.ThroughAhead.{pieces_of}
 use Rattle.c_protocol.specs.declared.numbers.Asked.{Asked}
 use Rattle.c_protocol.proofs.AtOnce.{placed, no_fault, short, handle, onto, onto_is, first_or, parts_either, reprinted, same_text}
-use Rattle.c_protocol.proofs.ThroughTexts.{spliced_is, pieces_of, names_are_steps, pieces_back, parts_slashed, way_is, same_some}
-use Rattle.c_protocol.proofs.ThroughStands.{ask_piece, Head, head, none_left, named_piece, Holds, all_of, read_back, asked_pieces, asked_all, split_link, no_child, up_three, up_split, names_in_order, entered, entered_all, all_dirs, stands_by, stands_above}
+use Rattle.c_protocol.proofs.ThroughTexts.{names_are_steps, pieces_back, parts_slashed, way_is, same_some}
+use Rattle.c_protocol.proofs.ThroughStands.{ask_piece, Head, head, none_left, named_piece, Holds, all_of, read_back, asked_pieces, asked_all, split_link, no_child, up_two, up_split, names_in_order, entered, entered_all, all_dirs, stands_by, stands_above}
 
 -- ---- from line to line
 
@@ -310,18 +311,14 @@ module _
       place_read =
       let is_link = way_is.1.0 in
       let goes = and_true (passes_to s is_link.start is_link.end) _ is_link.goes in
-      let follow = and_true (may_follow asked_for links text) _ goes.1 in
-      let some = and_true (nat_lt links LINKS_MAX) _ follow.0 in
+      let some = and_true (nat_lt links LINKS_MAX) _ goes.1 in
       absurd (omega (arith, few, ltb-true links LINKS_MAX some.0))
   leads_on (link qs l text ∷ more) links
       (suc b) s t pos inner own kind place ps last told few free h way_is end read place_read =
       let m = way_is.0 in
       let is_link = way_is.1.0 in
       let goes = and_true (passes_to s is_link.start is_link.end) _ is_link.goes in
-      let follow = and_true (may_follow asked_for links text)
-      (is_spliced m.path (before_text text (take is_link.start s.path)) (inner_text text) (drop is_link.end s.path))
-      goes.1 in
-      let some = and_true (nat_lt links LINKS_MAX) _ follow.0 in
+      let some = and_true (nat_lt links LINKS_MAX) _ goes.1 in
       let whole = and_true (is_none (text_fault text)) _ some.1 in
       let inside = and_true (not (leads_out (begins_with_slash text) below.flags))
       (are_steps (inner_text text)) whole.1 in
@@ -343,9 +340,7 @@ module _
       (left ∙ ap (λ q. q ∷ map ask_piece behind) (named_piece l.name split.name)) in
       let stands = stands_by
       (begins_with_slash text) s m pos inner own h qs l is_link.start is_link.end text next.texts next.path split
-      inside.1
-      (spliced_is m.path (before_text text (take is_link.start s.path)) (inner_text text)
-      (drop is_link.end s.path) follow.1) is_link.at next.left in
+      inside.1 is_link.path is_link.at next.left in
       link_followed dir texts path b l text (map ask_piece behind) later reply (all_dirs qs pos h.dir) split.name free
       (no_fault (text_fault text) whole.0)
       (not-true (leads_out (begins_with_slash text) below.flags) inside.0) next
@@ -366,18 +361,19 @@ module _
       place_read =
       let is_above = way_is.1.0 in
       absurd (no_child (take s.at s.path) (place_text is_above.place)
-      (up_three s way_is.0 is_above.place tolds is_above.rises).0 h.passed)
+      (up_two s way_is.0 is_above.place tolds is_above.rises).1 h.passed)
   leads_on (above p tolds ∷ more) links b s t
       (holds old []) inner own kind place ps last told few free h way_is end read place_read =
       let is_above = way_is.1.0 in
       absurd (no_child (take s.at s.path) (place_text is_above.place)
-      (up_three s way_is.0 is_above.place tolds is_above.rises).0 h.passed)
+      (up_two s way_is.0 is_above.place tolds is_above.rises).1 h.passed)
   leads_on (above p tolds ∷ more) links b s t
       (holds old (n ∷ names)) inner own kind place ps last told few free h way_is end read place_read =
       let m = way_is.0 in
       let is_above = way_is.1.0 in
       let turned = reverse-append (n ∷ []) names in
-      let up = up_split s m is_above.place tolds is_above.rises h.pieces (reverse names) n is_above.told_is is_above.at
+      let up = up_split s m is_above.place tolds is_above.rises h.pieces (reverse names) n is_above.told_is
+      is_above.path is_above.at
       (h.passed ∙ ap after_slashes turned) (ap (list_all is_name) (sym turned) ∙ h.valid) h.rest h.steps in
       let behind = pieces_of (drop (s.at + 3) s.path) in
       let next = head inner own Up (map ask_piece behind) (h.is ∙ ap (map ask_piece) up.pieces_are) in

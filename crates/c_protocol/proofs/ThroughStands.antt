@@ -20,9 +20,10 @@ use Rattle.step_resolver.specs.Order as walk
 use Rattle.step_resolver.proofs.Underway.LegalHistory.{same_head}
 use Rattle.c_protocol.specs.AtOnce.{Passed, has_names}
 use Rattle.c_protocol.specs.Through as through
-use Rattle.c_protocol.specs.Through.{is_step, are_names_or_none, is_entry, is_behind, is_joined, is_child, is_place, place_text, names_in, Stand, passes_to, comes_up, rises_through, are_steps, inner_text}
+use Rattle.c_protocol.specs.Through.{is_step, are_names_or_none, is_entry, is_behind, is_child, is_place, place_text, names_in, Stand, passes_to, comes_up, rises_through, from_place, are_steps, inner_text}
+use Rattle.c_protocol.specs.ThroughAhead.{pieces_of}
 use Rattle.c_protocol.proofs.AtOnce.{placed, reprinted, same_text, handle}
-use Rattle.c_protocol.proofs.ThroughTexts.{joined_is, pieces_of, names_are_steps, plain, pieces_back, same_pieces, names_are, entry_is, child_is, IsNames, piece_split, names_split, same_some, behind_is, parts_inner}
+use Rattle.c_protocol.proofs.ThroughTexts.{names_are_steps, plain, pieces_back, same_pieces, names_are, entry_is, child_is, IsNames, piece_split, names_split, same_some, behind_is, parts_inner}
 use Rattle.tree_model.specs.declared.step.Kind.{Kind}
 use Rattle.tree_model.specs.declared.step.Kind.TheVariants.{Dir}
 
@@ -201,26 +202,18 @@ no_child passed upper child none =
     let last = child_is passed upper child in
     nothing_more upper SLASH (last.name ++ []) (sym none ∙ last.is)
 
-module _ (s t : Stand) (place : List ℕ) (told : List (List ℕ)) (h : rises_through s place t.path ≡ true) where
-  up_one : (comes_up s ≡ true)
-      × (((is_place place && (is_child (take s.at s.path) (place_text place) && is_joined t.path (place_text place)
-      (drop (s.at + 3) s.path)))) ≡ true)
+module _ (s t : Stand) (place : List ℕ) (told : List (List ℕ)) (h : rises_through s place ≡ true) where
+  up_one : (comes_up s ≡ true) × ((is_place place && is_child (take s.at s.path) (place_text place)) ≡ true)
   up_one = and_true (comes_up s) _ h
 
-  up_two : (is_place place ≡ true)
-      × ((is_child (take s.at s.path) (place_text place) && is_joined t.path (place_text place)
-      (drop (s.at + 3) s.path)) ≡ true)
+  pub up_two : (is_place place ≡ true) × (is_child (take s.at s.path) (place_text place) ≡ true)
   up_two = and_true (is_place place) _ up_one.1
 
-  pub up_three : (is_child (take s.at s.path) (place_text place) ≡ true)
-      × (is_joined t.path (place_text place) (drop (s.at + 3) s.path) ≡ true)
-  up_three = and_true (is_child (take s.at s.path) (place_text place)) _ up_two.1
-
   pub up_split : (pieces : List (List ℕ)) (names : List (List ℕ)) (n : List ℕ) → names_read place ≡ Some told
-      → t.at ≡ length (place_text place)
+      → t.path ≡ from_place s place → t.at ≡ length (place_text place)
       → take s.at s.path ≡ after_slashes (names ++ n ∷ []) → list_all is_name (names ++ n ∷ []) ≡ true
       → drop s.at s.path ≡ after_slashes pieces → list_all is_step pieces ≡ true → UpSplit s t pieces told names
-  up_split pieces names n read at_is passed valid rest steps =
+  up_split pieces names n read path_is at_is passed valid rest steps =
       let behind = drop (s.at + 3) s.path in
       let comes = and_true (nat_le (s.at + 3) (length s.path)) _ up_one.0 in
       let up = and_true (same_bytes (take 3 (drop s.at s.path)) (codes "/..")) (is_behind behind) comes.1 in
@@ -230,8 +223,8 @@ module _ (s t : Stand) (place : List ℕ) (told : List (List ℕ)) (h : rises_th
       ∙ ap (λ x. x ++ drop 3 (drop s.at s.path)) (same_text (take 3 (drop s.at s.path)) (codes "/..") up.0)
       ∙ ap (λ y. (SLASH ∷ codes "..") ++ y) (drop-drop 3 s.at s.path) in
       record {
-        told_is = last_dropped (take s.at s.path) (place_text place) told names n up_three.0 at_place passed valid;
-        path = joined_is t.path (place_text place) behind up_three.1 ∙ ap (λ x. x ++ behind) at_place.is;
+        told_is = last_dropped (take s.at s.path) (place_text place) told names n up_two.1 at_place passed valid;
+        path = path_is ∙ ap (λ x. x ++ behind) at_place.is;
         at = at_is ∙ ap length at_place.is;
         behind = up.1;
         pieces_are = read_back pieces (drop s.at s.path) steps rest ∙ ap pieces_of whole

@@ -1,5 +1,5 @@
 -- Texts of names and `..`: how they are taken apart, and what they are read as.
-use Rattle.std.proofs.Common.{◌≡◌, ℕ, ◌+◌, ◌-◌, Bool, true, false, not, ◌==◌, ◌&&◌, ◌||◌, cond, nat_le, nat_lt, length, List, [], ◌∷◌, ◌++◌, map, take, drop, refl, sym, ap, ◌∙◌, subst}
+use Rattle.std.proofs.Common.{◌≡◌, ℕ, Bool, true, false, not, ◌==◌, ◌&&◌, ◌||◌, cond, nat_le, nat_lt, length, List, [], ◌∷◌, ◌++◌, map, take, drop, refl, sym, ap, ◌∙◌, subst}
 use Rattle.std.specs.Prelude.{if◌then◌else◌, is_none, codes, Some, None}
 use Rattle.std.specs.List.{list_all, list_any, filter, onto_first}
 use Rattle.std.proofs.lemmas.Bool.{eqb-true, not-true}
@@ -12,40 +12,11 @@ use Rattle.path_text.specs.Print.{after_slashes}
 use Rattle.path_text.specs.Text.{is_empty, between_slashes, ends_with_slash, has_final_slash, part_of, parts_of}
 use Rattle.path_text.proofs.TextLemmas.{and_true, or_false}
 use Rattle.step_calls.proofs.ErrorLemmas.{second_is}
-use Rattle.c_protocol.specs.Through.{is_step, are_steps, is_way, are_names_or_none, is_entry, is_behind, inner_text, is_joined, is_slashed, is_spliced, is_child, names_in}
+use Rattle.c_protocol.specs.ThroughAhead.{pieces_of}
+use Rattle.c_protocol.specs.Through.{is_step, are_steps, is_way, are_names_or_none, is_entry, is_behind, inner_text, is_child, names_in}
 use Rattle.c_protocol.proofs.AtOnce.{reprinted, placed, same_text}
 
--- ---- two texts that are the same
-
-pub joined_is : (text first second : List ℕ) → is_joined text first second ≡ true → text ≡ first ++ second
-joined_is text first second h =
-    let n = length first in
-    let one = and_true (nat_le n (length text)) _ h in
-    let two = and_true (same_bytes (take n text) first) (same_bytes (drop n text) second) one.1 in
-    sym (take-append-drop n text) ∙ ap (λ x. x ++ drop n text) (same_text (take n text) first two.0)
-    ∙ ap (λ y. first ++ y) (same_text (drop n text) second two.1)
-
-pub slashed_is : (text first second : List ℕ) → is_slashed text first second ≡ true → text ≡ SLASH ∷ first ++ second
-slashed_is [] first second h = cc (h)
-slashed_is (b ∷ text) first second h =
-    let one = and_true (b == SLASH) (is_joined text first second) h in
-    ap (λ c. c ∷ text) (eqb-true b SLASH one.0) ∙ ap (λ t. SLASH ∷ t) (joined_is text first second one.1)
-
-pub spliced_is : (text before first second : List ℕ) → is_spliced text before first second ≡ true
-    → text ≡ before ++ (SLASH ∷ first ++ second)
-spliced_is text before first second h =
-    let n = length before in
-    let one = and_true (nat_le n (length text)) _ h in
-    let two = and_true (same_bytes (take n text) before) (is_slashed (drop n text) first second) one.1 in
-    sym (take-append-drop n text) ∙ ap (λ x. x ++ drop n text) (same_text (take n text) before two.0)
-    ∙ ap (λ y. before ++ y) (slashed_is (drop n text) first second two.1)
-
 -- ---- pieces
-
--- what stands behind slashes
-abbrev pub pieces_of : List ℕ → List (List ℕ)
-pieces_of [] = []
-pieces_of (b ∷ text) = between_slashes text
 
 pub behind_is : (text : List ℕ) → is_behind text ≡ true → text ≡ after_slashes (pieces_of text)
 behind_is [] h = refl

@@ -15,6 +15,7 @@ pub mod OwnExchanges
 pub mod Refusals
 pub mod AtOnce
 pub mod Through
+pub mod ThroughAhead
 pub mod SeenBelow
 pub mod FollowedAtOnce
 pub mod Split

@@ -2,7 +2,8 @@
 -- each link by its name in the directory that is held (readlinkat(2)), where its text stands in its place then. After
 -- `..` it was asked where the directory above stands, and at the end where the object does. What the call replies is
 -- known then without its single turns.
-use Rattle.std.specs.Prelude.{◌≡◌, ℕ, ◌+◌, ◌-◌, List, [], ◌∷◌, ◌++◌, ◌==◌, ◌&&◌, ◌||◌, Bool, true, false, not, if◌then◌else◌, nat_le, nat_lt, codes, drop, is_none, length, map, take, Option, Some}
+use Rattle.std.specs.Prelude.{◌≡◌, ℕ, ◌+◌, ◌-◌, List, [], ◌∷◌, ◌++◌, ◌==◌, ◌&&◌, ◌||◌, Bool, true, false, not}
+use Rattle.std.specs.Prelude.{if◌then◌else◌, nat_le, nat_lt, codes, drop, is_none, length, map, take, Option, Some}
 use Rattle.std.specs.List.{list_all}
 use Rattle.path_text.specs.declared.name.TheConstants.{SLASH}
 use Rattle.path_text.specs.Name.{is_name, same_bytes}
@@ -18,7 +19,8 @@ use Rattle.step_resolver.specs.Order.{Line, answered}
 use Rattle.root_ops.specs.declared.op.Op.{Op}
 use Rattle.root_ops.specs.declared.reply.Reply.{Reply}
 use Rattle.root_ops.specs.declared.reply.Reply.TheVariants as replies
-use Rattle.c_protocol.specs.AtOnce.{closes, has_names, lines_from, names_passed, opens, opens_kind, spells_place, IsCallAtOnce, Passed}
+use Rattle.c_protocol.specs.AtOnce.{closes, has_names, lines_from, names_passed, opens, opens_kind, spells_place}
+use Rattle.c_protocol.specs.AtOnce.{IsCallAtOnce, Passed}
 use Rattle.c_protocol.specs.Numbers.{below_asked, kind_of, op_of, owner_asked}
 use Rattle.c_protocol.specs.declared.numbers.Asked.{Asked}
 
@@ -56,23 +58,6 @@ abbrev pub inner_text : List ℕ → List ℕ
 inner_text [] = []
 inner_text (b ∷ text) = if b == SLASH then text else b ∷ text
 
--- it is these two, one behind the other
-abbrev pub is_joined : List ℕ → List ℕ → List ℕ → Bool
-is_joined text first second =
-    nat_le (length first) (length text)
-    && (same_bytes (take (length first) text) first && same_bytes (drop (length first) text) second)
-
--- it is a slash and these two
-abbrev pub is_slashed : List ℕ → List ℕ → List ℕ → Bool
-is_slashed [] first second = false
-is_slashed (b ∷ text) first second = (b == SLASH) && is_joined text first second
-
--- it is these three, and a slash between the first two
-abbrev pub is_spliced : List ℕ → List ℕ → List ℕ → List ℕ → Bool
-is_spliced text before first second =
-    nat_le (length before) (length text)
-    && (same_bytes (take (length before) text) before && is_slashed (drop (length before) text) first second)
-
 -- ---- from one path to the next
 
 -- A path from the root, with a slash before each part. So many of its bytes are the names passed.
@@ -105,11 +90,17 @@ may_follow asked links text =
     nat_lt links LINKS_MAX && (is_none (text_fault text)
     && (not (leads_out (begins_with_slash text) (below_asked asked).flags) && are_steps (inner_text text)))
 
--- The names up to `start` are passed, and the one behind them is a link with this text, which stands in its place then.
-abbrev pub goes_through : Asked → ℕ → Stand → ℕ → ℕ → List ℕ → List ℕ → Bool
-goes_through asked links s start end text next =
-    passes_to s start end && (may_follow asked links text
-    && is_spliced next (before_text text (take start s.path)) (inner_text text) (drop end s.path))
+-- The names up to `start` are passed, and the one behind them is a link with this text, which is followed.
+abbrev pub goes_through : Asked → ℕ → Stand → ℕ → ℕ → List ℕ → Bool
+goes_through asked links s start end text = passes_to s start end && may_follow asked links text
+
+-- the path then: the text stands in the link's place
+abbrev pub with_text : List ℕ → ℕ → ℕ → List ℕ → List ℕ
+with_text path start end text = before_text text (take start path) ++ (SLASH ∷ inner_text text ++ drop end path)
+
+-- of which so many bytes are the names passed
+abbrev pub at_text : ℕ → List ℕ → ℕ
+at_text start text = if begins_with_slash text then 0 else start
 
 -- the names of a place, a slash before each
 abbrev pub place_text : List ℕ → List ℕ
@@ -131,10 +122,12 @@ comes_up s =
     && (same_bytes (take 3 (drop s.at s.path)) (codes "/..") && is_behind (drop (s.at + 3) s.path))
 
 -- The directory above stands at the names passed less the last.
-abbrev pub rises_through : Stand → List ℕ → List ℕ → Bool
-rises_through s place next =
-    comes_up s && (is_place place && (is_child (take s.at s.path) (place_text place)
-    && is_joined next (place_text place) (drop (s.at + 3) s.path)))
+abbrev pub rises_through : Stand → List ℕ → Bool
+rises_through s place = comes_up s && (is_place place && is_child (take s.at s.path) (place_text place))
+
+-- the path then, of which the names of that place are passed
+abbrev pub from_place : Stand → List ℕ → List ℕ
+from_place s place = place_text place ++ drop (s.at + 3) s.path
 
 -- Only names are left, and what they lead to is no link that would be followed, and stands at the whole path.
 abbrev pub ends_through : Stand → ℕ → List ℕ → Bool
@@ -161,15 +154,17 @@ names_in (b ∷ text) = names_read (b ∷ text)
 pub record IsLink (asked : Asked) (met : ℕ) (s t : Stand) (ps : List Passed) (l : Passed) (text : List ℕ) : Type 0 where
   pub start : ℕ
   pub end : ℕ
-  pub goes : goes_through asked met s start end text t.path ≡ true
+  pub goes : goes_through asked met s start end text ≡ true
+  pub path : t.path ≡ with_text s.path start end text
   pub dirs : names_in (take (start - s.at) (drop s.at s.path)) ≡ Some (names_of ps)
   pub name : take (end - start) (drop start s.path) ≡ SLASH ∷ l.name
-  pub at : t.at ≡ (if begins_with_slash text then 0 else start)
+  pub at : t.at ≡ at_text start text
 
 pub record IsAbove (s t : Stand) (told : List (List ℕ)) : Type 0 where
   pub place : List ℕ
   pub told_is : names_read place ≡ Some told
-  pub rises : rises_through s place t.path ≡ true
+  pub rises : rises_through s place ≡ true
+  pub path : t.path ≡ from_place s place
   pub at : t.at ≡ length (place_text place)
 
 abbrev pub IsPassage : Asked → ℕ → Stand → Passage → Stand → Type 0

@@ -34,7 +34,7 @@ fn refused(error: Errno) -> Parted
 }
 
 #[tactic(auto, using(path_text::proofs::TextLemmas::ends_with_slash_last))]
-fn ends_with_slash(text: &[u8]) -> bool
+pub(crate) fn ends_with_slash(text: &[u8]) -> bool
     ensures { result ≡ ends_with_slash text.now }
 {
     text.last().copied() == Some(SLASH)
@@ -74,7 +74,7 @@ fn before_slashes(text: &[u8]) -> &[u8]
 }
 
 // How much comes before the last piece of a text that ends in one.
-fn before_piece(text: &[u8]) -> usize
+pub(crate) fn before_piece(text: &[u8]) -> usize
     requires some { text.now ≢ [] }
     requires last { ends_with_slash text.now ≡ false }
     ensures { IsCutAt text.now result }

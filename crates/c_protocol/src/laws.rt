@@ -1,5 +1,8 @@
 //! What a C program's call tells in a history: laws, each the contract of a function without a body.
-ghost use Rattle.c_protocol.specs.AtOnce.{FailsAtOnceTell, OpensAtOnceTell};
+ghost use Rattle.std.specs.Prelude.{◌≡◌, ◌<◌, ℕ, Bool, true, drop, take};
+ghost use Rattle.path_text.specs.Print.{names_read};
+ghost use Rattle.open_through_links.specs.declared.passage.TheConstants.{END, LINK, UP};
+ghost use Rattle.c_protocol.specs.AtOnce.{has_names, FailsAtOnceTell, OpensAtOnceTell};
 ghost use Rattle.c_protocol.specs.FollowedAtOnce.{LinksSeenBelow};
 ghost use Rattle.c_protocol.specs.History.{ConversationsAreCalls};
 ghost use Rattle.c_protocol.specs.Outright.{ConversationsTell};
@@ -7,7 +10,8 @@ ghost use Rattle.c_protocol.specs.OwnExchanges.{ConversationsClose, UnmadeStepsE
 ghost use Rattle.c_protocol.specs.Refusals.{StepsAreRefusedSo};
 ghost use Rattle.c_protocol.specs.RunHistory.{ConversationsWithRunsTell};
 ghost use Rattle.c_protocol.specs.SeenBelow.{PlainSeenBelow, ResolvesSeenBelow};
-ghost use Rattle.c_protocol.specs.Through.{OpensThroughTell};
+ghost use Rattle.c_protocol.specs.Through.{comes_up, OpensThroughTell, Stand};
+ghost use Rattle.c_protocol.specs.ThroughAhead.{count_in, leads_on, look_ahead};
 
 use root_ops::{calls_tell, calls_tell_by_any_numbers, each_call_tells, opened_are_closed};
 
@@ -80,6 +84,19 @@ pub fn opens_through_tell()
 {
     each_call_tells();
 }
+
+/// What `look_ahead` says of a path on which a call goes on, as `begins_through` and `goes_through` see to it: nothing
+/// but names comes, also behind a link that is hinted at; or `..` comes, and some name was passed. Any other path is left
+/// to the single steps.
+pub fn paths_that_lead_on()
+    ensures names { (s : Stand) (link upper : ℕ) (left : Bool) → leads_on s ≡ true
+        → (look_ahead s link left upper).comes ≡ END → has_names (names_read (drop s.at s.path)) ≡ true }
+    ensures link { (s : Stand) (link upper : ℕ) (left : Bool) → leads_on s ≡ true
+        → (look_ahead s link left upper).comes ≡ LINK → has_names (names_read (drop s.at s.path)) ≡ true }
+    ensures up { (s : Stand) (link upper : ℕ) (left : Bool) → leads_on s ≡ true
+        → (look_ahead s link left upper).comes ≡ UP
+        → (comes_up s ≡ true) × (0 < count_in (take s.at s.path)) }
+{}
 
 /// Of no history, so whatever the program answers, and however many handles that takes: where only an Open, a Dup or
 /// a Parent is answered by a handle, a call tells a Close of each handle as often as it was answered that it was

@@ -30,6 +30,7 @@ mod left;
 mod numbers;
 mod runs;
 mod through;
+mod through_ahead;
 mod told;
 mod turns;
 
@@ -40,10 +41,11 @@ pub use last_name::{Parted, split};
 pub use laws::{
     conversations_are_calls, conversations_close, conversations_tell, conversations_with_runs_tell,
     fails_at_once_tell, links_seen_below_tell, opens_at_once_tell, opens_through_tell,
-    seen_below_tell, steps_are_refused_so, unmade_steps_end_calls,
+    paths_that_lead_on, seen_below_tell, steps_are_refused_so, unmade_steps_end_calls,
 };
 pub use left::{Left, parts_ahead};
 pub use numbers::{Answered, Asked, Told};
 pub use runs::{Ahead, Ran, names_ahead, pass_names};
-pub use through::{begins_through, ends_through, goes_through, rises_through};
+pub use through::{NextPath, begins_through, ends_through, goes_through, rises_through};
+pub use through_ahead::{PathAhead, look_ahead};
 pub use turns::{begin, next};

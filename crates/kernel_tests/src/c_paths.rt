@@ -3,9 +3,10 @@
 ghost use Rattle.std.specs.Prelude.{◌<◌, ◌≤◌};
 
 use c_protocol::{
-    Asked, Parted, begins_through, ends_through, follows_at_once, goes_through, misses_at_once, opens_at_once,
-    rises_through, split,
+    Asked, NextPath, Parted, begins_through, ends_through, follows_at_once, goes_through,
+    look_ahead, misses_at_once, opens_at_once, rises_through, split,
 };
+use open_through_links::{END, LEFT, LINK, UP};
 use std::test::Fail;
 use step_calls::is_refusal;
 
@@ -238,11 +239,13 @@ fn errors_refuse_steps(rt: HostRuntime) -> Result<(), Fail> {
     Ok(())
 }
 
-/// A path, the same from the root, and whether a resolve may go on it by names and links alone.
-const BEGUN: [(&str, &str, bool); 8] = [
+/// A path, the same from the root, and whether a resolve goes on it by names and links alone.
+const BEGUN: [(&str, &str, bool); 10] = [
     ("a/b", "/a/b", true),
-    ("/a/../b", "/a/../b", true),
-    ("..", "/..", true),
+    ("/a/b", "/a/b", true),
+    ("/a/../b", "/a/../b", false),
+    ("..", "/..", false),
+    ("../a", "/../a", false),
     ("a/b", "/a", false),
     ("a/", "/a/", false),
     ("./a", "/./a", false),
@@ -264,55 +267,141 @@ fn paths_begin_through_links(rt: HostRuntime) -> Result<(), Fail> {
     Ok(())
 }
 
-/// A path, how many bytes of it were passed, where a link begins and ends, its text, and the path then.
-const GONE: [(&str, usize, usize, usize, &str, &str, bool); 10] = [
-    ("/d/l/f", 0, 2, 4, "e", "/d/e/f", true),
-    ("/d/l/f", 2, 2, 4, "../e", "/d/../e/f", true),
-    ("/d/l/f", 0, 2, 4, "/e/g", "/e/g/f", true),
-    ("/l", 0, 0, 2, "e", "/e", true),
-    // A part of a name, a name more, and another path.
-    ("/d/long/f", 0, 2, 4, "e", "/d/eng/f", false),
-    ("/d/l/f", 0, 2, 6, "e", "/d/e", false),
-    ("/d/l/f", 0, 2, 4, "e", "/d/e/g", false),
-    ("/d/l/f", 0, 2, 4, "e", "/d/e", false),
+/// A path, how many bytes of it were passed, where a link begins and ends, and its text; the path then, or none, and how
+/// many bytes of it are passed.
+const GONE: [(&str, usize, usize, usize, &str, &str, usize); 15] = [
+    ("/d/l/f", 0, 2, 4, "e", "/d/e/f", 2),
+    ("/d/l/f", 2, 2, 4, "../e", "/d/../e/f", 2),
+    ("/d/c/l/f", 0, 4, 6, "../../e", "/d/c/../../e/f", 4),
+    ("/d/l/f", 0, 2, 4, "/e/g", "/e/g/f", 0),
+    ("/l", 0, 0, 2, "e", "/e", 0),
+    // A part of a name, and a name more.
+    ("/d/long/f", 0, 2, 4, "e", "", 0),
+    ("/d/l/f", 0, 2, 6, "e", "", 0),
     // Texts that aren't names and `..` alone.
-    ("/l", 0, 0, 2, "./e", "/./e", false),
-    ("/l", 0, 0, 2, "", "/", false),
+    ("/l", 0, 0, 2, "./e", "", 0),
+    ("/l", 0, 0, 2, "", "", 0),
+    // `..` behind a name, at the end, and above the root.
+    ("/d/l/f", 0, 2, 4, "e/../g", "", 0),
+    ("/d/l", 0, 2, 4, "..", "", 0),
+    ("/d/l/f", 0, 2, 4, "../../e", "", 0),
+    ("/d/l/f", 0, 2, 4, "/../e", "", 0),
+    // Sixteen bytes, and one more.
+    ("/d/l/f", 0, 2, 4, "0123456789a", "/d/0123456789a/f", 2),
+    ("/d/l/f", 0, 2, 4, "0123456789ab", "", 0),
 ];
+
+// Whether the call goes on with this path, so many bytes of which are passed, or with none.
+fn is_next(next: NextPath, room: &[u8], path: &str, at: usize) -> bool {
+    if path.is_empty() {
+        return !next.goes_on && next.length == 0 && next.at == 0 && !next.absolute;
+    }
+    next.goes_on
+        && next.length == path.len()
+        && next.at == at
+        && next.length <= room.len()
+        && &room[..next.length] == path.as_bytes()
+}
 
 #[test]
 fn links_are_gone_through(rt: HostRuntime) -> Result<(), Fail> {
     let plain = asked(1, false, false);
-    for (whole, at, start, end, text, next, wanted) in &GONE {
-        let goes = |links: usize| {
-            goes_through(
-                &plain,
-                links,
-                whole.as_bytes(),
-                *at,
-                *start,
-                *end,
-                text.as_bytes(),
-                next.as_bytes(),
-            )
-        };
-        assert!(rt; goes(39) == *wanted, "{whole}");
-        assert!(rt; !goes(40), "{whole}");
+    for (whole, at, start, end, text, path, passed) in &GONE {
+        let mut room = [b'#'; 16];
+        let next = goes_through(
+            &plain,
+            39,
+            whole.as_bytes(),
+            *at,
+            *start,
+            *end,
+            text.as_bytes(),
+            &mut room,
+        );
+        assert!(rt; is_next(next, &room, path, *passed), "{whole} {text}");
+        assert!(rt;
+            next.absolute == (next.goes_on && text.as_bytes().first() == Some(&b'/')),
+            "{text}"
+        );
+        let many = goes_through(
+            &plain,
+            40,
+            whole.as_bytes(),
+            *at,
+            *start,
+            *end,
+            text.as_bytes(),
+            &mut room,
+        );
+        assert!(rt; !many.goes_on, "{whole}");
     }
     let beneath = asked(1, true, false);
-    assert!(rt; !goes_through(&beneath, 0, b"/l", 0, 0, 2, b"/e", b"/e"));
+    let mut room = [b'#'; 16];
+    assert!(rt; !goes_through(&beneath, 0, b"/l", 0, 0, 2, b"/e", &mut room).goes_on);
+    assert!(rt; room == [b'#'; 16]);
     Ok(())
 }
 
+/// A path, how many bytes of it were passed, and the place of the directory above; the path then, or none, and how many
+/// bytes of it are passed.
+const RISEN: [(&str, usize, &str, &str, usize); 9] = [
+    ("/a/b/../c", 4, "/a", "/a/c", 2),
+    ("/a/../c", 2, "/", "/c", 0),
+    ("/a/b/..", 4, "/a", "/a", 2),
+    ("/a/b/../c", 4, "/", "", 0),
+    ("/a/b/../c", 4, "/a/b", "", 0),
+    ("/a/b/..c", 4, "/a", "", 0),
+    ("/../c", 0, "/", "", 0),
+    // Sixteen bytes, and one more.
+    (
+        "/0123456789/b/../abcd",
+        13,
+        "/0123456789",
+        "/0123456789/abcd",
+        11,
+    ),
+    ("/0123456789/b/../abcde", 13, "/0123456789", "", 0),
+];
+
 #[test]
 fn parents_are_gone_through(rt: HostRuntime) -> Result<(), Fail> {
-    assert!(rt; rises_through(b"/a/b/../c", 4, b"/a", b"/a/c"));
-    assert!(rt; rises_through(b"/a/../c", 2, b"/", b"/c"));
-    assert!(rt; rises_through(b"/a/b/..", 4, b"/a", b"/a"));
-    assert!(rt; !rises_through(b"/a/b/../c", 4, b"/", b"/c"));
-    assert!(rt; !rises_through(b"/a/b/../c", 4, b"/a/b", b"/a/b/c"));
-    assert!(rt; !rises_through(b"/a/b/..c", 4, b"/a", b"/ac"));
-    assert!(rt; !rises_through(b"/../c", 0, b"/", b"/c"));
+    for (whole, at, place, path, passed) in &RISEN {
+        let mut room = [b'#'; 16];
+        let next = rises_through(whole.as_bytes(), *at, place.as_bytes(), &mut room);
+        assert!(rt;
+            is_next(next, &room, path, *passed) && !next.absolute,
+            "{whole} {place}"
+        );
+    }
+    Ok(())
+}
+
+/// A path, how many bytes of it were passed, where a link is hinted at, and whether that is left; how many names were
+/// passed, how many are ahead, how long they are without the last, where a link ends, and what comes.
+const COMING: [(&str, usize, usize, bool, [usize; 4], u8); 10] = [
+    ("/a/b/f", 0, 99, false, [0, 3, 0, 0], END),
+    ("/a/b/f", 2, 99, false, [1, 2, 0, 0], END),
+    ("/a/..f", 2, 99, false, [1, 1, 0, 0], END),
+    ("/a/link/f", 0, 2, false, [0, 1, 0, 7], LINK),
+    ("/a/l", 2, 2, false, [1, 0, 0, 4], LINK),
+    ("/a/bc/../l/f", 5, 8, false, [2, 0, 2, 0], UP),
+    ("/a/../f", 2, 99, false, [1, 0, 0, 0], UP),
+    ("/a/l/f", 0, 2, true, [0, 0, 0, 0], LEFT),
+    // No name was passed, and no such path.
+    ("/../f", 0, 99, false, [0, 0, 0, 0], LEFT),
+    ("/a", 3, 99, false, [0, 0, 0, 0], LEFT),
+];
+
+#[test]
+fn what_comes_next_is_seen(rt: HostRuntime) -> Result<(), Fail> {
+    for (whole, at, link, left, numbers, comes) in &COMING {
+        let seen = look_ahead(whole.as_bytes(), *at, *link, *left);
+        assert!(rt; seen.comes == *comes, "{whole}");
+        assert!(rt;
+            [seen.passed, seen.ahead, seen.upper, seen.end] == *numbers,
+            "{whole}"
+        );
+    }
     Ok(())
 }
 

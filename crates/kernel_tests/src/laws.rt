@@ -100,6 +100,7 @@ fn laws_of_paths_at_once() {
 #[test]
 fn laws_of_paths_through_links() {
     open_through_links::where_it_opens_all_said_yes();
+    open_through_links::names_are_opened_once_they_are_said();
     open_through_links::what_is_given_was_seen();
     open_through_links::nothing_is_opened_above_before_its_place();
     open_through_links::links_are_followed_by_leave();
@@ -132,6 +133,8 @@ fn laws_of_calls_from_c() {
     c_protocol::conversations_with_runs_tell();
     c_protocol::opens_at_once_tell();
     c_protocol::fails_at_once_tell();
+    c_protocol::opens_through_tell();
+    c_protocol::paths_that_lead_on();
     c_protocol::conversations_close();
     c_protocol::unmade_steps_end_calls();
     c_protocol::seen_below_tell();
