@@ -214,6 +214,7 @@ module _ (f : Numbering) where
     start = is.start;
     end = is.end;
     goes = is.goes;
+    path = is.path;
     dirs = is.dirs ∙ ap Some (sym (names_by f ps));
     name = is.name;
     at = is.at;
@@ -222,6 +223,7 @@ module _ (f : Numbering) where
     place = is.place;
     told_is = is.told_is;
     rises = is.rises;
+    path = is.path;
     at = is.at;
   }
 
