@@ -83,7 +83,7 @@ module _ (kind : Errno → Bool) where
     pub text_other : (text : List ℕ) → fault_is (text_fault text) ≡ false
     text_other text =
         fault_if (is_empty text) NotFound _ others.missing (fault_if
-            (list_any (λ b. b == NUL) text) Invalid _ others.invalid
+        (list_any (λ b. b == NUL) text) Invalid _ others.invalid
         (fault_if (nat_lt TEXT_MAX (length text)) TooLong None others.long refl))
 
     split_at_other : (path : Reading) (rule : Rule) (last : Option Part) → failure_is (split_at path rule last) ≡ false
@@ -158,13 +158,13 @@ module _ (kind : Errno → Bool) where
       renames_child_other c d n f m Plain None = refused_if (is_within nodes c f) Invalid _ others.invalid refl
       renames_child_other c d n f m Plain (Some e) =
           onto (c == e) _ (refused_if (is_within nodes c f) Invalid _ others.invalid
-              (refused_by (replace_fault nodes c e) _ (replace_other c e) refl))
+          (refused_by (replace_fault nodes c e) _ (replace_other c e) refl))
       renames_child_other c d n f m NoReplace None = refused_if (is_within nodes c f) Invalid _ others.invalid refl
       renames_child_other c d n f m NoReplace (Some e) = others.there
       renames_child_other c d n f m Exchange None = others.missing
       renames_child_other c d n f m Exchange (Some e) =
           onto (c == e) _ (refused_if (is_within nodes c f) Invalid _ others.invalid
-              (refused_if (is_within nodes e d) Invalid _ others.invalid refl))
+          (refused_if (is_within nodes e d) Invalid _ others.invalid refl))
 
       pub renames_other : (d : ℕ) (n : List ℕ) (f : ℕ) (m : List ℕ) (mode : Mode)
           → failure_is (renames nodes d n f m mode) ≡ false

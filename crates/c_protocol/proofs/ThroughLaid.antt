@@ -1,5 +1,6 @@
 -- Paths that are laid into a room.
-use Rattle.std.proofs.Common.{◌≡◌, ◌≤◌, ℕ, ◌+◌, List, ◌++◌, length, take, drop, subst, ◌∙◌, arith, append_assoc, length-append}
+use Rattle.std.proofs.Common.{◌≡◌, ◌≤◌, ℕ, ◌+◌, List, ◌++◌, length, take, drop, subst, ◌∙◌, arith}
+use Rattle.std.proofs.Common.{append_assoc, length-append}
 use Rattle.path_text.proofs.Lists.{put}
 use Rattle.c_protocol.specs.Turns.{laid}
 use Rattle.c_protocol.proofs.Laying.{put_first, laid_there}

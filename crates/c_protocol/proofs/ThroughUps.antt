@@ -1,5 +1,6 @@
 -- `..` and then names: how a text of them is taken apart.
-use Rattle.std.proofs.Common.{◌≡◌, ◌<◌, ℕ, zero, suc, ◌+◌, ◌-◌, Bool, true, false, not, ◌==◌, ◌&&◌, ◌||◌, cond, ltb, nat_le, nat_lt, length, List, [], ◌∷◌, ◌++◌, take, drop, refl, sym, ap, ◌∙◌, arith}
+use Rattle.std.proofs.Common.{◌≡◌, ◌<◌, ℕ, zero, suc, ◌+◌, ◌-◌, Bool, true, false, not, ◌==◌, ◌&&◌, ◌||◌, cond, ltb}
+use Rattle.std.proofs.Common.{nat_le, nat_lt, length, List, [], ◌∷◌, ◌++◌, take, drop, refl, sym, ap, ◌∙◌, arith}
 use Rattle.std.specs.Prelude.{if◌then◌else◌, codes, Some, None}
 use Rattle.std.specs.List.{list_all, position, position_or_len}
 use Rattle.std.proofs.lemmas.Bool.{eqb-true, false≢true, le-leb, ltb-false}
@@ -13,7 +14,8 @@ use Rattle.path_text.proofs.TextLemmas.{and_true}
 use Rattle.c_protocol.specs.AtOnce.{has_names}
 use Rattle.c_protocol.specs.Through.{comes_up, is_behind, Stand}
 use Rattle.open_through_links.specs.declared.passage.TheConstants.{END, LINK, UP}
-use Rattle.c_protocol.specs.ThroughAhead.{are_ups_and_names, count_in, has_last, is_hinted, leads_on, look_ahead, nothing_ahead, pieces_of}
+use Rattle.c_protocol.specs.ThroughAhead.{are_ups_and_names, count_in, has_last, is_hinted, leads_on, look_ahead}
+use Rattle.c_protocol.specs.ThroughAhead.{nothing_ahead, pieces_of}
 use Rattle.c_protocol.specs.declared.through_ahead.PathAhead.{PathAhead}
 use Rattle.c_protocol.proofs.AtOnce.{reprinted, same_text}
 use Rattle.c_protocol.proofs.ThroughTexts.{piece_split}
@@ -126,7 +128,8 @@ comes_here : (s : Stand) → comes_up s ≡ comes_up (here (drop s.at s.path))
 comes_here s =
     let rest = drop s.at s.path in
     let later : drop 3 rest ≡ drop (s.at + 3) s.path = drop-drop 3 s.at s.path in
-    let room : nat_le (s.at + 3) (length s.path) ≡ nat_le (0 + 3) (length rest) = grind (arith, length-drop s.at s.path) in
+    let room : nat_le (s.at + 3) (length s.path) ≡ nat_le (0 + 3) (length rest) =
+    grind (arith, length-drop s.at s.path) in
     ap (λ t. t && (same_bytes (take 3 rest) (codes "/..") && is_behind (drop (s.at + 3) s.path))) room
     ∙ sym (ap (λ x. nat_le (0 + 3) (length rest) && (same_bytes (take 3 rest) (codes "/..") && is_behind x)) later)
 

@@ -86,8 +86,8 @@ pub fn opens_through_tell()
 }
 
 /// What `look_ahead` says of a path on which a call goes on, as `begins_through` and `goes_through` see to it: nothing
-/// but names comes, also behind a link that is hinted at; or `..` comes, and some name was passed. Any other path is left
-/// to the single steps.
+/// but names comes, also behind a link that is hinted at; or `..` comes, and some name was passed. Any other path is
+/// left to the single steps.
 pub fn paths_that_lead_on()
     ensures names { (s : Stand) (link upper : ℕ) (left : Bool) → leads_on s ≡ true
         → (look_ahead s link left upper).comes ≡ END → has_names (names_read (drop s.at s.path)) ≡ true }

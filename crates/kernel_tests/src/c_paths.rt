@@ -267,8 +267,8 @@ fn paths_begin_through_links(rt: HostRuntime) -> Result<(), Fail> {
     Ok(())
 }
 
-/// A path, how many bytes of it were passed, where a link begins and ends, and its text; the path then, or none, and how
-/// many bytes of it are passed.
+/// A path, how many bytes of it were passed, where a link begins and ends, and its text; the path then, or none, and
+/// how many bytes of it are passed.
 const GONE: [(&str, usize, usize, usize, &str, &str, usize); 15] = [
     ("/d/l/f", 0, 2, 4, "e", "/d/e/f", 2),
     ("/d/l/f", 2, 2, 4, "../e", "/d/../e/f", 2),
@@ -342,8 +342,8 @@ fn links_are_gone_through(rt: HostRuntime) -> Result<(), Fail> {
     Ok(())
 }
 
-/// A path, how many bytes of it were passed, and the place of the directory above; the path then, or none, and how many
-/// bytes of it are passed.
+/// A path, how many bytes of it were passed, and the place of the directory above; the path then, or none, and how
+/// many bytes of it are passed.
 const RISEN: [(&str, usize, &str, &str, usize); 9] = [
     ("/a/b/../c", 4, "/a", "/a/c", 2),
     ("/a/../c", 2, "/", "/c", 0),

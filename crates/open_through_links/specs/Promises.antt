@@ -94,8 +94,8 @@ abbrev pub is_known : List Exchange → Bool
 is_known [] = true
 is_known (e ∷ older) = known_by e (is_known older)
 
--- Which names the path has now is still to be said: at the beginning, since a link was read, and since `..` was opened or
--- the root took its place. It is said where the library finds that the call begins so, or goes on so.
+-- Which names the path has now is still to be said: at the beginning, since a link was read, and since `..` was opened
+-- or the root took its place. It is said where the library finds that the call begins so, or goes on so.
 abbrev pub waits_by : Exchange → Bool → Bool
 waits_by (begins error) was = was && not (error == 0)
 waits_by (reads error bytes) was = true

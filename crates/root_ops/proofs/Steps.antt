@@ -30,7 +30,6 @@ IsLower below k (more doing) = (steps_left below doing < k) × ((is_of_bulk doin
 IsLower below k (ends reply) = Unit {0}
 
 module _ (below : Below) where
-
   pub either_lower : (k : ℕ) (b : Bool) (t u : CallTurn) → IsLower below k t → IsLower below k u → IsLower below k (if b then t else u)
   either_lower k true t u lower other = lower
   either_lower k false t u lower other = other

@@ -283,13 +283,23 @@ module _ (others_stay : OthersHandlesStay) (w : WalkInHistory) where
       → own_events w.actor rest ≡ events_of w.actor lines → HappensAlone w n lines
   happen [] rest m n s le is legal kept alone own = rests rest m n s le is kept alone own
   happen (answered step answer ∷ lines) rest m n s le is legal kept alone own =
-      let next = next_event rest m n s step answer (events_of w.actor lines) le is legal kept alone own in
-      (next.t, (next.at, happen lines next.rest (suc next.t) (suc next.t) next.state
-      (le_refl (suc next.t)) next.is_rest next.legal next.kept (at_once (suc next.t)) next.own))
+      let next = next_event rest m n s step answer (events_of w.actor lines) le is legal kept alone own in (
+        next.t,
+        (
+          next.at,
+          happen lines next.rest (suc next.t) (suc next.t) next.state
+              (le_refl (suc next.t)) next.is_rest next.legal next.kept (at_once (suc next.t)) next.own,
+        ),
+      )
   happen (no_room step answer ∷ lines) rest m n s le is legal kept alone own =
-      let next = next_event rest m n s step answer (events_of w.actor lines) le is legal kept alone own in
-      (next.t, (next.at, happen lines next.rest (suc next.t) (suc next.t) next.state
-      (le_refl (suc next.t)) next.is_rest next.legal next.kept (at_once (suc next.t)) next.own))
+      let next = next_event rest m n s step answer (events_of w.actor lines) le is legal kept alone own in (
+        next.t,
+        (
+          next.at,
+          happen lines next.rest (suc next.t) (suc next.t) next.state
+              (le_refl (suc next.t)) next.is_rest next.legal next.kept (at_once (suc next.t)) next.own,
+        ),
+      )
   happen (not_made error ∷ lines) rest m n s le is legal kept alone own =
       happen lines rest m n s le is legal kept alone own
 
@@ -309,10 +319,14 @@ module _ (others_stay : OthersHandlesStay) (w : WalkInHistory) where
 -- lines that happen alone happen
 among_others : (w : WalkInHistory) (lines : List Line) (m : ℕ) → HappensAlone w m lines → Happens w m lines
 among_others w [] m happen = happen.kept
-among_others w (answered step answer ∷ lines) m happen = (happen.0,
-    (happen.1.0.made, among_others w lines (suc happen.0) happen.1.1))
-among_others w (no_room step answer ∷ lines) m happen = (happen.0,
-    (happen.1.0.made, among_others w lines (suc happen.0) happen.1.1))
+among_others w (answered step answer ∷ lines) m happen = (
+  happen.0,
+  (happen.1.0.made, among_others w lines (suc happen.0) happen.1.1),
+)
+among_others w (no_room step answer ∷ lines) m happen = (
+  happen.0,
+  (happen.1.0.made, among_others w lines (suc happen.0) happen.1.1),
+)
 among_others w (not_made error ∷ lines) m happen = among_others w lines m happen
 
 -- the walk's lines happen in its window
