@@ -136,8 +136,8 @@ fn after_step(telling: &Telling, what: u8, answer: u8) -> Telling
 /// `ANSWERS` or `REFUSES`. Takes no memory.
 ///
 /// The first step of a path that begins at the directory is the Open in the root's own handle with which its walk
-/// begins: the names are reported then. The second walk of a rename begins with such an Open right behind a question for
-/// a place. A rename is refused if that has not come.
+/// begins: the names are reported then. The second walk of a rename begins with such an Open right behind a question
+/// for a place. A rename is refused if that has not come.
 pub fn next(telling: &mut Telling, what: u8, handle: u64) -> u8
     ensures exact { result ≡ next_of telling.old what handle }
     ensures after { telling.new ≡ after_step telling.old what result }

@@ -1,5 +1,5 @@
--- Whether a mount stands at a thread's root directory: by STATX_ATTR_MOUNT_ROOT of statx(2), and where the kernel or the
--- file system doesn't tell that, by the mounts that the thread sees (proc(5)).
+-- Whether a mount stands at a thread's root directory: by STATX_ATTR_MOUNT_ROOT of statx(2), and where the kernel or
+-- the file system doesn't tell that, by the mounts that the thread sees (proc(5)).
 use Rattle.std.specs.Prelude.{◌≡◌, ℕ, ◌^◌, List, [], ◌∷◌, ◌++◌, ◌==◌, Bool, false, not, ◌&&◌, ◌||◌, if◌then◌else◌, length, bit_and}
 use Rattle.system_calls.specs.Errors.{EINTR}
 use Rattle.kernel_text.specs.Mounts.{has_root_mount, IsRead}

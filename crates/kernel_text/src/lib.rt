@@ -1,6 +1,6 @@
 //! What the kernel's texts say: where an object stands, by the path that a link in /proc or getcwd(2) tells, which
-//! names the records of getdents64(2) have, and whether a mount stands at a process's root directory, by statx(2), or by
-//! its fdinfo and mountinfo.
+//! names the records of getdents64(2) have, and whether a mount stands at a process's root directory, by statx(2), or
+//! by its fdinfo and mountinfo.
 //!
 //! Each function takes bytes as a system call wrote them. None of them makes one.
 #![tactic(auto)]

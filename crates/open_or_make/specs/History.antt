@@ -26,8 +26,8 @@ STEP_MAKE_FILE = 9
 
 -- ---- what was asked, and what was got
 
--- the path; the error of the flags, or 0; whether what is there is looked for; whether one call is all; whether a link at
--- the path's end may be followed; and whether it may be tried again
+-- the path; the error of the flags, or 0; whether what is there is looked for; whether one call is all; whether a link
+-- at the path's end may be followed; and whether it may be tried again
 pub record Asked : Type 0 where
   pub path : List ℕ
   pub error : ℕ

@@ -36,7 +36,7 @@ finding opening =
       takes_below = true;
     }
 
--- Under O_PATH open(2) makes nothing, so that the file is made by mknod(2), which takes its kind, and its name is opened.
+-- Under O_PATH open(2) makes nothing. So the file is made by mknod(2), which takes its kind, and its name is opened.
 abbrev pub creating : Opening → ℕ → Request
 creating opening mode =
     record {

@@ -227,9 +227,10 @@ pub fn begin(path_length: usize, opening: &Opening, no_links: bool, may_retry: b
 /// link's text, which is then handed over; or else it is the call's (errno(3)). The room has the next call's path at
 /// its beginning. It stays as it was where no call comes next. Takes no memory.
 ///
-/// If one call is all, its reply is the reply. Else, if the last call found nothing, a file is made. If an entry is there by then, and a link may be followed, the link
-/// there is read, and the path to which it leads takes the path's place, at most 40 times. If somebody came in between,
-/// so that what stood there is no link or is gone, the path is looked at once more: there are 32 tries at most.
+/// If one call is all, its reply is the reply. Else, if the last call found nothing, a file is made. If an entry is
+/// there by then, and a link may be followed, the link there is read, and the path to which it leads takes the path's
+/// place, at most 40 times. If somebody came in between, so that what stood there is no link or is gone, the path is
+/// looked at once more: there are 32 tries at most.
 ///
 /// Errors of its own, in this order: ENAMETOOLONG (36) of a path over 4,095 bytes to which a link leads, ELOOP (40) of
 /// the forty-first link, EAGAIN (11) after so many tries. Any other error is the last call's, and ends it.

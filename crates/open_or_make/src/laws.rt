@@ -25,9 +25,9 @@ pub fn what_is_there_is_given()
         → next_after asked (e ∷ older) ≡ calls ENDS 0 }
 {}
 
-/// The path is looked at first, if it is to be looked for. What is missing is made, if more than one call may be made. If
-/// an entry is there by then, and a link may be followed, it is read; and the path to which it leads is looked at, if that
-/// fits and there were fewer than 40 links.
+/// The path is looked at first, if it is to be looked for. What is missing is made, if more than one call may be made.
+/// If an entry is there by then, and a link may be followed, it is read. The path to which it leads is looked at, if
+/// that fits and there were fewer than 40 links.
 pub fn what_is_missing_is_made()
     ensures first { (asked : Asked) → asked.error ≡ 0 → asked.finds ≡ true → next_after asked [] ≡ calls FIND 0 }
     ensures new { (asked : Asked) → asked.error ≡ 0 → asked.finds ≡ false → next_after asked [] ≡ calls CREATE 0 }
@@ -41,8 +41,8 @@ pub fn what_is_missing_is_made()
         → links_read asked older < LINKS → next_after asked (e ∷ older) ≡ calls FIND 0 }
 {}
 
-/// Flags that are refused make no call. Where one call is all, it looks for what is there, or makes what must be missing,
-/// as the flags say, and there is no other.
+/// Flags that are refused make no call. Where one call is all, it looks for what is there, or makes what must be
+/// missing, as the flags say, and there is no other.
 pub fn flags_decide()
     ensures refused { (asked : Asked) (history : List Exchange) → IsHistory asked history → asked.error ≢ 0
         → history ≡ [] }

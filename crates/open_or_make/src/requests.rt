@@ -97,9 +97,9 @@ fn reading() -> Request
 /// What a call is asked for, by the opening, the mode of a new file, and which call comes next: `FIND`, `CREATE` or
 /// `READ_LINK`. Takes no memory.
 ///
-/// What is there is resolved, with its link at the end or without, as the flags say. A new file is opened as it is made,
-/// by the flags of the opening; or, if it is only named by its descriptor, made as a regular file, whose name is opened
-/// then.
+/// What is there is resolved, with its link at the end or without, as the flags say. A new file is opened as it is
+/// made, by the flags of the opening; or, if it is only named by its descriptor, made as a regular file, whose name is
+/// opened then.
 pub fn request_of(opening: &Opening, mode: u32, call: u8) -> Request
     ensures { result ≡ request_of opening.now mode call }
 {
