@@ -1,3 +1,4 @@
+pub mod EntryLemmas
 pub mod ListingLemmas
 pub mod MountLemmas
 pub mod OwnRootLemmas

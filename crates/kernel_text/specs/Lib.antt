@@ -1,3 +1,4 @@
+pub mod Entries
 pub mod Listing
 pub mod Mounts
 pub mod OwnRoot

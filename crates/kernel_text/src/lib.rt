@@ -5,6 +5,7 @@
 //! Each function takes bytes as a system call wrote them. None of them makes one.
 #![tactic(auto)]
 
+mod entries;
 mod laws;
 mod listing;
 mod mounts;
@@ -12,6 +13,7 @@ mod own_root;
 mod place;
 mod records;
 
+pub use entries::{Coming, next_entry};
 pub use laws::{a_mount_stands_where_one_was_seen, mountinfo_is_closed_once};
 pub use listing::{Sorted, sort_names};
 pub use mounts::{Mounts, begin_mounts, read_mounts};

@@ -54,9 +54,9 @@ fn size_of(bytes: &[u8]) -> Option<usize>
 }
 
 // The record that bytes begin with: how long it is, and its name.
-fn first_record(bytes: &[u8]) -> Option<(usize, &[u8])>
+pub(crate) fn first_record(bytes: &[u8]) -> Option<(usize, &[u8])>
     ensures { MatchOption result (name_told bytes.now ≡ None)
-        (λ it. (it.0 ≡ size_told bytes.now) × (0 < it.0) × (it.0 ≤ length bytes.now)
+        (λ it. (it.0 ≡ size_told bytes.now) × (HEAD < it.0) × (it.0 ≤ length bytes.now)
         × (name_told bytes.now ≡ Some it.1.now)) }
 {
     let size = size_of(bytes)?;
@@ -66,7 +66,7 @@ fn first_record(bytes: &[u8]) -> Option<(usize, &[u8])>
     }
 }
 
-fn is_entry(name: &[u8]) -> bool
+pub(crate) fn is_entry(name: &[u8]) -> bool
     ensures { result ≡ is_entry name.now }
 {
     name != b".".as_slice() && name != b"..".as_slice()
