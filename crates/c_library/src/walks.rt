@@ -1,9 +1,12 @@
-//! Which call comes next as a walk goes into a directory.
-ghost use Rattle.std.specs.Prelude.{◌≡◌, ◌∷◌, [], List, Bool, true, false};
+//! Which call comes next as a walk goes into a directory, and as it gives the entries of one.
+ghost use Rattle.std.specs.Prelude.{◌≡◌, ◌<◌, ◌+◌, ◌-◌, ◌^◌, ◌∷◌, [], ℕ, List, Bool, true, false, length};
 ghost use Rattle.enter_directory.specs.Entering.{exchange, IsAt};
 ghost use Rattle.enter_directory.specs.History.{is_question, Exchange};
+ghost use Rattle.walk_directory.specs.History.{is_question as is_level_question, next_after, Exchange as LevelExchange, Facts};
+ghost use Rattle.walk_directory.specs.Level.{exchange as level_exchange, facts_of, IsAt as IsLevelAt, Keeps};
 
 use enter_directory::{Answer, Entering};
+use walk_directory::Level;
 
 /// Begins to go into a directory: `enter_directory::begin`.
 #[unsafe(no_mangle)]
@@ -22,4 +25,45 @@ pub extern "C" fn inroot_entering_next(entering: &mut Entering, again: bool, ans
     ensures over { is_question entering.old.next ≡ false → entering.new ≡ entering.old }
 {
     *entering = enter_directory::next(*entering, again, answer);
+}
+
+/// Begins with the directory with which a walk begins: `walk_directory::begin`.
+#[unsafe(no_mangle)]
+pub extern "C" fn inroot_level_begin(levels: u32, path_length: usize, level: &mut Level)
+    ensures begins { (records path : List ℕ) → IsLevelAt (facts_of level.new (length path)) [] level.new records path }
+    ensures levels { level.new.levels ≡ levels }
+    ensures depth { level.new.depth ≡ 1 }
+    ensures path { level.new.length ≡ path_length }
+{
+    *level = walk_directory::begin(levels, path_length);
+}
+
+/// Begins with the directory that was opened below another: `walk_directory::below`.
+#[unsafe(no_mangle)]
+pub extern "C" fn inroot_level_below(above: &Level, level: &mut Level)
+    ensures begins { (records path : List ℕ) → IsLevelAt (facts_of level.new (length path)) [] level.new records path }
+    ensures levels { level.new.levels ≡ above.now.levels }
+    ensures depth { above.now.depth < 2 ^ 32 - 1 → level.new.depth ≡ above.now.depth + 1 }
+    ensures path { above.now.length + (above.now.name + 1) < 2 ^ 64
+        → level.new.length ≡ above.now.length + (above.now.name + 1) }
+{
+    *level = walk_directory::below(above);
+}
+
+/// Takes what the last call gave, and says what comes next: `walk_directory::next`.
+#[unsafe(no_mangle)]
+pub extern "C" fn inroot_level_next(
+    level: &mut Level,
+    answer: &walk_directory::Answer,
+    records: &[u8],
+    path: &mut [u8],
+)
+    ensures goes { (facts : Facts) (history : List LevelExchange)
+        → IsLevelAt facts history level.old records.now path.old → is_level_question level.old.next ≡ true
+        → IsLevelAt facts (level_exchange (next_after facts history) answer.now records.now ∷ history) level.new
+        records.now path.new }
+    ensures keeps { Keeps level.old path.old level.new path.new }
+    ensures over { is_level_question level.old.next ≡ false → (level.new ≡ level.old) × (path.new ≡ path.old) }
+{
+    *level = walk_directory::next(*level, answer, records, path);
 }

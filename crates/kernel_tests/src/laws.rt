@@ -55,6 +55,18 @@ fn laws_of_listings() {
 }
 
 #[test]
+fn laws_of_walks() {
+    walk_directory::each_entry_is_given_once();
+    walk_directory::what_is_given_is_an_entry();
+    walk_directory::no_error_is_passed_over();
+    walk_directory::why_it_breaks_off();
+    walk_directory::what_is_lost_is_left();
+    walk_directory::directories_are_gone_into_to_the_depth();
+    walk_directory::a_signal_ends_nothing();
+    walk_directory::calls_are_few();
+}
+
+#[test]
 fn laws_of_whole_calls() {
     call_course::what_is_given_is_all_that_stays_open();
     call_course::its_own_proc_is_closed();

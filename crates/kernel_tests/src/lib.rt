@@ -21,6 +21,8 @@ mod givings;
 #[cfg(test)]
 mod laws;
 #[cfg(test)]
+mod levels;
+#[cfg(test)]
 mod listings;
 #[cfg(test)]
 mod looks;

@@ -1,5 +1,5 @@
 //! Records as getdents64(2) writes them, and others; and names in order.
-use kernel_text::{sort_names, take_names};
+use kernel_text::{Coming, next_entry, sort_names, take_names};
 use std::alloc::{AllocError, Global};
 use std::test::Fail;
 
@@ -86,6 +86,55 @@ fn error_of(alloc: Global, size: u16) -> Result<u8, AllocError> {
 fn a_name_has_at_most_255_bytes(rt: HostRuntime) -> Result<(), Fail> {
     assert!(rt; error_of(rt.alloc(), 255)? == 0);
     assert!(rt; error_of(rt.alloc(), 256)? == 36);
+    Ok(())
+}
+
+// Whether an entry of this name comes first, with the type 4 and so many bytes behind it.
+fn comes(records: &[u8], wanted: &str, left: usize) -> bool {
+    match next_entry(records) {
+        Coming::Entry(name, entry_type, behind) => {
+            name == wanted.as_bytes() && entry_type == 4 && behind.len() == left
+        }
+        _ => false,
+    }
+}
+
+fn is_nothing(records: &[u8]) -> bool {
+    matches!(next_entry(records), Coming::Nothing)
+}
+
+fn is_fault(records: &[u8]) -> bool {
+    matches!(next_entry(records), Coming::Fault)
+}
+
+#[test]
+fn entries_come_one_after_another(rt: HostRuntime) -> Result<(), Fail> {
+    let mut records = Vec::new(rt.alloc());
+    put_record(&mut records, ".\0", 21)?;
+    put_record(&mut records, "ab\0", 22)?;
+    put_record(&mut records, "..\0", 22)?;
+    assert!(rt; comes(records.as_slice(), "ab", 22));
+    let mut dots = Vec::new(rt.alloc());
+    assert!(rt; is_nothing(dots.as_slice()));
+    put_record(&mut dots, "..\0", 22)?;
+    assert!(rt; is_nothing(dots.as_slice()));
+    // What is no record comes behind it.
+    put_record(&mut dots, "c\0", 22)?;
+    assert!(rt; is_fault(dots.as_slice()));
+    Ok(())
+}
+
+#[test]
+fn what_has_no_name_is_no_entry(rt: HostRuntime) -> Result<(), Fail> {
+    let mut empty = Vec::new(rt.alloc());
+    put_record(&mut empty, "\0", 20)?;
+    assert!(rt; is_fault(empty.as_slice()));
+    let mut parted = Vec::new(rt.alloc());
+    put_record(&mut parted, "a/b\0", 23)?;
+    assert!(rt; is_fault(parted.as_slice()));
+    let mut open = Vec::new(rt.alloc());
+    put_record(&mut open, "ab", 21)?;
+    assert!(rt; is_fault(open.as_slice()));
     Ok(())
 }
 

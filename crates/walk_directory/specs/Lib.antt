@@ -1,0 +1,3 @@
+pub mod History
+pub mod Level
+pub mod Promises
