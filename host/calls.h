@@ -1,9 +1,9 @@
 /*
  * calls.h: the proved library's functions, and what passes between it and a driver. The numbers and bytes are those
  * of crates/c_protocol, step_calls, place_protocol, open_or_make, make_through_links, remove_by_calls, look_ups,
- * list_directory, call_course, ask_place, give_entry, open_partial, open_at_once, open_through_links, enter_directory,
- * begin_below, kernel_text and system_calls, whose contracts say what they stand for. A program that makes calls
- * includes inroot.h, and not this.
+ * list_directory, walk_directory, call_course, ask_place, give_entry, open_partial, open_at_once, open_through_links,
+ * enter_directory, begin_below, kernel_text and system_calls, whose contracts say what they stand for. A program that
+ * makes calls includes inroot.h, and not this.
  */
 #ifndef INROOT_CALLS_H
 #define INROOT_CALLS_H
@@ -982,6 +982,52 @@ void inroot_entering_begin(struct inroot_entering *entering);
 
 /* Takes what the last call gave. AGAIN: the caller lets it try again. */
 void inroot_entering_next(struct inroot_entering *entering, bool again, const struct inroot_entering_answer *answer);
+
+/* ---- which call comes next, as a walk gives the entries of a directory, one after another. These take no memory. */
+
+/*
+ * Records are read: getdents64(2). An entry is looked at, for its kind: fstatat(2) of its name in the directory, with
+ * AT_SYMLINK_NOFOLLOW and AT_NO_AUTOMOUNT. It is opened to be gone into, by turns with inroot_entering_next(). It is GIVEN to the
+ * program; if it was opened, all below it comes then. If it ENDS, the directory has no more entries. If it BREAKS_OFF, the others
+ * aren't given, and there is an error.
+ */
+enum inroot_level_next {
+    INROOT_LEVEL_READ = 1, INROOT_LEVEL_LOOK, INROOT_LEVEL_ENTER, INROOT_LEVEL_GIVE, INROOT_LEVEL_ENDS, INROOT_LEVEL_BREAKS_OFF,
+};
+
+/* What a call gave: an error, or 0; of LOOK the mode; of ENTER, whether the directory that has the entry isn't where it was found. */
+struct inroot_level_answer {
+    uint32_t error, mode;
+    bool lost;
+};
+
+/*
+ * How far a directory has come. A driver reads what comes NEXT; how many bytes its path has (LENGTH), behind which come a slash and
+ * the entry's name, of NAME bytes, with a NUL; which level its entries are on (DEPTH); the entry's KIND (S_IFMT), or 0 where it isn't
+ * known; and the ERROR: where an entry is given, why its kind isn't known or it isn't gone into, or 0. It leaves all of it alone
+ * between two turns.
+ */
+struct inroot_level {
+    size_t length, name, at;
+    uint32_t levels, depth, kind, error;
+    uint8_t next;
+    bool lost;
+};
+
+/* Begins with the first directory of a walk, whose path has so many bytes. So many levels are given, or all if LEVELS is 0. */
+void inroot_level_begin(uint32_t levels, size_t path_length, struct inroot_level *level);
+
+/* Begins with the directory that was opened at ENTER, below the one that has it. */
+void inroot_level_below(const struct inroot_level *above, struct inroot_level *level);
+
+/*
+ * Takes what the last call gave. RECORDS are what was read last. The name of the entry that comes is laid in PATH, a room of so many
+ * bytes, behind the directory's own path. Errors by which it breaks off: what getdents64(2) has but EINTR and ENOENT; EAGAIN of a
+ * directory that isn't where it was found, behind the entry where that came out; EIO of what is no record, and of a name without a
+ * byte or with a slash; ENAMETOOLONG of a name without room.
+ */
+void inroot_level_next(struct inroot_level *level, const struct inroot_level_answer *answer, const unsigned char *records,
+                       size_t records_length, unsigned char *path, size_t path_size);
 
 /* ---- how a call begins whose paths begin at a directory below the root. These take no memory. A PLACE has a slash before each name. */
 

@@ -421,9 +421,9 @@ ssize_t inroot_readlink(int root, const char *path, int flags, char *text, size_
  *
  * inroot_walk_next() gives 1 and an ENTRY; 0 behind the last; or -errno where the rest of a directory's entries isn't
  * given, whose PATH is in ENTRY then, and the next turn goes on behind it: EAGAIN where it was moved meanwhile, EIO where
- * a name has no bytes or has a slash, and what getdents64(2) has. What is in ENTRY stays until the next turn.
- * inroot_walk_skip() has the walk leave out what is below the directory that was given last. inroot_walk_close() ends it,
- * where it isn't NULL.
+ * a name has no bytes or a slash, ENAMETOOLONG where it doesn't fit, as more than 1,024 bytes may, and what
+ * getdents64(2) has. What is in ENTRY stays until the next turn. inroot_walk_skip() has the walk leave out what is below
+ * the directory that was given last. inroot_walk_close() ends it, where it isn't NULL.
  *
  * The walk promises, whoever renames meanwhile: it follows no link below PATH. It opens each directory that it enters
  * by its name in the directory that has it; and that directory was below the root then, at that PATH, since a call of
@@ -440,9 +440,9 @@ struct inroot_walk_entry {
     const char *name;   /* the last of them */
     int directory;      /* the directory that has it, open for reading: the walk's own */
     int opened;         /* the directory itself where the walk goes into it, likewise; else -1 */
-    mode_t kind;        /* S_IFREG, S_IFDIR, S_IFLNK and so on, as it was read */
+    mode_t kind;        /* S_IFREG, S_IFDIR, S_IFLNK and so on, as it was read; 0 where ERROR says why it isn't known */
     int depth;          /* 1 where PATH has it */
-    int error;          /* why a directory isn't gone into, as EACCES; else 0 */
+    int error;          /* why a directory isn't gone into, as EACCES, or why the kind isn't known; else 0 */
     int reserved[9];    /* zero; a later version may tell more there */
 };
 int inroot_walk_open(int root, const char *path, int levels, int flags, struct inroot_walk **walk);

@@ -16,30 +16,20 @@
 #include <sys/syscall.h>
 #include <unistd.h>
 
-/* What getdents64(2) gives at once; and the longest name that a file system gives, as vfat. */
+/* What getdents64(2) gives at once; and the longest name that surely has room behind a path. A file system may have names over 255 bytes. */
 enum { RECORDS = 8192, NAME_ROOM = 1024 };
 
-/* An entry as it writes it. */
-struct record {
-    uint64_t inode;
-    int64_t offset;
-    unsigned short length;
-    unsigned char type;
-    char name[];
-};
-
-/* A directory that is being listed. */
+/* A directory that is being listed: which call comes next, the proved library says (crates/walk_directory). */
 struct level {
     struct level *above;
     int fd;
-    bool is_lost;          /* it is no longer where it was found */
-    size_t length;         /* of its path in `text` */
-    size_t at, got;        /* of what was read, so much was given */
-    _Alignas(8) char records[RECORDS];
+    size_t got;            /* so many bytes of records were read last */
+    struct inroot_level course;
+    unsigned char records[RECORDS];
 };
 
 struct inroot_walk {
-    int root, levels, flags, depth;
+    int root, flags;
     int first;             /* INROOT_NOFOLLOW where PATH itself may be no link, else 0 */
     struct level *top;
     struct level *entered; /* the directory that was given last, where it is gone into */
@@ -84,7 +74,7 @@ static uint32_t keep(int *kept, int opened)
 static uint32_t find_above(struct entering *e)
 {
     const struct level *above = e->walk->top;
-    char *end = e->walk->text + above->length;
+    char *end = e->walk->text + above->course.length;
     const char next = *end;
     *end = 0;
     uint32_t error = keep(&e->found, open_text(e->walk, above->above == NULL ? e->walk->first : INROOT_NOFOLLOW));
@@ -115,10 +105,10 @@ static uint32_t turn(struct entering *e, struct inroot_entering_answer *answer)
     }
 }
 
-/* Opens the directory that the text names: its descriptor or -errno. */
-static int open_next(struct inroot_walk *walk, const char *name)
+/* Opens the directory that the text names, and whose name lies at its end: its descriptor or -errno. */
+static int open_next(struct inroot_walk *walk, bool *is_lost)
 {
-    struct entering e = {.walk = walk, .name = name};
+    struct entering e = {.walk = walk, .name = walk->text + walk->top->course.length + 1};
     inroot_entering_begin(&e.course);
     while (e.course.next < INROOT_ENTERING_ENTERS) {
         struct inroot_entering_answer answer = {0};
@@ -126,19 +116,20 @@ static int open_next(struct inroot_walk *walk, const char *name)
         answer.error = turn(&e, &answer);
         inroot_entering_next(&e.course, !(walk->flags & INROOT_NO_RETRY), &answer);
     }
-    if (e.course.next == INROOT_ENTERING_LOSES)
-        walk->top->is_lost = true;
+    *is_lost = e.course.next == INROOT_ENTERING_LOSES;
     return e.course.next == INROOT_ENTERING_ENTERS ? e.reads : -(int)e.course.error;
 }
 
 /* ---- levels */
 
-static struct level *new_level(int fd, size_t length)
+static struct level *new_level(int fd)
 {
     struct level *level = malloc(sizeof *level);
     if (level == NULL)
         return NULL;
-    *level = (struct level){.fd = fd, .length = length};
+    level->above = NULL;
+    level->fd = fd;
+    level->got = 0;
     return level;
 }
 
@@ -154,134 +145,113 @@ static void leave(struct inroot_walk *walk)
 {
     struct level *level = walk->top;
     walk->top = level->above;
-    walk->depth--;
     drop(level);
 }
 
 /* Goes into the directory that was given last, unless it is passed over. */
-static void go_on(struct inroot_walk *walk)
+static void go_into(struct inroot_walk *walk)
 {
     if (walk->entered == NULL)
         return;
     walk->entered->above = walk->top;
     walk->top = walk->entered;
     walk->entered = NULL;
-    walk->depth++;
 }
 
 /* Opens it for the turns to come. Gives 0 or why it isn't gone into. */
-static int enter(struct inroot_walk *walk, const char *name, size_t length)
+static uint32_t enter(struct inroot_walk *walk, bool *is_lost)
 {
-    int fd = open_next(walk, name);
+    int fd = open_next(walk, is_lost);
     if (fd < 0)
-        return -fd;
-    walk->entered = new_level(fd, length);
-    if (walk->entered == NULL)
+        return (uint32_t)-fd;
+    walk->entered = new_level(fd);
+    if (walk->entered == NULL) {
         close(fd);
-    return walk->entered == NULL ? ENOMEM : 0;
+        return ENOMEM;
+    }
+    inroot_level_below(&walk->top->course, &walk->entered->course);
+    return 0;
 }
 
 /* ---- entries */
 
-/*
- * Gives 1 and the next name of the directory; 0 at its end, which one that is gone has, too; -errno. A server may give a name that
- * begins with the byte 0, so that nothing is left of it: the path would be that of the directory itself. By a damaged file system
- * Linux before 5.5 gives names that have a slash, which lead elsewhere.
- */
-static int next_record(struct level *level, const struct record **record)
+static uint32_t read_records(struct level *level)
 {
-    while (level->at == level->got) {
-        long got = syscall(SYS_getdents64, level->fd, level->records, sizeof level->records);
-        if (got < 0 && errno == EINTR)
-            continue;
-        if (got <= 0)
-            return got == 0 || errno == ENOENT ? 0 : -errno;
-        level->at = 0;
-        level->got = (size_t)got;
-    }
-    *record = (const struct record *)(const void *)(level->records + level->at);
-    level->at += (*record)->length;
-    return (*record)->name[0] != 0 && strchr((*record)->name, '/') == NULL ? 1 : -EIO;
+    long got = syscall(SYS_getdents64, level->fd, level->records, sizeof level->records);
+    level->got = got < 0 ? 0 : (size_t)got;
+    return got < 0 ? (uint32_t)errno : 0;
 }
 
-static bool is_entry(const char *name)
-{
-    return strcmp(name, ".") != 0 && strcmp(name, "..") != 0;
-}
-
-/* The kind, which some file systems don't write beside the name, and a server may write wrong; 0 of what is gone by now. */
-static mode_t kind_of(const struct level *level, const struct record *record)
+/* The kind, which some file systems don't write beside the name, and a server may write wrong. */
+static uint32_t look(const struct inroot_walk *walk, uint32_t *mode)
 {
     struct stat about;
-    if (record->type > 0 && record->type <= S_IFMT >> 12)
-        return (mode_t)record->type << 12;
-    return fstatat(level->fd, record->name, &about, AT_SYMLINK_NOFOLLOW | AT_NO_AUTOMOUNT) == 0 ? about.st_mode & S_IFMT : 0;
+    const char *name = walk->text + walk->top->course.length + 1;
+    if (fstatat(walk->top->fd, name, &about, AT_SYMLINK_NOFOLLOW | AT_NO_AUTOMOUNT) < 0)
+        return (uint32_t)errno;
+    *mode = about.st_mode;
+    return 0;
 }
 
-/* Tells of the directory whose entries are given, or of one of them. */
-static void tell(const struct inroot_walk *walk, struct inroot_walk_entry *entry, const char *name, mode_t kind)
+/* Makes the call that comes next; there is none behind an entry that was given. Gives what comes then. */
+static uint8_t go_on(struct inroot_walk *walk)
 {
+    struct level *top = walk->top;
+    struct inroot_level_answer answer = {0};
+    if (top->course.next == INROOT_LEVEL_READ)
+        answer.error = read_records(top);
+    else if (top->course.next == INROOT_LEVEL_LOOK)
+        answer.error = look(walk, &answer.mode);
+    else if (top->course.next == INROOT_LEVEL_ENTER)
+        answer.error = enter(walk, &answer.lost);
+    inroot_level_next(&top->course, &answer, top->records, top->got, (unsigned char *)walk->text, sizeof walk->text);
+    return top->course.next;
+}
+
+static int give(const struct inroot_walk *walk, struct inroot_walk_entry *entry)
+{
+    const struct level *top = walk->top;
     *entry = (struct inroot_walk_entry){
-        .path = walk->text + walk->begin, .name = name, .directory = walk->top->fd, .opened = -1, .kind = kind,
-        .depth = walk->depth,
+        .path = walk->text + walk->begin, .name = walk->text + top->course.length + 1, .directory = top->fd,
+        .opened = walk->entered == NULL ? -1 : walk->entered->fd, .kind = top->course.kind, .depth = (int)top->course.depth,
+        .error = (int)top->course.error,
     };
+    return 1;
 }
 
-/* The rest of its entries isn't given. Of the first one the path is empty. */
-static int break_off(struct inroot_walk *walk, struct inroot_walk_entry *entry, int failed)
+/* Tells of the directory the rest of whose entries isn't given. Of the first one the path is empty. */
+static int break_off(struct inroot_walk *walk, struct inroot_walk_entry *entry)
 {
-    struct level *level = walk->top;
-    walk->text[level->length] = 0;
-    if (level->length < walk->begin)
+    const struct level *top = walk->top;
+    const int error = (int)top->course.error;
+    walk->text[top->course.length] = 0;
+    if (top->above == NULL)
         walk->text[walk->begin] = 0;
-    const char *slash = strrchr(walk->text + walk->begin, '/');
-    tell(walk, entry, slash == NULL ? walk->text + walk->begin : slash + 1, S_IFDIR);
-    entry->directory = -1;
-    entry->depth--;
+    *entry = (struct inroot_walk_entry){
+        .path = walk->text + walk->begin,
+        .name = walk->text + (top->above == NULL ? walk->begin : top->above->course.length + 1),
+        .directory = -1, .opened = -1, .kind = S_IFDIR, .depth = (int)top->course.depth - 1,
+    };
     leave(walk);
-    return inroot_error_alone(-failed, "List", entry->path);
-}
-
-static void give(struct inroot_walk *walk, struct inroot_walk_entry *entry, const struct record *record, mode_t kind)
-{
-    size_t from = walk->top->length, length = strlen(record->name);
-    walk->text[from] = '/';
-    length = length < NAME_ROOM ? length : NAME_ROOM;
-    memcpy(walk->text + from + 1, record->name, length);
-    walk->text[from + 1 + length] = 0;
-    tell(walk, entry, walk->text + from + 1, kind);
-    if (!S_ISDIR(kind) || (walk->levels != 0 && walk->depth == walk->levels))
-        return;
-    entry->error = enter(walk, walk->text + from + 1, from + 1 + length);
-    if (entry->error == 0)
-        entry->opened = walk->entered->fd;
+    return inroot_error_alone(error, "List", entry->path);
 }
 
 static int next(struct inroot_walk *walk, struct inroot_walk_entry *entry)
 {
-    const struct record *record = NULL;
-    go_on(walk);
-    while (walk->top != NULL) {
-        int found = walk->top->is_lost ? -EAGAIN : next_record(walk->top, &record);
-        if (found < 0)
-            return break_off(walk, entry, found);
-        if (found == 0) {
-            leave(walk);
-            continue;
+    go_into(walk);
+    while (walk->top != NULL)
+        switch (go_on(walk)) {
+        case INROOT_LEVEL_GIVE: return give(walk, entry);
+        case INROOT_LEVEL_BREAKS_OFF: return break_off(walk, entry);
+        case INROOT_LEVEL_ENDS: leave(walk);
         }
-        mode_t kind = is_entry(record->name) ? kind_of(walk->top, record) : 0;
-        if (kind == 0)
-            continue;
-        give(walk, entry, record, kind);
-        return 1;
-    }
     return 0;
 }
 
 /* ---- the calls */
 
 /* The directory with which it begins, by a descriptor to read it: 0 or -errno. */
-static int begin(struct inroot_walk *walk)
+static int begin(struct inroot_walk *walk, int levels)
 {
     int found = open_text(walk, walk->first);
     if (found < 0)
@@ -293,14 +263,14 @@ static int begin(struct inroot_walk *walk)
     close(found);
     if (fd < 0)
         return inroot_error_alone(-fd, "List", walk->text);
-    size_t length = strlen(walk->text);
-    walk->top = new_level(fd, length);
-    walk->begin = length + 1;
-    walk->depth = 1;
-    if (walk->top != NULL)
-        return 0;
-    close(fd);
-    return inroot_error_alone(ENOMEM, "List", walk->text);
+    walk->top = new_level(fd);
+    if (walk->top == NULL) {
+        close(fd);
+        return inroot_error_alone(ENOMEM, "List", walk->text);
+    }
+    inroot_level_begin((uint32_t)levels, strlen(walk->text), &walk->top->course);
+    walk->begin = walk->top->course.length + 1;
+    return 0;
 }
 
 int inroot_walk_open(int root, const char *path, int levels, int flags, struct inroot_walk **walk)
@@ -310,12 +280,10 @@ int inroot_walk_open(int root, const char *path, int levels, int flags, struct i
     struct inroot_walk *new = levels < 0 ? NULL : malloc(sizeof *new);
     if (new == NULL)
         return inroot_error_alone(levels < 0 ? EINVAL : ENOMEM, "", "");
-    *new = (struct inroot_walk){
-        .root = root, .levels = levels, .flags = flags & ~INROOT_NOFOLLOW, .first = flags & INROOT_NOFOLLOW,
-    };
+    *new = (struct inroot_walk){.root = root, .flags = flags & ~INROOT_NOFOLLOW, .first = flags & INROOT_NOFOLLOW};
     inroot_copy(new->text, path);
     pthread_setcancelstate(PTHREAD_CANCEL_DISABLE, &state);
-    int failed = begin(new);
+    int failed = begin(new, levels);
     pthread_setcancelstate(state, NULL);
     if (failed)
         free(new);

@@ -1,7 +1,8 @@
 /*
  * walk: the entries below a directory, one after another: each one once and with its kind, to a depth; what can't be
  * gone into and why; and what is given after directories were moved, replaced and removed between two turns. By /proc,
- * in a jail and in one that trusts. Once what is no kind stands beside each name, as a server might have it, and once a name
+ * in a jail and in one that trusts. Once what is no kind stands beside each name, and once what is no name or no record, as
+ * a server might have it, and once a name
  * leads above, as in a damaged file system. To be linked with --wrap=syscall.
  *
  * usage: walk DIR. Exits 0 where each case holds. 78: no right here to do what it takes, or a part of it.
@@ -53,21 +54,40 @@ static void make_tree(void)
     sure(mknodat(root, "a/fifo", S_IFIFO | 0600, 0), "fifo");
 }
 
-/* Whether the kind of each entry that is read has a bit that none has; and whether `fifo` is read as a directory `../x`. */
-static bool has_odd_kinds, leads_above;
+/*
+ * What a server might write: the kind of each entry has a bit that none has; or the record of the name "spoiled" has no
+ * byte in its name, a slash in it, or runs past the others.
+ */
+static enum { AS_THEY_ARE, ODD_KINDS, NO_NAME, A_SLASH, TOO_LONG } records_have;
+
+/* Or the next getdents64(2) fails by this error, or by none where it is 0. */
+static int fails_by;
+
+static void spoil(unsigned char *record)
+{
+    if (records_have == ODD_KINDS)
+        record[18] |= 16;
+    if (records_have <= ODD_KINDS || strcmp((char *)record + 19, "spoiled") != 0)
+        return;
+    if (records_have == TOO_LONG)
+        record[17] = 255;
+    else
+        record[records_have == A_SLASH ? 21 : 19] = records_have == A_SLASH ? '/' : 0;
+}
 
 static long my_syscall(long number, const long with[6])
 {
+    if (fails_by != 0 && number == SYS_getdents64) {
+        errno = fails_by;
+        fails_by = 0;
+        return -1;
+    }
     long got = __real_syscall(number, with[0], with[1], with[2], with[3], with[4], with[5]);
     /* A record's length and kind stand behind two numbers of 64 bits. */
-    for (long at = 0; (has_odd_kinds || leads_above) && number == SYS_getdents64 && at < got;) {
+    for (long at = 0; number == SYS_getdents64 && at < got;) {
         unsigned char *record = (unsigned char *)with[1] + at;
-        record[18] |= has_odd_kinds ? 16 : 0;
-        if (leads_above && strcmp((char *)record + 19, "fifo") == 0) {
-            memcpy(record + 19, "../x", 5);
-            record[18] = S_IFDIR >> 12;
-        }
         at += record[16] | record[17] << 8;
+        spoil(record);
     }
     return got;
 }
@@ -194,14 +214,45 @@ static void errors(void)
     inroot_walk_close(NULL);
 }
 
-/* The rest of the directory isn't given. */
-static void slashes(void)
+/* An error of getdents64(2) breaks off, but for a signal, and for that of a directory that is gone. */
+static void unread(void)
 {
-    leads_above = true;
-    gives(walk("a", 1, 0), -EIO, "a name with a slash");
-    gives(walk("a", 0, 0), -EIO, "a name with a slash, to any depth");
-    expect(at_path("../x") == NULL && at_path("../x/y") == NULL, "it leads above");
-    leads_above = false;
+    fails_by = EIO;
+    gives(walk("a/b", 0, 0), -EIO, "a directory that can't be read");
+    gives(seen_count, 0, "its entries");
+    fails_by = ENOENT;
+    gives(walk("a/b", 0, 0), 0, "one that is gone");
+    gives(seen_count, 0, "its entries");
+    fails_by = EINTR;
+    gives(walk("a/b", 0, 0), 0, "one whose reading a signal interrupts");
+    gives(seen_count, 3, "its entries");
+}
+
+/* What is no record or no name breaks a directory off; what comes before it, and beside the directory, is given. */
+static void spoiled(void)
+{
+    sure(mkdirat(root, "x/in", 0755), "x/in");
+    make_file("x/in/spoiled");
+    for (records_have = NO_NAME; records_have <= TOO_LONG; records_have++) {
+        gives(walk("x/in", 0, 0), -EIO, "what is no record");
+        gives(seen_count, 0, "its entries");
+        struct inroot_walk *it;
+        struct inroot_walk_entry entry;
+        int found, given = 0, broken = 0;
+        gives(inroot_walk_open(place, "/", 0, 0, &it), 0, "a walk");
+        for (; (found = inroot_walk_next(it, &entry)) != 0; given += found > 0)
+            if (found < 0) {
+                broken++;
+                gives(found, -EIO, "it is broken off");
+                expect(strcmp(entry.path, "x/in") == 0 && strcmp(entry.name, "in") == 0, "at %s", entry.path);
+            }
+        gives(broken, 1, "how often it breaks off");
+        gives(given, 12, "all others");
+        inroot_walk_close(it);
+    }
+    records_have = AS_THEY_ARE;
+    unlinkat(root, "x/in/spoiled", 0);
+    unlinkat(root, "x/in", AT_REMOVEDIR);
 }
 
 /* One descriptor a level, and none is left where it is closed in the middle. */
@@ -417,12 +468,13 @@ static void all(int by)
 {
     place = by;
     whole();
-    has_odd_kinds = true;
+    records_have = ODD_KINDS;
     whole();
-    has_odd_kinds = false;
+    records_have = AS_THEY_ARE;
+    spoiled();
+    unread();
     levels();
     errors();
-    slashes();
     holds();
     skips();
     large();
@@ -467,6 +519,25 @@ static void as_nobody(void)
     gives(shut == NULL ? 0 : shut->error, EACCES, "what may not");
     gives(walk("a/e", 0, 0), -EACCES, "that itself");
     sure(seteuid(0), "seteuid");
+    sure(fchmodat(root, "a/e", 0755, 0), "a/e");
+    /* It may be searched no more by the time that an entry's kind is asked, which is given all the same. */
+    struct inroot_walk *it;
+    struct inroot_walk_entry entry;
+    make_file("a/e/there");
+    records_have = ODD_KINDS;
+    sure(seteuid(65534), "seteuid");
+    gives(inroot_walk_open(place, "a/e", 0, 0, &it), 0, "a walk");
+    sure(seteuid(0), "seteuid");
+    sure(fchmodat(root, "a/e", 0444, 0), "a/e");
+    sure(seteuid(65534), "seteuid");
+    gives(inroot_walk_next(it, &entry), 1, "an entry that can't be asked");
+    expect(strcmp(entry.name, "there") == 0 && entry.kind == 0 && entry.error == EACCES && entry.opened == -1,
+           "%s has the kind %o, error %d", entry.name, entry.kind, entry.error);
+    gives(inroot_walk_next(it, &entry), 0, "the end");
+    inroot_walk_close(it);
+    sure(seteuid(0), "seteuid");
+    records_have = AS_THEY_ARE;
+    unlinkat(root, "a/e/there", 0);
     sure(fchmodat(root, "a/e", 0755, 0), "a/e");
 }
 

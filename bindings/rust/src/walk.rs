@@ -20,11 +20,11 @@ const S_IFMT: u32 = 0o170000;
 pub struct WalkEntry {
     /// Its names from the walk's path on.
     pub path: PathBuf,
-    /// The bits of its kind, as `S_IFDIR` (0o040000), as they were read.
+    /// The bits of its kind, as `S_IFDIR` (0o040000), as they were read; 0 where the error says why it isn't known.
     pub kind: u32,
     /// 1 where the directory that the walk began with has it.
     pub depth: usize,
-    /// Why a directory isn't gone into.
+    /// Why a directory isn't gone into, or why the kind isn't known.
     pub error: Option<io::Error>,
 }
 
