@@ -16,7 +16,6 @@ use Rattle.tree_model.specs.History.{after_event, after_events}
 use Rattle.tree_model.specs.State.{State}
 use Rattle.tree_model.specs.StepLaws.{only_tells, is_on_entries}
 use Rattle.tree_model.specs.Steps.{Outcome, refused, held, changes, outcome}
-use Rattle.tree_model.proofs.HistoryLaws.{after_events-append}
 use Rattle.tree_model.proofs.StepLaws.{telling_changes_nothing, nodes_are_left, handles_are_left}
 use Rattle.layered_search.proofs.Places.{within_some, get_last, few_plus, take_push}
 use Rattle.race_core.specs.declared.seat.Seat.{Seat}
@@ -25,6 +24,7 @@ use Rattle.local_states.specs.Outside.{plus, changed_by, any_outside, acts_outsi
 use Rattle.race_core.specs.Renamed.{seat_handles}
 use Rattle.race_core.specs.Turns.{Luck}
 use Rattle.race_core.specs.Worlds.{WorldView, turn}
+use Rattle.race_core.proofs.BookMoves.{tree_booked}
 use Rattle.local_states.specs.Counting.{TallyView, IsCounted, IsTally, bumped, IsLatest}
 use Rattle.local_states.proofs.Alike.OutsideAlike.{after_push, IsOneOn, as_it_was, one_more, turn_books, roots_stay}
 
@@ -158,15 +158,12 @@ module _ (b : BookedHistory) (a : ℕ) (x : StepWith ℕ) where
 
   -- ---- the tree
 
-  tree_then : tree_now (booked b a x) ≡ (outcome (tree_now b) a x).after
-  tree_then = after_events-append b.opening b.events (latest ∷ [])
-
   pub handles_stay : is_on_entries x ≡ true → (tree_now (booked b a x)).handles ≡ (tree_now b).handles
-  handles_stay e = ap (λ (s : State). s.handles) tree_then ∙ handles_are_left (tree_now b) a x e
+  handles_stay e = ap (λ (s : State). s.handles) (tree_booked b a x) ∙ handles_are_left (tree_now b) a x e
 
   pub nodes_stay : (is_done (answer_now b a x) && is_on_entries x) ≡ false
       → (tree_now (booked b a x)).nodes ≡ (tree_now b).nodes
-  nodes_stay e = ap (λ (s : State). s.nodes) tree_then ∙ by (is_on_entries x) refl
+  nodes_stay e = ap (λ (s : State). s.nodes) (tree_booked b a x) ∙ by (is_on_entries x) refl
     where
       by : (on : Bool) → is_on_entries x ≡ on → (outcome (tree_now b) a x).after.nodes ≡ (tree_now b).nodes
       by false f = nodes_are_left (tree_now b) a x f

@@ -21,7 +21,7 @@ use Rattle.tree_model.proofs.StepLaws.{telling_changes_nothing}
 use Rattle.event_log.specs.Shapes.{step_texts, answer_texts}
 use Rattle.tree_model.proofs.Counts.{handles_are_counted, tells-opened}
 use Rattle.tree_model.proofs.HistoryLaws.{after_events-append, legal_goes_on}
-use Rattle.race_core.specs.Book.{tree_now, free_lines, booked, is_close, is_done, lines_needed, IsBook}
+use Rattle.race_core.specs.Book.{tree_now, free_lines, booked, is_close, lines_needed, IsBook}
 use Rattle.race_core.specs.BookLaws.{FreeLinesNeverRise}
 
 closed_few : (answer : Answer) (step : StepWith ℕ) → closed_count answer step ≤ 1
@@ -160,11 +160,6 @@ not_closed (Refused error) step e = refl
 
 -- ---- the three ways on
 
--- what a Close comes to, by whether the handle was open and the actor's
-closes_by : (s : State) (o : Option ℕ) (done : ℕ → Outcome) → ((x : ℕ) → (done x).answer ≡ Done) → is_done (with_some o (refused s BadHandle) done).answer ≡ is_some o
-closes_by s None done e = refl
-closes_by s (Some x) done e = ap is_done (e x)
-
 left_by : (s : State) (o : Option ℕ) (done : ℕ → Outcome) → is_some o ≡ false → (with_some o (refused s BadHandle) done).after ≡ s
 left_by s None done e = refl
 left_by s (Some x) done e = absurd (false≢true (sym e))
@@ -172,9 +167,6 @@ left_by s (Some x) done e = absurd (false≢true (sym e))
 done_by : (s : State) (o : Option ℕ) (done : ℕ → Outcome) → ((x : ℕ) → (done x).answer ≡ Done) → is_some o ≡ true → (with_some o (refused s BadHandle) done).answer ≡ Done
 done_by s None done e q = absurd (false≢true q)
 done_by s (Some x) done e q = e x
-
-pub close_told : (s : State) (a h : ℕ) (answer : Answer) → answer ≡ (outcome s a (Close h)).answer → is_done answer ≡ is_some (held s a h)
-close_told s a h answer e = ap is_done e ∙ closes_by s (held s a h) _ (λ x. refl)
 
 pub close_leaves : (s : State) (a h : ℕ) → is_some (held s a h) ≡ false → (outcome s a (Close h)).after ≡ s
 close_leaves s a h e = left_by s (held s a h) _ e

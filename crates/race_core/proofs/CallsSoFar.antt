@@ -305,10 +305,6 @@ module _ (plan : List Planned) (book : BookedHistory) (ledger : LedgerView) (cal
   abbrev Comes : Stepped → Type 0
   Comes s = IsComing plan s.book ledger calls below (take below room doing s.answer)
 
-  one_line : (b : Bool) → Line
-  one_line true = answered step (answer_now book a step)
-  one_line false = no_room step (answer_now book a step)
-
   abbrev event : Event
   event = record { actor = a; step = step; answer = answer_now book a step }
 

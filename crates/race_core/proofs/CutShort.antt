@@ -7,9 +7,8 @@ use Rattle.root_ops.specs.View.{CallView}
 use Rattle.race_core.specs.declared.seat.Seat.{Seat}
 use Rattle.race_core.specs.Advance.{Advances}
 use Rattle.race_core.specs.Book.{BookedHistory}
-use Rattle.race_core.specs.Ledgers.{LedgerView}
 use Rattle.race_core.specs.Turns.{Turned, turned, comes, begun, goes_on}
-use Rattle.race_core.specs.TurnView.{taken_down, seat_at, IsBegun, Starts, LacksEnd, IsCutAtStart, IsCutGoingOn, IsCutShort}
+use Rattle.race_core.specs.TurnView.{taken_down, seat_at, Starts, LacksEnd, IsCutAtStart, IsCutGoingOn, IsCutShort}
 use Rattle.race_core.specs.Worlds.{turn_of, turn, taken_down_at, is_within_in, IsCutTurnAt}
 use Rattle.race_core.proofs.Starting.{seat_comes}
 use Rattle.race_core.proofs.WorldSoFar.{placed_there}
@@ -26,15 +25,6 @@ on_any (Err error) A is = is
 
 pub same_whole : (whole other new : Seat) → whole ≡ other → LacksEnd whole new → LacksEnd other new
 same_whole whole other new same lacks = subst (λ (s : Seat). LacksEnd s new) same lacks
-
--- the next call was begun
-pub cut_at_start : (old new : Seat) (ledger : LedgerView) (turn : Outcome) → old.doing ≡ None → IsBegun old.ledger ledger turn → LacksEnd (seat_at ledger turn) new
-    → IsCutAtStart old new
-cut_at_start old new ledger turn none by lacks = record {
-  room = by.room;
-  lacks = same_whole (seat_at ledger turn) (begun by.room old.ledger old.doing) new
-      (by.is ∙ ap (λ (d : Option CallView). begun by.room old.ledger d) (sym none)) lacks;
-}
 
 -- the call under way went on
 pub cut_going_on : (book : BookedHistory) (old new : Seat) (call : CallView) (book_after : BookedHistory) (turn : Outcome)

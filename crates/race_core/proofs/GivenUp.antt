@@ -27,7 +27,7 @@ closed_unless book a h None = record { closed = h ∷ []; is = refl }
 closed_unless book a h (Some error) = record { closed = []; is = refl }
 
 -- without memory a step is a Close, or isn't made
-one_step : (book : BookedHistory) (a : ℕ) (step : StepWith ℕ) → OneClosed a book (stepped_by false book a step).book
+pub one_step : (book : BookedHistory) (a : ℕ) (step : StepWith ℕ) → OneClosed a book (stepped_by false book a step).book
 one_step book a (steps.Close h) = closed_unless book a h (refusal book a (steps.Close h))
 one_step book a (steps.Open h n) = record { closed = []; is = refl }
 one_step book a (steps.Dup h) = record { closed = []; is = refl }

@@ -1,25 +1,9 @@
 -- Things whose handles are numbered, and lists of them.
-use Rattle.std.proofs.Common.{◌≡◌, ℕ, suc, List, [], ◌∷◌, ◌++◌, length, append_assoc, refl, sym, ap, ◌∙◌, arith}
+use Rattle.std.proofs.Common.{◌≡◌, ℕ, List, [], ◌∷◌, ◌++◌, length, append_assoc, refl, sym, ap, ◌∙◌}
 use Rattle.std.specs.Prelude.{map}
 use Rattle.std.specs.List.{flat_map}
 use Rattle.root_ops.specs.Renamed.{numbers_by}
-
-pub numbers_length : (f : ℕ → ℕ) (hs : List ℕ) → length (numbers_by f hs) ≡ length hs
-numbers_length f [] = refl
-numbers_length f (h ∷ hs) = ap suc (numbers_length f hs)
-
--- lists that begin with equally many are the same part by part
-pub numbers_apart : (f g : ℕ → ℕ) (xs ys more others : List ℕ) → length xs ≡ length ys → numbers_by f (xs ++ more) ≡ numbers_by g (ys ++ others)
-    → (numbers_by f xs ≡ numbers_by g ys) × (numbers_by f more ≡ numbers_by g others)
-numbers_apart f g [] [] more others long e = (refl, e)
-numbers_apart f g [] (y ∷ ys) more others long e = absurd (omega arith)
-numbers_apart f g (x ∷ xs) [] more others long e = absurd (omega arith)
-numbers_apart f g (x ∷ xs) (y ∷ ys) more others long e =
-    let rest : numbers_by f (xs ++ more) ≡ numbers_by g (ys ++ others) = cc in
-    let apart = numbers_apart f g xs ys more others (omega arith) rest in
-    let first : f x ≡ g y = cc in
-    let front : numbers_by f xs ≡ numbers_by g ys = apart.0 in
-    (cc, apart.1)
+use Rattle.root_ops.proofs.HandlesRenamed.{same_long, numbers_apart}
 
 module _ {A : Type 0} (by : (ℕ → ℕ) → A → A) (handles : A → List ℕ) where
   -- with other numbers it has these handles
@@ -36,10 +20,8 @@ module _ {A : Type 0} (by : (ℕ → ℕ) → A → A) (handles : A → List ℕ
       → numbers_by f (handles a ++ more) ≡ numbers_by g (handles b ++ others) → (by f a ≡ by g b) × (numbers_by f more ≡ numbers_by g others)
 
   like_long : KeepsHandles → (a b : A) → by (λ h. 0) a ≡ by (λ h. 0) b → length (handles a) ≡ length (handles b)
-  like_long keeps a b like =
-      sym (numbers_length (λ h. 0) (handles a))
-      ∙ (ap (λ hs. length hs) (sym (keeps (λ h. 0) a) ∙ (ap handles like ∙ keeps (λ h. 0) b))
-      ∙ numbers_length (λ h. 0) (handles b))
+  like_long keeps a b like = same_long (handles a) (handles b)
+      (sym (keeps (λ h. 0) a) ∙ (ap handles like ∙ keeps (λ h. 0) b))
 
   pub agree_first : KeepsHandles → Agree → AgreeFirst
   agree_first keeps agree f g a b more others like e =

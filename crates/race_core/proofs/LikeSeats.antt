@@ -5,9 +5,6 @@ use Rattle.std.specs.List.{flat_map}
 use Rattle.std.specs.Option.{option_map}
 use Rattle.std.proofs.lemmas.Option.{same_Some}
 use Rattle.handles.specs.Objects.{StandingObject}
-use Rattle.tree_model.specs.declared.answer.Answer.TheVariants as answers
-use Rattle.tree_model.specs.declared.step.StepOf.TheVariants as steps
-use Rattle.root_ops.specs.declared.op.Op.TheVariants as ops
 use Rattle.root_ops.specs.View.{CallView}
 use Rattle.step_resolver.specs.declared.walk.Root.{Root}
 use Rattle.call_plans.specs.declared.plan.Planned.{Planned}
@@ -16,8 +13,9 @@ use Rattle.race_core.specs.declared.report.Outcome.{Outcome}
 use Rattle.race_core.specs.declared.report.Outcome.TheVariants as outcomes
 use Rattle.race_core.specs.declared.seat.Seat.{Seat}
 use Rattle.race_core.specs.Ledgers.{LedgerView}
-use Rattle.race_core.specs.Renamed.{numbers_by, root_by, step_by, answer_by, standing_by, op_by, call_by, step_handles, answer_handles, op_handles, planned_by, plans_by, outcome_by, outcomes_by, standings_by, kept_by, ledger_by, seat_by, seats_by, planned_handles, plans_handles, outcome_handles, outcomes_handles, option_handles, standings_handles, kept_handles, ledger_handles, doing_call_handles, LikeSeats, LikeSeatsAgree}
+use Rattle.race_core.specs.Renamed.{numbers_by, root_by, standing_by, call_by, planned_by, plans_by, outcome_by, outcomes_by, standings_by, kept_by, ledger_by, seat_by, seats_by, planned_handles, plans_handles, outcome_handles, outcomes_handles, option_handles, standings_handles, kept_handles, ledger_handles, doing_call_handles, LikeSeats, LikeSeatsAgree}
 use Rattle.race_core.specs.WithoutOutcomes.{without_outcomes}
+use Rattle.root_ops.proofs.HandlesRenamed.{answer_numbers, op_numbers}
 use Rattle.root_ops.proofs.LikeCalls.{like_answers_agree, like_requests_agree, like_calls_agree}
 use Rattle.race_core.proofs.LikeLists.{KeepsHandles, Agree, AgreeFirst, agree_first, all_agree_first}
 
@@ -85,61 +83,18 @@ listed ledger old one two three four p q r s =
 
 -- ---- the handles of what has other numbers
 
-step_keeps : KeepsHandles step_by step_handles
-step_keeps f (steps.Open h n) = refl
-step_keeps f (steps.Dup h) = refl
-step_keeps f (steps.Parent h) = refl
-step_keeps f (steps.ReadLink h) = refl
-step_keeps f (steps.NameBelow r h) = refl
-step_keeps f (steps.List h) = refl
-step_keeps f (steps.Close h) = refl
-step_keeps f (steps.MakeDir h n) = refl
-step_keeps f (steps.MakeFile h n) = refl
-step_keeps f (steps.MakeLink h n text) = refl
-step_keeps f (steps.RemoveFile h n) = refl
-step_keeps f (steps.RemoveDir h n) = refl
-step_keeps f (steps.Rename h n k m mode) = refl
-
-op_keeps : KeepsHandles op_by op_handles
-op_keeps f (ops.Resolve path) = refl
-op_keeps f (ops.ResolveNoFollow path) = refl
-op_keeps f (ops.ReadLink path) = refl
-op_keeps f (ops.CreateFile path) = refl
-op_keeps f (ops.CreateDir path) = refl
-op_keeps f (ops.CreateLink path text) = refl
-op_keeps f (ops.RemoveFile path) = refl
-op_keeps f (ops.RemoveDir path) = refl
-op_keeps f (ops.Rename old new mode) = refl
-op_keeps f (ops.MkdirAll path) = refl
-op_keeps f (ops.RemoveAll path) = refl
-op_keeps f (ops.Single step) = step_keeps f step
-op_keeps f (ops.Release standing) = refl
-
-planned_keeps : KeepsHandles planned_by planned_handles
-planned_keeps f (plans.Call request) = op_keeps f request.op
+pub planned_keeps : KeepsHandles planned_by planned_handles
+planned_keeps f (plans.Call request) = op_numbers f request.op
 planned_keeps f (plans.Single step) = refl
 planned_keeps f (plans.Release number) = refl
 
-answer_keeps : KeepsHandles answer_by answer_handles
-answer_keeps f (answers.Opened h x kind) = refl
-answer_keeps f (answers.Text text) = refl
-answer_keeps f (answers.Names names) = refl
-answer_keeps f answers.NotBelow = refl
-answer_keeps f (answers.Listed names) = refl
-answer_keeps f answers.Done = refl
-answer_keeps f (answers.Refused error) = refl
-
-outcome_keeps : KeepsHandles outcome_by outcome_handles
+pub outcome_keeps : KeepsHandles outcome_by outcome_handles
 outcome_keeps f (outcomes.Opened x kind names) = refl
 outcome_keeps f (outcomes.Text text) = refl
 outcome_keeps f outcomes.Done = refl
 outcome_keeps f (outcomes.Count n) = refl
-outcome_keeps f (outcomes.Stepped answer) = answer_keeps f answer
+outcome_keeps f (outcomes.Stepped answer) = answer_numbers f answer
 outcome_keeps f (outcomes.Fault error) = refl
-
-option_keeps : KeepsHandles (λ f. option_map (standing_by f)) option_handles
-option_keeps f None = refl
-option_keeps f (Some standing) = refl
 
 -- ---- each part
 

@@ -1,5 +1,5 @@
 -- The first turn of a call, from what its contract tells of it.
-use Rattle.std.proofs.Common.{◌≡◌, ℕ, suc, ◌+◌, ◌≤◌, ◌<◌, List, [], ◌∷◌, ◌++◌, true, Option, Some, None, Result, Ok, Err, OnOk, is_some, ◌||◌, ◌⊎◌, inl, inr, refl, sym, ap, subst, ◌∙◌, arith}
+use Rattle.std.proofs.Common.{◌≡◌, ℕ, suc, ◌+◌, ◌≤◌, ◌<◌, List, [], ◌∷◌, ◌++◌, Option, Some, None, Result, Ok, Err, OnOk, ◌||◌, inl, refl, sym, ap, subst, ◌∙◌, arith}
 use Rattle.handles.specs.Objects.{StandingObject}
 use Rattle.step_resolver.specs.declared.walk.Root.{Root}
 use Rattle.root_ops.specs.declared.below.Below.{Below}
@@ -11,7 +11,6 @@ use Rattle.root_ops.specs.declared.reply.Reply.TheVariants as reply
 use Rattle.root_ops.specs.View.{CallView, IsOwned, reply_view}
 use Rattle.handles.specs.declared.owner.Owner.{Owner}
 use Rattle.std.proofs.lemmas.List.{reverse-reverse}
-use Rattle.std.proofs.lemmas.Bool.{false≢true}
 use Rattle.root_ops.specs.Order.{starts, steps_left}
 use Rattle.root_ops.specs.TurnView.{below_of, turn_view, Keeps, StartsTo, steps_to_come, STEPS_MAX}
 use Rattle.call_plans.specs.declared.plan.Planned.{Planned}
@@ -20,7 +19,7 @@ use Rattle.race_core.specs.Book.{BookedHistory}
 use Rattle.race_core.specs.Ledgers.{LedgerView}
 use Rattle.race_core.specs.declared.seat.Seat.{Seat}
 use Rattle.race_core.specs.Turns.{outcome_of, ended, comes, begins, begins_next, begun, goes_on, request_of, left_by}
-use Rattle.race_core.specs.TurnView.{taken_down, seat_at, IsStarted, IsBegun, Starts, GoesOn, IsTurned, Lowers, is_busy, are_some, steps_of, steps_then, turns_of, turns_left}
+use Rattle.race_core.specs.TurnView.{taken_down, seat_at, IsStarted, IsBegun, Starts, GoesOn, IsTurned, steps_of, steps_then, turns_of, turns_left}
 
 -- what was opened is the owner's, and so it is taken down as the order of steps has it
 taken_down_as : (owner : Owner) (ledger : LedgerView) (reply : Reply) → IsOwned owner reply → taken_down ledger reply ≡ ended owner ledger (reply_view reply)
@@ -89,35 +88,6 @@ pub settled_to : (seat new : Seat) (turn : Outcome) → new ≡ seat_at seat.led
 settled_to seat new (outcome.More call) is = ap turns_left is
 settled_to seat new (outcome.Done reply) is = ap turns_left is
 
--- the next call was begun
-pub starts_next : (old new : Seat) (ledger : LedgerView) (turn : Outcome) → old.doing ≡ None → IsBegun old.ledger ledger turn → new ≡ seat_at ledger turn → Starts old new
-starts_next old new ledger turn none by settled = record {
-  room = by.room;
-  is = settled ∙ by.is ∙ ap (λ (d : Option CallView). begun by.room old.ledger d) (sym none);
-  fewer = inl (
-      let left = settled_to (record { ledger = ledger; doing = None }) new turn settled in
-      let had : turns_left old ≡ 0 + turns_of old.ledger.to_come = ap (λ (d : Option CallView). steps_of d + turns_of old.ledger.to_come) none in
-      omega (arith, left, had, by.fewer));
-}
-
--- none is to come
-pub starts_none : (old new : Seat) → old.doing ≡ None → old.ledger.to_come ≡ [] → new ≡ old → Starts old new
-starts_none old new none over same = record {
-  room = true;
-  is = same ∙ ap (λ (d : Option CallView). record { ledger = old.ledger; doing = d }) none
-      ∙ ap (λ (ps : List Planned). begins_next true old.ledger ps) (sym over) ∙ ap (λ (d : Option CallView). begun true old.ledger d) (sym none);
-  fewer = inr (same, ap (λ (d : Option CallView). is_some d || are_some old.ledger.to_come) none ∙ ap (λ (ps : List Planned). are_some ps) over ∙ sym (ap (λ (d : Option CallView). is_some d) none));
-}
-
--- one is under way
-pub starts_not : (old : Seat) (doing : Option CallView) → old.doing ≡ doing → is_some doing ≡ true → Starts old old
-starts_not old (Some call) under some = record {
-  room = true;
-  is = ap (λ (d : Option CallView). record { ledger = old.ledger; doing = d }) under ∙ ap (λ (d : Option CallView). begun true old.ledger d) (sym under);
-  fewer = inr (refl, ap (λ (d : Option CallView). is_some d || are_some old.ledger.to_come) under ∙ sym (ap (λ (d : Option CallView). is_some d) under));
-}
-starts_not old None under some = absurd (false≢true some)
-
 -- the call under way went on
 pub went_on : (book : BookedHistory) (old new : Seat) (call : CallView) (book_after : BookedHistory) (turn : Outcome)
     → Some call ≡ old.doing → Advances book old.ledger.root.owner.actor call (turn_view turn) book_after → Keeps call.below turn
@@ -134,17 +104,6 @@ went_on book old new call book_after turn is made keeps few settled = record {
       omega (arith, left, had, turn_few turn (steps_left call.below call.doing) few));
 }
 
--- none was under way
-pub went_nowhere : (book book_after : BookedHistory) (old new : Seat) → old.doing ≡ None → book_after ≡ book → new ≡ old → GoesOn book old book_after new
-went_nowhere book book_after old new none left same = record {
-  luck = true;
-  room = true;
-  booked = left ∙ ap (λ (d : Option CallView). (goes_on true true book old.ledger d).book) (sym none);
-  seated = same ∙ ap (λ (d : Option CallView). record { ledger = old.ledger; doing = d }) none
-      ∙ ap (λ (d : Option CallView). (goes_on true true book old.ledger d).seat) (sym none);
-  fewer = inr (none, same);
-}
-
 -- one after the other they are a turn
 pub turned_by : (book : BookedHistory) (old middle : Seat) (book_after : BookedHistory) (new : Seat) → Starts old middle → GoesOn book middle book_after new
     → IsTurned book old book_after new
@@ -153,17 +112,6 @@ turned_by book old middle book_after new starts goes = record {
   booked = goes.booked ∙ ap (λ (s : Seat). (goes_on goes.luck goes.room book s.ledger s.doing).book) starts.is;
   seated = goes.seated ∙ ap (λ (s : Seat). (goes_on goes.luck goes.room book s.ledger s.doing).seat) starts.is;
 }
-
-pub lowered : (book : BookedHistory) (old middle : Seat) (book_after : BookedHistory) (new : Seat) → Starts old middle → GoesOn book middle book_after new
-    → Lowers old new
-lowered book old middle book_after new starts goes busy = by_cases starts.fewer goes.fewer where
-  by_cases : (turns_left middle < turns_left old) ⊎ ((middle ≡ old) × (is_busy old ≡ is_some old.doing))
-      → (turns_left new < turns_left middle) ⊎ ((middle.doing ≡ None) × (new ≡ middle)) → turns_left new < turns_left old
-  by_cases (inl less) (inl more) = omega (arith, less, more)
-  by_cases (inl less) (inr same) = omega (arith, less, ap turns_left same.1)
-  by_cases (inr same) (inl more) = omega (arith, more, ap turns_left same.0)
-  by_cases (inr same) (inr still) =
-      absurd (false≢true (sym (ap (λ (d : Option CallView). is_some d) still.0) ∙ ap (λ (s : Seat). is_some s.doing) same.0 ∙ sym same.1 ∙ busy))
 
 -- where it is Ok, what follows from that
 pub on_ok : {T E : Type 0} (r : Result T E) (A B : Type 0) → (A → B) → OnOk r A → OnOk r B

@@ -14,7 +14,8 @@ use Rattle.race_core.specs.declared.report.Outcome.TheVariants as outcome
 use Rattle.race_core.specs.WorldCalls.{IsRun, CallMade}
 use Rattle.race_core.specs.WorldLaws.{ResolveTells, WalkTells, FailsAtOnce}
 use Rattle.step_resolver.specs.Order.{failed}
-use Rattle.race_core.specs.WorkedRun.{moved, opening, ledgers, world, lucky, renamed, end, window, run, the_walk, IsOpenat2s, UndisturbedIsMeant}
+use Rattle.race_core.specs.OneReport.{full}
+use Rattle.race_core.specs.WorkedRun.{moved, opening, ledgers, world, renamed, end, window, run, the_walk, IsOpenat2s, UndisturbedIsMeant}
 
 is_run : IsRun run
 is_run = record {
@@ -36,8 +37,8 @@ is_run = record {
       scheduled = refl;
       rest = (
         renamed,
-        record { turns = 1; run = (lucky, refl); over = refl },
-        (end, record { turns = 2; run = (lucky, (lucky, refl)); over = refl }, refl),
+        record { turns = 1; run = (full, refl); over = refl },
+        (end, record { turns = 2; run = (full, (full, refl)); over = refl }, refl),
       );
     };
     over = (refl, (refl, tt));

@@ -21,7 +21,8 @@ use Rattle.race_core.specs.declared.report.Outcome.TheVariants as outcome
 use Rattle.race_core.specs.Book.{opened_book, tree_now}
 use Rattle.race_core.specs.Ledgers.{LedgerView}
 use Rattle.race_core.specs.Opening.{seats_of}
-use Rattle.race_core.specs.Turns.{Luck, opened_ledger, plain}
+use Rattle.race_core.specs.OneReport.{full}
+use Rattle.race_core.specs.Turns.{opened_ledger, plain}
 use Rattle.race_core.specs.Worlds.{WorldView, turn, ledgers_in, replies_in, kept_in}
 use Rattle.race_core.specs.WorldCalls.{WholeRun, IsRun, CallMade}
 use Rattle.race_core.specs.WorldLaws.{IsWindow, walk_of_resolve, ResolveTells}
@@ -61,14 +62,11 @@ world = record { book = opened_book opening 8; seats = seats_of ledgers; spent =
 
 -- ---- its turns
 
-abbrev pub lucky : Luck
-lucky = record { start = true; step = true; room = true }
-
 abbrev pub renamed : WorldView
-renamed = turn lucky world 0
+renamed = turn full world 0
 
 abbrev pub end : WorldView
-end = turn lucky (turn lucky renamed 1) 1
+end = turn full (turn full renamed 1) 1
 
 abbrev pub the_rename : Event
 the_rename = record { actor = 0; step = Rename 0 (codes "secret") 0 moved Plain; answer = Done }

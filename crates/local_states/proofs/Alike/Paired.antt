@@ -6,16 +6,15 @@ use Rattle.std.proofs.lemmas.Option.{same_Some, none-some}
 use Rattle.std.proofs.lemmas.Bool.{true≢false, false≢true, or_cases, and_parts}
 use Rattle.race_core.specs.declared.seat.Seat.{Seat}
 use Rattle.race_core.specs.Renamed.{numbers_by, seat_handles, LikeSeats}
-use Rattle.race_core.proofs.LikeLists.{numbers_length}
+use Rattle.root_ops.proofs.HandlesRenamed.{same_long}
 use Rattle.local_states.specs.Alike.{Pairs, Agree}
 use Rattle.local_states.specs.Paired.{pairs_of, AreAt, AreApart}
 use Rattle.local_states.proofs.Alike.HandlesRenamed.{seat_numbers}
 
 pub same_numbers : (s t : Seat) → LikeSeats s t → length (seat_handles s) ≡ length (seat_handles t)
 same_numbers s t like =
-    sym (numbers_length (λ h. 0) (seat_handles s))
-    ∙ (ap length (sym (seat_numbers (λ h. 0) s)) ∙ (ap (λ (seat : Seat). length (seat_handles seat)) like
-    ∙ (ap length (seat_numbers (λ h. 0) t) ∙ numbers_length (λ h. 0) (seat_handles t))))
+    same_long (seat_handles s) (seat_handles t)
+    (sym (seat_numbers (λ h. 0) s) ∙ (ap (λ (seat : Seat). seat_handles seat) like ∙ seat_numbers (λ h. 0) t))
 
 -- ---- pairs by their places
 

@@ -1,5 +1,5 @@
 -- On alike trees, by paired handles, a step comes to the same.
-use Rattle.std.proofs.Common.{◌≡◌, ◌≢◌, ◌⊎◌, inl, inr, ℕ, zero, suc, ◌<◌, Bool, true, false, ◌==◌, ◌||◌, ◌&&◌, List, [], ◌∷◌, ◌++◌, length, reverse, Option, Some, None, Result, Ok, Err, slice_get, slice_set, refl, sym, ap, ◌∙◌, subst, eqb-true, eq-eqb, arith}
+use Rattle.std.proofs.Common.{◌≡◌, ◌≢◌, ◌⊎◌, inl, inr, ℕ, zero, suc, ◌<◌, Bool, true, false, ◌==◌, ◌||◌, ◌&&◌, List, [], ◌∷◌, length, reverse, Option, Some, None, Result, Ok, Err, slice_get, slice_set, refl, sym, ap, ◌∙◌, subst, eqb-true, eq-eqb, arith}
 use Rattle.std.proofs.lemmas.Bool.{false≢true, true≢false}
 use Rattle.path_text.specs.declared.errno.Errno.{Errno}
 use Rattle.path_text.specs.declared.errno.Errno.TheVariants.{NotFound, BadHandle, Invalid, TooMany}
@@ -21,11 +21,6 @@ use Rattle.race_core.specs.Renamed.{step_by, answer_by}
 use Rattle.local_states.specs.Alike.{Pairs, Agree, SameSteps}
 
 -- ---- lists
-
-pub before : {A : Type 0} (xs ys : List A) (i : ℕ) → i < length xs → slice_get (xs ++ ys) i ≡ slice_get xs i
-before [] ys i lt = absurd (omega arith)
-before (x ∷ xs) ys zero lt = refl
-before (x ∷ xs) ys (suc i) lt = before xs ys i (omega arith)
 
 pub set_at : {A : Type 0} (xs : List A) (i : ℕ) (y : A) → i < length xs → slice_get (slice_set xs i y) i ≡ Some y
 set_at [] i y lt = absurd (omega arith)

@@ -14,11 +14,12 @@ use Rattle.tree_model.specs.Steps.{Outcome, kind_of, node_held, held, held_count
 use Rattle.tree_model.proofs.Counts.{handles_are_counted}
 use Rattle.tree_model.proofs.Places.{slice_get-last}
 use Rattle.tree_model.proofs.StepLaws.{slice_get-set_other, held_closed}
+use Rattle.bulk_ops.proofs.WalkParts.{in_front}
 use Rattle.local_states.specs.Alike.{Pairs, SameSteps, SameAnswers}
 use Rattle.local_states.specs.Local.{GivenAlike, IsOwnPair}
 use Rattle.local_states.specs.Paired.{AreApart}
 use Rattle.local_states.proofs.Alike.Paired.{below_or}
-use Rattle.local_states.proofs.Alike.Steps.{before, SameNumbers, code, decode, bit, unbit, Paired, open', dup', parent', read', below', list', close', make_dir', make_file', make_link', remove_file', remove_dir', rename', paired_of, AlikeEnds, tells, opens_on, closes, changes_to, other, on_both, some_both, if_both, opens_both, reads_both, shows_both, changes_both, grown, grown_old, grown_cases, grown_new, blind_answer, same_close, counts_alike}
+use Rattle.local_states.proofs.Alike.Steps.{SameNumbers, code, decode, bit, unbit, Paired, open', dup', parent', read', below', list', close', make_dir', make_file', make_link', remove_file', remove_dir', rename', paired_of, AlikeEnds, tells, opens_on, closes, changes_to, other, on_both, some_both, if_both, opens_both, reads_both, shows_both, changes_both, grown, grown_old, grown_cases, grown_new, blind_answer, same_close, counts_alike}
 
 -- the two trees have the same nodes, and the actor has as many handles open; it holds the same by the numbers of each
 -- pair, and each pair is apart from the others
@@ -132,8 +133,8 @@ module _ (a x : ℕ) (s t : State) where
   old_holds : (h k : ℕ) → h < length s.handles → k < length t.handles → held s a h ≡ held t a k
       → held (with_handle s a x) a h ≡ held (with_handle t a x) a k
   old_holds h k lt lt' same =
-      ap (node_held a) (before s.handles (entry ∷ []) h lt)
-      ∙ (same ∙ sym (ap (node_held a) (before t.handles (entry ∷ []) k lt')))
+      ap (node_held a) (in_front s.handles (entry ∷ []) h lt)
+      ∙ (same ∙ sym (ap (node_held a) (in_front t.handles (entry ∷ []) k lt')))
 
   new_holds : (h k : ℕ) → h ≡ length s.handles → k ≡ length t.handles
       → held (with_handle s a x) a h ≡ held (with_handle t a x) a k
