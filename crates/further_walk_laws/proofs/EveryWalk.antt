@@ -15,11 +15,11 @@ use Rattle.step_resolver.specs.WalkHistory.{WalkInHistory, parts_of_walk, start}
 use Rattle.step_resolver.specs.Failures.{TellsError, TellsWant, MetRefusal}
 use Rattle.step_resolver.specs.Headline.{StoodAt, Opens, OpensDeepest, Tells}
 use Rattle.step_resolver.specs.StepCount.{walk_passed}
-use Rattle.step_resolver.proofs.Underway.WalkInvariant.{Lived, StepAt, Happens, HandlesAre, spot_at, Going, no_stop, EndsAt, at_all, at_missing, GoodWalk, Good}
+use Rattle.step_resolver.proofs.Underway.WalkInvariant.{Lived, StepAt, Happens, spot_at, EndsAt, at_all, at_missing, GoodWalk, Good}
 use Rattle.step_resolver.proofs.Underway.NextPart.{goes_on_good}
 use Rattle.step_resolver.proofs.Underway.LegalHistory.{lived as lived_in, lines_happen}
 use Rattle.step_resolver.proofs.Underway.AfterDupAndClose.{not_made_good}
-use Rattle.step_resolver.proofs.Ends.EachEnd.{take_good}
+use Rattle.step_resolver.proofs.Ends.EachEnd.{take_good, handles_at_first, going_first, wants_told}
 use Rattle.step_resolver.proofs.Ends.EveryWalk.{tree_laws, walks_tell}
 use Rattle.further_walk_laws.specs.TrailSteps.{passes_in, parts_told_by, parts_read, parts_met, FewLines, StepsByTrail}
 use Rattle.further_walk_laws.proofs.TakenOff.{left_at, plan_taken_off}
@@ -181,16 +181,6 @@ module _ {w : WalkInHistory} (lived : Lived w) where
   lines_ahead (line ∷ lines) now (partial handle names rest) end tells plan good happens leads wants mets = absurd leads
   lines_ahead (line ∷ lines) now (failed error) end tells plan good happens leads wants mets = absurd leads
 
-  going_first : Going w 0 root_itself [] (parts_of_walk w) LINKS_MAX
-  going_first = record { taken = []; parts = refl; reaches = λ z next t. t; within = λ z p t. absurd (no_stop t) }
-
-  handles_first : HandlesAre w 0 []
-  handles_first = record { others = λ k out. refl; fresh = tt }
-
-  wants_told : (error : Errno) → IsWant error → TellsWant error w.lines → TellsError w error
-  wants_told error (inl e) want = subst (TellsError w) (sym e) (subst (λ x. TellsWant x w.lines) e want)
-  wants_told error (inr e) want = subst (TellsError w) (sym e) (subst (λ x. TellsWant x w.lines) e want)
-
   -- a walk that fails at once is told no line
   no_lines : (lines : List Line) (end : Turn) → LeadsTo w.way (failed CrossRoot) lines end → (lines ≡ []) × (failed CrossRoot ≡ end)
   no_lines [] end leads = (refl, leads)
@@ -209,7 +199,8 @@ module _ {w : WalkInHistory} (lived : Lived w) where
           subst (FewLines w) none.1 (inl none.0)
       on false l = passed (goes_on_ahead lived end (parts_read w.lines) 0 (length w.lines) root_itself (λ none. refl) tt [] (parts_of_walk w) LINKS_MAX
           (lines_ahead w.lines 0 (goes_on w.way root_itself (todo [] (parts_of_walk w) LINKS_MAX)) end tells (λ success. plan_taken_off w.way w.path w.lines end leads success)
-          (goes_on_good lived 0 root_itself [] (parts_of_walk w) LINKS_MAX going_first tt handles_first) happens l wants_told (λ step m. m))
+          (goes_on_good lived 0 root_itself [] (parts_of_walk w) LINKS_MAX (going_first lived) tt
+          (handles_at_first lived)) happens l (wants_told lived) (λ step m. m))
           0 (le_refl 0))
 
 -- each walk in each legal history was told few lines for the parts that its trail passes

@@ -1,8 +1,8 @@
 -- What every history promises: which call gave the descriptor, and which path it had.
-use Rattle.std.proofs.Common.{◌≡◌, ◌≢◌, ℕ, ◌+◌, ◌≤◌, List, [], ◌∷◌, ◌++◌, Bool, true, false, if◌then◌else◌, ◌⊎◌, inl, inr, length, take, drop, refl, sym, ap, subst, ◌∙◌, arith, nat_lt, append-nil, append_assoc, eq-eqb, take-append-drop}
+use Rattle.std.proofs.Common.{◌≡◌, ◌≢◌, ℕ, ◌+◌, ◌≤◌, List, [], ◌∷◌, ◌++◌, Bool, true, false, ◌||◌, if◌then◌else◌, ◌⊎◌, inl, inr, length, take, drop, refl, sym, ap, subst, ◌∙◌, arith, nat_lt, append-nil, append_assoc, eq-eqb, take-append-drop}
 use Rattle.std.specs.Prelude.{◌==◌}
 use Rattle.std.specs.List.{AllByRecursion}
-use Rattle.std.proofs.lemmas.Bool.{cond-true, false≢true, ltb-false}
+use Rattle.std.proofs.lemmas.Bool.{cond-true, false≢true, ltb-false, or_parts}
 use Rattle.path_text.specs.declared.path.TheConstants.{TEXT_MAX}
 use Rattle.system_calls.specs.Errors.{EAGAIN, ENAMETOOLONG, ELOOP}
 use Rattle.system_calls.specs.Tries.{is_due, pause_after}
@@ -78,117 +78,73 @@ next_of asked s e BetweenAtEnd =
     (fails EAGAIN STEP_MAKE_DIR (whole s)) (asks s FIND (pause_after s.between) s.base (whole s)) (inl refl)
     (inr refl)
 
-ends_only_in : (m : Met) (n : ℕ) → NextOf m n → n ≡ ENDS → m ≡ Ended
-ends_only_in Missing n x is = absurd (omega (arith, x, is))
-ends_only_in Directory n x is = absurd (omega (arith, x, is))
-ends_only_in Parted n x is = absurd (omega (arith, x, is))
-ends_only_in Refused n x is = absurd (omega (arith, x, is))
-ends_only_in Above n x is = absurd (omega (arith, x, is))
-ends_only_in Gone n x is = absurd (omega (arith, x, is))
-ends_only_in Partly n x is = absurd (omega (arith, x, is))
-ends_only_in Link n (inl x) is = absurd (omega (arith, x, is))
-ends_only_in Link n (inr (inl x)) is = absurd (omega (arith, x, is))
-ends_only_in Link n (inr (inr x)) is = absurd (omega (arith, x, is))
-ends_only_in NoText n x is = absurd (omega (arith, x, is))
-ends_only_in Between n (inl x) is = absurd (omega (arith, x, is))
-ends_only_in Between n (inr (inl x)) is = absurd (omega (arith, x, is))
-ends_only_in Between n (inr (inr x)) is = absurd (omega (arith, x, is))
-ends_only_in Stands n x is = absurd (omega (arith, x, is))
-ends_only_in LinkAtEnd n (inl x) is = absurd (omega (arith, x, is))
-ends_only_in LinkAtEnd n (inr x) is = absurd (omega (arith, x, is))
-ends_only_in Unfollowed n x is = absurd (omega (arith, x, is))
-ends_only_in BetweenAtEnd n (inl x) is = absurd (omega (arith, x, is))
-ends_only_in BetweenAtEnd n (inr x) is = absurd (omega (arith, x, is))
-ends_only_in Ended n x is = refl
+-- what is asked for in one case alone
+record Only (m : Met) (n : ℕ) : Type 0 where
+  pub ends : n ≡ ENDS → m ≡ Ended
+  pub create : n ≡ CREATE → m ≡ Above
+  pub partial : n ≡ PARTIAL → m ≡ Gone
+  pub read : n ≡ READ_LINK → m ≡ Partly
 
-ends_only : (asked : Asked) (e : Exchange) (older : List Exchange) → (due_after asked (e ∷ older)).next ≡ ENDS
-    → met_of asked e ≡ Ended
-ends_only asked e older is = ends_only_in (met_of asked e) (due_after asked (e ∷ older)).next
-    (next_of asked (stand_after asked (e ∷ older)) e (met_of asked e)) is
+another : (m : Met) (n k : ℕ) → n ≡ k → ((k == ENDS) || ((k == CREATE) || ((k == PARTIAL) || (k == READ_LINK))))
+    ≡ false → Only m n
+another m n k x none =
+    let ends = or_parts _ _ none in
+    let create = or_parts _ _ ends.1 in
+    let partial = or_parts _ _ create.1 in
+    record {
+      ends = λ is. absurd (false≢true (sym ends.0 ∙ eq-eqb k ENDS (sym x ∙ is)));
+      create = λ is. absurd (false≢true (sym create.0 ∙ eq-eqb k CREATE (sym x ∙ is)));
+      partial = λ is. absurd (false≢true (sym partial.0 ∙ eq-eqb k PARTIAL (sym x ∙ is)));
+      read = λ is. absurd (false≢true (sym partial.1 ∙ eq-eqb k READ_LINK (sym x ∙ is)));
+    }
 
-create_only_in : (m : Met) (n : ℕ) → NextOf m n → n ≡ CREATE → m ≡ Above
-create_only_in Missing n x is = absurd (omega (arith, x, is))
-create_only_in Directory n x is = absurd (omega (arith, x, is))
-create_only_in Parted n x is = absurd (omega (arith, x, is))
-create_only_in Refused n x is = absurd (omega (arith, x, is))
-create_only_in Above n x is = refl
-create_only_in Gone n x is = absurd (omega (arith, x, is))
-create_only_in Partly n x is = absurd (omega (arith, x, is))
-create_only_in Link n (inl x) is = absurd (omega (arith, x, is))
-create_only_in Link n (inr (inl x)) is = absurd (omega (arith, x, is))
-create_only_in Link n (inr (inr x)) is = absurd (omega (arith, x, is))
-create_only_in NoText n x is = absurd (omega (arith, x, is))
-create_only_in Between n (inl x) is = absurd (omega (arith, x, is))
-create_only_in Between n (inr (inl x)) is = absurd (omega (arith, x, is))
-create_only_in Between n (inr (inr x)) is = absurd (omega (arith, x, is))
-create_only_in Stands n x is = absurd (omega (arith, x, is))
-create_only_in LinkAtEnd n (inl x) is = absurd (omega (arith, x, is))
-create_only_in LinkAtEnd n (inr x) is = absurd (omega (arith, x, is))
-create_only_in Unfollowed n x is = absurd (omega (arith, x, is))
-create_only_in BetweenAtEnd n (inl x) is = absurd (omega (arith, x, is))
-create_only_in BetweenAtEnd n (inr x) is = absurd (omega (arith, x, is))
-create_only_in Ended n x is = absurd (omega (arith, x, is))
+only : (m : Met) (n : ℕ) → NextOf m n → Only m n
+only Missing n x = another Missing n SPLIT x refl
+only Directory n x = another Directory n FAILS x refl
+only Parted n x = another Parted n MAKE_ABOVE x refl
+only Refused n x = another Refused n FAILS x refl
+only Link n (inl x) = another Link n MAKE_ABOVE x refl
+only Link n (inr (inl x)) = another Link n MAKE x refl
+only Link n (inr (inr x)) = another Link n FAILS x refl
+only NoText n x = another NoText n FAILS x refl
+only Between n (inl x) = another Between n MAKE_ABOVE x refl
+only Between n (inr (inl x)) = another Between n MAKE x refl
+only Between n (inr (inr x)) = another Between n FAILS x refl
+only Stands n x = another Stands n READ_END x refl
+only LinkAtEnd n (inl x) = another LinkAtEnd n FIND x refl
+only LinkAtEnd n (inr x) = another LinkAtEnd n FAILS x refl
+only Unfollowed n x = another Unfollowed n FAILS x refl
+only BetweenAtEnd n (inl x) = another BetweenAtEnd n FIND x refl
+only BetweenAtEnd n (inr x) = another BetweenAtEnd n FAILS x refl
+only Ended n x = record {
+  ends = λ is. refl;
+  create = λ is. absurd (omega (arith, x, is));
+  partial = λ is. absurd (omega (arith, x, is));
+  read = λ is. absurd (omega (arith, x, is));
+}
+only Above n x = record {
+  ends = λ is. absurd (omega (arith, x, is));
+  create = λ is. refl;
+  partial = λ is. absurd (omega (arith, x, is));
+  read = λ is. absurd (omega (arith, x, is));
+}
+only Gone n x = record {
+  ends = λ is. absurd (omega (arith, x, is));
+  create = λ is. absurd (omega (arith, x, is));
+  partial = λ is. refl;
+  read = λ is. absurd (omega (arith, x, is));
+}
+only Partly n x = record {
+  ends = λ is. absurd (omega (arith, x, is));
+  create = λ is. absurd (omega (arith, x, is));
+  partial = λ is. absurd (omega (arith, x, is));
+  read = λ is. refl;
+}
 
-create_only : (asked : Asked) (e : Exchange) (older : List Exchange) → (due_after asked (e ∷ older)).next ≡ CREATE
-    → met_of asked e ≡ Above
-create_only asked e older is = create_only_in (met_of asked e) (due_after asked (e ∷ older)).next
-    (next_of asked (stand_after asked (e ∷ older)) e (met_of asked e)) is
-
-partial_only_in : (m : Met) (n : ℕ) → NextOf m n → n ≡ PARTIAL → m ≡ Gone
-partial_only_in Missing n x is = absurd (omega (arith, x, is))
-partial_only_in Directory n x is = absurd (omega (arith, x, is))
-partial_only_in Parted n x is = absurd (omega (arith, x, is))
-partial_only_in Refused n x is = absurd (omega (arith, x, is))
-partial_only_in Above n x is = absurd (omega (arith, x, is))
-partial_only_in Gone n x is = refl
-partial_only_in Partly n x is = absurd (omega (arith, x, is))
-partial_only_in Link n (inl x) is = absurd (omega (arith, x, is))
-partial_only_in Link n (inr (inl x)) is = absurd (omega (arith, x, is))
-partial_only_in Link n (inr (inr x)) is = absurd (omega (arith, x, is))
-partial_only_in NoText n x is = absurd (omega (arith, x, is))
-partial_only_in Between n (inl x) is = absurd (omega (arith, x, is))
-partial_only_in Between n (inr (inl x)) is = absurd (omega (arith, x, is))
-partial_only_in Between n (inr (inr x)) is = absurd (omega (arith, x, is))
-partial_only_in Stands n x is = absurd (omega (arith, x, is))
-partial_only_in LinkAtEnd n (inl x) is = absurd (omega (arith, x, is))
-partial_only_in LinkAtEnd n (inr x) is = absurd (omega (arith, x, is))
-partial_only_in Unfollowed n x is = absurd (omega (arith, x, is))
-partial_only_in BetweenAtEnd n (inl x) is = absurd (omega (arith, x, is))
-partial_only_in BetweenAtEnd n (inr x) is = absurd (omega (arith, x, is))
-partial_only_in Ended n x is = absurd (omega (arith, x, is))
-
-partial_only : (asked : Asked) (e : Exchange) (older : List Exchange) → (due_after asked (e ∷ older)).next ≡ PARTIAL
-    → met_of asked e ≡ Gone
-partial_only asked e older is = partial_only_in (met_of asked e) (due_after asked (e ∷ older)).next
-    (next_of asked (stand_after asked (e ∷ older)) e (met_of asked e)) is
-
-read_only_in : (m : Met) (n : ℕ) → NextOf m n → n ≡ READ_LINK → m ≡ Partly
-read_only_in Missing n x is = absurd (omega (arith, x, is))
-read_only_in Directory n x is = absurd (omega (arith, x, is))
-read_only_in Parted n x is = absurd (omega (arith, x, is))
-read_only_in Refused n x is = absurd (omega (arith, x, is))
-read_only_in Above n x is = absurd (omega (arith, x, is))
-read_only_in Gone n x is = absurd (omega (arith, x, is))
-read_only_in Partly n x is = refl
-read_only_in Link n (inl x) is = absurd (omega (arith, x, is))
-read_only_in Link n (inr (inl x)) is = absurd (omega (arith, x, is))
-read_only_in Link n (inr (inr x)) is = absurd (omega (arith, x, is))
-read_only_in NoText n x is = absurd (omega (arith, x, is))
-read_only_in Between n (inl x) is = absurd (omega (arith, x, is))
-read_only_in Between n (inr (inl x)) is = absurd (omega (arith, x, is))
-read_only_in Between n (inr (inr x)) is = absurd (omega (arith, x, is))
-read_only_in Stands n x is = absurd (omega (arith, x, is))
-read_only_in LinkAtEnd n (inl x) is = absurd (omega (arith, x, is))
-read_only_in LinkAtEnd n (inr x) is = absurd (omega (arith, x, is))
-read_only_in Unfollowed n x is = absurd (omega (arith, x, is))
-read_only_in BetweenAtEnd n (inl x) is = absurd (omega (arith, x, is))
-read_only_in BetweenAtEnd n (inr x) is = absurd (omega (arith, x, is))
-read_only_in Ended n x is = absurd (omega (arith, x, is))
-
-read_only : (asked : Asked) (e : Exchange) (older : List Exchange) → (due_after asked (e ∷ older)).next ≡ READ_LINK
-    → met_of asked e ≡ Partly
-read_only asked e older is = read_only_in (met_of asked e) (due_after asked (e ∷ older)).next
-    (next_of asked (stand_after asked (e ∷ older)) e (met_of asked e)) is
+only_after : (asked : Asked) (e : Exchange) (older : List Exchange)
+    → Only (met_of asked e) (due_after asked (e ∷ older)).next
+only_after asked e older = only (met_of asked e) (due_after asked (e ∷ older)).next
+    (next_of asked (stand_after asked (e ∷ older)) e (met_of asked e))
 
 pub due_at : (asked : Asked) (e : Exchange) (older : List Exchange) (m : Met) → met_of asked e ≡ m
     → due_after asked (e ∷ older) ≡ due_met asked (moved (stand_after asked older) e m) e m
@@ -276,7 +232,7 @@ pub made_above : (asked : Asked) (e above : Exchange) (older : List Exchange) �
     → (above.call ≡ MAKE_ABOVE)
     × ((above.error ≡ 0) × ((e.from ≡ above.gave) × (above.path ++ e.path ≡ whole (stand_after asked older))))
 made_above asked e above older h creates =
-    let met : met_of asked above ≡ Above = create_only asked above older (sym h.0.call ∙ creates) in
+    let met : met_of asked above ≡ Above = (only_after asked above older).create (sym h.0.call ∙ creates) in
     let is = means asked above Above h.1.0.is met in
     let due = due_at asked above older Above met in
     let from : e.from ≡ above.gave = h.0.from ∙ ap (λ (d : Due). d.from) due in
@@ -332,7 +288,7 @@ all_gave_none asked (e ∷ older) h call = (
 pub given : (asked : Asked) (e : Exchange) (older : List Exchange) → IsHistory asked (e ∷ older)
     → (due_after asked (e ∷ older)).next ≡ ENDS → e.error ≡ 0 → IsGiven asked older e
 given asked e older h ends none =
-    let met : met_of asked e ≡ Ended = ends_only asked e older ends in
+    let met : met_of asked e ≡ Ended = (only_after asked e older).ends ends in
     record {
       by = means asked e Ended h.0.is met none;
       gives = ap (λ (d : Due). d.gives) (due_at asked e older Ended met)
@@ -375,13 +331,13 @@ no_partial : (asked : Asked) (older : List Exchange) → IsHistory asked older �
     → (due_after asked older).next ≢ PARTIAL
 no_partial asked [] h never = no_partial_first asked.file
 no_partial asked (e ∷ older) h never = λ is.
-    let gone = means asked e Gone h.0.is (partial_only asked e older is) in false≢true (sym never ∙ gone.1.1)
+    let gone = means asked e Gone h.0.is ((only_after asked e older).partial is) in false≢true (sym never ∙ gone.1.1)
 
 no_read : (asked : Asked) (older : List Exchange) → IsHistory asked older → asked.follows ≡ false
     → (due_after asked older).next ≢ READ_LINK
 no_read asked [] h never = no_read_first asked.file
 no_read asked (e ∷ older) h never = λ is.
-    no_partial asked older h.1 never (sym h.0.call ∙ means asked e Partly h.0.is (read_only asked e older is))
+    no_partial asked older h.1 never (sym h.0.call ∙ means asked e Partly h.0.is ((only_after asked e older).read is))
 
 pub none_followed : (asked : Asked) (history : List Exchange) → IsHistory asked history → asked.follows ≡ false
     → AllByRecursion (NoLink asked) history
