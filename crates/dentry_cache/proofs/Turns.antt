@@ -1,10 +1,9 @@
 -- The last entry that goes, or is made the first: so each is turned once, and those that stay end in their order.
-use Rattle.std.proofs.Common.{◌≡◌, ℕ, zero, suc, ◌-◌, ◌<◌, Bool, true, false, if◌then◌else◌, not, List, [], ◌∷◌, ◌++◌, append-nil, append_assoc, length, length-append, take, drop, filter, nat_eq, eq-eqb, Option, Some, refl, sym, ap, subst, ◌∙◌, arith}
+use Rattle.std.proofs.Common.{◌≡◌, ℕ, zero, suc, ◌-◌, ◌<◌, Bool, true, false, if◌then◌else◌, not, List, [], ◌∷◌, ◌++◌, append_assoc, length, length-append, take, drop, filter, nat_eq, eq-eqb, Option, Some, refl, sym, ap, subst, ◌∙◌, arith}
 use Rattle.std.specs.Prelude.{slice_get}
 use Rattle.std.specs.List.{AllByRecursion, IsDistinct}
 use Rattle.std.specs.Map.{keys_of, lookup_entry, remove_entry}
 use Rattle.std.proofs.lemmas.Map.Keys.{IsDistinct-head, IsDistinct-tail}
-use Rattle.std.proofs.lemmas.List.{take_all}
 use Rattle.lru.specs.LruCache.{promoted, last_entry}
 use Rattle.dentry_cache.specs.Cache.{same_entry}
 use Rattle.dentry_cache.proofs.Keys.{Key, same_entry-true, same_entry-refl}
@@ -82,16 +81,6 @@ cut : (m : ℕ) (es : List Entry) → m < length es → (x : Entry) × (take (su
 cut m [] within = absurd (omega arith)
 cut zero (e ∷ es) within = (e, refl, refl)
 cut (suc m) (e ∷ es) within = let rest = cut m es (omega arith) in (rest.0, ap (λ l. e ∷ l) rest.1, rest.2)
-
-pub none_turned : (d : ℕ) (left : ℕ) (es : List Entry) → left ≡ length es → es ≡ turned d left es
-none_turned d left es all = rw (all, take_all (length es) es (omega arith), drop_all es) refl
-  where
-    drop_all : (es : List Entry) → drop (length es) es ≡ []
-    drop_all [] = refl
-    drop_all (e ∷ es) = drop_all es
-
-pub all_turned : (d : ℕ) (left : ℕ) (es : List Entry) → left ≡ 0 → turned d left es ≡ filter (stays d) es
-all_turned d left es none = rw none (append-nil (filter (stays d) es))
 
 -- one turn more
 pub one_turned : (d left next : ℕ) (es old new : List Entry) → left ≡ suc next → next < length es → old ≡ turned d left es
