@@ -65,7 +65,7 @@ pub fn opens_at_once_tell()
 }
 
 /// A call of which `misses_at_once` is true, by whatever handles each name was opened in the directory before it, up to
-/// one that is missing there: the opens, that refusal, and the closes between are the lines of that call, which fails by
+/// one that is missing there: the opens, that refusal, and the closes between are the lines of that call. It fails by
 /// ENOENT. In each legal history in which these lines are the program's own events, it tells what `conversations_tell`
 /// says of a call.
 pub fn fails_at_once_tell()

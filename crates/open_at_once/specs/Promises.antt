@@ -103,8 +103,8 @@ why_failed (e ∷ older) = why_by e (why_failed older)
 
 -- ---- a name that is missing
 
--- The caller takes the kernel's word, and the look-up of all names has just failed by ENOENT, of which nothing was known
--- before; then the library said that the call fails so.
+-- The caller takes the kernel's word, and the look-up of all names has just failed by ENOENT, of which nothing was
+-- known before; then the library said that the call fails so.
 abbrev pub missed_by : Facts → Exchange → ℕ → Bool → Bool
 missed_by f (looks_up so error) why was = f.below && (not so && ((why == 0) && (error == ENOENT)))
 missed_by f (asks_misses so) why was = was && so

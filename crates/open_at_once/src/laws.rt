@@ -34,9 +34,9 @@ pub fn plain_names_are_known_to_fail()
         → (next_after f history).failed ≡ why_failed history }
 {}
 
-/// A call fails at once only where its caller takes the kernel's word, after the one look-up of all names: that failed by
-/// ENOENT, of which nothing was known before, and then the library said that the call fails where one of these names is
-/// missing (`misses_at_once` of `c_protocol`).
+/// A call fails at once only where its caller takes the kernel's word, after the one look-up of all names: that failed
+/// by ENOENT, of which nothing was known before, and then the library said that the call fails where one of these names
+/// is missing (`misses_at_once` of `c_protocol`).
 pub fn a_call_fails_by_its_own_look_up()
     ensures { (f : Facts) (history : List Exchange) → IsHistory f history → (next_after f history).next ≡ FAILS
         → is_missed f history ≡ true }

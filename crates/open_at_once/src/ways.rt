@@ -291,8 +291,8 @@ pub fn begin(facts: &Facts) -> Way
 /// The kernel's walk is first, where the caller takes its word and the library says that one system call may. Then come
 /// the path's names: at once, or through links where one was a link last, the call follows each, and it didn't fail so
 /// before. What plain names led to is given if the call replies so by its place; where the caller takes the kernel's
-/// word, the path is that place. Where the one look-up of such a caller finds a name missing, the call fails by ENOENT. If
-/// else no way opens it, the steps decide, by which each error is found anew.
+/// word, the path is that place. Where the one look-up of such a caller finds a name missing, the call fails by ENOENT.
+/// If else no way opens it, the steps decide, by which each error is found anew.
 pub fn next(facts: &Facts, way: Way, answer: &Answer) -> Way
     ensures goes { (history : List Exchange) → IsAt facts.now history way → is_question way.next ≡ true
         → IsAt facts.now (exchange_of way.next answer.now ∷ history) result }

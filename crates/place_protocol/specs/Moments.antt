@@ -43,8 +43,8 @@ pub record IsAnswer (w : World) (facts : Facts) (n : ℕ) (e : Exchange) : Type 
   -- so it is of each text, and getcwd(2) fails, if it was gone before the first question
   pub link_before : Worked ObjectLink e ⊎ Worked KeptLink e → ends_as_gone e.text ≡ false → w.before ≡ false
   pub cwd_before : Worked Cwd e → w.before ≡ false
-  -- statx(2), rmdir(2), getdents64(2): a removed directory has no link; where it keeps some (overlayfs, cgroups, btrfs),
-  -- reading from it gives ENOENT. It isn't so in sysfs, where the kernel itself removes directories.
+  -- statx(2), rmdir(2), getdents64(2): a removed directory has no link; where it keeps some (overlayfs, cgroups,
+  -- btrfs), reading from it gives ENOENT. It isn't so in sysfs, where the kernel itself removes directories.
   pub dead : facts.directory ≡ true → e.question ≡ Dead → e.answer.yes ≡ false → w.gone n ≡ false
   -- proc(5): a link's text is the path
   pub kept_link : Worked KeptLink e → e.text ≡ w.object n

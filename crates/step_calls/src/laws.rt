@@ -20,8 +20,8 @@ pub fn opens_stood()
 
 /// The same of the directory above (openat(2), stat(2), rmdir(2)), also where it was found by the names passed. Removal
 /// is for good: so the child is asked afterwards whether it is there. That isn't asked of one that had an entry at the
-/// step before. And where removed directories keep links (overlayfs, cgroups, btrfs) it can't be asked of one that may not be
-/// read.
+/// step before. And where removed directories keep links (overlayfs, cgroups, btrfs) it can't be asked of one that may
+/// not be read.
 pub fn parents_stood()
     ensures { ParentsStood }
 {}
