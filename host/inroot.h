@@ -420,9 +420,10 @@ ssize_t inroot_readlink(int root, const char *path, int flags, char *text, size_
  * where it may not be read. ROOT stays open until the walk is closed; and with INROOT_JAIL the same thread goes on.
  *
  * inroot_walk_next() gives 1 and an ENTRY; 0 behind the last; or -errno where the rest of a directory's entries isn't
- * given, whose PATH is in ENTRY then, and the next turn goes on behind it: EAGAIN where it was moved meanwhile, EIO where
- * a name has no bytes or a slash, ENAMETOOLONG where it doesn't fit, as more than 1,024 bytes may, and what
- * getdents64(2) has. What is in ENTRY stays until the next turn. inroot_walk_skip() has the walk leave out what is below
+ * given, whose PATH is in ENTRY then, and the next turn goes on behind it: EAGAIN where it was moved meanwhile, EIO
+ * where a name has no bytes or a slash, ENAMETOOLONG where one of over 1,024 bytes doesn't fit, and what
+ * getdents64(2) has. What is in ENTRY stays until the next turn. inroot_walk_skip() has the walk leave out what is
+ * below
  * the directory that was given last. inroot_walk_close() ends it, where it isn't NULL.
  *
  * The walk promises, whoever renames meanwhile: it follows no link below PATH. It opens each directory that it enters

@@ -16,7 +16,7 @@
 #include <sys/syscall.h>
 #include <unistd.h>
 
-/* What getdents64(2) gives at once; and the longest name that surely has room behind a path. A file system may have names over 255 bytes. */
+/* What getdents64(2) gives at once; and the longest name that has room behind any path: as on vfat it may be over 255 bytes. */
 enum { RECORDS = 8192, NAME_ROOM = 1024 };
 
 /* A directory that is being listed: which call comes next, the proved library says (crates/walk_directory). */

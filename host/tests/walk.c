@@ -121,6 +121,8 @@ static void check(const struct inroot_walk_entry *entry)
     expect(strcmp(entry->name, slash == NULL ? entry->path : slash + 1) == 0, "%s has the name %s", entry->path, entry->name);
     expect((entry->opened >= 0) <= S_ISDIR(entry->kind), "%s is gone into and is no directory", entry->path);
     expect(entry->opened < 0 || entry->error == 0, "%s is gone into with error %d", entry->path, entry->error);
+    gives(fcntl(entry->directory, F_GETFD), FD_CLOEXEC, "%s: the flags of the directory that has it", entry->path);
+    expect(entry->opened < 0 || fcntl(entry->opened, F_GETFD) == FD_CLOEXEC, "%s is open, and stays so after exec", entry->path);
     int fd = inroot_open(entry->directory, entry->name, INROOT_NOFOLLOW);
     expect(fd >= 0 && fstat(fd, &about) == 0 && (about.st_mode & S_IFMT) == entry->kind, "%s is opened: %d", entry->path, fd);
     if (fd >= 0)
