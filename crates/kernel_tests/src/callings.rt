@@ -6,6 +6,8 @@ use call_course::{
 };
 use std::test::Fail;
 
+const ENOENT: u32 = 2;
+
 const EIO: u32 = 5;
 
 const EBADF: u32 = 9;
@@ -59,6 +61,7 @@ fn fine() -> Answer {
         made: 0,
         reply: 0,
         whole: false,
+        fails: false,
         stepped: true,
         changed: false,
         moved: false,
@@ -115,6 +118,17 @@ fn what_is_opened_at_once_is_given(rt: HostRuntime) -> Result<(), Fail> {
     let end = goes(first, Answer { value: 7, ..fine() });
     assert!(rt; is(&end, ENDS, 0) && end.value == 7 && end.holds);
     assert!(rt; goes(end, fails(EIO)) == end);
+    Ok(())
+}
+
+#[test]
+fn what_fails_at_once_needs_no_steps(rt: HostRuntime) -> Result<(), Fail> {
+    let first = goes(begin(&plain()), fine());
+    let missing = Answer {
+        fails: true,
+        ..fails(ENOENT)
+    };
+    assert!(rt; is(&goes(first, missing), FAILS, ENOENT));
     Ok(())
 }
 
