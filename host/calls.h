@@ -1031,8 +1031,6 @@ void inroot_level_next(struct inroot_level *level, const struct inroot_level_ans
 
 /* ---- how a call begins whose paths begin at a directory below the root. These take no memory. A PLACE has a slash before each name. */
 
-size_t inroot_count_names(const unsigned char *place, size_t length);
-
 /*
  * Lays the text that the call walks from the root: where the path BEGINS at the directory, as a telling says, the names of PLACE, a
  * slash and the path; else the path. How many bytes that are: at most 4,096, one more than a path has. The room has so many.

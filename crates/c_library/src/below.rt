@@ -1,19 +1,10 @@
 //! How a call begins whose paths begin at a directory below the root.
 ghost use Rattle.std.specs.Prelude.{◌≡◌, ◌≤◌, ◌<◌, ◌+◌, length, if◌then◌else◌};
 ghost use Rattle.path_text.specs.declared.path.TheConstants.{TEXT_MAX};
-ghost use Rattle.path_text.specs.Text.{pieces};
 ghost use Rattle.begin_below.specs.Paths.{joined, IsLaid};
 ghost use Rattle.begin_below.specs.Telling.{after_again, after_report, after_step, begins_some, begun, found_at, holds_still, next_of};
 
 use begin_below::Telling;
-
-/// How many names a place has: `begin_below::count_names`.
-#[unsafe(no_mangle)]
-pub extern "C" fn inroot_count_names(place: &[u8]) -> usize
-    ensures { result ≡ length (pieces place.now) }
-{
-    begin_below::count_names(place)
-}
 
 /// Lays the text that the call walks from the root: `begin_below::join`.
 #[unsafe(no_mangle)]

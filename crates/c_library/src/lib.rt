@@ -7,7 +7,7 @@
 //! `host/calls.h`: what is kept is empty (zero) before the first call, and is left alone between two turns.
 #![tactic(auto)]
 
-ghost use Rattle.std.specs.Prelude.{◌≡◌, ◌≤◌, ◌+◌, ◌∷◌, [], ℕ, List, true, false, drop, length, take, IfSome, IsSome};
+ghost use Rattle.std.specs.Prelude.{◌≡◌, ◌≤◌, ◌&&◌, ◌+◌, ◌∷◌, [], ℕ, List, true, false, drop, length, take, IfSome, IsSome};
 ghost use Rattle.root_ops.specs.Ahead.{doing_ahead};
 ghost use Rattle.root_ops.specs.declared.call.CallTurn.{CallTurn};
 ghost use Rattle.c_protocol.specs.AtOnce.{misses_at_once, opens_at_once};
