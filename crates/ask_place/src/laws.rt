@@ -1,5 +1,5 @@
 //! What holds of every history, as laws over its exchanges: each function's contract is one, and its body is empty.
-ghost use Rattle.std.specs.Prelude.{◌≡◌, ◌≢◌, ◌<◌, ◌≤◌, ℕ, Bool, true, false, List, [], ◌∷◌, length};
+ghost use Rattle.std.specs.Prelude.{◌≡◌, ◌≢◌, ◌<◌, ◌≤◌, ℕ, true, List, length};
 ghost use Rattle.system_calls.specs.Errors.{EAGAIN};
 ghost use Rattle.ask_place.specs.History.{next_after, Exchange, IsHistory};
 ghost use Rattle.ask_place.specs.Promises.{is_open_after, is_over, needs_open, why_after, IsFound};

@@ -1,5 +1,5 @@
 //! What holds of every call that begins so: each function's contract is a law, and its body is empty.
-ghost use Rattle.std.specs.Prelude.{◌≡◌, ◌≤◌, ◌++◌, ◌+◌, ◌&&◌, ◌⊎◌, ℕ, List, Bool, true, false, map};
+ghost use Rattle.std.specs.Prelude.{◌≡◌, ◌≤◌, ◌++◌, ◌+◌, ◌&&◌, ◌⊎◌, ℕ, List, Bool, true, map};
 ghost use Rattle.path_text.specs.Text.{begins_with_slash, part_of, parts_of, pieces};
 ghost use Rattle.begin_below.specs.Paths.{begins_there, goes_below, joined};
 ghost use Rattle.begin_below.specs.Telling.{begun, found_at, is_taken, next_of, one, taken, telling_after, BeginsFirst, BeginsSecond, IsFresh, IsLast, Turn, STEP_NAME_BELOW, STEP_RENAME};

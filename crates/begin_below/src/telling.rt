@@ -1,6 +1,6 @@
 //! When the names of the directory are reported as passed, and which steps wait for that.
 ghost use Rattle.std.specs.Prelude.{◌≡◌};
-ghost use Rattle.begin_below.specs.Telling.{after_again, after_report, after_step, begins_some, begun, found_at, holds_still, is_answered, is_taken, next_of, opens_in_root};
+ghost use Rattle.begin_below.specs.Telling.{after_again, after_report, after_step, begins_some, begun, found_at, holds_still, is_answered, next_of, opens_in_root};
 
 use crate::paths::{begins_there, has_names, is_same_place};
 

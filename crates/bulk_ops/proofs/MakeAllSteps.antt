@@ -15,7 +15,7 @@ use Rattle.step_machine.specs.Machine.{taken}
 use Rattle.step_resolver.specs.Asked.{AskedPart, Cur, Up, Named, asked, followed, is_deepest}
 use Rattle.walk_plan.specs.Plan.{follows, leads_out}
 use Rattle.step_resolver.specs.Meaning.{LINKS_MAX, is_too_long}
-use Rattle.step_resolver.specs.Order.{Way, Handle, Position, root_itself, holds, Todo, todo, After, gives, onward, judges, Walking, opening, reading, rising, judging, duping, ending, closing, names_of, handles_of, is_dir_position, is_dir_kind, is_followed, at_end, in_directory, on_part, on_own, on_parts, goes_on, for_walk, comes, closes, refusal_of, with_room, follows_link, enters, refused_open, from_link, read_text, end_of, judged, refused_rise, Line, answered, no_room, not_made, has_room, answer_of}
+use Rattle.step_resolver.specs.Order.{Way, Handle, Position, root_itself, holds, Todo, todo, After, gives, onward, judges, Walking, opening, reading, rising, judging, duping, ending, closing, names_of, handles_of, is_dir_position, is_dir_kind, is_followed, at_end, in_directory, on_part, on_own, on_parts, goes_on, for_walk, comes, closes, refusal_of, with_room, follows_link, enters, refused_open, from_link, read_text, end_of, judged, refused_rise, Line, has_room, answer_of}
 use Rattle.step_resolver.specs.Order as walk
 use Rattle.step_resolver.specs.View.{WalkView}
 use Rattle.step_resolver.specs.TurnView.{STEPS_MAX, turn_view}

@@ -1,7 +1,7 @@
 -- The order of MkdirAll's steps: which step is due, and what its answer makes of the call. It walks to the deepest
 -- directory that is there, looks through the rest of the path, and then makes and opens one name at a time, without
 -- following links. mkdir(2), openat(2) with O_PATH and O_NOFOLLOW, openat2(2), close(2).
-use Rattle.std.specs.Prelude.{◌≡◌, ℕ, suc, ◌+◌, ◌*◌, List, [], ◌∷◌, Bool, true, false, if◌then◌else◌, length, reverse, Option, Some, None}
+use Rattle.std.specs.Prelude.{ℕ, suc, ◌+◌, ◌*◌, List, [], ◌∷◌, Bool, true, false, if◌then◌else◌, length, reverse, Option, Some, None}
 use Rattle.path_text.specs.declared.errno.Errno.{Errno}
 use Rattle.path_text.specs.declared.errno.Errno.TheVariants.{NotFound, Raced, NoMemory, Exists, NotDir, TooLong}
 use Rattle.path_text.specs.Names.{same_names}

@@ -2,7 +2,7 @@
 -- the path is walked; then the target in it is cleared: an entry is removed as what is no directory, and where a
 -- directory stands there that is opened by its name, listed, its own entries are cleared, and then it is removed.
 -- unlink(2), rmdir(2), openat(2) with O_PATH and O_NOFOLLOW.
-use Rattle.std.specs.Prelude.{◌≡◌, ℕ, suc, zero, ◌+◌, ◌*◌, List, [], ◌∷◌, Bool, true, false, length, map, Option, Some, None}
+use Rattle.std.specs.Prelude.{ℕ, suc, zero, ◌+◌, ◌*◌, List, [], ◌∷◌, Bool, true, false, length, map, Option, Some, None}
 use Rattle.path_text.specs.declared.errno.Errno.{Errno}
 use Rattle.path_text.specs.declared.errno.Errno.TheVariants.{NotFound, NoMemory, Busy, NotDir, IsDir, NotEmpty}
 use Rattle.path_text.specs.Reading.{Reading}

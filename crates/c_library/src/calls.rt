@@ -1,5 +1,5 @@
 //! What says which thing comes next in a call, from its beginning to its result.
-ghost use Rattle.std.specs.Prelude.{◌≡◌, ◌∷◌, [], ℕ, List, true, false};
+ghost use Rattle.std.specs.Prelude.{◌≡◌, ◌∷◌, [], List, true, false};
 ghost use Rattle.call_course.specs.History.{exchange, is_question, Exchange, IsAt};
 ghost use Rattle.call_course.specs.declared.calling.Facts.{Facts as CallFacts};
 

@@ -18,7 +18,7 @@ use Rattle.root_ops.specs.declared.call.CallTurn.TheVariants.{More, Done}
 use Rattle.root_ops.specs.declared.op.Op.{Op}
 use Rattle.root_ops.specs.declared.reply.Reply.{Reply}
 use Rattle.root_ops.specs.declared.reply.Reply.TheVariants as replies
-use Rattle.root_ops.specs.Order.{due, fault, starts, ends}
+use Rattle.root_ops.specs.Order.{due, fault}
 use Rattle.root_ops.specs.Order as call
 use Rattle.root_ops.specs.OwnHandles.{OpenedAreClosed, AllFit, Fits, times, opened_by, closed_by, is_release, left_by}
 use Rattle.root_ops.specs.OwnHandles as lines

@@ -21,7 +21,7 @@ use Rattle.step_resolver.specs.Failures.{TellsError, TellsWant, MetRefusal}
 use Rattle.step_resolver.specs.Footprint.{ground, IsMeant}
 use Rattle.step_resolver.specs.Headline.{whole_meaning}
 use Rattle.step_resolver.specs.Meaning.{Meant, LINKS_MAX, fails, is_too_long, path_means, reads_of}
-use Rattle.step_resolver.specs.Order.{Way, Handle, Line, answered, no_room, not_made, IsWant, Walking, opening, reading, rising, judging, duping, ending, closing, Position, root_itself, holds, Todo, todo, Turn, more, found, partial, failed, begins, goes_on, take, due, judged, end_of, gives_up, LeadsTo}
+use Rattle.step_resolver.specs.Order.{Way, Handle, Line, answered, no_room, not_made, IsWant, opening, reading, rising, judging, duping, ending, closing, Position, root_itself, holds, Todo, todo, Turn, more, found, partial, failed, begins, goes_on, take, due, gives_up, LeadsTo}
 use Rattle.step_resolver.specs.Order as walk
 use Rattle.step_resolver.specs.Trail.{Spot, Trail}
 use Rattle.step_resolver.specs.View.{way_from}

@@ -1,5 +1,5 @@
 //! A call that a C program holds while it makes the step that is due.
-ghost use Rattle.std.specs.Prelude.{◌≡◌, ◌<◌, Some, None, Option, IsSome};
+ghost use Rattle.std.specs.Prelude.{◌≡◌, Some, None, Option, IsSome};
 ghost use Rattle.c_protocol.specs.declared.kept.Held.{Held};
 ghost use Rattle.c_protocol.specs.Kept.{kept_owns, held_coded};
 

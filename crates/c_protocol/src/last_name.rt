@@ -1,6 +1,5 @@
 //! Where a path's last name stands in it.
-ghost use Rattle.std.specs.Prelude.{◌≡◌, ◌≢◌, ◌++◌, ◌∷◌, ◌==◌, ℕ, List, [], Bool, false, not, ◌&&◌, MatchOption};
-ghost use Rattle.std.specs.List.{list_any};
+ghost use Rattle.std.specs.Prelude.{◌≡◌, ◌≢◌, ◌++◌, ◌∷◌, ◌==◌, ℕ, [], false, not, ◌&&◌, MatchOption};
 ghost use Rattle.path_text.specs.Parts.{BeginsWith, IsSeparated};
 ghost use Rattle.path_text.specs.Text.{ends_with_slash, part_of, pieces};
 ghost use Rattle.c_protocol.specs.Split.{piece_fault, refused, IsCutAt, IsParted};

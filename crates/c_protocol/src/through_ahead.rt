@@ -1,5 +1,5 @@
 //! What comes next on a path that a call goes by names and links which were passed at once.
-ghost use Rattle.std.specs.Prelude.{◌≡◌, ◌≢◌, ◌≤◌, ◌<◌, ◌+◌, ◌-◌, ◌==◌, ◌&&◌, [], drop, length, take, true, IsTrue};
+ghost use Rattle.std.specs.Prelude.{◌≡◌, ◌≤◌, ◌<◌, ◌+◌, ◌-◌, ◌==◌, ◌&&◌, length, take, true};
 ghost use Rattle.std.specs.List.{position_or_len};
 ghost use Rattle.path_text.specs.declared.name.TheConstants.{SLASH};
 ghost use Rattle.open_through_links.specs.declared.passage.TheConstants.{UP};

@@ -1,5 +1,5 @@
 -- How a call ends, and why.
-use Rattle.std.proofs.Common.{◌≡◌, ◌≢◌, List, [], ◌∷◌, length, Bool, true, false, not, ◌&&◌, ◌||◌, inl, inr, refl, ap, sym, subst, arith}
+use Rattle.std.proofs.Common.{◌≡◌, List, [], ◌∷◌, length, Bool, true, false, not, ◌&&◌, ◌||◌, inl, inr, refl, ap, sym, subst, arith}
 use Rattle.std.specs.Prelude.{◌==◌}
 use Rattle.system_calls.specs.Errors.{EAGAIN}
 use Rattle.call_course.specs.Turns.{gains, lacks, noted, start}

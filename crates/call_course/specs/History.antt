@@ -1,6 +1,6 @@
 -- What was asked of a driver as it makes a call, what that gave, and what comes next. A history has the last exchange
 -- first.
-use Rattle.std.specs.Prelude.{◌≡◌, ℕ, List, [], ◌∷◌, ◌==◌, Bool, true, ◌&&◌, nat_lt, nat_le}
+use Rattle.std.specs.Prelude.{◌≡◌, ℕ, List, [], ◌∷◌, Bool, true, ◌&&◌, nat_lt, nat_le}
 use Rattle.call_course.specs.Turns.{after_answer, start}
 use Rattle.call_course.specs.declared.calling.Answer.{Answer}
 use Rattle.call_course.specs.declared.calling.Calling.{Calling}

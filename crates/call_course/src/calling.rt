@@ -1,7 +1,7 @@
 //! How far a call has come, and what comes next.
-ghost use Rattle.std.specs.Prelude.{◌≡◌, ◌≤◌, ◌<◌, ℕ, List, [], ◌∷◌, ◌==◌, Bool, true, false, ◌&&◌, ◌||◌, not, if◌then◌else◌, nat_lt};
+ghost use Rattle.std.specs.Prelude.{◌≡◌, ◌<◌, List, [], ◌∷◌, ◌==◌, true, false, ◌&&◌, ◌||◌};
 ghost use Rattle.system_calls.specs.Tries.{TRIES};
-ghost use Rattle.call_course.specs.Turns.{after_answer, after_close, after_own_root, after_proc, answered, asks, at_once, began, begun, checked, conversed, directory_error, done, ended, first, gains, homeward, judged, lacks, let_go, looked_at_proc, looked_at_root, may_go_by_another, noted, over, placed, replied, reply_error, start, stuck, took, went_by_another, went_home};
+ghost use Rattle.call_course.specs.Turns.{after_close, after_own_root, after_proc, answered, asks, at_once, began, begun, checked, conversed, directory_error, done, ended, first, gains, homeward, judged, lacks, let_go, looked_at_proc, looked_at_root, may_go_by_another, noted, over, placed, replied, reply_error, stuck, took, went_by_another, went_home};
 ghost use Rattle.call_course.specs.History.{exchange, is_question, Exchange, IsAt};
 
 use system_calls::errors::{EAGAIN, EIO, ENOMEM, ENOSYS, ENOTDIR};

@@ -12,7 +12,7 @@ use Rattle.root_ops.specs.declared.reply.Reply.{Reply}
 use Rattle.root_ops.specs.declared.reply.Reply.TheVariants.{Fault}
 use Rattle.root_ops.specs.CallHistory.{IsCallInHistory}
 use Rattle.root_ops.specs.Renumbered.{Numbering, line_by, lines_by, numbers_by, told_by}
-use Rattle.c_protocol.specs.AtOnce.{closes, lines_at_once, lines_from, lines_missing, lines_missing_from, names_passed, names_to, opened_at_once, opens, IsCallAtOnce, FailsAtOnceTell, OpensAtOnceTell, Passed}
+use Rattle.c_protocol.specs.AtOnce.{closes, lines_at_once, lines_from, lines_missing, lines_missing_from, names_passed, opened_at_once, opens, IsCallAtOnce, FailsAtOnceTell, OpensAtOnceTell, Passed}
 use Rattle.c_protocol.specs.Through.{enters, follows, lines_of, lines_on, link, above, opened_at, spot_after, spot_at, spot_in, top, IsPassage, IsWay, OpensThroughTell, Passage, Spot, Stand, links_after}
 use Rattle.c_protocol.specs.Numbers.{kind_of}
 use Rattle.c_protocol.specs.declared.numbers.Asked.{Asked}

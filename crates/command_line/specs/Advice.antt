@@ -2,7 +2,7 @@
 use Rattle.std.specs.Prelude.{ℕ, List, [], ◌++◌, nat_lt, if◌then◌else◌, codes, decimal}
 use Rattle.command_line.specs.declared.advice.TheConstants.{MEMORY_MAX, STATES_MAX}
 use Rattle.command_line.specs.declared.ending.Fault.{Fault}
-use Rattle.command_line.specs.declared.ending.Fault.TheVariants.{Usage, NotUtf8, Schedule, AskedTurn, AskedTurns, Width, Color, NoRequest, Run, Options, PropertyFails, Explore, Merge, DrawActors, DrawLines, ReplayEvents, Service}
+use Rattle.command_line.specs.declared.ending.Fault.TheVariants.{AskedTurn, AskedTurns, Run, Explore, DrawActors, DrawLines, ReplayEvents}
 use Rattle.outcome_text.specs.declared.fault.ExploreFault.{ExploreFault}
 use Rattle.outcome_text.specs.declared.fault.ExploreFault.TheVariants.{NoSuchActor, NoSuchLine, Search, TooMuchMemory, NoGauge}
 use Rattle.schedule_graph.specs.declared.fault.SearchFault.{SearchFault}

@@ -1,5 +1,5 @@
 -- What a script has where it is refused.
-use Rattle.std.specs.Prelude.{⊤, ◌≡◌, false, ℕ, ◌==◌, List, [], ◌++◌, length, take, nat_le, if◌then◌else◌, Option, Some, None, option_and_then, codes}
+use Rattle.std.specs.Prelude.{⊤, ◌≡◌, false, ℕ, ◌==◌, List, ◌++◌, length, take, nat_le, if◌then◌else◌, Option, Some, None, option_and_then, codes}
 use Rattle.std.specs.List.{flat_map}
 use Rattle.serde_json.specs.Data.{Data}
 use Rattle.serde_json.specs.Find.{get, at}

@@ -1,6 +1,6 @@
 -- How a picture is drawn that a command line asks for.
 use Rattle.std.specs.Borrow.{Bor}
-use Rattle.std.specs.Prelude.{⊤, ◌≡◌, ◌≤◌, ◌⊎◌, ◌&&◌, ◌||◌, ℕ, List, Bool, true, false, not, if◌then◌else◌, is_some, Option, Some, None, Result, Ok, Err, codes, decimal}
+use Rattle.std.specs.Prelude.{◌≡◌, ◌≤◌, ◌⊎◌, ◌&&◌, ◌||◌, ℕ, List, Bool, true, false, not, if◌then◌else◌, is_some, Option, Some, None, Result, Ok, Err, codes, decimal}
 use Rattle.path_text.specs.Name.{same_bytes}
 use Rattle.drawings.specs.declared.look.Colours.{Colours}
 use Rattle.drawings.specs.declared.look.Colours.TheVariants as colours

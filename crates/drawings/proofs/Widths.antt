@@ -1,5 +1,5 @@
 -- How wide the lines of the text form are.
-use Rattle.std.proofs.Common.{◌≡◌, Bool, true, false, ℕ, zero, suc, ◌+◌, ◌-◌, ◌*◌, ◌<◌, ◌≤◌, List, [], ◌++◌, length, take, replicate, refl, lit<, arith}
+use Rattle.std.proofs.Common.{◌≡◌, Bool, true, false, ℕ, zero, suc, ◌+◌, ◌-◌, ◌*◌, ◌<◌, ◌≤◌, List, [], ◌++◌, length, take, replicate, refl, arith}
 use Rattle.std.specs.Prelude.{nat_le, if◌then◌else◌, codes}
 use Rattle.std.proofs.lemmas.Bool.Decides.{nat_tests}
 use Rattle.std.proofs.lemmas.List.{length-append, length-replicate, length-take-le}
@@ -7,7 +7,6 @@ use Rattle.std.proofs.lemmas.Fmt.{length-decimal-le}
 use Rattle.step_text.specs.Words.{BLANK}
 use Rattle.drawings.specs.declared.look.Colours.TheVariants.{Off}
 use Rattle.drawings.specs.declared.look.Legend.TheVariants as legend
-use Rattle.drawings.specs.declared.look.TheConstants.{COLUMNS_MIN}
 use Rattle.drawings.specs.declared.picture.Tone.{Tone}
 use Rattle.drawings.specs.declared.text.TheConstants.{MARK_COLUMNS}
 use Rattle.drawings.specs.Cells.{cut, fitted, to_right}

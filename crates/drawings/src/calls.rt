@@ -1,7 +1,7 @@
 //! What an actor calls for, in the words that a script has for it.
-ghost use Rattle.std.specs.Prelude.{◌≡◌, [], ◌∷◌, ◌++◌, map, IfOk, OnOk};
+ghost use Rattle.std.specs.Prelude.{◌≡◌, map, IfOk};
 ghost use Rattle.step_text.specs.Output.{Gains};
-ghost use Rattle.drawings.specs.Calls.{ref_words, with_ref, with_name, with_text, single_words, op_words, word_if, call_words, calls_of};
+ghost use Rattle.drawings.specs.Calls.{with_ref, with_name, with_text, single_words, op_words, word_if, call_words, calls_of};
 
 use crate::events::mode_words;
 use path_text::{Bytes, Name, NoMemory};

@@ -1,5 +1,5 @@
 //! The heading: each actor's root, and how its calls ended.
-ghost use Rattle.std.specs.Prelude.{◌≡◌, ◌++◌, ◌<◌, ◌≤◌, [], ◌∷◌, length, slice_get, IfOk, OnOk};
+ghost use Rattle.std.specs.Prelude.{◌≡◌, ◌++◌, ◌<◌, ◌≤◌, [], length, slice_get, IfOk, OnOk};
 ghost use Rattle.std.specs.Option.{option_copied};
 ghost use Rattle.step_text.specs.Output.{Gains};
 ghost use Rattle.drawings.specs.Picture.{root_head, reply_tone, reply_text, call_head, call_heads, outcomes_at, actor_heads, heads_of};

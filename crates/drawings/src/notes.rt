@@ -1,5 +1,5 @@
 //! Where what the other actors hold stands after an event, where it stands elsewhere than before.
-ghost use Rattle.std.specs.Prelude.{◌≡◌, ◌<◌, ◌≤◌, ◌^◌, ◌++◌, IfOk, OnOk};
+ghost use Rattle.std.specs.Prelude.{◌≡◌, ◌≤◌, ◌++◌, IfOk, OnOk};
 ghost use Rattle.step_text.specs.Output.{Gains};
 ghost use Rattle.drawings.specs.Notes.{newest_in, is_outside, now_words, outside_words, note_line, note_if_moved, note_of, notes_below};
 ghost use Rattle.drawings.specs.Places.{way_to, place_words};

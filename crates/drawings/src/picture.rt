@@ -1,5 +1,5 @@
 //! A picture as its heading and its lines.
-ghost use Rattle.std.specs.Prelude.{◌≡◌, ◌<◌, ◌≤◌, ◌++◌, IfOk, IfErr, OnOk};
+ghost use Rattle.std.specs.Prelude.{◌≡◌, ◌≤◌, ◌++◌, IfOk, IfErr, OnOk};
 ghost use Rattle.tree_model.specs.History.{after_event};
 ghost use Rattle.drawings.specs.Picture.{opened_tone, event_tone, moment_line, is_shown, line_if, moment_lines, lines_from, drawn_of, CanBeDrawn, IsPictureFault};
 ghost use Rattle.drawings.specs.declared.picture.PictureFault.TheVariants as picture_fault;

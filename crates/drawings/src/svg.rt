@@ -1,5 +1,5 @@
 //! A picture as SVG (Scalable Vector Graphics 1.1, W3C).
-ghost use Rattle.std.specs.Prelude.{◌≡◌, ◌<◌, ◌≤◌, ◌+◌, ◌++◌, length, All, OnOk, codes};
+ghost use Rattle.std.specs.Prelude.{◌≡◌, ◌<◌, ◌≤◌, ◌+◌, length, All, OnOk, codes};
 ghost use Rattle.step_text.specs.Output.{Gains};
 ghost use Rattle.drawings.specs.declared.picture.Head.{Head as HeadValue};
 ghost use Rattle.drawings.specs.DrawingLaws.{AreBytes, IsLine};

@@ -1,5 +1,5 @@
 //! A picture as text.
-ghost use Rattle.std.specs.Prelude.{◌≡◌, ◌<◌, ◌≤◌, ◌++◌, codes};
+ghost use Rattle.std.specs.Prelude.{◌≡◌, ◌<◌, ◌≤◌};
 ghost use Rattle.std.specs.List.{flat_map};
 ghost use Rattle.step_text.specs.Output.{Gains};
 ghost use Rattle.drawings.specs.declared.look.TheConstants.{COLUMNS_MIN};

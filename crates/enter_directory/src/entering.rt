@@ -1,6 +1,5 @@
 //! How far a walk has come with a directory, and what comes next.
 ghost use Rattle.std.specs.Prelude.{◌≡◌, List, [], ◌∷◌, Bool, true, false};
-ghost use Rattle.system_calls.specs.Tries.{is_due, pause_after};
 ghost use Rattle.enter_directory.specs.Entering.{due_of, exchange, IsAt};
 ghost use Rattle.enter_directory.specs.History.{after_close_above, after_compare, after_compare_above, after_find, after_find_above, after_open, after_open_to_read, asks, is_elsewhere, is_moved, is_question, settles, Exchange};
 

@@ -1,5 +1,4 @@
 //! Actors who add one to a number that they share.
-ghost use Rattle.std.specs.Prelude.{◌≡◌};
 
 use crate::plain::PlainSystem;
 use crate::rows::{ROW, entry, with};

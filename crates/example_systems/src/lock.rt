@@ -1,5 +1,4 @@
 //! Actors who take a lock before they count.
-ghost use Rattle.std.specs.Prelude.{◌≡◌};
 
 use crate::plain::PlainSystem;
 use crate::rows::{ROW, entry, with};

@@ -1,11 +1,9 @@
 //! All schedules of a world, by a search of the system that it is.
-ghost use Rattle.std.specs.Prelude.{◌≡◌, ◌≤◌, ℕ, length, Some, slice_get, IfOk, IfErr};
-ghost use Rattle.layered_search.specs.declared.found.Class.{Class as Counted};
+ghost use Rattle.std.specs.Prelude.{◌≤◌, IfOk, IfErr};
 ghost use Rattle.local_states.specs.declared.limits.Scope.{Scope};
 ghost use Rattle.explore.specs.Explored.{AreStates, IsAsked, WhyNot};
 ghost use Rattle.explore.specs.Promise.{IsMerged};
 ghost use Rattle.explore.specs.Told.{IsToldBy, AreToldBy};
-ghost use Rattle.local_states.specs.Worlds.{EndView};
 
 use crate::limits::{Limits, Scope, SearchFault, of_system};
 use crate::outcomes::end::End;

@@ -1,5 +1,5 @@
 //! A world as a system of actors who take turns.
-ghost use Rattle.std.specs.Prelude.{◌≡◌, ◌≤◌, ◌<◌, ℕ, length, [], IfOk, IfErr, OnOk};
+ghost use Rattle.std.specs.Prelude.{◌≡◌, ◌≤◌, length, [], IfOk, IfErr, OnOk};
 ghost use Rattle.race_core.specs.declared.opening.TheConstants.{ACTORS_MAX};
 ghost use Rattle.layered_search.specs.Asked.{WhyNot};
 ghost use Rattle.layered_search.specs.Limits.{LimitsView};

@@ -1,5 +1,5 @@
 //! The outcomes of the schedules that begin with some turns: a part of those of all.
-ghost use Rattle.std.specs.Prelude.{◌≡◌, ◌≤◌, false, length, take, IfOk, MatchResult};
+ghost use Rattle.std.specs.Prelude.{◌≡◌, ◌≤◌, false, length, IfOk, MatchResult};
 ghost use Rattle.race_core.specs.declared.opening.TheConstants.{ACTORS_MAX as MOST_ACTORS};
 ghost use Rattle.explore_command.specs.Part.{IsBarredAt, IsBarred, AreWhoMight, AreEachWhoMight, AreFarEnough, HasNone, IsPart};
 ghost use Rattle.explore_command.specs.Gauge.{SaysNoMore, WhyTooMuch};

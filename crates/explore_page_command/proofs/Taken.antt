@@ -18,8 +18,7 @@ use Rattle.outcome_text.specs.Conditions.{counts}
 use Rattle.outcome_text.specs.Order.{comes_before, put, put_all}
 use Rattle.outcome_text.specs.Schedule.{without_tail}
 use Rattle.outcome_text.specs.Survey.{is_new, new_among, new_ones}
-use Rattle.race_core.specs.Ledgers.{LedgerView}
-use Rattle.race_core.specs.Opening.{seats_of, Granted}
+use Rattle.race_core.specs.Opening.{Granted}
 use Rattle.race_core.specs.Worlds.{WorldView, first_beyond}
 use Rattle.scripts.specs.Scenario.{Said, IsPlayable}
 use Rattle.scripts.specs.Writing.{tree_of}

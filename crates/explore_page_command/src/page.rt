@@ -1,5 +1,5 @@
 //! A script explored, as a page.
-ghost use Rattle.std.specs.Prelude.{◌≡◌, ◌≢◌, [], IfOk, MatchResult};
+ghost use Rattle.std.specs.Prelude.{◌≡◌, [], MatchResult};
 ghost use Rattle.explore_command.specs.Gauge.{SaysNoMore};
 ghost use Rattle.explore_page_command.specs.ExplorePage.{IsExplorationPage, IsNoExplorationPage, IsExplorePage, WhyPageTookTooMuch};
 ghost use Rattle.scripts.specs.Scenario.{said_by, IsPlayable};

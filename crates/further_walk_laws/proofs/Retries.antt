@@ -1,5 +1,5 @@
 -- Each walk in vain met a change of its own.
-use Rattle.std.proofs.Common.{ℕ, suc, ◌+◌, ◌≤◌, List, [], ◌∷◌, ◌++◌, length, subst, arith}
+use Rattle.std.proofs.Common.{suc, ◌≤◌, List, [], ◌∷◌, ◌++◌, length, subst, arith}
 use Rattle.step_resolver.specs.Asked.{follows}
 use Rattle.step_resolver.specs.Changes.{changes_by_others}
 use Rattle.step_resolver.specs.Meaning.{reading_means, reads_of}

@@ -1,8 +1,7 @@
 //! How far a call has come with the entry that it has made, and what comes next.
-ghost use Rattle.std.specs.Prelude.{◌≡◌, ℕ, List, [], ◌∷◌, ◌==◌, true, false};
-ghost use Rattle.path_text.specs.Name.{same_bytes};
+ghost use Rattle.std.specs.Prelude.{◌≡◌, List, [], ◌∷◌, ◌==◌, true, false};
 ghost use Rattle.system_calls.specs.Objects.{format, S_IFLNK};
-ghost use Rattle.give_entry.specs.Made.{is_known, is_of_kind, is_text, Made};
+ghost use Rattle.give_entry.specs.Made.{is_known, is_of_kind, Made};
 ghost use Rattle.give_entry.specs.History.{after_look, after_open, after_question, after_seen, ends, is_question, over, refused, Exchange};
 ghost use Rattle.give_entry.specs.Giving.{due_of, exchange, made_of, IsAt};
 

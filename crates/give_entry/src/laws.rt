@@ -1,9 +1,9 @@
 //! What holds of every history, as laws over its exchanges: each function's contract is one, and its body is empty.
-ghost use Rattle.std.specs.Prelude.{◌≡◌, ◌≢◌, ◌≤◌, ◌+◌, ℕ, Bool, true, false, not, ◌&&◌, List, [], ◌∷◌, length};
+ghost use Rattle.std.specs.Prelude.{◌≡◌, ◌≢◌, ◌≤◌, ◌+◌, true, not, ◌&&◌, List, length};
 ghost use Rattle.give_entry.specs.Made.{Made};
 ghost use Rattle.give_entry.specs.History.{next_after, Exchange, IsHistory};
 ghost use Rattle.give_entry.specs.Promises.{is_held_after, is_open_after, is_over, needs_open, signals, why_after, IsTheOne};
-ghost use Rattle.give_entry.specs.declared.giving.TheConstants.{COMPARE, GIVES, FAILS};
+ghost use Rattle.give_entry.specs.declared.giving.TheConstants.{GIVES, FAILS};
 
 /// What is given was opened by the entry's name, and looked at since. It is of the kind that the call has made, and a
 /// device has its number. If a descriptor tells which object the call has made, it is this object, by the same mount;

@@ -1,5 +1,5 @@
 //! A call from C, turn by turn, and names that come next or are passed at once.
-ghost use Rattle.std.specs.Prelude.{◌<◌, ◌≤◌, IfSome, IsSome};
+ghost use Rattle.std.specs.Prelude.{◌<◌, IfSome, IsSome};
 ghost use Rattle.c_protocol.specs.Turns.{call_of};
 
 use c_protocol::{

@@ -1,7 +1,7 @@
 -- Whether a process's root directory is where a mount stands, by two texts of proc(5): what fdinfo has of a descriptor
 -- of that directory, and mountinfo. Both are lines, which a newline ends. A byte of a name that is a space or a newline
 -- stands in mountinfo as a number, as `\040`.
-use Rattle.std.specs.Prelude.{◌≡◌, ℕ, ◌+◌, suc, List, [], ◌∷◌, ◌++◌, ◌==◌, Bool, true, false, ◌&&◌, ◌||◌, if◌then◌else◌, nat_lt, nat_le, length, take, drop, slice_get, Option, Some, None, codes}
+use Rattle.std.specs.Prelude.{◌≡◌, ℕ, ◌+◌, List, [], ◌∷◌, ◌++◌, ◌==◌, Bool, true, false, ◌&&◌, ◌||◌, if◌then◌else◌, nat_lt, nat_le, length, take, drop, slice_get, Option, Some, None, codes}
 use Rattle.std.specs.List.{fold, list_any, slice_split}
 use Rattle.path_text.specs.Name.{same_bytes}
 use Rattle.path_text.specs.declared.name.TheConstants.{SLASH}

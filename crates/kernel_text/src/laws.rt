@@ -1,5 +1,5 @@
 //! What holds of every answer: each function's contract is a law, and its body is empty.
-ghost use Rattle.std.specs.Prelude.{◌≡◌, ◌≢◌, ◌⊎◌, ◌||◌, ◌==◌, ℕ, List, [], true, false};
+ghost use Rattle.std.specs.Prelude.{◌≡◌, ◌≢◌, ◌⊎◌, ℕ, List, [], true, false};
 ghost use Rattle.kernel_text.specs.Mounts.{has_root_mount};
 ghost use Rattle.kernel_text.specs.OwnRoot.{has, is_open, own_after, says, text_after, AreTurns, Turn};
 ghost use Rattle.kernel_text.specs.declared.own_root.OwnLook.{OwnLook};

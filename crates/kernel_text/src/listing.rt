@@ -1,5 +1,5 @@
 //! A directory's names in the order of their bytes.
-ghost use Rattle.std.specs.Prelude.{◌≡◌, ◌≤◌, ◌++◌, List, ℕ, length, drop, map, IfOk};
+ghost use Rattle.std.specs.Prelude.{◌≡◌, ◌≤◌, ◌++◌, length, drop, map, IfOk};
 ghost use Rattle.path_text.specs.Print.{after_slashes};
 ghost use Rattle.path_text.specs.Text.{pieces};
 ghost use Rattle.kernel_text.specs.Listing.{AreInOrder, Sorts};

@@ -1,9 +1,7 @@
 //! Where an object stands below a root, in the text that the kernel told of it.
-ghost use Rattle.std.specs.Prelude.{◌≡◌, ℕ, ◌++◌, ◌∷◌, [], ◌==◌, true, false, Some, MatchOption};
-ghost use Rattle.std.specs.List.{list_any};
-ghost use Rattle.path_text.specs.Parts.{IsSeparated};
+ghost use Rattle.std.specs.Prelude.{◌≡◌, ◌==◌, false, Some};
 ghost use Rattle.path_text.specs.Text.{begins_with_slash};
-ghost use Rattle.kernel_text.specs.Place.{behind, ends_as_gone, is_named, last_part, place_below, place_between, place_of_cwd, but_last, IsPlaceIn, TellsPlace};
+ghost use Rattle.kernel_text.specs.Place.{ends_as_gone, is_named, last_part, place_below, place_between, place_of_cwd, but_last, IsPlaceIn, TellsPlace};
 
 use path_text::{SLASH, TEXT_MAX};
 

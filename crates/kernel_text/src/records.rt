@@ -1,8 +1,6 @@
 //! The names of the records that getdents64(2) writes.
-ghost use Rattle.std.specs.Prelude.{◌≡◌, ◌≢◌, ◌+◌, ◌-◌, ◌<◌, ◌≤◌, ◌++◌, ◌∷◌, [], length, take, drop, true, false, Some, None, MatchOption};
+ghost use Rattle.std.specs.Prelude.{◌≡◌, ◌+◌, ◌-◌, ◌<◌, ◌≤◌, ◌++◌, ◌∷◌, length, take, drop, true, false, Some, None, MatchOption};
 ghost use Rattle.std.specs.Option.{option_copied};
-ghost use Rattle.path_text.specs.Name.{name_fault};
-ghost use Rattle.path_text.specs.Print.{after_slashes};
 ghost use Rattle.kernel_text.specs.Listing.{before_nul, is_entry, is_whole, name_error, name_told, size_told, IsTaken};
 ghost use Rattle.kernel_text.specs.Records.{Steps};
 

@@ -1,5 +1,4 @@
 //! What a search finds.
-ghost use Rattle.std.specs.Prelude.{◌≡◌};
 
 use crate::frontier::layer::Turns;
 

@@ -1,5 +1,5 @@
 //! All full lists of turns, by layers of merged states.
-ghost use Rattle.std.specs.Prelude.{◌≡◌, ◌<◌, ◌≤◌, ◌+◌, ◌^◌, ◌++◌, ◌∷◌, [], ℕ, List, Option, Some, length, slice_get, IfOk, IfErr, OnOk};
+ghost use Rattle.std.specs.Prelude.{◌≡◌, ◌<◌, ◌≤◌, ◌+◌, ◌^◌, ◌++◌, ◌∷◌, [], ℕ, List, Some, length, slice_get, IfOk, IfErr, OnOk};
 ghost use Rattle.std.specs.Global.{Vec};
 ghost use Rattle.smallvec.specs.SmallVec.{SmallVec as Row};
 ghost use Rattle.schedule_graph.specs.declared.graph.Node.{Node};

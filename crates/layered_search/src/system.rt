@@ -1,5 +1,5 @@
 //! A system whose schedules are searched.
-ghost use Rattle.std.specs.Prelude.{◌≡◌, ◌≤◌, ◌<◌, ◌^◌, ◌↔◌, ℕ, length, true, IsTrue, IfOk, IfErr, OnOk};
+ghost use Rattle.std.specs.Prelude.{◌≡◌, ◌≤◌, ◌<◌, ◌^◌, ◌↔◌, ℕ, length, IsTrue, IfOk, IfErr, OnOk};
 
 use path_text::NoMemory;
 use schedule_graph::SearchFault;

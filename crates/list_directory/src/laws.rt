@@ -1,12 +1,12 @@
 //! What holds of every listing, as laws over its exchanges: each function's contract is one, and its body is empty.
-ghost use Rattle.std.specs.Prelude.{◌≡◌, ◌≢◌, ◌<◌, ◌≤◌, ◌+◌, ◌*◌, ◌⊎◌, ℕ, true, List, [], ◌∷◌, length, sum};
+ghost use Rattle.std.specs.Prelude.{◌≡◌, ◌≢◌, ◌≤◌, ◌+◌, ◌*◌, ◌⊎◌, ℕ, true, List, ◌∷◌, length};
 ghost use Rattle.std.specs.List.{AllByRecursion};
 ghost use Rattle.path_text.specs.declared.name.TheConstants.{NAME_MAX};
 ghost use Rattle.system_calls.specs.Errors.{ENOENT, EINTR};
 ghost use Rattle.list_directory.specs.Parts.{beyond_least, held_after, part_size, Change, EachFits, ALL_NAMES, LEAST_PART, MOST_PART};
 ghost use Rattle.list_directory.specs.History.{asks, names_after, next_after, used_after, Exchange, IsHistory};
 ghost use Rattle.list_directory.specs.Promises.{costs, is_full, is_open_after, needs_open, IsWhy, MayOpen, NoError, WasSorted};
-ghost use Rattle.list_directory.specs.declared.listing.TheConstants.{OPEN, SPARE, READ, CLOSE, SORT, ENDS, FAILS};
+ghost use Rattle.list_directory.specs.declared.listing.TheConstants.{OPEN, READ, CLOSE, ENDS, FAILS};
 
 /// A directory's part of the names has 512 bytes at least, which are two names of any length, and 1 MiB at most. If it
 /// has more than the least, four such parts fit into what is left of 4 MiB. The names never take more than the part.

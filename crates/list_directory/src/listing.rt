@@ -1,5 +1,5 @@
 //! How far the listing of a directory has come, and what comes next.
-ghost use Rattle.std.specs.Prelude.{◌≡◌, ◌≤◌, ◌-◌, ℕ, List, [], ◌∷◌, true, false, length, take};
+ghost use Rattle.std.specs.Prelude.{◌≡◌, ◌≤◌, ℕ, List, [], ◌∷◌, true, false, length, take};
 ghost use Rattle.list_directory.specs.Parts.{part_size};
 ghost use Rattle.list_directory.specs.History.{after_close, after_open, after_sort, after_spare, is_question, Exchange};
 ghost use Rattle.list_directory.specs.Listing.{due_of, AnsweredBy, IsAt, Reads, Same};

@@ -1,5 +1,5 @@
 -- What is the same but for the numbers of handles: steps, answers and seats by pairs of handles.
-use Rattle.std.specs.Prelude.{◌≡◌, ℕ, List, Bool, true}
+use Rattle.std.specs.Prelude.{◌≡◌, ℕ, Bool, true}
 use Rattle.tree_model.specs.declared.answer.Answer.{Answer}
 use Rattle.tree_model.specs.StepWith.{StepWith}
 use Rattle.race_core.specs.declared.seat.Seat.{Seat}

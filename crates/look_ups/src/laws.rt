@@ -1,9 +1,9 @@
 //! What holds of all histories, as laws: each function's contract is one, and its body is empty.
-ghost use Rattle.std.specs.Prelude.{◌≡◌, ◌≢◌, ◌<◌, ◌≤◌, ◌+◌, ◌*◌, ◌^◌, ◌⊎◌, ℕ, Bool, true, false, not, ◌&&◌, List, [], ◌∷◌, length, take};
+ghost use Rattle.std.specs.Prelude.{◌≡◌, ◌≢◌, ◌≤◌, ◌+◌, ◌*◌, ◌^◌, ℕ, Bool, true, false, ◌&&◌, List, ◌∷◌, length, take};
 ghost use Rattle.system_calls.specs.OpenFlags.{has};
 ghost use Rattle.look_ups.specs.declared.coming.Coming.{Coming};
 ghost use Rattle.look_ups.specs.declared.look_up.LookUp.{LookUp};
-ghost use Rattle.look_ups.specs.declared.look_up.TheConstants.{PASSED, READ_LAST, ALONE};
+ghost use Rattle.look_ups.specs.declared.look_up.TheConstants.{PASSED};
 ghost use Rattle.look_ups.specs.declared.request.Request.{Request};
 ghost use Rattle.look_ups.specs.declared.request.Spot.{Spot};
 ghost use Rattle.look_ups.specs.Names.{comes_to_end, is_of_names, NO_XDEV as RESOLVE_NO_XDEV};

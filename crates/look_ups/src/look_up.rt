@@ -1,7 +1,7 @@
 //! How far the names that come next are passed, and what comes next.
-ghost use Rattle.std.specs.Prelude.{◌≡◌, ◌∷◌, [], List, ℕ, true, false, ◌-◌, if◌then◌else◌};
+ghost use Rattle.std.specs.Prelude.{◌≡◌, ◌∷◌, [], List, true, false};
 ghost use Rattle.look_ups.specs.Names.{is_of_names};
-ghost use Rattle.look_ups.specs.History.{after_alone, after_from_root, after_look_up, after_read_first, after_read_last, after_witness, alone, begins, ends_by, exchange, fewer, is_alone, is_below, is_kind_known, is_question, looks, looks_alone, looks_first, looks_from_root, looks_no_more, looks_up, most_of, notes, passes, reads, Exchange, IsAt, MOST};
+ghost use Rattle.look_ups.specs.History.{after_alone, after_from_root, after_look_up, after_read_first, after_read_last, after_witness, alone, ends_by, exchange, fewer, is_alone, is_below, is_kind_known, is_question, looks, looks_alone, looks_first, looks_from_root, looks_no_more, looks_up, most_of, notes, passes, reads, Exchange, IsAt, MOST};
 
 use crate::coming::{
     Coming, comes_to_end, count_of, goes_up, is_rest, may_read, opens_directory, opens_itself,

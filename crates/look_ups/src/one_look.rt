@@ -1,6 +1,6 @@
 //! Which system call comes next as one openat2(2) is made, or it is asked whether the thread has it.
 ghost use Rattle.std.specs.Prelude.{◌≡◌, ℕ, Bool, List, [], ◌∷◌, true, false};
-ghost use Rattle.look_ups.specs.OneLook.{after_kept, after_open, after_probe, after_start, after_turn, first, goes, is_refused, is_turn, turn_of, IsOneLook, Turn};
+ghost use Rattle.look_ups.specs.OneLook.{after_kept, after_open, after_probe, after_start, goes, is_refused, is_turn, turn_of, IsOneLook, Turn};
 
 use system_calls::errors::{EBADF, EINTR, ENOSYS, EPERM};
 

@@ -9,7 +9,7 @@ use Rattle.system_calls.specs.Tries.{is_due, pause_after}
 use Rattle.open_or_make.specs.History.{LINKS, STEP_READ_LINK}
 use Rattle.make_through_links.specs.Closing.{is, is_named, names, one, times_closed, unused}
 use Rattle.make_through_links.specs.History.{asks, due_after, due_met, fails, follows_link, is_call, makes, met_of, moved, stand_after, tries_again, whole, Asked, Due, Exchange, IsHistory, Stand, STEP_MAKE_DIR}
-use Rattle.make_through_links.specs.declared.meets.TheConstants.{FIND, SPLIT, MAKE_ABOVE, MAKE, PARTIAL, READ_LINK, CREATE, READ_END}
+use Rattle.make_through_links.specs.declared.meets.TheConstants.{FIND, MAKE_ABOVE, MAKE}
 use Rattle.make_through_links.specs.declared.meets.Met.{Met}
 use Rattle.make_through_links.specs.declared.meets.Met.TheVariants.{Missing, Directory, Parted, Refused, Above, Gone, Partly, Link, NoText, Between, Stands, LinkAtEnd, Unfollowed, BetweenAtEnd, Ended}
 

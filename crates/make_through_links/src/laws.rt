@@ -1,6 +1,6 @@
 //! What holds of every call, as laws over the calls that it made: each function's contract is one, and its body is
 //! empty.
-ghost use Rattle.std.specs.Prelude.{◌≡◌, ℕ, ◌≢◌, ◌<◌, ◌≤◌, ◌+◌, ◌++◌, ◌⊎◌, List, [], ◌∷◌, false, true, length, take, drop, if◌then◌else◌};
+ghost use Rattle.std.specs.Prelude.{◌≡◌, ℕ, ◌≢◌, ◌<◌, ◌≤◌, ◌+◌, ◌++◌, ◌⊎◌, List, [], ◌∷◌, false, true, length, take, if◌then◌else◌};
 ghost use Rattle.std.specs.List.{AllByRecursion};
 ghost use Rattle.path_text.specs.declared.path.TheConstants.{TEXT_MAX};
 ghost use Rattle.system_calls.specs.Errors.{ENOENT, EAGAIN, EISDIR, ENAMETOOLONG, ELOOP};

@@ -1,5 +1,5 @@
 //! The calls, and what a call's outcome says.
-ghost use Rattle.std.specs.Prelude.{◌≡◌, ℕ, List, true, false, not, ◌&&◌};
+ghost use Rattle.std.specs.Prelude.{◌≡◌, true, false, ◌&&◌};
 ghost use Rattle.make_through_links.specs.History.{meets, meets_create, meets_end, meets_find, meets_link, meets_make, meets_partial, meets_split, seen};
 
 use system_calls::errors::{EEXIST, EINVAL, ENOENT};

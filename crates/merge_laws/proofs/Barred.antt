@@ -1,6 +1,6 @@
 -- No list begins with turns that can't be taken.
-use Rattle.std.specs.Prelude.{◌≡◌, ◌≤◌, ◌++◌, ℕ, zero, suc, min, List, [], ◌∷◌, true, take, slice_get, Option, Some, None, refl}
-use Rattle.std.proofs.Common.{◌∙◌, inl, sym, subst, ⊎_elim, arith}
+use Rattle.std.specs.Prelude.{◌≡◌, ◌≤◌, ◌++◌, ℕ, zero, suc, List, [], ◌∷◌, true, take, slice_get, Option, Some, None, refl}
+use Rattle.std.proofs.Common.{◌∙◌, inl, sym, subst, ⊎_elim}
 use Rattle.std.proofs.lemmas.Bool.{true≢false}
 use Rattle.std.proofs.lemmas.Option.{same_Some, none-some}
 use Rattle.local_states.specs.declared.limits.Limits.{Limits}

@@ -19,7 +19,7 @@ use Rattle.outcome_text.specs.Merge.{all_lists, longest, all_of, IsJoined}
 use Rattle.outcome_text.specs.Order.{in_order}
 use Rattle.outcome_text.proofs.InPieces.{pieces_tell_the_whole}
 use Rattle.tree_model.specs.State.{State}
-use Rattle.further_world_laws.specs.Parts.{PartView, part_with, AreParts, AreBeginnings, classes_of, begins_of, greatest_by}
+use Rattle.further_world_laws.specs.Parts.{PartView, part_with, AreParts, AreBeginnings}
 use Rattle.further_world_laws.specs.Parts as worlds
 use Rattle.further_world_laws.proofs.PartsJoined.{parts_make_the_whole}
 use Rattle.further_world_laws.proofs.WholePart.{whole_is_a_part}

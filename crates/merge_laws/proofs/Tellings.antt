@@ -1,6 +1,6 @@
 -- What is told of the classes of parts that make all lists.
 use Rattle.std.specs.Prelude.{◌≡◌, ℕ, min, List, [], ◌∷◌, Bool, true, false, map, length, sum_by, if◌then◌else◌, refl}
-use Rattle.std.proofs.Common.{◌∙◌, inl, inr, sym, ap, subst, arith}
+use Rattle.std.proofs.Common.{◌∙◌, inl, inr, sym, ap, subst}
 use Rattle.std.proofs.lemmas.Bool.{true≢false}
 use Rattle.local_states.specs.declared.limits.Scope.{Scope}
 use Rattle.explore.specs.Explored.{IsAsked, AgreeIn, EndingView, ClassView, IsEnding, rank, is_at_most, Rank}

@@ -1,5 +1,5 @@
 //! What holds of every history, as laws over its exchanges: each function's contract is one, and its body is empty.
-ghost use Rattle.std.specs.Prelude.{◌≡◌, ◌≤◌, true, false, List, length};
+ghost use Rattle.std.specs.Prelude.{◌≡◌, ◌≤◌, true, List, length};
 ghost use Rattle.open_at_once.specs.History.{next_after, Exchange, IsHistory};
 ghost use Rattle.open_at_once.specs.Promises.{is_given, is_missed, is_open, needs_open, why_failed, IsAllowed};
 ghost use Rattle.open_at_once.specs.declared.ways.Facts.{Facts};

@@ -1,6 +1,6 @@
 //! Which way comes next.
 ghost use Rattle.std.specs.Prelude.{◌≡◌, List, [], ◌∷◌, true, false};
-ghost use Rattle.open_at_once.specs.History.{after_exchange, after_fresh, after_hints, after_kind, after_look_up, after_misses, after_names, after_through, after_walk, after_whole, asks, by_names, first, is_missing, is_question, or_drop, reads_links, resolve_of, walks, Exchange};
+ghost use Rattle.open_at_once.specs.History.{after_exchange, after_fresh, after_hints, after_kind, after_look_up, after_misses, after_names, after_through, after_walk, after_whole, asks, by_names, is_missing, is_question, or_drop, reads_links, resolve_of, walks, Exchange};
 ghost use Rattle.open_at_once.specs.Ways.{due_of, exchange_of, IsAt};
 
 use system_calls::errors::{EACCES, ELOOP, ENAMETOOLONG, ENOENT, ENOTDIR};

@@ -1,5 +1,5 @@
 //! How far a call has come, and which call comes next.
-ghost use Rattle.std.specs.Prelude.{◌≡◌, ◌≤◌, ◌+◌, ℕ, List, [], ◌∷◌, Bool, true, false, length, take};
+ghost use Rattle.std.specs.Prelude.{◌≡◌, ◌≤◌, ◌+◌, ℕ, List, [], ◌∷◌, true, false, length, take};
 ghost use Rattle.path_text.specs.declared.path.TheConstants.{TEXT_MAX};
 ghost use Rattle.open_or_make.specs.Course.{exchange, Goes, IsAt, Keeps};
 ghost use Rattle.open_or_make.specs.History.{asked_of, first_call, is_call, meets, met_by, met_of, Asked, Exchange};

@@ -1,5 +1,5 @@
 //! What holds of every search, as laws over its exchanges: each function's contract is one, and its body is empty.
-ghost use Rattle.std.specs.Prelude.{◌≡◌, ◌≢◌, ◌≤◌, ◌+◌, ◌-◌, ◌*◌, ◌^◌, ℕ, Bool, false, true, if◌then◌else◌, List, [], ◌∷◌, length};
+ghost use Rattle.std.specs.Prelude.{◌≡◌, ◌≢◌, ◌≤◌, ◌-◌, ◌*◌, ◌^◌, ℕ, Bool, false, true, if◌then◌else◌, List, [], ◌∷◌, length};
 ghost use Rattle.open_partial.specs.History.{next_after, Exchange, IsHistory};
 ghost use Rattle.open_partial.specs.Promises.{open_after, tries, IsClosed, IsFound, IsWhy};
 ghost use Rattle.open_partial.specs.Trials.{trial_of, RESOLVE, RESOLVE_NOFOLLOW};

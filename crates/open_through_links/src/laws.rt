@@ -4,7 +4,7 @@ ghost use Rattle.open_through_links.specs.History.{next_after, Exchange, IsHisto
 ghost use Rattle.open_through_links.specs.Promises.{all_yes, is_held, is_known, is_open, is_placed, is_said, is_seen};
 ghost use Rattle.open_through_links.specs.Promises.{looks_up, may_be_followed, needs_open, rises_in, waits};
 ghost use Rattle.open_through_links.specs.declared.passage.Facts.{Facts};
-ghost use Rattle.open_through_links.specs.declared.passage.TheConstants.{GOES, OPENS, PLACE, SHUT, STEPS};
+ghost use Rattle.open_through_links.specs.declared.passage.TheConstants.{GOES, OPENS, PLACE, STEPS};
 
 /// Where the object is given, every call that was made worked, and every question that was asked was answered by yes.
 /// Only of `..` it may be said that it isn't the root.

@@ -1,9 +1,9 @@
 //! The outcomes of all schedules, made of those of parts of them.
-ghost use Rattle.std.specs.Prelude.{◌≡◌, ◌<◌, ◌++◌, ◌∷◌, [], false, true, length, take, IfOk, MatchOption, MatchResult};
+ghost use Rattle.std.specs.Prelude.{◌≡◌, ◌<◌, ◌++◌, ◌∷◌, [], false, true, take, IfOk, MatchOption, MatchResult};
 ghost use Rattle.std.specs.List.{list_any};
 ghost use Rattle.outcome_text.specs.declared.merging.MergeFault.TheVariants as merge_fault;
 ghost use Rattle.outcome_text.specs.Nearby.{AreSome};
-ghost use Rattle.outcome_text.specs.Merge.{are_apart, has_lists, lacks_turn, has_gap, all_lists, longest, all_of, IsJoined, IsWhole, WhyNoWhole};
+ghost use Rattle.outcome_text.specs.Merge.{has_lists, lacks_turn, has_gap, all_lists, longest, all_of, IsJoined, IsWhole, WhyNoWhole};
 
 use crate::apart::first_overlap;
 use crate::counts::plus;

@@ -1,5 +1,5 @@
 //! Which properties name a line that a report on a world's run can have.
-ghost use Rattle.std.specs.Prelude.{◌≡◌, ◌++◌, IfOk, decimal, map};
+ghost use Rattle.std.specs.Prelude.{◌≡◌, ◌++◌, IfOk, decimal};
 ghost use Rattle.std.specs.List.{list_any};
 ghost use Rattle.outcome_text.specs.Tellable.{meets, reply_start, meets_reply, is_reply_of, is_reply, is_of_actor, is_count, can_be_told, first_untold};
 

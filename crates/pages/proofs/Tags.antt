@@ -1,7 +1,7 @@
 -- What stands for a byte in a page begins no tag.
-use Rattle.std.proofs.Common.{◌≡◌, ◌≢◌, Bool, true, false, ℕ, List, [], ◌∷◌, refl, arith}
+use Rattle.std.proofs.Common.{◌≡◌, Bool, true, false, ℕ, [], ◌∷◌, refl, arith}
 use Rattle.std.specs.Prelude.{◌==◌, if◌then◌else◌, codes, All}
-use Rattle.std.proofs.lemmas.Bool.{eq-eqb, eqb-false}
+use Rattle.std.proofs.lemmas.Bool.{eqb-false}
 use Rattle.std.proofs.lemmas.List.Elements.{All-nil, All-cons, All-append, All-from_recursion}
 use Rattle.pages.specs.Page.{html_byte, html_text, script_byte, script_text}
 use Rattle.pages.specs.PageLaws.{BeginsNoTag, TextOpensNoTag, DataOpensNoTag}

@@ -1,5 +1,5 @@
 -- What holds of pages: statements of laws.
-use Rattle.std.specs.Prelude.{◌≡◌, ◌≢◌, ℕ, List, All}
+use Rattle.std.specs.Prelude.{◌≢◌, ℕ, List, All}
 use Rattle.pages.specs.Page.{html_text, script_text}
 
 -- a byte begins no tag, no comment and nothing else of HTML's markup

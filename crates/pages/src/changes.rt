@@ -1,5 +1,5 @@
 //! What a tree has that an earlier one didn't have, or had elsewhere.
-ghost use Rattle.std.specs.Prelude.{◌≡◌, ◌++◌, slice_get, IfOk, OnOk};
+ghost use Rattle.std.specs.Prelude.{◌≡◌, ◌++◌, IfOk, OnOk};
 ghost use Rattle.std.specs.Option.{option_copied};
 ghost use Rattle.report_text.specs.Report.{numbered};
 ghost use Rattle.step_text.specs.Output.{Gains};

@@ -1,5 +1,5 @@
 //! A list of names, as the way from a directory down to an object.
-ghost use Rattle.std.specs.Prelude.{◌≡◌, ◌<◌, ◌≤◌, ◌+◌, ◌-◌, ℕ, List, [], ◌∷◌, ◌++◌, length, take, reverse, slice_get, Some, None, IsTrue, ◌↔◌, IfOk, OnOk, OnErr};
+ghost use Rattle.std.specs.Prelude.{◌≡◌, ◌<◌, ◌≤◌, ◌-◌, ℕ, List, [], ◌∷◌, ◌++◌, length, take, reverse, slice_get, Some, None, IsTrue, ◌↔◌, IfOk, OnOk, OnErr};
 ghost use Rattle.path_text.specs.Name.{name_fault};
 ghost use Rattle.path_text.specs.Names.{start_at, AreNames};
 ghost use Rattle.path_text.specs.Print.{printed, names_between, names_read};

@@ -1,6 +1,4 @@
 //! Path texts and their parts.
-ghost use Rattle.std.specs.Prelude.{◌≡◌, ℕ, List, [], ◌∷◌, ◌++◌, IsTrue, ◌↔◌, Some, None, MatchResult, MatchOption, Err, length};
-ghost use Rattle.path_text.specs.Text.{text_fault};
 
 use crate::errno::Errno;
 use crate::name::Name;

@@ -1,6 +1,6 @@
 -- Turns that were made one by one, and a run after them, are one run.
-use Rattle.std.proofs.Common.{◌≡◌, ℕ, zero, suc, ◌<◌, List, [], ◌∷◌, ◌++◌, Bool, length, Option, Some, None, Ok, slice_get, lt-ltb, refl, sym, ap, subst, ◌∙◌}
-use Rattle.std.specs.Prelude.{slice_set, if◌then◌else◌}
+use Rattle.std.proofs.Common.{◌≡◌, ℕ, ◌<◌, List, [], ◌∷◌, ◌++◌, Bool, length, Option, Some, None, Ok, slice_get, lt-ltb, refl, sym, ap, subst, ◌∙◌}
+use Rattle.std.specs.Prelude.{if◌then◌else◌}
 use Rattle.race_core.specs.declared.seat.Seat.{Seat}
 use Rattle.race_core.specs.JoinedRuns.{TakesTurns, TurnsGoOn, TurnsJoinRuns}
 use Rattle.race_core.specs.Turns.{Luck, turned}

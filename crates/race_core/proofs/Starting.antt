@@ -1,5 +1,5 @@
 -- The first turn of a call, from what its contract tells of it.
-use Rattle.std.proofs.Common.{◌≡◌, ℕ, suc, ◌+◌, ◌≤◌, ◌<◌, List, [], ◌∷◌, ◌++◌, Option, Some, None, Result, Ok, Err, OnOk, ◌||◌, inl, refl, sym, ap, subst, ◌∙◌, arith}
+use Rattle.std.proofs.Common.{◌≡◌, ℕ, suc, ◌+◌, ◌≤◌, ◌<◌, List, [], ◌∷◌, ◌++◌, Option, Some, None, Result, Ok, Err, OnOk, inl, refl, sym, ap, subst, ◌∙◌, arith}
 use Rattle.handles.specs.Objects.{StandingObject}
 use Rattle.step_resolver.specs.declared.walk.Root.{Root}
 use Rattle.root_ops.specs.declared.below.Below.{Below}

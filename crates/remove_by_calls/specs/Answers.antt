@@ -1,5 +1,5 @@
 -- What a call's answer means. Errors are numbers of errno(3).
-use Rattle.std.specs.Prelude.{ℕ, ◌==◌, Bool, ◌&&◌, ◌||◌, if◌then◌else◌, nat_lt}
+use Rattle.std.specs.Prelude.{◌==◌, Bool, ◌&&◌, ◌||◌, if◌then◌else◌, nat_lt}
 use Rattle.system_calls.specs.Errors.{EBUSY, ENFILE, EMFILE}
 use Rattle.remove_by_calls.specs.declared.answers.Answer.{Answer}
 use Rattle.remove_by_calls.specs.declared.answers.Met.{Met}

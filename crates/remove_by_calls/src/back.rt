@@ -1,6 +1,6 @@
 //! Whether a directory whose descriptor was let go is back.
 ghost use Rattle.std.specs.Prelude.{◌≡◌, List, [], ◌∷◌, Bool, true, false};
-ghost use Rattle.remove_by_calls.specs.Back.{after_file_system, after_identify, after_open, begun, due_of, is_question, lost_by, IsBackAt, Step};
+ghost use Rattle.remove_by_calls.specs.Back.{after_file_system, after_identify, after_open, due_of, is_question, lost_by, IsBackAt, Step};
 
 use system_calls::errors::{EAGAIN, EINTR, ENOENT, ENOTDIR};
 use system_calls::{Birth, same_directory};

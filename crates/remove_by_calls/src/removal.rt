@@ -1,5 +1,5 @@
 //! How far a removal has come, and what comes next.
-ghost use Rattle.std.specs.Prelude.{◌≡◌, ◌<◌, ◌≤◌, ◌+◌, ◌-◌, ◌%◌, ◌^◌, ℕ, suc, List, [], ◌∷◌, ◌==◌, Bool, true, false, if◌then◌else◌, nat_lt, min};
+ghost use Rattle.std.specs.Prelude.{◌≡◌, ◌<◌, ◌+◌, ◌-◌, ◌%◌, ◌^◌, ℕ, List, [], ◌∷◌, ◌==◌, true, false, if◌then◌else◌, nat_lt, min};
 ghost use Rattle.remove_by_calls.specs.Answers.{met_of};
 ghost use Rattle.remove_by_calls.specs.History.{after_call, after_close, again, all_closed, at_root, in_place, is_asked, one_closed, over, Exchange, IsDue};
 ghost use Rattle.remove_by_calls.specs.Removal.{demand_of, exchange, inner, ring, Fits, IsAt, Same, Sized};

@@ -1,5 +1,5 @@
 //! Which directory's descriptor is let go.
-ghost use Rattle.std.specs.Prelude.{◌≡◌, length, true, false};
+ghost use Rattle.std.specs.Prelude.{◌≡◌, false};
 ghost use Rattle.remove_by_calls.specs.Slots.{above_of, holds, is_held, let_go};
 
 use system_calls::Birth;

@@ -1,7 +1,7 @@
 -- Lines that are added one after another.
 use Rattle.std.proofs.Common.{◌≡◌, ℕ, zero, suc, ◌+◌, ◌<◌, List, [], ◌∷◌, ◌++◌, length, drop, sym, ap, ◌∙◌, refl, add-one, arith}
 use Rattle.std.specs.Prelude.{Option, Some, None, slice_get, IfSome}
-use Rattle.std.proofs.lemmas.List.{append_assoc, append-nil}
+use Rattle.std.proofs.lemmas.List.{append_assoc}
 use Rattle.report_text.specs.Report.{numbered}
 
 -- what is left is the element at a place and what is behind it

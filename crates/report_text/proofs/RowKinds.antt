@@ -1,7 +1,6 @@
 -- An entry leads to a node.
-use Rattle.std.proofs.Common.{◌≡◌, List, [], refl}
+use Rattle.std.proofs.Common.{◌≡◌, [], refl}
 use Rattle.std.specs.Prelude.{Option, Some, None, slice_get}
-use Rattle.std.specs.List.{Contains}
 use Rattle.std.specs.Option.{option_map, option_and_then}
 use Rattle.tree_model.specs.declared.inode.Inode.{Inode}
 use Rattle.tree_model.specs.declared.inode.Place.{Place}
@@ -9,9 +8,8 @@ use Rattle.tree_model.specs.declared.row.Row.{Row}
 use Rattle.tree_model.specs.declared.step.Kind.{Kind}
 use Rattle.tree_model.specs.Entries.{with_some}
 use Rattle.tree_model.specs.RowLaws.{RowsArePlaces}
-use Rattle.tree_model.specs.Rows.{rows_in_order}
 use Rattle.tree_model.specs.Steps.{kind_of}
-use Rattle.report_text.specs.Report.{entry_line, row_line}
+use Rattle.report_text.specs.Report.{entry_line}
 use Rattle.report_text.specs.ReportLaws.{RowsHaveLines}
 
 -- where a node has a place, it is something

@@ -20,7 +20,7 @@ use Rattle.handles.specs.Objects.{StandingObject}
 use Rattle.walk_plan.specs.declared.goal.Goal.TheVariants.{Follow, NoFollow}
 use Rattle.step_machine.specs.Machine.{taken}
 use Rattle.step_resolver.specs.Asked.{AskedPart}
-use Rattle.step_resolver.specs.Order.{Way, Handle, Line, answered, no_room, not_made, Turn, found, partial, failed, has_room, answer_of}
+use Rattle.step_resolver.specs.Order.{Way, Handle, Line, Turn, found, partial, failed, has_room, answer_of}
 use Rattle.step_resolver.specs.Order as walk
 use Rattle.step_resolver.specs.TurnView as walk_view
 use Rattle.step_resolver.specs.View.{way_from}

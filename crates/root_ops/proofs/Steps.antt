@@ -6,7 +6,7 @@ use Rattle.path_text.specs.declared.errno.Errno.TheVariants.{NotFound}
 use Rattle.tree_model.specs.declared.answer.Answer.{Answer}
 use Rattle.tree_model.specs.declared.answer.Answer.TheVariants.{Opened}
 use Rattle.walk_plan.specs.declared.goal.Goal.TheVariants.{Follow}
-use Rattle.step_resolver.specs.Order.{Way, Handle, Turn, found, partial, failed, is_dir_kind, refusal_of}
+use Rattle.step_resolver.specs.Order.{Handle, Turn, found, partial, failed, is_dir_kind}
 use Rattle.step_resolver.specs.Order as walk
 use Rattle.step_resolver.specs.View.{way_from}
 use Rattle.step_resolver.proofs.WalkSteps as walk_steps

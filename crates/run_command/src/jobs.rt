@@ -1,5 +1,5 @@
 //! A script's jobs: the calls of its first actor, served by workers on threads of their own.
-ghost use Rattle.std.specs.Prelude.{◌≡◌, ◌≢◌, ◌<◌, ◌≤◌, ◌++◌, [], ◌∷◌, ℕ, length, map, replicate, vec_len, All, IfOk, IsTrue, MatchResult};
+ghost use Rattle.std.specs.Prelude.{◌≡◌, ◌≢◌, ◌<◌, ◌≤◌, ◌++◌, [], ◌∷◌, length, map, replicate, vec_len, All, IfOk, IsTrue, MatchResult};
 ghost use Rattle.call_plans.specs.declared.plan.Planned.TheVariants.{Call as CallOf};
 ghost use Rattle.report_text.specs.Report.{reply_lines};
 ghost use Rattle.workers.specs.Serve.{IsServed};

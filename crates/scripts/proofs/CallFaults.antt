@@ -5,7 +5,6 @@ use Rattle.std.specs.Option.{option_or}
 use Rattle.serde_json.specs.Data.{Data}
 use Rattle.serde_json.specs.Find.{get, as_str}
 use Rattle.path_text.specs.Name.{same_bytes, is_name}
-use Rattle.path_text.specs.declared.flags.Flags.{Flags}
 use Rattle.root_ops.specs.declared.op.Op.{Op}
 use Rattle.root_ops.specs.declared.op.Op.TheVariants as op
 use Rattle.root_ops.specs.declared.op.Request.{Request}
@@ -27,11 +26,11 @@ use Rattle.scripts.specs.declared.words.OpName.TheVariants as op_name
 use Rattle.scripts.specs.declared.words.StepName.{StepName}
 use Rattle.scripts.specs.declared.words.StepName.TheVariants as step_name
 use Rattle.scripts.specs.CallFaultLaws.{EachRefusalIsTold}
-use Rattle.scripts.specs.CallFaults.{key_of, unless, needs, text_fault, name_fault, mode_fault, flag_fault, flags_fault, label_fault, ref_fault, fields_fault, request_fault, step_fields_fault, step_fault, release_fault, word_fault, fault_in_call}
-use Rattle.scripts.specs.Calls.{flags_in, op_of, request_of, call_of}
+use Rattle.scripts.specs.CallFaults.{key_of, unless, text_fault, name_fault, mode_fault, flag_fault, flags_fault, label_fault, ref_fault, fields_fault, request_fault, step_fields_fault, step_fault, release_fault, word_fault}
+use Rattle.scripts.specs.Calls.{flags_in, op_of, request_of}
 use Rattle.scripts.specs.Fields.{text_in, name_in, mode_in, flag_in}
 use Rattle.scripts.specs.Labels.{takes_label, has_good_label, ref_of}
-use Rattle.scripts.specs.Steps.{step_name_in, ref_in, step_on, step_of, released_by, released_in}
+use Rattle.scripts.specs.Steps.{ref_in, step_on, step_of, released_by, released_in}
 use Rattle.scripts.specs.Words.{op_name_of, step_name_of}
 
 -- ---- what is refused, and what is told of it

@@ -1,5 +1,5 @@
 -- What of a script nobody looks at, over the data that its JSON text is: a strict reader refuses it (docs/SCRIPT.md).
-use Rattle.std.specs.Prelude.{⊤, ◌≡◌, ℕ, ◌+◌, ◌&&◌, ◌||◌, List, Bool, true, false, not, if◌then◌else◌, length, nat_lt, Option, Some, None, is_some, Result, Ok, Err, codes}
+use Rattle.std.specs.Prelude.{⊤, ◌≡◌, ℕ, ◌+◌, ◌&&◌, ◌||◌, List, Bool, false, not, if◌then◌else◌, length, nat_lt, Option, Some, None, is_some, Result, Ok, Err, codes}
 use Rattle.std.specs.Option.{option_or}
 use Rattle.serde_json.specs.Data.{Data, Items, no_items, item}
 use Rattle.serde_json.specs.Find.{get}
@@ -13,7 +13,6 @@ use Rattle.scripts.specs.declared.fault.RunFault.{RunFault}
 use Rattle.scripts.specs.declared.fault.RunFault.TheVariants.{Script, ReadFailed, WriteFailed, NoMemory, BookFull}
 use Rattle.scripts.specs.declared.fault.ScriptFault.{ScriptFault}
 use Rattle.scripts.specs.declared.fault.ScriptFault.TheVariants.{TooLong, Loose as TooLoose}
-use Rattle.scripts.specs.declared.keys.Keys.{Keys}
 use Rattle.scripts.specs.declared.keys.Keys.TheVariants.{Script as ScriptKeys, Actor as ActorKeys}
 use Rattle.scripts.specs.Checks.{then_with}
 use Rattle.scripts.specs.Fault.{check_of}

@@ -1,5 +1,5 @@
 //! The tree of a script: its entries, and the indexed tree that they name.
-ghost use Rattle.std.specs.Prelude.{◌≡◌, [], Ok, IfOk, IfErr, option_map, map};
+ghost use Rattle.std.specs.Prelude.{◌≡◌, [], Ok, IfOk, IfErr, option_map};
 ghost use Rattle.serde_json.specs.View.{view, items_view};
 ghost use Rattle.tree_model.specs.Trees.{IsState};
 ghost use Rattle.tree_list.specs.Build.{top_alone, with_nodes};

@@ -1,5 +1,5 @@
 -- A handle that isn't open by an actor's own events isn't open in a legal history.
-use Rattle.std.proofs.Common.{◌≡◌, ◌≢◌, ◌==◌, ◌&&◌, ◌||◌, ℕ, zero, suc, Bool, true, false, not, List, [], ◌∷◌, ◌++◌, length, None, Some, slice_set, Option, refl, sym, ap, ◌∙◌, subst, ⊎_elim, eqb-true, ne_eqb}
+use Rattle.std.proofs.Common.{◌≡◌, ◌==◌, ◌&&◌, ℕ, Bool, true, false, not, List, [], ◌∷◌, length, None, Some, slice_set, refl, sym, ap, ◌∙◌, subst, ⊎_elim, eqb-true, ne_eqb}
 use Rattle.std.specs.Prelude.{slice_get}
 use Rattle.std.proofs.lemmas.Bool.{false≢true, eqb-false, cases_eq, or_parts}
 use Rattle.tree_model.specs.declared.answer.Answer.{Answer}
@@ -8,7 +8,6 @@ use Rattle.tree_model.specs.declared.answer.Event.{Event}
 use Rattle.tree_model.specs.declared.step.StepOf.TheVariants.{Close}
 use Rattle.tree_model.specs.StepWith.{StepWith}
 use Rattle.tree_model.specs.History.{IsLegal, after_event, after_events}
-use Rattle.tree_model.specs.declared.inode.OpenHandle.{OpenHandle}
 use Rattle.tree_model.specs.State.{State}
 use Rattle.tree_model.specs.Steps.{Outcome, held, node_held}
 use Rattle.tree_model.specs.StepLaws.{only_tells, is_on_entries}

@@ -9,7 +9,7 @@ ghost use Rattle.path_text.specs.declared.errno.Errno.TheVariants.{BadHandle as 
 ghost use Rattle.handles.specs.Objects.{StandingObject};
 ghost use Rattle.root_ops.specs.declared.op.Op.TheVariants.{Release as ReleaseOp};
 ghost use Rattle.root_ops.specs.Order.{more, ends, releasing, steps_left};
-ghost use Rattle.root_ops.specs.TurnView.{turn_view, below_of, Keeps, steps_to_come};
+ghost use Rattle.root_ops.specs.TurnView.{turn_view, below_of, Keeps};
 ghost use Rattle.root_ops.specs.View.{reply_view, IsOwned};
 ghost use Rattle.sessions.specs.Call.{logs_step, root_of, IsAnswer, Leads, LeadsFirst, Made, Called, ReleaseTells, EndsRelease, is_of, is_book_full, released_by, turned_away};
 ghost use Rattle.sessions.specs.Session.{leaves_open};

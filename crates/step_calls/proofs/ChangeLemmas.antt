@@ -14,7 +14,7 @@ use Rattle.tree_model.specs.declared.step.StepOf.TheVariants.{MakeDir, MakeFile,
 use Rattle.tree_model.specs.declared.tree.TheConstants.{NUMBERS_MAX}
 use Rattle.tree_model.specs.Entries.{refuse_by, with_some, makes, removes_dir, removes_file}
 use Rattle.tree_model.specs.State.{State, child, has_entries, is_dir, is_gone}
-use Rattle.tree_model.specs.Steps.{held, outcome, refused}
+use Rattle.tree_model.specs.Steps.{held, refused}
 use Rattle.tree_model.specs.Steps as tree
 use Rattle.tree_model.specs.StepWith.{StepWith}
 use Rattle.step_calls.specs.Changes.{DirectoryRemovalSays, MakeSays, MakesStood, RemovalSays, RemovalsStood, WasRefused}

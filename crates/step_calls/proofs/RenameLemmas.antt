@@ -12,7 +12,7 @@ use Rattle.tree_model.specs.declared.step.Mode.TheVariants.{Plain, NoReplace, Ex
 use Rattle.tree_model.specs.declared.step.StepOf.TheVariants.{Rename}
 use Rattle.tree_model.specs.Entries.{exchanges, renames, renames_child, replaces}
 use Rattle.tree_model.specs.State.{child, has_entries, is_dir, is_gone, is_within}
-use Rattle.tree_model.specs.Steps.{held, outcome, refused}
+use Rattle.tree_model.specs.Steps.{held}
 use Rattle.tree_model.specs.Steps as tree
 use Rattle.tree_model.specs.StepWith.{StepWith}
 use Rattle.step_calls.specs.Changes.{WasRefused}

@@ -1,5 +1,5 @@
 //! What holds of each step, as laws over its exchanges: each function's contract is one, and its body is empty.
-ghost use Rattle.std.specs.Prelude.{◌≡◌, ◌≤◌, ◌+◌, ◌⊎◌, true, List, [], length};
+ghost use Rattle.std.specs.Prelude.{◌≡◌, ◌≤◌, ◌+◌, ◌⊎◌, List, [], length};
 ghost use Rattle.std.specs.List.{AllByRecursion};
 ghost use Rattle.step_calls.specs.Changes.{MakesStood, RemovalsStood};
 ghost use Rattle.step_calls.specs.History.{next_after, Exchange, IsHistory};

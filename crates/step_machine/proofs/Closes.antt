@@ -1,5 +1,5 @@
 -- Which steps are no Close.
-use Rattle.std.specs.Prelude.{◌≡◌, ℕ, true, false, refl}
+use Rattle.std.specs.Prelude.{◌≡◌, ℕ, false, refl}
 use Rattle.tree_model.specs.StepWith.{StepWith}
 use Rattle.tree_model.specs.declared.step.StepOf.TheVariants.{Close}
 use Rattle.tree_model.specs.Steps.{takes_no_memory}

@@ -7,7 +7,7 @@ use Rattle.tree_model.specs.State.{child}
 use Rattle.tree_model.specs.declared.inode.Place.{Place}
 use Rattle.step_resolver.specs.Meaning.{Ground, Meant, object, fails}
 use Rattle.step_machine.specs.Machine.{HasEnded}
-use Rattle.step_resolver.specs.Order.{Turn, under_way, found, partial, failed}
+use Rattle.step_resolver.specs.Order.{Turn, under_way, found, failed}
 use Rattle.step_resolver.specs.WalkHistory.{WalkInHistory, begin_of, timeline}
 
 -- no event of another in the window changes what stands at that entry

@@ -1,7 +1,7 @@
 -- What a path means in one tree: the end of the whole path, and the entries that it reads on the way.
 -- path_resolution(7); POSIX.1, 4.16 Pathname Resolution; openat2(2), RESOLVE_IN_ROOT, RESOLVE_BENEATH,
 -- RESOLVE_NO_SYMLINKS.
-use Rattle.std.specs.Prelude.{ℕ, zero, suc, ◌==◌, List, [], ◌∷◌, ◌++◌, Bool, true, false, if◌then◌else◌, nat_lt, length, Option, Some, None}
+use Rattle.std.specs.Prelude.{ℕ, zero, suc, ◌==◌, List, [], ◌∷◌, ◌++◌, Bool, true, if◌then◌else◌, nat_lt, length, Option, Some, None}
 use Rattle.path_text.specs.declared.errno.Errno.{Errno}
 use Rattle.path_text.specs.declared.errno.Errno.TheVariants.{NotFound, CrossRoot, NotDir, TooLong, Loop}
 use Rattle.path_text.specs.declared.flags.Flags.{Flags}

@@ -1,7 +1,7 @@
 -- The order of a walk's steps: which step is due, and what its answer makes of the walk.
 -- It opens one part at a time without following links (openat2(2) with O_PATH and O_NOFOLLOW), opens first and closes
 -- after, and asks for the names of what it holds after each `..` that moves and at the end.
-use Rattle.std.specs.Prelude.{◌≡◌, ℕ, zero, suc, ◌+◌, ◌*◌, ◌&&◌, List, [], ◌∷◌, ◌++◌, Bool, true, false, if◌then◌else◌, length, reverse, Option, Some, None}
+use Rattle.std.specs.Prelude.{ℕ, zero, suc, ◌+◌, ◌*◌, ◌&&◌, List, [], ◌∷◌, ◌++◌, Bool, true, false, if◌then◌else◌, length, reverse, Option, Some, None}
 use Rattle.path_text.specs.declared.errno.Errno.{Errno}
 use Rattle.path_text.specs.declared.errno.Errno.TheVariants.{NotFound, BadHandle, Raced, NoMemory, CrossRoot, NotDir, TooLong, Loop}
 use Rattle.path_text.specs.declared.flags.Flags.{Flags}

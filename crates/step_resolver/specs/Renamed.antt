@@ -1,7 +1,7 @@
 -- Walks with the numbers of their handles replaced by others; everything else stays.
 use Rattle.std.specs.Prelude.{◌≡◌, ℕ, List, [], ◌∷◌, ◌++◌}
 use Rattle.step_resolver.specs.declared.walk.Root.{Root}
-use Rattle.step_resolver.specs.Order.{Way, Handle, Position, root_itself, holds, After, gives, onward, judges, Walking, opening, reading, rising, judging, duping, ending, closing, more, found, partial, failed, handles_of}
+use Rattle.step_resolver.specs.Order.{Way, Handle, Position, After, gives, onward, judges, Walking, opening, reading, rising, judging, duping, ending, closing, handles_of}
 use Rattle.step_resolver.specs.Renumbered.{for_handles}
 use Rattle.step_resolver.specs.Renumbered as all
 

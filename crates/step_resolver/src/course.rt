@@ -1,5 +1,5 @@
 //! A walk apart from its pending step, and what each answer comes to.
-ghost use Rattle.std.specs.Prelude.{◌≡◌, [], true, false, Option, Some, None, IsSome, IsTrue, option_to_list, reverse};
+ghost use Rattle.std.specs.Prelude.{◌≡◌, [], true, false, Some, None, IsSome, IsTrue, option_to_list, reverse};
 ghost use Rattle.handles.specs.Objects.{is_opened};
 ghost use Rattle.path_text.specs.declared.part.Part.TheVariants.{Up};
 ghost use Rattle.walk_plan.specs.Plan.{next_part, is_own, follows_next_link, stayed};

@@ -1,7 +1,6 @@
 //! The text that the program writes.
-ghost use Rattle.std.specs.Prelude.{◌≡◌, ◌<◌, ◌++◌, ℕ, List, [], ◌∷◌, IfOk, OnOk, OnErr, codes, decimal};
+ghost use Rattle.std.specs.Prelude.{◌≡◌, ◌<◌, ℕ, List, [], decimal};
 ghost use Rattle.step_text.specs.Output.{escaped_byte, escaped, kind_word, hex_digit, opened_words, opened_line, fault_words, fault_line, Gains};
-ghost use Rattle.path_text.specs.Print.{printed};
 
 use itoa::Buffer;
 use path_text::{Errno, Names, NoMemory};

@@ -1,5 +1,5 @@
 -- What is done with an object that a call has found, by flags of open(2).
-use Rattle.std.specs.Prelude.{ℕ, ◌==◌, Bool, not, ◌&&◌, if◌then◌else◌}
+use Rattle.std.specs.Prelude.{ℕ, ◌==◌, not, ◌&&◌, if◌then◌else◌}
 use Rattle.system_calls.specs.Errors.{ENOTDIR, EISDIR}
 use Rattle.system_calls.specs.declared.opening.MachineFlags.{MachineFlags}
 use Rattle.system_calls.specs.declared.opening.Opening.{Opening}

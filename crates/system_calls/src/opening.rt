@@ -1,5 +1,5 @@
 //! What a call opens and makes, by flags of open(2).
-ghost use Rattle.std.specs.Prelude.{◌≡◌, ◌+◌, ◌==◌, bit_and, bit_or, true, false};
+ghost use Rattle.std.specs.Prelude.{◌≡◌, ◌==◌, false};
 ghost use Rattle.system_calls.specs.OpenFlags.{access, are_among, has, o_tmpfile, O_CREAT, O_EXCL};
 ghost use Rattle.system_calls.specs.Opening.{contradict, done, error_of_directory, error_of_other, fits_mode, flags_of_path, found_flags, is_nameless, is_new, made_flags, opening_of, opens, path_flags, reopen_flags, reopens, use_flags};
 

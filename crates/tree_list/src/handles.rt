@@ -1,5 +1,4 @@
 //! The handles as a plain list.
-ghost use Rattle.std.specs.Prelude.{◌≡◌};
 
 use path_text::NoMemory;
 use std::alloc::Global;

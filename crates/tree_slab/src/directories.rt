@@ -1,5 +1,5 @@
 //! The ordered maps of the standing directories' entries, kept in a slab.
-ghost use Rattle.std.specs.Prelude.{◌≡◌, nat_le, option_copied, length, ◌+◌, ◌++◌, ◌∷◌, [], IsTrue, ◌↔◌, List, ℕ, Some, None, true, IfOk, OnOk, OnErr, IsSome};
+ghost use Rattle.std.specs.Prelude.{◌≡◌, nat_le, option_copied, length, ◌++◌, ◌∷◌, [], IsTrue, ◌↔◌, List, ℕ, Some, None, true, IfOk, OnOk, OnErr, IsSome};
 ghost use Rattle.std.specs.Option.{option_map_or};
 ghost use Rattle.std.specs.Ordering.{nat_cmp};
 ghost use Rattle.std.specs.Cmp.Lexicographic.{slice_cmp};

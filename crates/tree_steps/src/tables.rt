@@ -1,5 +1,5 @@
 //! The two tables that a tree is kept as: its nodes, and the handles that are open.
-ghost use Rattle.std.specs.Prelude.{◌≡◌, ◌≢◌, ◌<◌, ◌&&◌, ◌++◌, ◌∷◌, [], ℕ, List, Option, Some, None, true, false, count_by, length, slice_get, slice_set, IfOk, OnOk, OnErr, IsSome};
+ghost use Rattle.std.specs.Prelude.{◌≡◌, ◌≢◌, ◌<◌, ◌&&◌, ◌++◌, ◌∷◌, [], List, Option, Some, None, true, false, count_by, length, slice_get, slice_set, IfOk, OnOk, OnErr, IsSome};
 ghost use Rattle.tree_model.specs.declared.inode.Inode.{Inode};
 ghost use Rattle.tree_model.specs.declared.inode.OpenHandle.{OpenHandle};
 ghost use Rattle.tree_model.specs.State.{child, is_dir, is_gone, is_within, has_entries, names_in, sorted_names, put_at};

@@ -1,5 +1,4 @@
 //! A tree of two tables, and that it is a `Tree`.
-ghost use Rattle.std.specs.Prelude.{◌≡◌};
 
 use crate::read::directory_at;
 use crate::tables::{HandleTable, NodeTable, copy_nodes};

@@ -1,6 +1,6 @@
 //! What holds of every directory of a walk, as laws over its exchanges: each function's contract is one, and its body
 //! is empty.
-ghost use Rattle.std.specs.Prelude.{◌≡◌, ◌≢◌, ◌≤◌, ◌+◌, ◌*◌, ◌++◌, ◌⊎◌, ℕ, Bool, true, List, [], ◌∷◌, length};
+ghost use Rattle.std.specs.Prelude.{◌≡◌, ◌≢◌, ◌≤◌, ◌+◌, ◌*◌, ◌++◌, true, List, ◌∷◌, length};
 ghost use Rattle.std.specs.List.{AllByRecursion};
 ghost use Rattle.system_calls.specs.Errors.{EINTR, EAGAIN};
 ghost use Rattle.system_calls.specs.Objects.{S_IFDIR};

@@ -1,5 +1,5 @@
 //! What a worker was told.
-ghost use Rattle.std.specs.Prelude.{◌≡◌, [], vec_len, vec_capacity};
+ghost use Rattle.std.specs.Prelude.{◌≡◌, []};
 
 use path_text::NoMemory;
 use root_ops::Reply;

@@ -9,7 +9,7 @@ use Rattle.tree_model.specs.declared.inode.Object.{Object}
 use Rattle.tree_model.specs.declared.inode.Object.TheVariants.{Dir}
 use Rattle.tree_model.specs.State.{TOP, Stands, object_at, place_at, child, is_dir, is_directory, is_gone}
 use Rattle.tree_model.specs.Trees.{IsTree}
-use Rattle.tree_model.proofs.Places.{object_at-append, place_at-append, place_at-last, place_at-one_more, slice_get-last}
+use Rattle.tree_model.proofs.Places.{object_at-append, place_at-last, place_at-one_more, slice_get-last}
 use Rattle.tree_model.proofs.Children.{entry, place_at-child, child-entry}
 use Rattle.tree_model.proofs.StepsKept.{directory-within}
 use Rattle.tree_model.proofs.Standing.{Stands-append}

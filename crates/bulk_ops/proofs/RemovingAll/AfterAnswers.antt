@@ -23,7 +23,7 @@ use Rattle.step_resolver.proofs.Underway.StepOutcomes as step_is
 use Rattle.step_resolver.proofs.Underway.WalkInvariant.{Lived, StepAt, held_at, IsNotIn, dir_at}
 use Rattle.step_resolver.proofs.Underway.HandlesHeld.{kept_on, more_on}
 use Rattle.step_resolver.proofs.Underway.LegalHistory.{AloneAt, not_below}
-use Rattle.bulk_ops.specs.RemoveAllOrder.{Level, Stage, removes_file, lists, shuts, leaves, removes_dir, End, fails, removes, Removing, walking, clearing, closing, Turn, more, removed, failed, dirs, before, closes, is_due, gives_up, next_entry, finished, enters, file_removed, opened, listed, dir_removed, take, due_at}
+use Rattle.bulk_ops.specs.RemoveAllOrder.{Level, Stage, removes_file, lists, shuts, leaves, removes_dir, End, fails, removes, clearing, dirs, before, closes, is_due, gives_up, next_entry, finished, file_removed, opened, listed, dir_removed, take, due_at}
 use Rattle.bulk_ops.specs.RemoveAllOrder as order
 use Rattle.bulk_ops.specs.RemoveAllTells.{under, removals, one_more_if, is_removal, TakesAway, LeavesEntries, IsOn, ClosesAt, AllClose, TellsFault}
 use Rattle.bulk_ops.proofs.RemovingAll.StepAnswers.{without, FileCase, no_dir, no_entry, at_dir, gone, file_case, DirCase, not_in_dir, no_such_entry, at_no_dir, not_empty, dir_gone, dir_case, list_is}

@@ -21,7 +21,7 @@ use Rattle.step_resolver.proofs.Underway.WalkInvariant.{Lived}
 use Rattle.step_resolver.proofs.Underway.OwnSteps.{own_events_leave_nodes}
 use Rattle.step_resolver.proofs.Ends.EveryWalk.{tree_laws, walks_tell}
 use Rattle.bulk_ops.specs.declared.remove_all.clearing.TheConstants.{CLEARING_STEPS_MAX}
-use Rattle.bulk_ops.specs.RemoveAllOrder.{Level, Stage, removes_file, lists, shuts, leaves, removes_dir, fails, removes, Removing, walking, clearing, closing, Turn, more, removed, failed, begins, walked, take, due, LeadsTo}
+use Rattle.bulk_ops.specs.RemoveAllOrder.{removes_file, lists, shuts, leaves, removes_dir, Removing, walking, clearing, closing, Turn, more, removed, failed, begins, walked, take, due, LeadsTo}
 use Rattle.bulk_ops.specs.RemoveAllOrder as order
 use Rattle.bulk_ops.specs.WalkFirst.{LeavesEntries, walk_part, WalkedTo, after_walk}
 use Rattle.bulk_ops.specs.RemoveAllTells.{removals, one_more_if, is_removal, TakesAway, OnlyTakesAway, IsLastOnTarget, IsClose, IsBounded, Parts, Tells, RemoveAllTells}

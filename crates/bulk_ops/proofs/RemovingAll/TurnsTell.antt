@@ -9,7 +9,7 @@ use Rattle.tree_model.specs.declared.answer.Answer.TheVariants.{Refused}
 use Rattle.step_machine.proofs.Machines.{IsMachine}
 use Rattle.step_machine.specs.Tells.{EveryCallTells, lines_before}
 use Rattle.step_machine.proofs.Runs as machine
-use Rattle.step_resolver.specs.Order.{Way, Line}
+use Rattle.step_resolver.specs.Order.{Way}
 use Rattle.step_resolver.specs.Order as walk
 use Rattle.step_resolver.specs.TurnsTell.{first_lines}
 use Rattle.step_resolver.proofs.FirstTurns.{first_lines_lead, IsFirst, begins_first}

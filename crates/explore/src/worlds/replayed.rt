@@ -1,5 +1,5 @@
 //! A world gone through from the beginning by a list of turns, and what it comes to.
-ghost use Rattle.std.specs.Prelude.{◌≡◌, ◌<◌, ◌≤◌, ◌^◌, ◌++◌, ◌∷◌, [], false, length, IfOk, IfErr, OnOk};
+ghost use Rattle.std.specs.Prelude.{◌≡◌, ◌≤◌, [], false, length, IfOk, IfErr, OnOk};
 ghost use Rattle.race_core.specs.Turns.{Luck};
 ghost use Rattle.race_core.specs.Worlds.{Runs, RunsTo, turn};
 ghost use Rattle.race_core.specs.declared.opening.TheConstants.{ACTORS_MAX};

@@ -1,6 +1,6 @@
 -- The graph of a search that came to its end fits the system: each graph node is for a configuration's place.
 use Rattle.layered_search.specs.Limits.{ScopeView}
-use Rattle.std.specs.Prelude.{◌≡◌, ◌<◌, ◌≤◌, ◌⊎◌, ℕ, suc, List, [], Bool, true, length, slice_get, Option, Some, None, refl}
+use Rattle.std.specs.Prelude.{◌≡◌, ◌<◌, ◌≤◌, ℕ, suc, List, [], Bool, true, length, slice_get, Option, Some, None, refl}
 use Rattle.std.specs.Global.{Vec}
 use Rattle.std.proofs.lemmas.Bool.{cases_lt}
 use Rattle.smallvec.specs.SmallVec.{SmallVec}

@@ -1,5 +1,5 @@
 //! The classes of what ends come to, and the graph nodes of configurations.
-ghost use Rattle.std.specs.Prelude.{◌≡◌, ◌⊎◌, ◌<◌, ◌≤◌, ◌^◌, ℕ, List, length, Option, Some, None, slice_get, IfOk, IfSome, IfNone, OnOk};
+ghost use Rattle.std.specs.Prelude.{◌≡◌, ◌<◌, ◌≤◌, ◌^◌, ℕ, List, length, Option, Some, None, slice_get, IfOk, IfSome, IfNone, OnOk};
 ghost use Rattle.smallvec.specs.SmallVec.{SmallVec as Row};
 ghost use Rattle.schedule_graph.specs.declared.graph.Edge.{Edge};
 ghost use Rattle.schedule_graph.specs.Words.{AreApart, IsLayer};

@@ -1,5 +1,5 @@
 //! A layer's states are gone on from, one after another.
-ghost use Rattle.std.specs.Prelude.{◌≡◌, ◌<◌, ◌≤◌, ◌+◌, ◌^◌, suc, ℕ, length, Some, IfOk, IfErr, OnOk};
+ghost use Rattle.std.specs.Prelude.{◌≡◌, ◌<◌, ◌≤◌, ◌+◌, suc, ℕ, length, IfOk, IfErr, OnOk};
 ghost use Rattle.layered_search.specs.Limits.{LimitsView};
 ghost use Rattle.layered_search.specs.Asked.{WhyNot, bounds_at};
 ghost use Rattle.layered_search.specs.Distinct.{Keeps};

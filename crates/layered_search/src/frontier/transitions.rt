@@ -1,6 +1,5 @@
 //! The transitions from a layer: of each state, the turns of all who may go from some configuration on it.
 ghost use Rattle.std.specs.Prelude.{◌≡◌, ◌⊎◌, ◌<◌, ◌≤◌, ◌^◌, ℕ, List, length, Some, slice_get, IfOk, IfSome};
-ghost use Rattle.layered_search.specs.declared.frontier.layer.Visited.{Visited};
 ghost use Rattle.layered_search.specs.declared.frontier.layer.Configuration.{Configuration};
 ghost use Rattle.layered_search.specs.declared.frontier.transitions.Transition.{Transition};
 ghost use Rattle.layered_search.specs.Distinct.{Keeps};

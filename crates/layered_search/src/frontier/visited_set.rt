@@ -1,5 +1,5 @@
 //! The next layer's states as they are found, with the table in which they are looked up.
-ghost use Rattle.std.specs.Prelude.{◌≡◌, ◌↔◌, ◌⊎◌, ◌++◌, ◌∷◌, [], ℕ, drop, length, Some, slice_get, IsTrue, IfOk, IfSome, IfNone, OnOk};
+ghost use Rattle.std.specs.Prelude.{◌≡◌, ◌↔◌, ◌⊎◌, ◌++◌, ◌∷◌, [], ℕ, drop, length, Some, slice_get, IsTrue, IfOk, IfSome, IfNone};
 ghost use Rattle.std.specs.List.{count_by};
 ghost use Rattle.layered_search.specs.declared.frontier.layer.Visited.{Visited};
 ghost use Rattle.layered_search.specs.Distinct.{Keeps};

@@ -15,7 +15,7 @@ use Rattle.tree_model.specs.declared.step.StepOf.TheVariants as steps
 use Rattle.tree_model.specs.Steps.{held}
 use Rattle.walk_plan.specs.declared.goal.Goal.TheVariants.{Follow}
 use Rattle.step_resolver.specs.Failures.{TellsWant}
-use Rattle.step_resolver.specs.Order.{Handle, Line, found, failed, events_of}
+use Rattle.step_resolver.specs.Order.{Handle, found, failed}
 use Rattle.step_resolver.specs.Order as walk
 use Rattle.step_resolver.specs.View.{way_from}
 use Rattle.step_resolver.specs.WalkHistory.{WalkInHistory, IsWalkInHistory, begin_of}
@@ -31,7 +31,7 @@ use Rattle.root_ops.specs.declared.op.Op.{Op}
 use Rattle.root_ops.specs.declared.op.Op.TheVariants.{Resolve, ResolveNoFollow, ReadLink, CreateFile, CreateDir, CreateLink, RemoveFile, RemoveDir, Rename, MkdirAll, RemoveAll, Single, Release}
 use Rattle.root_ops.specs.Acts.{WalkedTo, after_walk, along, on_path as with_path, IsEntry, FindsDirectory, EntryTells, at_once, nameless, walk_fails, change_refused, in_want, FindsLink, ReadTells, read_at_once, read_walk_fails, read_refused, read_in_want, FindsBoth, RenameTells, rename_at_once, old_nameless, new_text, new_nameless, of_first, of_second, no_second, of_rename, ActTells, CallsAct}
 use Rattle.root_ops.specs.CallHistory.{CallInHistory, IsCallInHistory, RepliesWith, IsPath}
-use Rattle.root_ops.specs.Order.{Reply, opened, link_text, done, count, stepped, kept, fault, gives, acting, more, ends, closes, CallTurn, starts, lacks, goal_of, way_of, walked, walks, on_path, on_entry, in_directory, unless_fault, from_entry, between, renaming_of, walked_on, change_step, LeadsTo}
+use Rattle.root_ops.specs.Order.{Reply, link_text, done, fault, acting, more, ends, CallTurn, starts, lacks, goal_of, way_of, walked, walks, on_entry, in_directory, unless_fault, from_entry, between, renaming_of, walked_on, change_step, LeadsTo}
 use Rattle.root_ops.specs.Order as call
 use Rattle.root_ops.proofs.FirstSteps.{lines_few}
 use Rattle.root_ops.proofs.FirstTurn.{led_from}

@@ -28,7 +28,7 @@ use Rattle.root_ops.specs.declared.aim.Wanted.TheVariants as wants
 use Rattle.root_ops.specs.declared.below.Below.{Below}
 use Rattle.root_ops.specs.Acts.{WasDirectory, RenamesOnce, RenameRefused, rename_refused, not_directory, full, rename_in_want}
 use Rattle.root_ops.specs.Meaning.{no_directory}
-use Rattle.root_ops.specs.Order.{Reply, opened, link_text, done, count, stepped, kept, fault, gives, acts, acting, checking, more, ends, closes, gives_up, reply_to, rename_step, take, LeadsTo}
+use Rattle.root_ops.specs.Order.{Reply, done, kept, fault, acts, acting, checking, more, ends, closes, gives_up, reply_to, rename_step, take, LeadsTo}
 use Rattle.root_ops.specs.Order as call
 use Rattle.root_ops.proofs.Quiet.RenamesAlone.{Tried, is_refused, can_open_no_more, opens_it, entry_tried, rename_is, other_handle}
 use Rattle.root_ops.proofs.Acts.OwnStep.{Side, is_before, is_at, is_after, side, LeavesFrom, all_leave, but_one, and_one, leaves_by, shut, Acted, step_unmade, step_made, acted}

@@ -22,7 +22,7 @@ use Rattle.tree_model.proofs.HistoryLaws.{after_events-append}
 use Rattle.walk_plan.specs.declared.goal.Goal.{Goal}
 use Rattle.walk_plan.specs.declared.goal.Goal.TheVariants.{Follow, NoFollow}
 use Rattle.step_resolver.specs.Failures.{TellsError, TellsTooMany}
-use Rattle.step_resolver.specs.Order.{Handle, Line, IsWant, found, failed}
+use Rattle.step_resolver.specs.Order.{IsWant, found, failed}
 use Rattle.step_resolver.specs.Order as walk
 use Rattle.step_resolver.specs.View.{way_from}
 use Rattle.step_resolver.specs.WalkHistory.{WalkInHistory, begin_of, end_of, state_at}

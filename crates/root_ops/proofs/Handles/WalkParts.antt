@@ -11,7 +11,7 @@ use Rattle.tree_model.specs.Trees.{IsState}
 use Rattle.tree_model.specs.History.{IsLegal, after_events, tree_at}
 use Rattle.tree_model.proofs.HistoryLaws.{histories_keep_trees, objects_stay_for_good, trees_begin_and_end, legal_histories_join}
 use Rattle.step_resolver.specs.Failures.{TellsWant}
-use Rattle.step_resolver.specs.Order.{Way, Handle, Walking, Turn, more, found, partial, failed, Line, events_of, begins, take, for_walk, starts}
+use Rattle.step_resolver.specs.Order.{Turn, Line, events_of, begins}
 use Rattle.step_resolver.specs.Order as walk
 use Rattle.step_resolver.specs.WalkHistory.{WalkInHistory, own_events}
 use Rattle.step_resolver.specs.Headline.{Tells}

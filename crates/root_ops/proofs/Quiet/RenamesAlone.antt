@@ -32,7 +32,7 @@ use Rattle.step_resolver.proofs.Underway.StepOutcomes.{Opening, too_many, no_obj
 use Rattle.root_ops.specs.declared.aim.Aim.TheVariants.{WalksOn, Renames}
 use Rattle.root_ops.specs.declared.aim.Renaming.{Renaming}
 use Rattle.root_ops.specs.declared.aim.Wanted.TheVariants as wants
-use Rattle.root_ops.specs.Meaning.{Caller, fails, Whole, and_then, directory_of, no_directory, renamed, changes}
+use Rattle.root_ops.specs.Meaning.{Caller, Whole, and_then, directory_of, no_directory, renamed, changes}
 use Rattle.root_ops.specs.Meaning as meaning
 use Rattle.root_ops.specs.Order.{Reply, more, ends, acting, checking, acts, closes, gives_up, walked, walked_on, walks, way_of, unless_fault, between, from_entry, renaming_of, rename_step, reply_to, take, LeadsTo}
 use Rattle.root_ops.specs.Quiet.{Meets, MetBy, ComesTo}

@@ -1,17 +1,16 @@
 -- Facts for the plain program.
-use Rattle.std.proofs.Common.{◌≡◌, ℕ, zero, suc, ◌+◌, ◌-◌, ◌<◌, ◌≤◌, nat_lt, Bool, true, false, ◌||◌, List, [], ◌∷◌, ◌++◌, length, map, drop, get_or, refl, sym, ap, ◌∙◌, subst, nat_eq, le_refl, arith}
+use Rattle.std.proofs.Common.{◌≡◌, ℕ, zero, suc, ◌+◌, ◌-◌, ◌<◌, ◌≤◌, nat_lt, Bool, true, false, ◌||◌, List, [], ◌∷◌, ◌++◌, length, map, drop, get_or, refl, sym, ap, ◌∙◌, subst, le_refl, arith}
 use Rattle.std.specs.Prelude.{Ok, Err, Option, Some, None, slice_get, if◌then◌else◌}
-use Rattle.std.specs.Option.{option_eq, option_map, unwrap_or}
+use Rattle.std.specs.Option.{option_map, unwrap_or}
 use Rattle.std.proofs.lemmas.Bool.Decides.{nat_tests}
 use Rattle.std.proofs.lemmas.List.{drop_more, length-drop}
 use Rattle.std.proofs.lemmas.Option.{slice_get_within, slice_get-get_or, get_or_from_slice_get}
 use native.Mathlib.Numerals.{unary_clauses}
 use Rattle.path_text.specs.declared.errno.Errno.{Errno}
 use Rattle.path_text.specs.declared.errno.Errno.TheVariants.{CrossRoot, Loop}
-use Rattle.path_text.specs.declared.name.TheConstants.{SLASH}
 use Rattle.path_text.specs.declared.part.Part.{Part}
 use Rattle.path_text.specs.declared.part.Part.TheVariants as part
-use Rattle.path_text.specs.Text.{ends_with_slash, part_of, parts_of, text_fault, begins_with_slash}
+use Rattle.path_text.specs.Text.{part_of, parts_of, text_fault, begins_with_slash}
 use Rattle.tree_model.specs.declared.inode.Place.{Place}
 use Rattle.walk_plan.specs.Plan.{leads_out}
 use Rattle.step_resolver.specs.declared.plain.Arrived.{Arrived}

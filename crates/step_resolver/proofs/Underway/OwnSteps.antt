@@ -1,5 +1,5 @@
 -- Each own event in a walk's window leaves the nodes.
-use Rattle.std.specs.Prelude.{◌≡◌, suc, Option, Some, None, slice_get, refl}
+use Rattle.std.specs.Prelude.{◌≡◌, Option, Some, None, slice_get, refl}
 use Rattle.std.proofs.Common.{sym, ap, subst, ◌∙◌}
 use Rattle.std.proofs.lemmas.Bool.{false≢true}
 use Rattle.tree_model.specs.declared.answer.Event.{Event}

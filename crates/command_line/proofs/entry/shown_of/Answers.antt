@@ -1,4 +1,4 @@
-use Rattle.std.proofs.Common.{◌≡◌, ◌++◌, ap, ◌∙◌}
+use Rattle.std.proofs.Common.{◌++◌, ap, ◌∙◌}
 use Rattle.command_line.specs.Entry.{shown}
 use Rattle.command_line.proofs.entry.shown_of.Goals as goal
 

@@ -1,4 +1,4 @@
-use Rattle.std.proofs.Common.{◌≡◌, ℕ, length}
+use Rattle.std.proofs.Common.{◌≡◌, length}
 use Rattle.kernel_text.specs.Mounts.{lines, mount_number, number_in}
 use Rattle.kernel_text.proofs.mounts.mount_number.Given as goal
 

@@ -1,4 +1,4 @@
-use Rattle.std.proofs.Common.{◌≡◌, ◌++◌, drop, length}
+use Rattle.std.proofs.Common.{◌≡◌, ◌++◌, drop}
 use Rattle.report_text.specs.Report.{reply_line, actor_lines, numbered}
 use Rattle.report_text.proofs.outcomes.replies_of.Given as goal
 
