@@ -1,13 +1,12 @@
 -- The counts follow the handles: one more is opened, or one is closed.
-use Rattle.std.proofs.Common.{◌≡◌, ◌≢◌, ℕ, zero, suc, ◌+◌, ◌-◌, ◌<◌, ◌≤◌, Bool, true, false, cond, ◌==◌, nat_eq, List, [], ◌∷◌, ◌++◌, get_or, set, length, take, Option, Some, None, is_some, IsSome, count_by, refl, ap, sym, ◌∙◌, eq-eqb, eqb-true, add-zero, subst, arith}
+use Rattle.std.proofs.Common.{◌≡◌, ◌≢◌, ℕ, zero, suc, ◌+◌, ◌-◌, ◌<◌, ◌≤◌, Bool, true, false, cond, ◌==◌, nat_eq, List, [], ◌∷◌, ◌++◌, get_or, set, length, Option, Some, None, is_some, IsSome, count_by, refl, ap, sym, ◌∙◌, eq-eqb, eqb-true, add-zero, arith}
 use Rattle.std.specs.Prelude.{slice_get}
 use Rattle.std.proofs.lemmas.Bool.{ne_eqb, false≢true, true≢false}
-use Rattle.std.proofs.lemmas.List.Sums.{sum_by-set, sum_by-append, count_by-le-length}
-use Rattle.std.proofs.lemmas.List.{take_more, length-take}
+use Rattle.std.proofs.lemmas.List.Sums.{sum_by-set, sum_by-append}
 use Rattle.std.proofs.lemmas.Option.{none-some, same_Some}
 use Rattle.tree_model.specs.declared.inode.OpenHandle.{OpenHandle}
 use Rattle.tree_model.specs.Steps.{is_held_by, node_held}
-use Rattle.tree_slab.specs.Counts.{IsCounted, SetsCount, CountsPlace}
+use Rattle.tree_slab.specs.Counts.{IsCounted, SetsCount}
 
 -- one more handle, of an actor
 pub count_opened : (handles : List (Option OpenHandle)) (h : OpenHandle) (b : ℕ)
@@ -98,21 +97,3 @@ module _ (handles : List (Option OpenHandle)) (old new : ℕ → ℕ) where
           let same : bit (a == b) ≡ 0 = bit-false (a == b) e in
           let was : old b ≡ count_by (is_held_by b) handles = counted b in
           omega (arith, same, was)
-
-  -- the place of a handle is counted
-  pub counted_place : (place : Option OpenHandle) → IsCounted handles old → CountsPlace old new place → IsCounted (handles ++ place ∷ []) new
-  counted_place None counted same b =
-      same b ∙ counted b ∙ sym (sum_by-append (λ place. cond (is_held_by b place) 1 0) handles (None ∷ []) ∙ add-zero (count_by (is_held_by b) handles))
-  counted_place (Some handle) counted sets b = counted_opened handle.actor handle.node counted sets b
-
-pub counted_take_more : (handles : List (Option OpenHandle)) (i : ℕ) (place : Option OpenHandle) (old new : ℕ → ℕ)
-    → i < length handles → place ≡ get_or handles i place → IsCounted (take i handles) old → CountsPlace old new place → IsCounted (take (i + 1) handles) new
-counted_take_more handles i place old new more is counted counts =
-    subst (λ places. IsCounted places new) (sym (take_more handles i place more ∙ ap (λ p. take i handles ++ p ∷ []) (sym is))) (counted_place (take i handles) old new place counted counts)
-
-pub counted_below : (handles : List (Option OpenHandle)) (i : ℕ) (count : ℕ → ℕ) → IsCounted (take i handles) count → i < length handles → (a : ℕ) → count a < length handles
-counted_below handles i count counted more a =
-    let c = counted a in
-    let few = count_by-le-length (is_held_by a) (take i handles) in
-    let short = length-take i handles in
-    omega arith

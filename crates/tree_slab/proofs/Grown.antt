@@ -11,15 +11,6 @@ use Rattle.tree_slab.proofs.Keys.{entries_at-view, length-view, same_each, same_
 
 -- ---- a map less
 
-pub nothing_lost : (directories : List (Option (List (List ℕ × ℕ)))) (d : ℕ) → entries_at directories d ≡ None → LosesMap directories directories d
-nothing_lost directories d none = record { entries = entries; count = refl }
-  where
-    entries : (f : ℕ) → entries_at directories f ≡ (if f == d then None else entries_at directories f)
-    entries f = elim (cases_eq f d) [
-      | inl q ↦ rw (q, eq-eqb d d refl) none
-      | inr ne ↦ rw (ne_eqb f d ne) refl
-    ]
-
 module _ (keys : List (Option ℕ)) (old new : Slab (List (List ℕ × ℕ))) (h : HasEachMap keys old) (d key : ℕ) (there : key_at keys d ≡ Some key) (u : Updates old new key None) where
   within : d < length keys
   within = grind (arith, get_or_past)

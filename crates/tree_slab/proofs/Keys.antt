@@ -1,9 +1,9 @@
 -- The maps by the nodes that have their keys: what a look-up finds, and what a change of a map or of the keys leaves.
-use Rattle.std.proofs.Common.{◌≡◌, ◌≢◌, ℕ, zero, suc, Bool, true, false, if◌then◌else◌, List, [], ◌∷◌, length, map, Option, Some, None, is_some, refl, ap, sym, ◌∙◌, inl, inr, eq-eqb}
+use Rattle.std.proofs.Common.{◌≡◌, ◌≢◌, ℕ, zero, suc, List, [], ◌∷◌, length, map, Option, Some, None, is_some, refl, ap, sym, ◌∙◌, inl, inr, eq-eqb}
 use Rattle.std.proofs.lemmas.Bool.{cases_eq, ne_eqb}
 use Rattle.std.proofs.lemmas.Option.{none-some, same_Some}
 use Rattle.slab.specs.Slab.{Slab, get}
-use Rattle.tree_slab.specs.Directories.{is_name, entries_at, has_map, entry_in, with_entry, SetsEntry, key_at, entries_of, HasEachMap, ChangesMap, SameMaps}
+use Rattle.tree_slab.specs.Directories.{entries_at, has_map, entry_in, with_entry, SetsEntry, key_at, entries_of, HasEachMap, ChangesMap, SameMaps}
 
 -- ---- what a look-up finds
 
@@ -63,20 +63,3 @@ module _ (keys : List (Option ℕ)) (old new : Slab (List (List ℕ × ℕ))) (h
       maps = λ f. maps_kept f (key_at keys f) refl;
       count = length-view keys new ∙ sym (length-view keys old);
     }
-
--- nothing is there to be taken away
-pub nothing_there : (directories : List (Option (List (List ℕ × ℕ)))) (d : ℕ) (n : List ℕ) → entries_at directories d ≡ None → SetsEntry directories directories d n None
-nothing_there directories d n none = record { entries = λ f m. entries f m; maps = λ f. refl; count = refl }
-  where
-    entries : (f : ℕ) (m : List ℕ) → entry_in directories f m ≡ with_entry (entry_in directories) d n None f m
-    entries f m = elim (cases_eq f d) [
-      | inl q ↦ rw (q, eq-eqb d d refl, none) (both (is_name n m))
-      | inr ne ↦ rw (ne_eqb f d ne) refl
-    ]
-      where
-        nothing : Option ℕ
-        nothing = None
-
-        both : (b : Bool) → nothing ≡ (if b then nothing else nothing)
-        both true = refl
-        both false = refl

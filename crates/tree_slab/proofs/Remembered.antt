@@ -1,19 +1,14 @@
 -- What is remembered stays true: by each call of the cache, and where an entry changes that was forgotten.
-use Rattle.std.proofs.Common.{◌≡◌, ℕ, Bool, List, [], length, Option, Some, None, sym, ap, subst, ◌∙◌, ⊎_elim}
+use Rattle.std.proofs.Common.{◌≡◌, ℕ, Bool, List, length, Option, Some, sym, ap, subst, ◌∙◌, ⊎_elim}
 use Rattle.std.specs.Prelude.{Result, Ok, Err, OnOk, OnErr}
-use Rattle.std.specs.Map.{lookup}
-use Rattle.std.proofs.lemmas.Option.{none-some}
 use Rattle.path_text.specs.declared.errno.NoMemory.{NoMemory}
-use Rattle.dentry_cache.specs.Cache.{Cache, same_entry, found, looked, noted, forgotten}
+use Rattle.dentry_cache.specs.Cache.{Cache, found, looked, noted, forgotten}
 use Rattle.dentry_cache.proofs.Keys.{key}
 use Rattle.dentry_cache.proofs.Finds.{found-looked, found-noted, found-forgotten}
 use Rattle.tree_slab.specs.Cached.{IsTrueOf}
-use Rattle.tree_slab.specs.Directories.{entry_in, with_entry, SetsEntry, AddsNode, LosesMap}
+use Rattle.tree_slab.specs.Directories.{entry_in, with_entry, SetsEntry, AddsNode}
 use Rattle.tree_slab.proofs.Agreement.{with_entry-cases}
-use Rattle.tree_slab.proofs.Index.{Tables, lost_look}
-
-pub nothing_remembered : (cache : Cache) (directories : Tables) → cache.entries ≡ [] → IsTrueOf cache directories
-nothing_remembered cache directories none d n x h = absurd (none-some x (sym (ap (λ es. lookup (same_entry (d, n)) es) none) ∙ h))
+use Rattle.tree_slab.proofs.Index.{Tables}
 
 module _ (old new : Cache) (directories : Tables) (d : ℕ) (n : List ℕ) where
   pub true-looked : new ≡ looked old d n → IsTrueOf old directories → IsTrueOf new directories
@@ -56,7 +51,3 @@ module _ (old new : Cache) (directories : Tables) (d : ℕ) (n : List ℕ) where
   pub true-added : (after : Tables) (mapped : Bool) (result : Result (Unit {0}) NoMemory) → new ≡ forgotten old d n → OnOk result (AddsNode directories after d n mapped) → OnErr result (after ≡ directories) → IsTrueOf old directories → IsTrueOf new after
   true-added after mapped (Ok _) is ok err h = changed after (Some (length directories)) is ok.entries h
   true-added after mapped (Err _) is ok err h = same_maps after is err h
-
--- nothing changes for whoever looks up where a map without entries goes
-pub true-lost : (cache : Cache) (before after : Tables) (x : ℕ) → ((n : List ℕ) → entry_in before x n ≡ None) → LosesMap before after x → IsTrueOf cache before → IsTrueOf cache after
-true-lost cache before after x none l h f m y t = lost_look before after x none l f m ∙ h f m y t

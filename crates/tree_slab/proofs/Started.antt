@@ -28,9 +28,6 @@ pub record HasFirstMaps (nodes : List Inode) (directories : Tables) (i : ℕ) : 
   pub maps : (x : ℕ) → x < i → has_map directories x ≡ is_standing_dir nodes x
   pub count : length directories ≡ i
 
-pub no_maps : (nodes : List Inode) → HasFirstMaps nodes [] 0
-no_maps nodes = record { entries = λ d n. refl; maps = λ x less. absurd (omega arith); count = refl }
-
 pub one_map_more : (nodes : List Inode) (directories : Tables) (i : ℕ) (mapped : Bool) → HasFirstMaps nodes directories i → mapped ≡ is_standing_dir nodes i
     → HasFirstMaps nodes (directories ++ new_entries mapped ∷ []) (i + 1)
 one_map_more nodes directories i mapped h standing = record {
