@@ -33,18 +33,6 @@ pub record Passing (call : CallView) (text rest : List ℕ) (from number dir nex
   pub closed : ran.shut ≡ is_shut so_far
   pub makes : Makes (steps_of from number so_far) (More call) turn
 
-pub none_passed : (call : CallView) (text : List ℕ) (from number : ℕ) (ran : Ran) → ran.names ≡ 0 → ran.shut ≡ false
-    → Passing call text text from number from number ran (More call)
-none_passed call text from number ran none unshut = record {
-  so_far = [];
-  parts = refl;
-  count = sym none;
-  counted = omega (arith, none);
-  here = refl;
-  closed = unshut;
-  makes = refl;
-}
-
 -- the first one says whether the directory is closed
 shut_by : (ns : List Entered) (n : Entered) → is_shut (ns ++ n ∷ []) ≡ (if length ns == 0 then n.shut else is_shut ns)
 shut_by [] n = refl

@@ -92,9 +92,6 @@ own_change s s' t k table f step kept leaves stands =
 
 -- ---- the call's own step
 
-abbrev event_of : ℕ → StepWith ℕ → State → Event
-event_of a step t = record { actor = a; step = step; answer = (outcome t a step).answer }
-
 -- the numbers with one more
 abbrev with_number : (ℕ → ℕ) → ℕ → ℕ → ℕ → ℕ
 with_number f h number j = if j == h then number else f j

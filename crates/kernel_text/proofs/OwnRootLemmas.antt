@@ -29,13 +29,6 @@ none_in fdinfo = none_by (mount_number fdinfo)
 
 -- ---- turns
 
-pub opened : (look : OwnLook) (fdinfo : List ℕ) (turns : List Turn) (own : OwnRoot) (error next : ℕ)
-    → IsOwn look fdinfo turns own
-    → own.next ≡ OWN_OPEN → next ≡ (if error == 0 then OWN_READ else OWN_NO)
-    → IsOwn look fdinfo (opens error ∷ turns) (record own { next = next })
-opened look fdinfo turns own error next at is by =
-    record { history = (sym is ∙ at.due, at.history); due = by; read = at.read }
-
 pub closed : (look : OwnLook) (fdinfo : List ℕ) (turns : List Turn) (own : OwnRoot) (next : ℕ)
     → IsOwn look fdinfo turns own
     → own.next ≡ OWN_CLOSE → next ≡ (if own.mounts.found then OWN_YES else OWN_NO)

@@ -210,9 +210,6 @@ cost_of e = one_if ((e.asked == READ) || is_signal e)
 abbrev Counts : State → Exchange → State → Type 0
 Counts s e t = rank e.asked + 1 ≤ cost_of e + 3 * one_if (is_done e) + rank t.next
 
-comes_rank : (facts : Facts) (left : List Told) → 0 ≤ rank (comes facts left).next
-comes_rank facts left = omega arith
-
 known_rank : (facts : Facts) (name : List ℕ) (kind : ℕ) (left : List Told)
     → 1 ≤ rank (known facts name kind left).next
 known_rank facts name kind left =

@@ -1,20 +1,18 @@
 -- Where a directory stands, by what C keeps of it.
-use Rattle.std.proofs.Common.{◌≡◌, ◌≢◌, ◌≤◌, ◌+◌, ◌-◌, ◌*◌, ◌^◌, ℕ, List, [], ◌∷◌, ◌++◌, true, false, length, take, drop, nat_le, refl, ap, sym, subst, ◌∙◌, arith, append_assoc, length-append}
+use Rattle.std.proofs.Common.{◌≡◌, ◌≤◌, ◌+◌, ◌-◌, ◌*◌, ◌^◌, ℕ, List, [], ◌∷◌, ◌++◌, true, false, length, take, drop, nat_le, refl, ap, sym, subst, ◌∙◌, arith, append_assoc, length-append}
 use borrow.Rule.Slice.PartMut.{put_mid}
 use Rattle.std.specs.Prelude.{if◌then◌else◌, min, slice_set}
-use Rattle.std.proofs.lemmas.Bool.{false≢true, leb-true}
-use Rattle.std.proofs.lemmas.List.{drop-drop, drop_at, drop_min, drop-set, drop-set-lt, length-drop, length-set, length-take-le, take_at, take_more_set, take-set-le}
+use Rattle.std.proofs.lemmas.Bool.{leb-true}
+use Rattle.std.proofs.lemmas.List.{drop-drop, drop_at, drop_min, drop-set, drop-set-lt, length-set, length-take-le, take_at, take_more_set, take-set-le}
 use Rattle.path_text.specs.Name.{NUL}
 use Rattle.path_text.specs.declared.name.TheConstants.{SLASH}
 use Rattle.system_calls.specs.Errors.{ENAMETOOLONG}
-use Rattle.kernel_text.specs.Entries.{told_in, IsBehind, Told}
+use Rattle.kernel_text.specs.Entries.{told_in, Told}
 use Rattle.kernel_text.specs.Entries.Told.{entry}
-use Rattle.walk_directory.specs.History.{after_exchange, asks, blank, comes, found, is_about, is_question, is_type, known, next_after, typed, Exchange, Facts, State}
-use Rattle.walk_directory.specs.Level.{exchange, facts_of, Holds, IsAsked, IsAt, IsLaid, Keeps, Stands}
-use Rattle.walk_directory.specs.declared.level.Answer.{Answer}
+use Rattle.walk_directory.specs.History.{asks, blank, comes, found, is_type, known, typed, Facts, State}
+use Rattle.walk_directory.specs.Level.{facts_of, Holds, IsAsked, IsAt, IsLaid, Keeps, Stands}
 use Rattle.walk_directory.specs.declared.level.Level.{Level}
 use Rattle.walk_directory.specs.declared.level.TheConstants.{LOOK, BREAKS_OFF}
-use Rattle.walk_directory.proofs.HistoryLemmas.{by_comes}
 
 -- ---- paths
 
@@ -61,9 +59,6 @@ keeps_laid level result name old new few size is =
           ∙ sym (ap (λ k. drop (at + (k + 2)) old) size);
     }
 
-pub keeps_all : (level result : Level) (path : List ℕ) → Keeps level path result path
-keeps_all level result path = record { before = refl; behind = refl }
-
 -- how it is laid: the slash and the NUL, and then the name between them
 pub laid_between : (name part old : List ℕ) (at : ℕ) → at + (length name + 2) ≤ length old → part ≡ name
     → put_mid (at + 1) (at + 1 + length name - (at + 1)) (slice_set (slice_set old at SLASH) (at + 1 + length name) NUL)
@@ -103,41 +98,6 @@ stands_on facts s level result path same size is asked =
       laid = λ about. subst (λ (l : Level). IsLaid s.name l.length path) (sym asked) is;
     }
 
--- of no entry
-pub stands_blank : (level result : Level) (next error : ℕ) (left : List Told) (path : List ℕ)
-    → is_about next ≡ false
-    → result ≡ record level { name = 0; kind = 0; error = error; next = next; lost = false }
-    → Stands (facts_of level (length path)) (blank next error left) result path
-stands_blank level result next error left path none is =
-    record {
-      same = ap (λ (l : Level). facts_of l (length path)) is;
-      next = ap (λ (l : Level). l.next) is;
-      error = ap (λ (l : Level). l.error) is;
-      kind = ap (λ (l : Level). l.kind) is;
-      lost = ap (λ (l : Level). l.lost) is;
-      name = ap (λ (l : Level). l.name) is;
-      laid = λ about. absurd (false≢true (sym none ∙ about));
-    }
-
-pub holds_blank : (level result : Level) (next error : ℕ) (left : List Told) (records path : List ℕ)
-    → is_about next ≡ false
-    → result ≡ record level { name = 0; kind = 0; error = error; next = next; lost = false }
-    → Holds (facts_of level (length path)) (blank next error left) result records path
-holds_blank level result next error left records path none is =
-    record {
-      stands = stands_blank level result next error left path none is;
-      left = λ about. absurd (false≢true (sym none ∙ about));
-    }
-
--- the last bytes of those behind a place, by how many bytes they are
-pub behind_at : (records behind : List ℕ) (at : ℕ) → at ≤ length records → IsBehind (drop at records) behind
-    → drop (length records - length behind) records ≡ behind
-behind_at records behind at few is =
-    let rest : length (drop at records) ≡ length records - at = length-drop at records in
-    let sum : at + (length (drop at records) - length behind) ≡ length records - length behind =
-    omega (arith, rest, few, is.0) in
-    sym (is.1 ∙ drop-drop (length (drop at records) - length behind) at records ∙ ap (λ k. drop k records) sum)
-
 typed_name : (facts : Facts) (name : List ℕ) (type : ℕ) (left : List Told) → (typed facts name type left).name ≡ name
 typed_name facts name type left =
     elim (is_type type) as (λ t. (if t then known facts name (type * 2 ^ 12) left
@@ -159,38 +119,6 @@ stands_found level result name type at left old new room size is asked =
     (ap length same)
     (subst (λ (n : List ℕ). IsLaid n level.length new) same (is_laid name level.length old new few is)) asked)
 
--- behind an entry stands what its records tell
-found_left : (facts : Facts) (name : List ℕ) (type : ℕ) (left : List Told)
-    → is_about (found facts name type left).next ≡ true → (found facts name type left).left ≡ left
-found_left facts name type left =
-    by_comes (λ t. is_about t.next ≡ true → t.left ≡ left) facts (entry name type ∷ left) (record {
-      nothing = λ is about. absurd (false≢true about);
-      faulty = λ more is about. absurd (false≢true about);
-      long = λ other kind more is none about. absurd (false≢true about);
-      looks = λ other kind more is room about. cc;
-      enters = λ other kind inner more is room within about. cc;
-      gives = λ other kind inner more is room without about. cc;
-    })
-
-pub holds_found : (level result : Level) (name : List ℕ) (type at : ℕ) (records behind old new : List ℕ)
-    → at ≤ length records → told_in (drop at records) ≡ entry name type ∷ told_in behind
-    → IsBehind (drop at records) behind
-    → Stands (facts_of level (length old)) (found (facts_of level (length old)) name type (told_in behind)) result new
-    → (result.next ≢ BREAKS_OFF → result.at ≡ length records - length behind)
-    → Holds (facts_of level (length old)) (comes (facts_of level (length old)) (told_in (drop at records))) result
-    records new
-holds_found level result name type at records behind old new few told is_behind stands place =
-    let facts = facts_of level (length old) in
-    let s = found facts name type (told_in behind) in
-    subst (λ l. Holds facts (comes facts l) result records new) (sym told) (record {
-      stands = stands;
-      left = λ about.
-          ap (λ k. told_in (drop k records))
-          (place (λ broken. false≢true (ap is_about (sym broken ∙ stands.next) ∙ about)))
-          ∙ ap told_in (behind_at records behind at few is_behind)
-          ∙ sym (found_left facts name type (told_in behind) about);
-    })
-
 pub holds_behind : (level result : Level) (at : ℕ) (records old new : List ℕ)
     → at ≡ min level.at (length records)
     → Holds (facts_of level (length old)) (comes (facts_of level (length old)) (told_in (drop at records))) result
@@ -201,19 +129,6 @@ holds_behind level result at records old new is holds =
     let facts = facts_of level (length old) in
     subst (λ (l : List ℕ). Holds facts (comes facts (told_in l)) result records new)
     (ap (λ k. drop k records) is ∙ drop_min level.at records) holds
-
--- something else is asked about the same entry
-pub holds_on : (s t : State) (level result : Level) (records path : List ℕ)
-    → Holds (facts_of level (length path)) s level records path → is_about s.next ≡ true
-    → t.name ≡ s.name → t.left ≡ s.left → IsAsked t level result
-    → Holds (facts_of level (length path)) t result records path
-holds_on s t level result records path h about name left asked =
-    record {
-      stands = stands_on (facts_of level (length path)) t level result path refl
-          (h.stands.name ∙ ap length (sym name))
-          (subst (λ (n : List ℕ). IsLaid n level.length path) (sym name) (h.stands.laid about)) asked;
-      left = λ is. ap (λ (l : Level). told_in (drop l.at records)) asked ∙ h.left about ∙ sym left;
-    }
 
 -- ---- the beginning, and one exchange more
 
@@ -237,25 +152,4 @@ begins_deeper level depth records path at =
         };
         left = at.holds.left;
       };
-    }
-
-pub goes : (facts : Facts) (history : List Exchange) (level result : Level) (a : Answer) (records path new : List ℕ)
-    → IsAt facts history level records path → is_question level.next ≡ true
-    → Holds (facts_of level (length path))
-    (after_exchange (facts_of level (length path)) (exchange (next_after facts history) a records)
-    (next_after facts history)) result records new
-    → IsAt facts (exchange (next_after facts history) a records ∷ history) result records new
-goes facts history level result a records path new at question holds =
-    let s = next_after facts history in
-    record {
-      history = (
-        record {
-          due = refl;
-          name = refl;
-          question = subst (λ n. is_question n ≡ true) at.holds.stands.next question;
-        },
-        at.history,
-      );
-      holds = subst (λ (f : Facts). Holds f (after_exchange f (exchange s a records) s) result records new)
-          at.holds.stands.same holds;
     }
