@@ -1,18 +1,21 @@
 -- The parts of a joined path, and how it is laid.
-use Rattle.std.proofs.Common.{◌≡◌, ℕ, ◌+◌, ◌-◌, ◌≤◌, suc, List, [], ◌∷◌, ◌++◌, Bool, true, false, if◌then◌else◌, inl, inr, refl, sym, ap, subst, ◌∙◌, arith, zero, length, take, drop, map, append_assoc, append-nil}
+use Rattle.std.proofs.Common.{◌≡◌, ℕ, ◌+◌, ◌-◌, List, [], ◌∷◌, ◌++◌, Bool, true, false, if◌then◌else◌, inl, inr, refl, sym, ap, subst, ◌∙◌, arith, length, take, drop, map, append_assoc, append-nil}
 use Rattle.std.specs.Prelude.{◌==◌, ◌&&◌, ◌||◌, not, min, nat_lt}
 use Rattle.std.specs.List.{filter, list_any, onto_first}
 use Rattle.std.proofs.lemmas.Bool.{cond-true, cond-false, false≢true, lt-ltb}
 use Rattle.std.proofs.lemmas.Bool.Decides.{leb_tells}
-use Rattle.std.proofs.lemmas.List.{length-append, length-drop, length-take, take_all}
-use Rattle.std.proofs.lemmas.List.Elements.{filter-append}
+use Rattle.std.proofs.lemmas.List.{length-append, length-drop, length-take, take_all, drop-drop, map-append, take-append-le}
 use Rattle.std.proofs.lemmas.List.Folds.{list_any-append}
 use Rattle.std.proofs.lemmas.List.Splits.{slice_split-cons_yes, slice_split-cons_no}
+use Rattle.std.proofs.Math.Bool.{or-true}
+use Rattle.std.proofs.Math.Seq.{drop-append-add, take-append-add}
 use Rattle.path_text.specs.Text.{begins_with_slash, between_slashes, ends_with_slash, has_final_slash, is_empty, part_of, parts_of, pieces}
 use Rattle.path_text.specs.declared.part.Part.{Part}
 use Rattle.path_text.specs.declared.part.Part.TheVariants.{Cur}
 use Rattle.path_text.specs.declared.name.TheConstants.{SLASH}
 use Rattle.path_text.specs.declared.path.TheConstants.{TEXT_MAX}
+use Rattle.path_text.proofs.Lists.{has_first}
+use Rattle.path_text.proofs.PlacesLemmas.{pieces_joined, slices_joined}
 use Rattle.begin_below.specs.Paths.{begins_there, goes_below, joined, IsLaid}
 
 abbrev is_slash : ℕ → Bool
@@ -22,43 +25,6 @@ abbrev some : List ℕ → Bool
 some piece = not (is_empty piece)
 
 -- ---- pieces
-
-record HasFirst (parts : List (List ℕ)) : Type 0 where
-  first : List ℕ
-  more : List (List ℕ)
-  is : parts ≡ first ∷ more
-
-onto_has_first : (b : ℕ) (parts : List (List ℕ)) → HasFirst parts → HasFirst (onto_first b parts)
-onto_has_first b parts has = record { first = b ∷ has.first; more = has.more; is = ap (onto_first b) has.is }
-
-has_first : (bytes : List ℕ) → HasFirst (between_slashes bytes)
-has_first [] = record { first = []; more = []; is = refl }
-has_first (b ∷ bytes) =
-    elim (is_slash b) as (λ t. is_slash b ≡ t → HasFirst (between_slashes (b ∷ bytes))) [
-      | true ↦ λ is. record { first = []; more = between_slashes bytes; is = slice_split-cons_yes is_slash b bytes is }
-      | false ↦ λ is. subst HasFirst (sym (slice_split-cons_no is_slash b bytes is))
-          (onto_has_first b _ (has_first bytes))
-    ] refl
-
-onto_append : (b : ℕ) (xs ys : List (List ℕ)) → HasFirst xs → onto_first b (xs ++ ys) ≡ onto_first b xs ++ ys
-onto_append b xs ys has =
-    subst (λ (l : List (List ℕ)). onto_first b (l ++ ys) ≡ onto_first b l ++ ys) (sym has.is) refl
-
-between_joined : (xs ys : List ℕ) → between_slashes (xs ++ SLASH ∷ ys) ≡ between_slashes xs ++ between_slashes ys
-between_joined [] ys = slice_split-cons_yes is_slash SLASH ys refl
-between_joined (x ∷ xs) ys =
-    elim (is_slash x) as (λ t. is_slash x ≡ t
-    → between_slashes (x ∷ xs ++ SLASH ∷ ys) ≡ between_slashes (x ∷ xs) ++ between_slashes ys) [
-      | true ↦ λ is. slice_split-cons_yes is_slash x (xs ++ SLASH ∷ ys) is ∙ ap (λ l. [] ∷ l) (between_joined xs ys)
-          ∙ sym (ap (λ l. l ++ between_slashes ys) (slice_split-cons_yes is_slash x xs is))
-      | false ↦ λ is. slice_split-cons_no is_slash x (xs ++ SLASH ∷ ys) is ∙ ap (onto_first x) (between_joined xs ys)
-          ∙ onto_append x (between_slashes xs) (between_slashes ys) (has_first xs)
-          ∙ sym (ap (λ l. l ++ between_slashes ys) (slice_split-cons_no is_slash x xs is))
-    ] refl
-
-pieces_joined : (xs ys : List ℕ) → pieces (xs ++ SLASH ∷ ys) ≡ pieces xs ++ pieces ys
-pieces_joined xs ys =
-    ap (filter some) (between_joined xs ys) ∙ filter-append some (between_slashes xs) (between_slashes ys)
 
 -- a slash at the beginning sets off nothing
 pieces_behind : (place : List ℕ) → begins_with_slash place ≡ true → pieces (drop 1 place) ≡ pieces place
@@ -75,19 +41,15 @@ ends_same (x ∷ z ∷ xs) ys y = ends_same (z ∷ xs) ys y
 -- a path that begins there has a piece
 has_piece : (b : ℕ) (bs : List ℕ) → is_slash b ≡ false → list_any some (between_slashes (b ∷ bs)) ≡ true
 has_piece b bs other =
-    ap (list_any some) (slice_split-cons_no is_slash b bs other ∙ ap (onto_first b) (has_first bs).is)
-
-or_true : (a : Bool) → (a || true) ≡ true
-or_true true = refl
-or_true false = refl
+    ap (list_any some) (slice_split-cons_no is_slash b bs other ∙ ap (onto_first b) (has_first is_slash bs).is)
 
 final_same : (xs : List ℕ) (b : ℕ) (bs : List ℕ) → is_slash b ≡ false
     → has_final_slash (xs ++ SLASH ∷ b ∷ bs) ≡ has_final_slash (b ∷ bs)
 final_same xs b bs other =
-    ap (λ t. t && ends_with_slash (xs ++ SLASH ∷ b ∷ bs)) (ap (list_any some) (between_joined xs (b ∷ bs))
+    ap (λ t. t && ends_with_slash (xs ++ SLASH ∷ b ∷ bs)) (ap (list_any some) (slices_joined xs (b ∷ bs))
     ∙ list_any-append some (between_slashes xs) (between_slashes (b ∷ bs))
     ∙ ap (λ t. list_any some (between_slashes xs) || t) (has_piece b bs other)
-    ∙ or_true (list_any some (between_slashes xs)))
+    ∙ or-true (list_any some (between_slashes xs)))
     ∙ ends_same xs (b ∷ bs) SLASH
     ∙ sym (ap (λ t. t && ends_with_slash (b ∷ bs)) (has_piece b bs other))
 
@@ -96,10 +58,6 @@ no_slash b bs = elim (is_slash b) as (λ t. not t ≡ true → t ≡ false) [
   | true ↦ λ h. absurd (false≢true h)
   | false ↦ λ h. refl
 ]
-
-map_append : (xs ys : List (List ℕ)) → map part_of (xs ++ ys) ≡ map part_of xs ++ map part_of ys
-map_append [] ys = refl
-map_append (x ∷ xs) ys = ap (λ l. part_of x ∷ l) (map_append xs ys)
 
 abbrev slash_part : Bool → List Part
 slash_part final = if final then Cur ∷ [] else []
@@ -110,7 +68,7 @@ parts_joined xs b bs other =
     ap (λ (l : List (List ℕ)). map part_of l ++ slash_part (has_final_slash (xs ++ SLASH ∷ b ∷ bs)))
     (pieces_joined xs (b ∷ bs))
     ∙ ap (λ t. map part_of (pieces xs ++ pieces (b ∷ bs)) ++ slash_part t) (final_same xs b bs other)
-    ∙ ap (λ (l : List Part). l ++ slash_part (has_final_slash (b ∷ bs))) (map_append (pieces xs) (pieces (b ∷ bs)))
+    ∙ ap (λ (l : List Part). l ++ slash_part (has_final_slash (b ∷ bs))) (map-append part_of (pieces xs) (pieces (b ∷ bs)))
     ∙ append_assoc (map part_of (pieces xs)) (map part_of (pieces (b ∷ bs))) (slash_part (has_final_slash (b ∷ bs)))
 
 none_in : (parts : List (List ℕ)) → nat_lt 0 (length parts) ≡ false → parts ≡ []
@@ -141,34 +99,6 @@ joined_parts place (b ∷ bs) slash there =
 abbrev MOST : ℕ
 MOST = TEXT_MAX + 1
 
-take_front : (xs ys : List ℕ) (n : ℕ) → n ≤ length xs → take n (xs ++ ys) ≡ take n xs
-take_front xs ys zero few = refl
-take_front [] ys (suc n) few = absurd (omega (arith, few))
-take_front (x ∷ xs) ys (suc n) few = ap (λ l. x ∷ l) (take_front xs ys n (omega (arith, few)))
-
-take_behind : (xs ys : List ℕ) (n : ℕ) → take (length xs + n) (xs ++ ys) ≡ xs ++ take n ys
-take_behind [] ys n = ap (λ k. take k ys) (omega arith)
-take_behind (x ∷ xs) ys n =
-    let one : length (x ∷ xs) + n ≡ suc (length xs + n) = omega arith in
-    ap (λ k. take k (x ∷ xs ++ ys)) one ∙ ap (λ l. x ∷ l) (take_behind xs ys n)
-
-drop_behind : (xs ys : List ℕ) (n : ℕ) → drop (length xs + n) (xs ++ ys) ≡ drop n ys
-drop_behind [] ys n = ap (λ k. drop k ys) (omega arith)
-drop_behind (x ∷ xs) ys n =
-    let one : length (x ∷ xs) + n ≡ suc (length xs + n) = omega arith in
-    ap (λ k. drop k (x ∷ xs ++ ys)) one ∙ drop_behind xs ys n
-
-drop_nothing : (n : ℕ) → drop {A = ℕ} n [] ≡ []
-drop_nothing zero = refl
-drop_nothing (suc n) = refl
-
-drop_twice : (n m : ℕ) (xs : List ℕ) → drop n (drop m xs) ≡ drop (m + n) xs
-drop_twice n zero xs = ap (λ k. drop k xs) (omega arith)
-drop_twice n (suc m) [] = drop_nothing n ∙ sym (drop_nothing (suc m + n))
-drop_twice n (suc m) (x ∷ xs) =
-    let one : suc m + n ≡ suc (m + n) = omega arith in
-    drop_twice n m xs ∙ sym (ap (λ k. drop k (x ∷ xs)) one)
-
 pub laid_nothing : (room : List ℕ) → IsLaid [] 0 room room
 laid_nothing room = record { length = refl; bytes = refl }
 
@@ -182,10 +112,10 @@ laid_on xs text first room now at laid is =
     let size : length head ≡ at = length-take at xs ∙ omega (arith, laid.length) in
     let front : take at room ≡ head =
     ap (take at) laid.bytes ∙ ap (λ k. take k (head ++ drop at first)) (sym size)
-    ∙ take_front head (drop at first) (length head) (omega arith) ∙ take_all (length head) head (omega arith) in
+    ∙ take-append-le (length head) head (drop at first) (omega arith) ∙ take_all (length head) head (omega arith) in
     let back : drop (at + n) room ≡ drop (at + n) first =
     ap (drop (at + n)) laid.bytes ∙ ap (λ k. drop (k + n) (head ++ drop at first)) (sym size)
-    ∙ drop_behind head (drop at first) n ∙ drop_twice n at first in
+    ∙ drop-append-add head (drop at first) n ∙ drop-drop n at first in
     record {
       length = omega (arith, laid.length, length-append xs text);
       bytes = is ∙ ap (λ (l : List ℕ). l ++ (take n text ++ drop (at + n) room)) front
@@ -199,12 +129,12 @@ laid_on xs text first room now at laid is =
     laid_bytes xs text at n a b = elim (leb_tells (length xs) MOST) [
       | inl few ↦
           let all : at ≡ length xs = omega (arith, a, few.1) in
-          ap (λ k. take (k + n) (xs ++ text)) all ∙ take_behind xs text n
+          ap (λ k. take (k + n) (xs ++ text)) all ∙ take-append-add xs text n
           ∙ ap (λ (l : List ℕ). l ++ take n text) (sym (take_all at xs (omega (arith, all))))
       | inr many ↦
           let none : n ≡ 0 = omega (arith, a, b, many.1) in
           let whole : at + n ≡ at = omega (arith, none) in
-          ap (λ k. take k (xs ++ text)) whole ∙ take_front xs text at (omega (arith, a))
+          ap (λ k. take k (xs ++ text)) whole ∙ take-append-le at xs text (omega (arith, a))
           ∙ sym (ap (λ k. take at xs ++ take k text) none ∙ append-nil (take at xs))
     ]
 

@@ -2,16 +2,13 @@
 use Rattle.std.proofs.Common.{◌≡◌, ◌≤◌, ◌<◌, ◌+◌, ◌-◌, ℕ, zero, suc, List, [], ◌∷◌, Bool, true, false, not, length, take, drop, refl, ap, sym, subst, ◌∙◌, arith, Option, Some}
 use Rattle.std.specs.Prelude.{if◌then◌else◌}
 use Rattle.std.proofs.lemmas.List.{drop-drop, length-drop, take_rest}
+use Rattle.std.proofs.Math.Seq.{drop-nil}
 use Rattle.kernel_text.specs.Listing.{is_entry, name_told, size_told, HEAD_SIZE}
 use Rattle.kernel_text.specs.Entries.{is_told_name, told_behind, told_in, type_told, with_record, IsBehind, Told}
 use Rattle.kernel_text.specs.Entries.Told.{entry, fault}
 
-drop_none : (n : ℕ) → drop {A = ℕ} n [] ≡ []
-drop_none zero = refl
-drop_none (suc n) = refl
-
 behind_is : (first : ℕ) (bytes : List ℕ) → told_behind first bytes ≡ told_in (drop first bytes)
-behind_is first [] = sym (ap told_in (drop_none first))
+behind_is first [] = sym (ap told_in (drop-nil first))
 behind_is zero (b ∷ bytes) = refl
 behind_is (suc first) (b ∷ bytes) = behind_is first bytes
 

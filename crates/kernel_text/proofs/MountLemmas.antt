@@ -9,8 +9,10 @@ use Rattle.std.proofs.lemmas.List.{length-drop, take_all}
 use Rattle.std.proofs.lemmas.List.Elements.{All-from_get_or}
 use Rattle.std.proofs.lemmas.List.Sums.{fails_before_first}
 use Rattle.std.proofs.lemmas.List.Splits.{slice_split_first, slice_split_none, slice_split-cons_yes, slice_split-cons_no}
+use Rattle.std.proofs.Math.Bool.{and-false, and-true, and_assoc, and_comm, or-false, or_assoc}
 use Rattle.path_text.specs.Name.{same_bytes}
 use Rattle.path_text.specs.declared.name.TheConstants.{SLASH}
+use Rattle.path_text.proofs.Lists.{has_first, HasFirst}
 use Rattle.kernel_text.specs.declared.mounts.Mounts.{Mounts}
 use Rattle.kernel_text.specs.Mounts.{after_byte, at_first, but_last_part, field_ended, fields, goes_on, has_root_line, is_all, is_byte, is_whole, line_ended, lines, one_more, stands_at_root, wanted, NEWLINE, SPACE}
 
@@ -19,23 +21,6 @@ is_newline b = b == NEWLINE
 
 abbrev is_space : ℕ → Bool
 is_space b = b == SPACE
-
--- a text has a first part
-record HasFirst (parts : List (List ℕ)) : Type 0 where
-  first : List ℕ
-  more : List (List ℕ)
-  is : parts ≡ first ∷ more
-
-onto_has_first : (b : ℕ) (parts : List (List ℕ)) → HasFirst parts → HasFirst (onto_first b parts)
-onto_has_first b parts has = record { first = b ∷ has.first; more = has.more; is = ap (onto_first b) has.is }
-
-has_first : (p : ℕ → Bool) (bytes : List ℕ) → HasFirst (slice_split p bytes)
-has_first p [] = record { first = []; more = []; is = refl }
-has_first p (b ∷ bytes) =
-    elim (p b) as (λ t. p b ≡ t → HasFirst (slice_split p (b ∷ bytes))) [
-      | true ↦ λ is. record { first = []; more = slice_split p bytes; is = slice_split-cons_yes p b bytes is }
-      | false ↦ λ is. subst HasFirst (sym (slice_split-cons_no p b bytes is)) (onto_has_first b _ (has_first p bytes))
-    ] refl
 
 -- ---- the first line
 
@@ -150,30 +135,6 @@ map_none : (w : Option (List ℕ)) → option_map (drop 0) w ≡ w
 map_none None = refl
 map_none (Some bytes) = refl
 
-and_false : (a : Bool) → (a && false) ≡ false
-and_false true = refl
-and_false false = refl
-
-and_true : (a : Bool) → (a && true) ≡ a
-and_true true = refl
-and_true false = refl
-
-and_assoc : (a b c : Bool) → (a && (b && c)) ≡ ((a && b) && c)
-and_assoc true b c = refl
-and_assoc false b c = refl
-
-and_swap : (a b : Bool) → (a && b) ≡ (b && a)
-and_swap true b = sym (and_true b)
-and_swap false b = sym (and_false b)
-
-or_false : (a : Bool) → (a || false) ≡ a
-or_false true = refl
-or_false false = refl
-
-or_assoc : (a b c : Bool) → (a || (b || c)) ≡ ((a || b) || c)
-or_assoc true b c = refl
-or_assoc false b c = refl
-
 -- a field that ends, and one more that begins
 next_field : (number : List ℕ) (count : ℕ) (part : List ℕ) (parts : List (List ℕ)) → fits (later count) (part ∷ parts)
     ≡ fits (wanted number (one_more count) ∷ later (one_more count)) (part ∷ parts)
@@ -197,7 +158,7 @@ good_space number m parts has =
     subst (λ (l : List (List ℕ)). good number m ([] ∷ l) ≡ good number (field_ended number m) l)
     (sym has.is)
     (ap (λ t. m.holds && (t && fits (later m.fields) (has.first ∷ has.more))) (is_all_of (wanted number m.fields) m.at)
-    ∙ and_assoc m.holds _ _
+    ∙ sym (and_assoc m.holds _ _)
     ∙ ap (λ t. is_whole number m && t) (next_field number m.fields has.first has.more
     ∙ ap (λ w. fits (w ∷ later (one_more m.fields)) (has.first ∷ has.more))
     (sym (map_none (wanted number (one_more m.fields))))))
@@ -215,14 +176,14 @@ good_byte number m b field parts (Some bytes) is =
     ≡ good number (if t then record m { at = m.at + 1 } else record m { holds = false }) (field ∷ parts)) [
       | true ↦ sym (ap (λ w.
           m.holds && (is_field (option_map (drop (m.at + 1)) w) field && fits (later m.fields) parts)) is)
-      | false ↦ and_false m.holds
+      | false ↦ and-false m.holds
     ]
 
 -- the line ends
 good_end : (number : List ℕ) (m : Mounts) → good number m ([] ∷ []) ≡ (nat_lt 3 m.fields && is_whole number m)
 good_end number m =
     ap (λ t. m.holds && (t && fits (later m.fields) [])) (is_all_of (wanted number m.fields) m.at)
-    ∙ and_assoc m.holds _ _ ∙ and_swap (is_whole number m) _ ∙ ap (λ t. t && is_whole number m) (no_more m.fields)
+    ∙ sym (and_assoc m.holds _ _) ∙ and_comm (is_whole number m) _ ∙ ap (λ t. t && is_whole number m) (no_more m.fields)
   where
     no_more : (count : ℕ) → fits (later count) [] ≡ nat_lt 3 count
     no_more zero = refl
@@ -234,11 +195,11 @@ good_end number m =
 good_root : (number : List ℕ) (found : Bool) (parts : List (List ℕ))
     → good number (record { at = 0; fields = 0; holds = true; found = found }) parts ≡ stands_at_root number parts
 good_root number found [] = refl
-good_root number found (a ∷ []) = and_false (same_bytes a number)
-good_root number found (a ∷ b ∷ []) = and_false (same_bytes a number)
-good_root number found (a ∷ b ∷ c ∷ []) = and_false (same_bytes a number)
-good_root number found (a ∷ b ∷ c ∷ d ∷ []) = and_false (same_bytes a number)
-good_root number found (a ∷ b ∷ c ∷ d ∷ e ∷ others) = ap (λ t. same_bytes a number && t) (and_true (same_bytes e ROOT))
+good_root number found (a ∷ []) = and-false (same_bytes a number)
+good_root number found (a ∷ b ∷ []) = and-false (same_bytes a number)
+good_root number found (a ∷ b ∷ c ∷ []) = and-false (same_bytes a number)
+good_root number found (a ∷ b ∷ c ∷ d ∷ []) = and-false (same_bytes a number)
+good_root number found (a ∷ b ∷ c ∷ d ∷ e ∷ others) = ap (λ t. same_bytes a number && t) (and-true (same_bytes e ROOT))
 
 -- ---- the text
 
@@ -257,11 +218,11 @@ from number m (line ∷ next ∷ more) =
 
 from_newline : (number : List ℕ) (m : Mounts) (first : List ℕ) (more : List (List ℕ))
     → from number m ([] ∷ first ∷ more) ≡ from number (line_ended number m) (first ∷ more)
-from_newline number m first [] = ap (λ t. m.found || t) (or_false (good number m ([] ∷ [])) ∙ good_end number m)
+from_newline number m first [] = ap (λ t. m.found || t) (or-false (good number m ([] ∷ [])) ∙ good_end number m)
 from_newline number m first (next ∷ more) =
     let found = m.found || (nat_lt 3 m.fields && is_whole number m) in
     ap (λ t. m.found || (t || any number (first ∷ next ∷ more))) (good_end number m)
-    ∙ or_assoc m.found (nat_lt 3 m.fields && is_whole number m) _
+    ∙ sym (or_assoc m.found (nat_lt 3 m.fields && is_whole number m) _)
     ∙ ap (λ t. found || (t || any number (next ∷ more))) (sym (good_root number found (fields first)))
 
 good_more : (number : List ℕ) (m : Mounts) (b : ℕ) (line : List ℕ) → (b == NEWLINE) ≡ false

@@ -1,8 +1,8 @@
 -- How many exchanges there are.
-use Rattle.std.proofs.Common.{◌≡◌, ◌≢◌, ◌-◌, ◌+◌, ◌*◌, ◌^◌, ◌≤◌, ◌<◌, ℕ, List, [], ◌∷◌, Bool, true, false, ◌||◌, ◌⊎◌, inl, inr, refl, ap, sym, subst, ◌∙◌, arith}
-use Rattle.std.specs.Prelude.{◌==◌, if◌then◌else◌, nat_lt, ◌/◌, length}
+use Rattle.std.proofs.Common.{◌≡◌, ◌≢◌, ◌-◌, ◌+◌, ◌*◌, ◌^◌, ◌≤◌, ℕ, List, [], ◌∷◌, Bool, true, false, ◌||◌, ◌⊎◌, inl, inr, refl, ap, sym, subst, ◌∙◌, arith}
+use Rattle.std.specs.Prelude.{◌==◌, if◌then◌else◌, ◌/◌, length}
 use Rattle.std.proofs.Math.Nat.{mul-le-mul_left}
-use Rattle.std.proofs.lemmas.Bool.{false≢true}
+use Rattle.std.proofs.lemmas.Bool.{false≢true, cases_lt}
 use Rattle.std.proofs.lemmas.Grind.{pow_more}
 use Rattle.std.proofs.lemmas.Nat.{pow_below}
 use Rattle.look_ups.specs.declared.coming.Coming.{Coming}
@@ -186,17 +186,10 @@ pub bounded : (c : Coming) (start : LookUp) (history : List Exchange) → IsHist
     → 2 ^ look_ups history ≤ 4 * c.names
 bounded c start history h names = (few_at c start history h names).all
 
-split_by : (n m : ℕ) (b : Bool) → nat_lt m n ≡ b → (n ≤ m) ⊎ (m < n)
-split_by n m true is = inr (grind (arith, is))
-split_by n m false is = inl (grind (arith, is))
-
-nat_split : (n m : ℕ) → (n ≤ m) ⊎ (m < n)
-nat_split n m = split_by n m (nat_lt m n) refl
-
 within : (n : ℕ) → 2 ^ n ≤ 8192 → n ≤ 13
-within n few = elim (nat_split n 13) [
-  | inl at_most ↦ at_most
-  | inr more ↦ absurd (omega (arith, few, pow_below 13 n more))
+within n few = elim (cases_lt 13 n) [
+  | inl more ↦ absurd (omega (arith, few, pow_below 13 n more))
+  | inr at_most ↦ at_most
 ]
 
 pub bounded_by : (c : Coming) (start : LookUp) (history : List Exchange) → IsHistory c start history → 1 ≤ c.names

@@ -1,8 +1,8 @@
 -- How many tries there are.
-use Rattle.std.proofs.Common.{◌≡◌, ◌≢◌, ◌<◌, ◌≤◌, ◌+◌, ◌-◌, ◌*◌, ◌/◌, ◌^◌, ℕ, zero, suc, List, ◌∷◌, length, Bool, true, false, ◌⊎◌, inl, inr, refl, ap, sym, subst, ◌∙◌, arith}
-use Rattle.std.specs.Prelude.{◌==◌, nat_lt, if◌then◌else◌}
+use Rattle.std.proofs.Common.{◌≡◌, ◌≢◌, ◌≤◌, ◌+◌, ◌-◌, ◌*◌, ◌/◌, ◌^◌, ℕ, zero, suc, List, ◌∷◌, length, Bool, true, false, ◌⊎◌, inl, inr, refl, ap, sym, subst, ◌∙◌, arith}
+use Rattle.std.specs.Prelude.{◌==◌, if◌then◌else◌}
 use Rattle.std.proofs.Math.Nat.{mul-le-mul_left}
-use Rattle.std.proofs.lemmas.Bool.{eq-eqb, false≢true}
+use Rattle.std.proofs.lemmas.Bool.{eq-eqb, false≢true, cases_lt}
 use Rattle.std.proofs.lemmas.Grind.{pow_more}
 use Rattle.std.proofs.lemmas.Nat.{pow_below}
 use Rattle.open_partial.specs.History.{next_after, Exchange, IsHistory}
@@ -277,30 +277,23 @@ short pieces history h small =
 
 -- ---- a path of 4,095 bytes
 
-split_by : (n m : ℕ) (b : Bool) → nat_lt m n ≡ b → (n ≤ m) ⊎ (m < n)
-split_by n m true is = inr (grind (arith, is))
-split_by n m false is = inl (grind (arith, is))
-
-nat_split : (n m : ℕ) → (n ≤ m) ⊎ (m < n)
-nat_split n m = split_by n m (nat_lt m n) refl
-
 fourteen : (n : ℕ) → n ≡ 14 → 2 ^ n ≡ 16384
 fourteen n is = ap (λ k. 2 ^ k) is
 
 within : (n : ℕ) → 2 ^ n ≤ 16376 → n ≤ 13
-within n few = elim (nat_split n 13) [
-  | inl at_most ↦ at_most
-  | inr more ↦ elim (nat_split n 14) [
-    | inl is ↦ absurd (omega (arith, few, fourteen n (omega (arith, more, is))))
-    | inr above ↦ absurd (omega (arith, few, pow_below 14 n above))
+within n few = elim (cases_lt 13 n) [
+  | inl more ↦ elim (cases_lt 14 n) [
+    | inl above ↦ absurd (omega (arith, few, pow_below 14 n above))
+    | inr is ↦ absurd (omega (arith, few, fourteen n (omega (arith, more, is))))
   ]
+  | inr at_most ↦ at_most
 ]
 
 pub number : (pieces : ℕ) (history : List Exchange) → IsHistory pieces history → pieces ≤ 2048 → tries history ≤ 13
 number pieces history h few =
-    elim (nat_split pieces 1) [
-      | inl small ↦ omega (arith, short pieces history h small)
-      | inr more ↦ within (tries history) (omega (arith, long pieces history h more, few))
+    elim (cases_lt 1 pieces) [
+      | inl more ↦ within (tries history) (omega (arith, long pieces history h more, few))
+      | inr small ↦ omega (arith, short pieces history h small)
     ]
 
 -- ---- what is closed

@@ -1,8 +1,10 @@
 -- Facts about lists, and about texts that are laid one after another.
-use Rattle.std.proofs.Common.{◌≡◌, ℕ, zero, suc, ◌+◌, ◌<◌, List, [], ◌∷◌, ◌++◌, length, take, drop, refl, sym, ap, ◌∙◌, arith, length-append, append_assoc}
+use Rattle.std.proofs.Common.{◌≡◌, ℕ, zero, suc, ◌+◌, ◌<◌, List, [], ◌∷◌, ◌++◌, length, take, drop, refl, sym, ap, ◌∙◌, arith, length-append, append_assoc, Bool, true, false, subst}
 use Rattle.std.specs.Prelude.{slice_set}
 use Rattle.std.proofs.Math.Seq.{take-append_seam}
 use Rattle.std.proofs.lemmas.Slice.{drop-append-drop}
+use Rattle.std.specs.List.{onto_first, slice_split}
+use Rattle.std.proofs.lemmas.List.Splits.{slice_split-cons_yes, slice_split-cons_no}
 use Rattle.path_text.specs.declared.name.TheConstants.{SLASH}
 use Rattle.path_text.specs.Print.{after_slashes, printed}
 
@@ -11,6 +13,23 @@ pub length-slice_set : {A : Type 0} (xs : List A) (i : ℕ) (x : A) → length (
 length-slice_set [] i x = refl
 length-slice_set (y ∷ ys) zero x = refl
 length-slice_set (y ∷ ys) (suc i) x = ap suc (length-slice_set ys i x)
+
+-- there is a first element
+pub record HasFirst (parts : List (List ℕ)) : Type 0 where
+  pub first : List ℕ
+  pub more : List (List ℕ)
+  pub is : parts ≡ first ∷ more
+
+onto_has_first : (b : ℕ) (parts : List (List ℕ)) → HasFirst parts → HasFirst (onto_first b parts)
+onto_has_first b parts has = record { first = b ∷ has.first; more = has.more; is = ap (onto_first b) has.is }
+
+pub has_first : (p : ℕ → Bool) (bytes : List ℕ) → HasFirst (slice_split p bytes)
+has_first p [] = record { first = []; more = []; is = refl }
+has_first p (b ∷ bytes) =
+    elim (p b) as (λ t. p b ≡ t → HasFirst (slice_split p (b ∷ bytes))) [
+      | true ↦ λ is. record { first = []; more = slice_split p bytes; is = slice_split-cons_yes p b bytes is }
+      | false ↦ λ is. subst HasFirst (sym (slice_split-cons_no p b bytes is)) (onto_has_first b _ (has_first p bytes))
+    ] refl
 
 -- bytes are laid right after a text that lies at a room's beginning
 pub put : (text bytes old room new : List ℕ) (at : ℕ) → at ≡ length text → room ≡ text ++ drop (length text) old

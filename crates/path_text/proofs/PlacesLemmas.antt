@@ -41,13 +41,13 @@ slices_step : (t : Bool) (b : ℕ) (ps qs : List (List ℕ)) → 0 < length ps �
 slices_step true b ps qs h = refl
 slices_step false b ps qs h = onto_first-append b ps qs h
 
-slices_joined : (xs ys : List ℕ) → between_slashes (xs ++ SLASH ∷ ys) ≡ between_slashes xs ++ between_slashes ys
+pub slices_joined : (xs ys : List ℕ) → between_slashes (xs ++ SLASH ∷ ys) ≡ between_slashes xs ++ between_slashes ys
 slices_joined [] ys = refl
 slices_joined (b ∷ xs) ys =
     ap (λ ps. cond (b == SLASH) ([] ∷ ps) (onto_first b ps)) (slices_joined xs ys)
     ∙ slices_step (b == SLASH) b (between_slashes xs) (between_slashes ys) (omega (arith, length-slice_split (λ c. c == SLASH) xs))
 
-pieces_joined : (xs ys : List ℕ) → pieces (xs ++ SLASH ∷ ys) ≡ pieces xs ++ pieces ys
+pub pieces_joined : (xs ys : List ℕ) → pieces (xs ++ SLASH ∷ ys) ≡ pieces xs ++ pieces ys
 pieces_joined xs ys =
     ap (filter (λ p. not (is_empty p))) (slices_joined xs ys) ∙ filter-append (λ p. not (is_empty p)) (between_slashes xs) (between_slashes ys)
 

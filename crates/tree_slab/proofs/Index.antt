@@ -6,6 +6,7 @@ use Rattle.std.specs.Option.{option_map, option_and_then}
 use Rattle.std.specs.Map.{lookup}
 use Rattle.std.proofs.lemmas.Bool.{cases_eq, ne_eqb, false≢true, true≢false}
 use Rattle.std.proofs.lemmas.Option.{none-some}
+use Rattle.std.proofs.Math.Bool.{and-false}
 use Rattle.tree_model.specs.declared.inode.Inode.{Inode}
 use Rattle.tree_model.specs.declared.inode.Object.{Object}
 use Rattle.tree_model.specs.declared.inode.Place.{Place}
@@ -24,16 +25,12 @@ Tables = List (Option (List (List ℕ × ℕ)))
 
 -- ---- which directories stand
 
-and_false : (b : Bool) → (b && false) ≡ false
-and_false true = refl
-and_false false = refl
-
 -- only what a node is, and whether it has a place, tells whether it is a directory that stands
 standing-same : (old new : List Inode) (x : ℕ) → object_at new x ≡ object_at old x → is_some (place_at new x) ≡ is_some (place_at old x) → is_standing_dir new x ≡ is_standing_dir old x
 standing-same old new x objects places i = is_directory (objects i) && not (not (x == TOP) && not (places i))
 
 standing-gone : (nodes : List Inode) (x : ℕ) → x ≢ TOP → place_at nodes x ≡ None → is_standing_dir nodes x ≡ false
-standing-gone nodes x ne free = rw (ne_eqb x TOP ne, free) (and_false (is_dir nodes x))
+standing-gone nodes x ne free = rw (ne_eqb x TOP ne, free) (and-false (is_dir nodes x))
 
 standing-placed : (nodes : List Inode) (x : ℕ) (place : Place) → place_at nodes x ≡ Some place → is_standing_dir nodes x ≡ is_dir nodes x
 standing-placed nodes x place p = rw p (by (is_dir nodes x) (not (x == TOP)))
