@@ -14,7 +14,7 @@ pub use laws::{
     joined_paths_begin_at_the_root, names_are_told_once, paths_begin_with_the_names,
     steps_wait_for_the_names, what_is_answered_was_just_told, what_is_told_was_found_at_the_names,
 };
-pub use paths::{count_names, join};
+pub use paths::join;
 pub use telling::{
     ANSWERS, ASKS_AGAIN, REFUSES, TELLS, Telling, WALKS, again, begin, begins_some, found, next,
     reported,

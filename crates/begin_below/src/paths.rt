@@ -5,7 +5,7 @@ ghost use Rattle.path_text.specs.Name.{same_bytes};
 ghost use Rattle.path_text.specs.Text.{pieces};
 ghost use Rattle.begin_below.specs.Paths.{begins_there, goes_below, joined, IsLaid};
 
-use path_text::{SLASH, TEXT_MAX};
+use path_text::{SLASH, TEXT_MAX, count_pieces};
 
 // A path begins at the directory if it doesn't begin with a slash, and isn't empty.
 pub(crate) fn begins_there(path: &[u8]) -> bool
@@ -15,16 +15,6 @@ pub(crate) fn begins_there(path: &[u8]) -> bool
         None => false,
         Some(byte) => *byte != SLASH,
     }
-}
-
-/// How many names a place has: a slash before each, or a slash alone for the root. Takes no memory.
-pub fn count_names(place: &[u8]) -> usize
-    ensures { result ≡ length (pieces place.now) }
-{
-    place
-        .split(|byte| *byte == SLASH)
-        .filter(|piece| !piece.is_empty())
-        .count()
 }
 
 // A directory that stood at a place stands at the same names still.
@@ -50,7 +40,7 @@ fn lay(text: &[u8], at: usize, room: &mut [u8]) -> usize
 pub(crate) fn has_names(place: &[u8]) -> bool
     ensures { result ≡ nat_lt 0 (length (pieces place.now)) }
 {
-    count_names(place) > 0
+    count_pieces(place) > 0
 }
 
 fn goes_below(place: &[u8], path: &[u8]) -> bool

@@ -1,10 +1,9 @@
 -- `..` and then names: how a text of them is taken apart.
-use Rattle.std.proofs.Common.{◌≡◌, ◌<◌, ℕ, zero, suc, ◌+◌, ◌-◌, Bool, true, false, not, ◌==◌, ◌&&◌, ◌||◌, cond, ltb}
+use Rattle.std.proofs.Common.{◌≡◌, ◌<◌, ℕ, zero, suc, ◌+◌, ◌-◌, Bool, true, false, ◌==◌, ◌&&◌, ◌||◌}
 use Rattle.std.proofs.Common.{nat_le, nat_lt, length, List, [], ◌∷◌, ◌++◌, take, drop, refl, sym, ap, ◌∙◌, arith}
 use Rattle.std.specs.Prelude.{if◌then◌else◌, codes, Some, None}
-use Rattle.std.specs.List.{list_all, position, position_or_len}
-use Rattle.std.proofs.lemmas.Bool.{eqb-true, false≢true, le-leb, ltb-false}
-use Rattle.std.proofs.lemmas.List.Sums.{prefix_len-le-length}
+use Rattle.std.specs.List.{list_all}
+use Rattle.std.proofs.lemmas.Bool.{eqb-true, false≢true, le-leb}
 use Rattle.std.proofs.lemmas.List.{drop-drop, length-drop, take-append-drop}
 use Rattle.path_text.specs.declared.name.TheConstants.{SLASH}
 use Rattle.path_text.specs.Name.{same_bytes, is_name}
@@ -99,28 +98,6 @@ ups_end most [] none = refl
 ups_end most (b ∷ []) none = no_read (b == SLASH)
 ups_end most (b ∷ c ∷ text) none =
     names_by most b (c ∷ text) (b == SLASH) (between_slashes (c ∷ text)) refl (reprinted (c ∷ text)) none
-
--- ---- where the first slash is
-
-some_in : (b : Bool) (at n : ℕ) → Some at ≡ cond b (Some n) None → at ≡ n
-some_in true at n h = cc
-some_in false at n h = absurd cc
-
-pub some_at : (p : ℕ → Bool) (text : List ℕ) (at : ℕ) → Some at ≡ position p text → at ≡ position_or_len p text
-some_at p text at h = some_in (ltb (position_or_len p text) (length text)) at (position_or_len p text) h
-
-none_in : (b : Bool) (n : ℕ) → None ≡ cond b (Some n) None → b ≡ false
-none_in true n h = absurd cc
-none_in false n h = refl
-
-pub none_at : (p : ℕ → Bool) (text : List ℕ) → None ≡ position p text → length text ≡ position_or_len p text
-none_at p text h =
-    omega (
-      arith,
-      ltb-false (position_or_len p text) (length text)
-          (none_in (ltb (position_or_len p text) (length text)) (position_or_len p text) h),
-      prefix_len-le-length (λ x. not (p x)) text,
-    )
 
 -- ---- where a walk stands
 

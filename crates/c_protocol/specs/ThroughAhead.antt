@@ -1,11 +1,10 @@
 -- What comes next on a path from the root of which some names were passed; and by which path a call goes on that opens
 -- by names and links which were passed at once.
-use Rattle.std.specs.Prelude.{ℕ, ◌+◌, ◌-◌, List, [], ◌∷◌, ◌==◌, ◌&&◌, ◌||◌, Bool, true, false, not, if◌then◌else◌}
+use Rattle.std.specs.Prelude.{ℕ, ◌+◌, ◌-◌, List, [], ◌∷◌, ◌&&◌, ◌||◌, Bool, true, false, not, if◌then◌else◌}
 use Rattle.std.specs.Prelude.{nat_le, nat_lt, codes, drop, length, take, Option, Some, None}
-use Rattle.std.specs.List.{list_all, position_or_len}
-use Rattle.path_text.specs.declared.name.TheConstants.{SLASH}
+use Rattle.std.specs.List.{list_all}
 use Rattle.path_text.specs.Name.{is_name, same_bytes}
-use Rattle.path_text.specs.Text.{begins_with_slash, between_slashes, ends_with_slash, pieces}
+use Rattle.path_text.specs.Text.{begins_with_slash, between_slashes, ends_with_slash, name_size, pieces}
 use Rattle.open_through_links.specs.declared.passage.TheConstants.{END, LINK, UP, LEFT}
 use Rattle.c_protocol.specs.Through.{at_text, comes_up, from_place, goes_through, is_behind, place_text, rises_through}
 use Rattle.c_protocol.specs.Through.{with_text, Stand}
@@ -44,7 +43,7 @@ is_hinted s link = nat_le s.at link && nat_lt link (length s.path)
 
 -- where the name ends before which a slash stands there
 abbrev pub name_end : List ℕ → ℕ → ℕ
-name_end path start = start + 1 + position_or_len (λ b. b == SLASH) (drop (start + 1) path)
+name_end path start = start + 1 + name_size (drop (start + 1) path)
 
 -- a slash comes first, and none last
 abbrev pub has_last : List ℕ → Bool

@@ -1,10 +1,10 @@
 //! Where a path's last name stands in it.
 ghost use Rattle.std.specs.Prelude.{◌≡◌, ◌≢◌, ◌++◌, ◌∷◌, ◌==◌, ℕ, [], false, not, ◌&&◌, MatchOption};
-ghost use Rattle.path_text.specs.Parts.{BeginsWith, IsSeparated};
-ghost use Rattle.path_text.specs.Text.{ends_with_slash, part_of, pieces};
+ghost use Rattle.path_text.specs.Parts.{IsSeparated};
+ghost use Rattle.path_text.specs.Text.{ends_with_slash, part_of};
 ghost use Rattle.c_protocol.specs.Split.{piece_fault, refused, IsCutAt, IsParted};
 
-use path_text::{Errno, NAME_MAX, Path, SLASH};
+use path_text::{Errno, NAME_MAX, Path, SLASH, before_slashes, ends_with_slash};
 
 /// Where a path's last name stands in it, or why it has none. What comes before the name is its directory's path, which
 /// is empty where that is the one that the path begins at.
@@ -32,23 +32,6 @@ fn refused(error: Errno) -> Parted
     }
 }
 
-#[tactic(auto, using(path_text::proofs::TextLemmas::ends_with_slash_last))]
-pub(crate) fn ends_with_slash(text: &[u8]) -> bool
-    ensures { result ≡ ends_with_slash text.now }
-{
-    text.last().copied() == Some(SLASH)
-}
-
-// The text without the slash at its end, where it has one.
-#[tactic(auto, using(path_text::proofs::PlacesLemmas::ends_with_last))]
-fn before_slash(text: &[u8]) -> Option<&[u8]>
-    ensures { MatchOption result (ends_with_slash text.now ≡ false)
-        (λ before. text.now ≡ before.now ++ SLASH ∷ []) }
-{
-    let (last, before) = text.split_last()?;
-    if *last == SLASH { Some(before) } else { None }
-}
-
 // The text without its last byte, where that is there and no slash.
 #[tactic(auto, using(path_text::proofs::PlacesLemmas::separated_after))]
 fn before_other(text: &[u8]) -> Option<&[u8]>
@@ -57,19 +40,6 @@ fn before_other(text: &[u8]) -> Option<&[u8]>
 {
     let (last, before) = text.split_last()?;
     if *last == SLASH { None } else { Some(before) }
-}
-
-// The text without the slashes at its end.
-fn before_slashes(text: &[u8]) -> &[u8]
-    ensures beginning { BeginsWith text.now result.now }
-    ensures pieces { pieces result.now ≡ pieces text.now }
-    ensures last { ends_with_slash result.now ≡ false }
-{
-    let mut rest = text;
-    while let Some(before) = before_slash(rest) {
-        rest = before;
-    }
-    rest
 }
 
 // How much comes before the last piece of a text that ends in one.

@@ -14,7 +14,7 @@ use crate::at_once::{has_names, opens_kind, spells_place};
 use crate::numbers::Asked;
 use crate::through_ahead::leads_on;
 use crate::told::lay_at;
-use path_text::{Name, Path, SLASH};
+use path_text::{Name, Path, SLASH, begins_with_slash};
 use walk_plan::LINKS_MAX;
 
 /// How a call goes on: its path then, in a room, and where it stands on that. If it doesn't, all is 0 and false.
@@ -216,12 +216,6 @@ fn lay_path(whole: &[u8], start: usize, end: usize, text: &[u8], room: &mut [u8]
 {
     let before = before_text(text, &whole[..start]);
     lay_text(before, inner_text(text), &whole[end..], room)
-}
-
-pub(crate) fn begins_with_slash(text: &[u8]) -> bool
-    ensures { result ≡ begins_with_slash text.now }
-{
-    text.first() == Some(&SLASH)
 }
 
 fn next_if(goes_on: bool, size: usize, at: usize, absolute: bool) -> NextPath

@@ -1,7 +1,5 @@
 //! What comes next on a path that a call goes by names and links which were passed at once.
-ghost use Rattle.std.specs.Prelude.{◌≡◌, ◌≤◌, ◌<◌, ◌+◌, ◌-◌, ◌==◌, ◌&&◌, length, take, true};
-ghost use Rattle.std.specs.List.{position_or_len};
-ghost use Rattle.path_text.specs.declared.name.TheConstants.{SLASH};
+ghost use Rattle.std.specs.Prelude.{◌≡◌, ◌≤◌, ◌<◌, ◌+◌, ◌-◌, ◌&&◌, length, take, true};
 ghost use Rattle.open_through_links.specs.declared.passage.TheConstants.{UP};
 ghost use Rattle.c_protocol.specs.Split.{IsCutAt};
 ghost use Rattle.c_protocol.specs.Through.{is_behind};
@@ -9,11 +7,10 @@ ghost use Rattle.c_protocol.specs.ThroughAhead.{are_ups_and_names, has_last, lea
 ghost use Rattle.c_protocol.specs.ThroughAhead.{name_end, nothing_ahead, pieces_of, up_ahead};
 
 use crate::at_once::has_names;
-use crate::last_name::{before_piece, ends_with_slash};
-use crate::through::{begins_with_slash, comes_up};
-use begin_below::count_names;
+use crate::last_name::before_piece;
+use crate::through::comes_up;
 use open_through_links::{END, LEFT, LINK, UP};
-use path_text::SLASH;
+use path_text::{begins_with_slash, count_pieces, ends_with_slash, name_length};
 
 /// What comes next on a path, and how far that is. What isn't said of it is 0.
 #[repr(C)]
@@ -53,7 +50,7 @@ pub(crate) fn leads_on(whole: &[u8], at: usize) -> bool
     if at > whole.len() {
         return false;
     }
-    are_ups_and_names(count_names(&whole[..at]), &whole[at..])
+    are_ups_and_names(count_pieces(&whole[..at]), &whole[at..])
 }
 
 // ---- what comes next
@@ -93,22 +90,11 @@ fn up_ahead(passed: &[u8]) -> PathAhead
         return nothing_ahead();
     }
     PathAhead {
-        passed: count_names(passed),
+        passed: count_pieces(passed),
         ahead: 0,
         upper: upper_length(passed),
         end: 0,
         comes: UP,
-    }
-}
-
-// Where the first slash is, or else the end.
-fn name_length(text: &[u8]) -> usize
-    ensures exact { result ≡ position_or_len (λ b. b == SLASH) text.now }
-    ensures within { result ≤ length text.now }
-{
-    match text.iter().position(|byte| *byte == SLASH) {
-        Some(at) => at,
-        None => text.len(),
     }
 }
 
@@ -123,11 +109,11 @@ fn link_or_end(whole: &[u8], at: usize, link: usize) -> PathAhead
     requires { at ≤ length whole.now }
     ensures { result ≡ link_or_end (record { path = whole.now; at = at }) link }
 {
-    let passed = count_names(&whole[..at]);
+    let passed = count_pieces(&whole[..at]);
     if at > link || link >= whole.len() {
         return PathAhead {
             passed,
-            ahead: count_names(&whole[at..]),
+            ahead: count_pieces(&whole[at..]),
             upper: 0,
             end: 0,
             comes: END,
@@ -135,7 +121,7 @@ fn link_or_end(whole: &[u8], at: usize, link: usize) -> PathAhead
     }
     PathAhead {
         passed,
-        ahead: count_names(&whole[at..link]),
+        ahead: count_pieces(&whole[at..link]),
         upper: 0,
         end: name_end(whole, link),
         comes: LINK,

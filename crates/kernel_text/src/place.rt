@@ -3,7 +3,7 @@ ghost use Rattle.std.specs.Prelude.{◌≡◌, ◌==◌, false, Some};
 ghost use Rattle.path_text.specs.Text.{begins_with_slash};
 ghost use Rattle.kernel_text.specs.Place.{ends_as_gone, is_named, last_part, place_below, place_between, place_of_cwd, but_last, IsPlaceIn, TellsPlace};
 
-use path_text::{SLASH, TEXT_MAX};
+use path_text::{SLASH, TEXT_MAX, begins_with_slash};
 
 /// Where an object stands below a root, in the text that the kernel told of it.
 #[repr(C)]
@@ -22,12 +22,6 @@ fn ends_as_gone(text: &[u8]) -> bool
     ensures { result ≡ ends_as_gone text.now }
 {
     text.ends_with(b" (deleted)".as_slice())
-}
-
-fn begins_with_slash(text: &[u8]) -> bool
-    ensures { result ≡ begins_with_slash text.now }
-{
-    text.first() == Some(&SLASH)
 }
 
 // How many bytes of a path come before its place below a directory, and how many the place has.

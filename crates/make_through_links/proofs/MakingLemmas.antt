@@ -3,7 +3,7 @@ use Rattle.std.proofs.Common.{◌≡◌, ℕ, ◌+◌, ◌-◌, ◌≤◌, ◌<�
 use Rattle.std.specs.Prelude.{◌==◌}
 use Rattle.std.proofs.lemmas.Bool.{cond-false, cond-true, false≢true, le-ltb, ltb-false, ne_eqb}
 use Rattle.std.proofs.lemmas.List.{drop-drop, drop_min, drop-take}
-use Rattle.path_text.specs.Text.{is_empty}
+use Rattle.path_text.specs.Text.{is_empty, name_size}
 use Rattle.path_text.specs.declared.path.TheConstants.{TEXT_MAX}
 use Rattle.system_calls.specs.Errors.{EAGAIN, ENAMETOOLONG, ELOOP}
 use Rattle.system_calls.specs.Tries.{is_due, pause_after, TRIES}
@@ -11,7 +11,7 @@ use Rattle.system_calls.specs.declared.tries.NextTry.{NextTry}
 use Rattle.open_or_make.specs.History.{LINKS, STEP_READ_LINK}
 use Rattle.make_through_links.specs.History.{asks, due_met, fails, follows_link, is_call, meets, met_of, moved, stand_after, tries_again, whole, Asked, Due, Exchange, Stand, STEP_MAKE_DIR}
 use Rattle.make_through_links.specs.Making.{due_of, exchange, path_in, IsAt, Keeps, Tells}
-use Rattle.make_through_links.specs.Paths.{before_rest, first_name, name_size, rest_behind}
+use Rattle.make_through_links.specs.Paths.{before_rest, first_name, rest_behind}
 use Rattle.make_through_links.specs.declared.making.Making.{Making}
 use Rattle.make_through_links.specs.declared.making.Outcome.{Outcome}
 use Rattle.make_through_links.specs.declared.meets.Met.{Met}

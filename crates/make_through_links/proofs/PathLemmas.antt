@@ -1,36 +1,14 @@
 -- Where a text goes on behind a name, and a text that is laid before it.
-use Rattle.std.proofs.Common.{◌≡◌, ℕ, ◌≤◌, ◌<◌, ◌+◌, ◌-◌, min, suc, Bool, true, false, cond, if◌then◌else◌, List, [], ◌∷◌, ◌++◌, length, take, drop, set, Some, None, ap, sym, refl, ◌∙◌, arith, ltb, take-take, take-append-drop, length-drop, length-append, length-take-le, drop_at, eq-eqb, append-nil, append_assoc}
+use Rattle.std.proofs.Common.{◌≡◌, ℕ, ◌≤◌, ◌<◌, ◌+◌, ◌-◌, min, suc, Bool, true, false, cond, if◌then◌else◌, List, [], ◌∷◌, ◌++◌, length, take, drop, set, ap, sym, refl, ◌∙◌, arith, take-take, take-append-drop, length-drop, length-append, length-take-le, drop_at, eq-eqb, append-nil, append_assoc}
 use Rattle.std.specs.Prelude.{not, ◌==◌, ◌&&◌}
-use Rattle.std.specs.List.{list_all, position, position_or_len}
+use Rattle.std.specs.List.{list_all}
 use Rattle.std.proofs.Math.Seq.{paste}
-use Rattle.std.proofs.lemmas.Bool.{cond-false, cond-true, ltb-false, ne_eqb}
+use Rattle.std.proofs.lemmas.Bool.{cond-false, cond-true, ne_eqb}
 use Rattle.std.proofs.lemmas.List.{drop_all, drop-append-le, drop-drop, drop-set, drop-take}
 use Rattle.std.proofs.lemmas.List.Edits.{length-paste, take-paste}
-use Rattle.std.proofs.lemmas.List.Sums.{prefix_len-le-length}
 use Rattle.path_text.specs.declared.name.TheConstants.{SLASH}
 use Rattle.path_text.specs.Text.{is_empty}
 use Rattle.make_through_links.specs.Paths.{before_rest, slashes_size}
-
-some_in : (b : Bool) (at n : ℕ) → Some at ≡ cond b (Some n) None → at ≡ n
-some_in true at n h = cc
-some_in false at n h = absurd cc
-
-pub some_at : (p : ℕ → Bool) (text : List ℕ) (at : ℕ) → Some at ≡ position p text → at ≡ position_or_len p text
-some_at p text at h = some_in (ltb (position_or_len p text) (length text)) at (position_or_len p text) h
-
-none_in : (b : Bool) (n : ℕ) → None ≡ cond b (Some n) None → b ≡ false
-none_in true n h = absurd cc
-none_in false n h = refl
-
-pub none_at : (p : ℕ → Bool) (text : List ℕ) → None ≡ position p text → length text ≡ position_or_len p text
-none_at p text h =
-    omega (
-      arith,
-      ltb-false (position_or_len p text) (length text)
-          (none_in (ltb (position_or_len p text) (length text)) (position_or_len p text) h),
-      prefix_len-le-length
-          (λ x. not (p x)) text,
-    )
 
 -- ---- a text before what comes behind
 

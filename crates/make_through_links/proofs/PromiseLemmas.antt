@@ -4,11 +4,12 @@ use Rattle.std.specs.Prelude.{◌==◌}
 use Rattle.std.specs.List.{AllByRecursion}
 use Rattle.std.proofs.lemmas.Bool.{cond-true, false≢true, ltb-false, or_parts}
 use Rattle.path_text.specs.declared.path.TheConstants.{TEXT_MAX}
+use Rattle.path_text.specs.Text.{name_size}
 use Rattle.system_calls.specs.Errors.{EAGAIN, ENAMETOOLONG, ELOOP}
 use Rattle.system_calls.specs.Tries.{is_due, pause_after}
 use Rattle.open_or_make.specs.History.{LINKS, STEP_READ_LINK}
 use Rattle.make_through_links.specs.History.{asks, due_after, due_met, fails, follows_link, is_call, makes, met_of, moved, stand_after, whole, Asked, Due, Exchange, IsHistory, IsNext, Stand, STEP_MAKE_DIR}
-use Rattle.make_through_links.specs.Paths.{first_name, name_size, rest_behind, slashes_size}
+use Rattle.make_through_links.specs.Paths.{first_name, rest_behind, slashes_size}
 use Rattle.make_through_links.specs.Promises.{is_followed, part_for, GaveNone, IsGiven, IsLed, IsPathOf}
 use Rattle.make_through_links.specs.declared.meets.Met.{Met}
 use Rattle.make_through_links.specs.declared.meets.Met.TheVariants.{Missing, Directory, Parted, Refused, Above, Gone, Partly, Link, NoText, Between, Stands, LinkAtEnd, Unfollowed, BetweenAtEnd, Ended}

@@ -1,13 +1,13 @@
 -- The calls that were made as all missing parts of a path are made, and which one comes next. A history has the last
 -- call first.
 use Rattle.std.specs.Prelude.{◌≡◌, ℕ, ◌+◌, List, [], ◌∷◌, ◌++◌, ◌==◌, Bool, true, false, not, ◌&&◌, ◌||◌, if◌then◌else◌, nat_lt, length, take, drop}
-use Rattle.path_text.specs.Text.{is_empty}
+use Rattle.path_text.specs.Text.{is_empty, name_size}
 use Rattle.path_text.specs.declared.name.TheConstants.{SLASH}
 use Rattle.path_text.specs.declared.path.TheConstants.{TEXT_MAX}
 use Rattle.system_calls.specs.Errors.{ENOENT, EAGAIN, EEXIST, EISDIR, EINVAL, ENAMETOOLONG, ELOOP}
 use Rattle.system_calls.specs.Tries.{is_due, pause_after}
 use Rattle.open_or_make.specs.History.{LINKS, STEP_MAKE_FILE, STEP_READ_LINK}
-use Rattle.make_through_links.specs.Paths.{first_name, name_size, rest_behind}
+use Rattle.make_through_links.specs.Paths.{first_name, rest_behind}
 use Rattle.make_through_links.specs.declared.meets.TheConstants.{FIND, SPLIT, MAKE_ABOVE, MAKE, PARTIAL, READ_LINK, CREATE, READ_END, ENDS, FAILS}
 use Rattle.make_through_links.specs.declared.meets.Met.{Met}
 use Rattle.make_through_links.specs.declared.meets.Met.TheVariants.{Missing, Directory, Parted, Refused, Above, Gone, Partly, Link, NoText, Between, Stands, LinkAtEnd, Unfollowed, BetweenAtEnd, Ended}

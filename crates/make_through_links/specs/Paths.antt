@@ -2,13 +2,10 @@
 -- comes behind it.
 use Rattle.std.specs.Prelude.{ℕ, List, ◌∷◌, ◌++◌, ◌==◌, not, if◌then◌else◌, take, drop}
 use Rattle.std.specs.List.{position_or_len}
-use Rattle.path_text.specs.Text.{is_empty}
+use Rattle.path_text.specs.Text.{is_empty, name_size}
 use Rattle.path_text.specs.declared.name.TheConstants.{SLASH}
 
--- how many bytes stand before the first slash, and those
-abbrev pub name_size : List ℕ → ℕ
-name_size text = position_or_len (λ b. b == SLASH) text
-
+-- the bytes before the first slash
 abbrev pub first_name : List ℕ → List ℕ
 first_name text = take (name_size text) text
 

@@ -1,20 +1,9 @@
 //! Where a path goes on behind a link.
 ghost use Rattle.std.specs.Prelude.{◌≡◌, ◌+◌, ◌-◌, ◌≤◌, ◌<◌, ◌^◌, ◌∷◌, ◌==◌, if◌then◌else◌, length, take, drop};
 ghost use Rattle.path_text.specs.declared.name.TheConstants.{SLASH};
-ghost use Rattle.make_through_links.specs.Paths.{before_rest, name_size, rest_behind, slashes_size};
+ghost use Rattle.make_through_links.specs.Paths.{before_rest, rest_behind, slashes_size};
 
-use path_text::SLASH;
-
-// How long the first name is: so many bytes stand before the first slash.
-pub(crate) fn name_length(text: &[u8]) -> usize
-    ensures exact { result ≡ name_size text.now }
-    ensures within { result ≤ length text.now }
-{
-    match text.iter().position(|byte| *byte == SLASH) {
-        Some(at) => at,
-        None => text.len(),
-    }
-}
+use path_text::{SLASH, name_length};
 
 // How many slashes a text begins with.
 fn slashes_length(text: &[u8]) -> usize

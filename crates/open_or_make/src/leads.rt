@@ -3,13 +3,7 @@ ghost use Rattle.std.specs.Prelude.{◌≡◌, ◌+◌, ◌≤◌, ◌++◌, len
 ghost use Rattle.path_text.specs.Text.{begins_with_slash};
 ghost use Rattle.open_or_make.specs.Leads.{directory_length, kept_length};
 
-use path_text::SLASH;
-
-fn begins_with_slash(text: &[u8]) -> bool
-    ensures { result ≡ begins_with_slash text.now }
-{
-    text.first() == Some(&SLASH)
-}
+use path_text::{SLASH, begins_with_slash};
 
 // How many bytes come before a path's last name.
 fn directory_length(path: &[u8]) -> usize

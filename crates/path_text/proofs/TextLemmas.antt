@@ -1,11 +1,12 @@
 -- Facts about the pieces of a text.
-use Rattle.std.proofs.Common.{◌≡◌, ℕ, ◌+◌, ◌-◌, ◌*◌, ◌≤◌, ◌<◌, Bool, true, false, not, ◌==◌, ◌&&◌, ◌||◌, cond, nat_lt, List, [], ◌∷◌, ◌++◌, length, get_or, map, refl, sym, ◌∙◌, arith, nat_eq, add-one}
+use Rattle.std.proofs.Common.{◌≡◌, ℕ, ◌+◌, ◌-◌, ◌*◌, ◌≤◌, ◌<◌, Bool, true, false, not, ◌==◌, ◌&&◌, ◌||◌, cond, nat_lt, List, [], ◌∷◌, ◌++◌, length, get_or, map, refl, sym, ◌∙◌, arith, nat_eq, add-one, ltb}
 use Rattle.std.specs.Prelude.{Some, None, slice_get, if◌then◌else◌}
 use Rattle.std.specs.Option.{option_eq}
-use Rattle.std.specs.List.{list_any, list_all, filter, onto_first}
+use Rattle.std.specs.List.{list_any, list_all, filter, onto_first, position, position_or_len}
 use Rattle.std.proofs.lemmas.Bool.Decides.{nat_tests}
 use Rattle.std.proofs.lemmas.List.{length-append, length-map}
-use Rattle.std.proofs.lemmas.List.Sums.{AllPass-from_list_all}
+use Rattle.std.proofs.lemmas.List.Sums.{AllPass-from_list_all, prefix_len-le-length}
+use Rattle.std.proofs.lemmas.Bool.{ltb-false}
 use native.Mathlib.Numerals.{unary_clauses}
 pub use Rattle.std.proofs.lemmas.Bool.{and_parts as and_true, or_parts as or_false}
 use Rattle.path_text.specs.declared.name.TheConstants.{SLASH}
@@ -162,3 +163,25 @@ is_reading text a s ps h e f = record {
   few = rw e (reading_few text h);
   marked = λ t. rw e (marked (has_final_slash text) (map part_of (pieces text)) (sym f ∙ t));
 }
+
+-- ---- where the first slash is
+
+some_in : (b : Bool) (at n : ℕ) → Some at ≡ cond b (Some n) None → at ≡ n
+some_in true at n h = cc
+some_in false at n h = absurd cc
+
+pub some_at : (p : ℕ → Bool) (text : List ℕ) (at : ℕ) → Some at ≡ position p text → at ≡ position_or_len p text
+some_at p text at h = some_in (ltb (position_or_len p text) (length text)) at (position_or_len p text) h
+
+none_in : (b : Bool) (n : ℕ) → None ≡ cond b (Some n) None → b ≡ false
+none_in true n h = absurd cc
+none_in false n h = refl
+
+pub none_at : (p : ℕ → Bool) (text : List ℕ) → None ≡ position p text → length text ≡ position_or_len p text
+none_at p text h =
+    omega (
+      arith,
+      ltb-false (position_or_len p text) (length text)
+          (none_in (ltb (position_or_len p text) (length text)) (position_or_len p text) h),
+      prefix_len-le-length (λ x. not (p x)) text,
+    )

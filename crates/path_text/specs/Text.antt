@@ -1,6 +1,6 @@
 -- The parts of a path text (POSIX.1, Pathname Resolution; path_resolution(7)).
 use Rattle.std.specs.Prelude.{ℕ, List, [], ◌∷◌, ◌++◌, Bool, true, false, not, ◌&&◌, ◌==◌, if◌then◌else◌, nat_lt, length, map, Option, Some, None, codes}
-use Rattle.std.specs.List.{filter, list_any, slice_split}
+use Rattle.std.specs.List.{filter, list_any, position_or_len, slice_split}
 use Rattle.path_text.specs.declared.errno.Errno.{Errno}
 use Rattle.path_text.specs.declared.errno.Errno.TheVariants.{NotFound, Invalid, TooLong}
 use Rattle.path_text.specs.declared.name.TheConstants.{SLASH}
@@ -39,6 +39,10 @@ abbrev pub part_of : List ℕ → Part
 part_of piece =
     if same_bytes piece (codes ".") then Cur
     else (if same_bytes piece (codes "..") then Up else Named piece)
+
+-- how many bytes the first name of a text has: those before its first slash (path_resolution(7))
+abbrev pub name_size : List ℕ → ℕ
+name_size text = position_or_len (λ b. b == SLASH) text
 
 abbrev pub begins_with_slash : List ℕ → Bool
 begins_with_slash [] = false

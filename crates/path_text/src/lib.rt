@@ -19,6 +19,7 @@ mod parts;
 mod path;
 mod places;
 mod split;
+mod texts;
 
 pub use bytes::Bytes;
 pub use errno::{Errno, NoMemory};
@@ -33,3 +34,6 @@ pub use names::Names;
 pub use part::{Component, Part};
 pub use parts::Parts;
 pub use path::{PARTS_MAX, Path, Rule, Split, TEXT_MAX};
+pub use texts::{
+    before_slashes, begins_with_slash, count_pieces, ends_with_slash, has_final_slash, name_length,
+};

@@ -4,16 +4,10 @@ ghost use Rattle.path_text.specs.Text.{text_fault, reading_of, begins_with_slash
 
 use crate::bytes::Bytes;
 use crate::errno::Errno;
-use crate::name::SLASH;
 use crate::parts::Parts;
 use crate::path::{Path, TEXT_MAX};
+use crate::texts::begins_with_slash;
 use std::alloc::Global;
-
-fn begins_with_slash(text: &[u8]) -> bool
-    ensures { result ≡ begins_with_slash text.now }
-{
-    text.first() == Some(&SLASH)
-}
 
 impl Path {
     /// Why a text is no path, where it is none. Takes no memory.

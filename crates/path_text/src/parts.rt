@@ -9,7 +9,8 @@ ghost use Rattle.path_text.specs.Text.{pieces, parts_of, has_final_slash};
 use crate::bytes::Bytes;
 use crate::errno::NoMemory;
 use crate::part::Part;
-use crate::places::{Span, count_pieces, has_final_slash, push_pieces};
+use crate::places::{Span, push_pieces};
+use crate::texts::{count_pieces, has_final_slash};
 use std::alloc::Global;
 use std::marker::Model;
 

@@ -4,49 +4,16 @@ ghost use Rattle.std.specs.List.{list_any};
 ghost use Rattle.std.specs.Vec.{vec_len, vec_capacity};
 ghost use Rattle.path_text.specs.Name.{NUL};
 ghost use Rattle.path_text.specs.Parts.{parts_at, ArePlaces, BeginsWith, IsSeparated};
-ghost use Rattle.path_text.specs.Text.{pieces, part_of, ends_with_slash, has_final_slash};
+ghost use Rattle.path_text.specs.Text.{pieces, part_of, ends_with_slash};
 
 use crate::name::SLASH;
+use crate::texts::before_slashes;
 
 /// Where the bytes of a part lie in a buffer.
 #[derive(Clone, Copy, Debug)]
 pub(crate) struct Span {
     pub(crate) start: usize,
     pub(crate) end: usize,
-}
-
-#[tactic(auto, using(crate::proofs::TextLemmas::ends_with_slash_last))]
-pub(crate) fn ends_with_slash(text: &[u8]) -> bool
-    ensures { result ≡ ends_with_slash text.now }
-{
-    text.last().copied() == Some(SLASH)
-}
-
-// How many pieces a text has.
-pub(crate) fn count_pieces(text: &[u8]) -> usize
-    ensures { result ≡ length (pieces text.now) }
-{
-    text.split(|byte| *byte == SLASH)
-        .filter(|piece| !piece.is_empty())
-        .count()
-}
-
-// Whether a text with this many pieces has one, and a slash at its end.
-pub(crate) fn has_final_slash(text: &[u8], count: usize) -> bool
-    requires { count ≡ length (pieces text.now) }
-    ensures { result ≡ has_final_slash text.now }
-{
-    count > 0 && ends_with_slash(text)
-}
-
-// The text without the slash at its end, where it has one.
-#[tactic(auto, using(crate::proofs::PlacesLemmas::ends_with_last))]
-fn before_slash(text: &[u8]) -> Option<&[u8]>
-    ensures { MatchOption result (ends_with_slash text.now ≡ false)
-        (λ before. text.now ≡ before.now ++ SLASH ∷ []) }
-{
-    let (last, before) = text.split_last()?;
-    if *last == SLASH { Some(before) } else { None }
 }
 
 // The text without its last byte, where that is there and no slash.
@@ -57,19 +24,6 @@ fn before_other(text: &[u8]) -> Option<&[u8]>
 {
     let (last, before) = text.split_last()?;
     if *last == SLASH { None } else { Some(before) }
-}
-
-// The text without the slashes at its end.
-fn before_slashes(text: &[u8]) -> &[u8]
-    ensures beginning { BeginsWith text.now result.now }
-    ensures pieces { pieces result.now ≡ pieces text.now }
-    ensures last { ends_with_slash result.now ≡ false }
-{
-    let mut rest = text;
-    while let Some(before) = before_slash(rest) {
-        rest = before;
-    }
-    rest
 }
 
 // A text that ends in a piece, without that piece.

@@ -1,13 +1,15 @@
 //! The meaning of a path, computed: a plain program that resolves a path in the nodes of a tree that stands
 //! still. It is slow, recurses for each link and takes no memory; a walk is compared with it.
 ghost use Rattle.std.specs.Prelude.{◌≡◌, ◌<◌, ◌||◌, nat_lt, length, slice_get, MatchResult, Some};
-ghost use Rattle.path_text.specs.Text.{pieces, part_of, parts_of, ends_with_slash, has_final_slash, begins_with_slash};
+ghost use Rattle.path_text.specs.Text.{pieces, part_of, parts_of, has_final_slash, begins_with_slash};
 ghost use Rattle.walk_plan.specs.Plan.{leads_out};
 ghost use Rattle.step_resolver.specs.Asked.{Cur, ask, asked};
 ghost use Rattle.step_resolver.specs.Meaning.{from_of, above_of, link_in, part_means, parts_mean, resolution, is_object, is_error, resolved};
 ghost use Rattle.step_resolver.specs.Plain.{arrival, meant};
 
-use path_text::{Errno, Flags, NAME_MAX, Path, SLASH};
+use path_text::{
+    Errno, Flags, NAME_MAX, Path, SLASH, begins_with_slash, count_pieces, has_final_slash,
+};
 use std::marker::Model;
 use tree_model::{Inode, Node, Object, child, is_dir, object_at, parent};
 use walk_plan::LINKS_MAX;
@@ -35,29 +37,7 @@ struct Arrived {
     links: u8,
 }
 
-fn begins_with_slash(text: &[u8]) -> bool
-    ensures { result ≡ begins_with_slash text.now }
-{
-    text.first() == Some(&SLASH)
-}
-
-#[tactic(auto, using(path_text::proofs::TextLemmas::ends_with_slash_last))]
-fn ends_with_slash(text: &[u8]) -> bool
-    ensures { result ≡ ends_with_slash text.now }
-{
-    text.last().copied() == Some(SLASH)
-}
-
-// How many names, `.` and `..` stand between the slashes of a text.
-fn count_pieces(text: &[u8]) -> usize
-    ensures { result ≡ length (pieces text.now) }
-{
-    text.split(|byte| *byte == SLASH)
-        .filter(|piece| !piece.is_empty())
-        .count()
-}
-
-// The one of that place among them.
+// The piece of that place in a text.
 fn piece_at(text: &[u8], at: usize) -> &[u8]
     requires { at < length (pieces text.now) }
     ensures { slice_get (pieces text.now) at ≡ Some result.now }
@@ -66,14 +46,6 @@ fn piece_at(text: &[u8], at: usize) -> &[u8]
         .filter(|piece| !piece.is_empty())
         .nth(at)
         .unwrap_or(text)
-}
-
-// Whether a text with this many pieces has one, and a slash at its end.
-fn has_final_slash(text: &[u8], count: usize) -> bool
-    requires { count ≡ length (pieces text.now) }
-    ensures { result ≡ has_final_slash text.now }
-{
-    count > 0 && ends_with_slash(text)
 }
 
 // Whether a link at a part is followed: where the very last one would be, or where another part comes next.

@@ -19,4 +19,6 @@ mod rows;
 #[cfg(test)]
 mod steps_read;
 #[cfg(test)]
+mod texts;
+#[cfg(test)]
 mod whole;

@@ -10,7 +10,9 @@ ghost use Rattle.path_text.specs.Text.{begins_with_slash, parts_of, reading_of, 
 ghost use Rattle.walk_plan.specs.Plan.{IsPlan, IsNameAnd, IfName, CanStay, next_part, is_last, is_own, is_name, follows_next_link, stayed, went_up, went_down, spliced, through, through_fault, leads_out, begun, first_part, after_first, own_after_next};
 
 use crate::goal::Goal;
-use path_text::{Bytes, Errno, Flags, LentName, Name, Names, NoMemory, Part, Parts, Path, SLASH};
+use path_text::{
+    Bytes, Errno, Flags, LentName, Name, Names, NoMemory, Part, Parts, Path, begins_with_slash,
+};
 use std::alloc::Global;
 use std::marker::Model;
 
@@ -263,13 +265,6 @@ impl Plan {
     {
         self.own
     }
-}
-
-// Whether a text begins at the root.
-fn begins_with_slash(text: &[u8]) -> bool
-    ensures { result ≡ begins_with_slash text.now }
-{
-    text.first() == Some(&SLASH)
 }
 
 // The next part: of those of links' texts, which come first, else of the own ones.

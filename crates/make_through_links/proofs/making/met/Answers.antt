@@ -2,8 +2,7 @@ use Rattle.std.proofs.Common.{◌≡◌, ◌+◌, ◌≤◌, ap, refl, ◌∙◌
 use Rattle.make_through_links.specs.Making.{path_in}
 use Rattle.make_through_links.proofs.making.met.Goals as goal
 use Rattle.std.specs.Prelude.{◌==◌}
-use Rattle.path_text.specs.Text.{is_empty}
-use Rattle.make_through_links.specs.Paths.{name_size}
+use Rattle.path_text.specs.Text.{is_empty, name_size}
 use Rattle.make_through_links.proofs.MakingLemmas.{no_bytes, part_behind, seen_is}
 
 pub returns : goal.returns

@@ -5,7 +5,7 @@ use Rattle.std.proofs.lemmas.Iterator.{YieldsList-from_slice}
 use Rattle.std.proofs.lemmas.Iterator.Search.{position_from_yields_List}
 use borrow.Author.Tests.{tests}
 use Rattle.path_text.specs.declared.name.TheConstants.{SLASH}
-use Rattle.make_through_links.proofs.PathLemmas.{none_at, some_at}
+use Rattle.path_text.proofs.TextLemmas.{none_at, some_at}
 use Rattle.make_through_links.proofs.paths.slashes_length.Goals as goal
 
 pub returns-in-Some-clause-exact : goal.returns-in-Some-clause-exact

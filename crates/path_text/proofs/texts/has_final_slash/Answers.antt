@@ -1,7 +1,7 @@
 use Rattle.std.proofs.Common.{arith}
 use Rattle.std.proofs.lemmas.Bool.Decides.{nat_tests}
 use Rattle.path_text.proofs.TextLemmas.{has_final_slash_counted}
-use Rattle.step_resolver.proofs.plain.has_final_slash.Goals as goal
+use Rattle.path_text.proofs.texts.has_final_slash.Goals as goal
 
 pub returns-then-count-gt0 : goal.returns-then-count-gt0
 returns-then-count-gt0 c = rw (has_final_slash_counted c.args.text.now) (grind (arith, nat_tests))

@@ -2,7 +2,7 @@ use Rattle.std.proofs.Common.{rules}
 use Rattle.std.proofs.lemmas.Iterator.Consumers.{count_from_yields_List}
 use borrow.Author.Tests.{tests}
 use Rattle.path_text.proofs.PiecesYielded.{pieces_yielded}
-use Rattle.step_resolver.proofs.plain.count_pieces.Goals as goal
+use Rattle.path_text.proofs.texts.count_pieces.Goals as goal
 
 pub returns : goal.returns
 returns c =

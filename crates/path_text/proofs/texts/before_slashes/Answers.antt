@@ -2,7 +2,7 @@ use Rattle.std.proofs.Common.{[], refl, sym}
 use Rattle.std.proofs.lemmas.List.{append-nil}
 use Rattle.path_text.specs.declared.name.TheConstants.{SLASH}
 use Rattle.path_text.proofs.PlacesLemmas.{begins_less, slash_off, one_less}
-use Rattle.path_text.proofs.places.before_slashes.Goals as goal
+use Rattle.path_text.proofs.texts.before_slashes.Goals as goal
 
 pub loop-before-init : goal.loop-before-init
 loop-before-init c = (([], sym (append-nil c.args.text.now)), refl)
