@@ -1,11 +1,12 @@
 -- A path whose last piece is cut off, read as the path of a directory and a name.
-use Rattle.std.proofs.Common.{◌≡◌, ◌≢◌, ℕ, ◌-◌, ◌<◌, Bool, true, false, not, ◌==◌, ◌&&◌, ◌||◌, List, [], ◌∷◌, ◌++◌, length, map, take, drop, refl, sym, ap, ◌∙◌, arith}
+use Rattle.std.proofs.Common.{◌≡◌, ◌≢◌, ℕ, ◌-◌, ◌<◌, Bool, true, false, not, ◌==◌, ◌&&◌, List, [], ◌∷◌, ◌++◌, length, map, take, drop, refl, sym, ap, ◌∙◌, arith}
 use Rattle.std.specs.Prelude.{Option, Some, None, Result, Ok, Err, MatchResult, slice_get, if◌then◌else◌, nat_lt, codes}
 use Rattle.std.specs.List.{list_any}
 use Rattle.std.proofs.Math.Seq.{take-append_seam, drop-append_seam, get_or-append_seam}
 use Rattle.std.proofs.lemmas.Bool.Decides.{nat_tests}
 use Rattle.std.proofs.lemmas.List.{append-nil, length-append, map-append, append_assoc}
 use Rattle.std.proofs.lemmas.Option.{slice_get-get_or}
+use Rattle.std.proofs.lemmas.Bool.{or_parts}
 use Rattle.path_text.specs.declared.errno.Errno.{Errno}
 use Rattle.path_text.specs.declared.errno.Errno.TheVariants.{Invalid, NotDir, TooLong}
 use Rattle.path_text.specs.declared.name.TheConstants.{NAME_MAX, SLASH}
@@ -92,14 +93,10 @@ name_taken path ended at h =
     let size : length ended - at ≡ length h.cut.piece = omega (arith, h.cut.place, ap length h.cut.cut, length-append h.cut.first h.cut.piece) in
     ap (take (length ended - at)) from ∙ ap (λ n. take n rest) size ∙ take-append_seam h.cut.piece h.beginning.0
 
-or_first : (x y : Bool) → (x || y) ≡ false → x ≡ false
-or_first true y h = cc
-or_first false y h = refl
-
 begins_same : (first piece more : List ℕ) → is_empty piece ≡ false → list_any (λ b. b == SLASH) piece ≡ false → begins_with_slash (first ++ (piece ++ more)) ≡ begins_with_slash first
 begins_same (b ∷ bs) piece more some plain = refl
 begins_same [] [] more some plain = cc
-begins_same [] (b ∷ bs) more some plain = or_first (b == SLASH) (list_any (λ c. c == SLASH) bs) plain
+begins_same [] (b ∷ bs) more some plain = (or_parts (b == SLASH) (list_any (λ c. c == SLASH) bs) plain).0
 
 begins_of_path : (path ended : List ℕ) (at : ℕ) → (h : IsCutOff path ended at) → begins_with_slash path ≡ begins_with_slash h.cut.first
 begins_of_path path ended at h = ap begins_with_slash (whole path ended at h) ∙ begins_same h.cut.first h.cut.piece h.beginning.0 h.cut.some h.cut.plain

@@ -1,16 +1,17 @@
 -- Texts of names and `..`: how they are taken apart, and what they are read as.
-use Rattle.std.proofs.Common.{◌≡◌, ℕ, Bool, true, false, not, ◌==◌, ◌&&◌, ◌||◌, cond, nat_le, nat_lt, length, List, [], ◌∷◌, ◌++◌, map, take, drop, refl, sym, ap, ◌∙◌, subst}
-use Rattle.std.specs.Prelude.{if◌then◌else◌, is_none, codes, Some, None}
+use Rattle.std.proofs.Common.{◌≡◌, ℕ, Bool, true, false, not, ◌==◌, ◌&&◌, ◌||◌, cond, nat_le, length, List, [], ◌∷◌, ◌++◌, map, take, drop, refl, sym, ap, ◌∙◌, subst}
+use Rattle.std.specs.Prelude.{if◌then◌else◌, is_none, codes, Some, None, Option}
 use Rattle.std.specs.List.{list_all, list_any, filter, onto_first}
-use Rattle.std.proofs.lemmas.Bool.{eqb-true, not-true}
+use Rattle.std.proofs.lemmas.Bool.{eqb-true, and_right}
 use Rattle.std.proofs.lemmas.List.{append_assoc, append-nil, take-append-drop}
-use Rattle.path_text.specs.declared.errno.Errno.TheVariants.{Invalid, TooLong}
-use Rattle.path_text.specs.declared.name.TheConstants.{SLASH, NAME_MAX}
-use Rattle.path_text.specs.declared.part.Part.TheVariants.{Cur, Up, Named}
-use Rattle.path_text.specs.Name.{NUL, same_bytes, is_component, is_name}
+use Rattle.path_text.specs.declared.name.TheConstants.{SLASH}
+use Rattle.path_text.specs.declared.part.Part.TheVariants.{Cur}
+use Rattle.path_text.specs.Name.{same_bytes, is_name, name_fault}
 use Rattle.path_text.specs.Print.{after_slashes}
 use Rattle.path_text.specs.Text.{is_empty, between_slashes, ends_with_slash, has_final_slash, part_of, parts_of}
 use Rattle.path_text.proofs.TextLemmas.{and_true, or_false}
+use Rattle.path_text.proofs.PrintLemmas.{plain_of, IsPlain}
+use Rattle.path_text.specs.declared.errno.Errno.{Errno}
 use Rattle.step_calls.proofs.ErrorLemmas.{second_is}
 use Rattle.c_protocol.specs.ThroughAhead.{pieces_of}
 use Rattle.c_protocol.specs.Through.{is_step, are_steps, is_way, are_names_or_none, is_entry, is_behind, inner_text, is_child, names_in}
@@ -22,10 +23,6 @@ pub behind_is : (text : List ℕ) → is_behind text ≡ true → text ≡ after
 behind_is [] h = refl
 behind_is (b ∷ text) h = ap (λ c. c ∷ text) (eqb-true b SLASH h) ∙ sym (reprinted text)
 
-and_false : (a b : Bool) → b ≡ false → (a && b) ≡ false
-and_false true b h = h
-and_false false b h = refl
-
 pub names_are_steps : (ns : List (List ℕ)) → list_all is_name ns ≡ true → list_all is_step ns ≡ true
 names_are_steps [] h = refl
 names_are_steps (n ∷ ns) h =
@@ -33,42 +30,17 @@ names_are_steps (n ∷ ns) h =
     ap (λ b. b && list_all is_step ns) (second_is (same_bytes n (codes "..")) (is_name n) each.0)
     ∙ names_are_steps ns each.1
 
-component_if : (c long : Bool) → is_none (if not c then Some Invalid else (if long then Some TooLong else None)) ≡ true
-    → c ≡ true
-component_if true long h = refl
-component_if false long h = cc (h)
-
--- no slash is in a name, and it is neither `.` nor `..`
-pub record IsPlain (name : List ℕ) : Type 0 where
-  pub free : list_any (λ b. b == SLASH) name ≡ false
-  pub part : part_of name ≡ Named name
-
-named : (dot dots : Bool) (name : List ℕ) → dot ≡ false → dots ≡ false
-    → (if dot then Cur else (if dots then Up else Named name)) ≡ Named name
-named dot dots name h k = rw (h, k)
-
 pub plain : (name : List ℕ) → is_name name ≡ true → IsPlain name
-plain name h =
-    let empty = not (same_bytes name []) in
-    let dot = not (same_bytes name (codes ".")) in
-    let dots = not (same_bytes name (codes "..")) in
-    let slash = not (list_any (λ b. b == SLASH) name) in
-    let nul = not (list_any (λ b. b == NUL) name) in
-    let four = and_true (empty && dot && dots && slash) nul
-    (component_if (is_component name) (nat_lt NAME_MAX (length name)) h) in
-    let three = and_true (empty && dot && dots) slash four.0 in
-    let two = and_true (empty && dot) dots three.0 in
-    let one = and_true empty dot two.0 in
-    record {
-      free = not-true (list_any (λ b. b == SLASH) name) three.1;
-      part = named (same_bytes name (codes ".")) (same_bytes name (codes "..")) name
-          (not-true (same_bytes name (codes ".")) one.1) (not-true (same_bytes name (codes "..")) two.1);
-    }
+plain name h = plain_of name (no_fault (name_fault name) h)
+  where
+    no_fault : (fault : Option Errno) → is_none fault ≡ true → fault ≡ None
+    no_fault None e = refl
+    no_fault (Some error) e = cc (e)
 
 free_by : (p : List ℕ) (d : Bool) → same_bytes p (codes "..") ≡ d → (d || is_name p) ≡ true
     → list_any (λ b. b == SLASH) p ≡ false
 free_by p true e h = ap (list_any (λ b. b == SLASH)) (same_text p (codes "..") e)
-free_by p false e h = (plain p h).free
+free_by p false e h = (plain p h).spells.no_slash
 
 free : (p : List ℕ) → is_step p ≡ true → list_any (λ b. b == SLASH) p ≡ false
 free p h = free_by p (same_bytes p (codes "..")) refl h
@@ -115,12 +87,12 @@ slash_first (n ∷ ns) text = refl
 pub names_split : (ns : List (List ℕ)) (n behind : List ℕ) → list_all is_name ns ≡ true → is_name n ≡ true
     → is_behind behind ≡ true
     → pieces_of (after_slashes ns ++ (SLASH ∷ n ++ behind)) ≡ ns ++ n ∷ pieces_of behind
-names_split [] n behind valid is h = piece_split n behind (plain n is).free h
+names_split [] n behind valid is h = piece_split n behind (plain n is).spells.no_slash h
 names_split (m ∷ ns) n behind valid is h =
     let each = and_true (is_name m) (list_all is_name ns) valid in
     let more = SLASH ∷ n ++ behind in
     ap between_slashes (append_assoc m (after_slashes ns) more)
-    ∙ piece_split m (after_slashes ns ++ more) (plain m each.0).free (slash_first ns (n ++ behind))
+    ∙ piece_split m (after_slashes ns ++ more) (plain m each.0).spells.no_slash (slash_first ns (n ++ behind))
     ∙ ap (λ ps. m ∷ ps) (names_split ns n behind each.1 is h)
 
 -- ---- names, an entry, a child
@@ -183,7 +155,7 @@ later (p ∷ ps) = ps
 open_more : (t : Bool) (b : ℕ) (ps : List (List ℕ)) → list_all is_step (later ps) ≡ false
     → list_all is_step (later (cond t ([] ∷ ps) (onto_first b ps))) ≡ false
 open_more true b [] h = cc (h)
-open_more true b (p ∷ ps) h = and_false (is_step p) (list_all is_step ps) h
+open_more true b (p ∷ ps) h = and_right (is_step p) (list_all is_step ps) h
 open_more false b [] h = cc (h)
 open_more false b (p ∷ ps) h = h
 
@@ -206,7 +178,7 @@ parts_steps t h =
     let some = list_any (λ p. not (is_empty p)) (between_slashes t) in
     ap (λ ps. map part_of ps ++ (if has_final_slash t then Cur ∷ [] else [])) (none_dropped (between_slashes t) h)
     ∙ ap (λ e. map part_of (between_slashes t) ++ (if e then Cur ∷ [] else []))
-    (and_false some (ends_with_slash t) (closed_by t (ends_with_slash t) refl h))
+    (and_right some (ends_with_slash t) (closed_by t (ends_with_slash t) refl h))
     ∙ append-nil (map part_of (between_slashes t))
 
 pub parts_slashed : (t : List ℕ) → are_steps t ≡ true → parts_of (SLASH ∷ t) ≡ map part_of (between_slashes t)

@@ -3,7 +3,7 @@ use Rattle.std.proofs.Common.{◌≡◌, ◌<◌, ℕ, zero, suc, ◌+◌, ◌-�
 use Rattle.std.proofs.Common.{nat_le, nat_lt, length, List, [], ◌∷◌, ◌++◌, take, drop, refl, sym, ap, ◌∙◌, arith}
 use Rattle.std.specs.Prelude.{if◌then◌else◌, codes, Some, None}
 use Rattle.std.specs.List.{list_all}
-use Rattle.std.proofs.lemmas.Bool.{eqb-true, false≢true, le-leb}
+use Rattle.std.proofs.lemmas.Bool.{eqb-true, false≢true, le-leb, and_from}
 use Rattle.std.proofs.lemmas.List.{drop-drop, length-drop, take-append-drop}
 use Rattle.path_text.specs.declared.name.TheConstants.{SLASH}
 use Rattle.path_text.specs.Name.{same_bytes, is_name}
@@ -59,13 +59,9 @@ behind_slashes : (ps : List (List ℕ)) → is_behind (after_slashes ps) ≡ tru
 behind_slashes [] = refl
 behind_slashes (p ∷ ps) = refl
 
-both : (a b : Bool) → a ≡ true → b ≡ true → (a && b) ≡ true
-both true b h k = k
-both false b h k = h
-
 comes : (ps : List (List ℕ)) → comes_up (here ((SLASH ∷ codes "..") ++ after_slashes ps)) ≡ true
 comes ps =
-    both (nat_le (0 + 3) (length ((SLASH ∷ codes "..") ++ after_slashes ps))) (is_behind (after_slashes ps))
+    and_from (nat_le (0 + 3) (length ((SLASH ∷ codes "..") ++ after_slashes ps))) (is_behind (after_slashes ps))
     (le-leb 3 (length ((SLASH ∷ codes "..") ++ after_slashes ps)) (omega arith)) (behind_slashes ps)
 
 -- `..` would have been seen

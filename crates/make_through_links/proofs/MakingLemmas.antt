@@ -1,10 +1,11 @@
 -- What is kept of a call after each outcome.
-use Rattle.std.proofs.Common.{◌≡◌, ℕ, ◌+◌, ◌-◌, ◌≤◌, ◌<◌, min, Bool, true, false, if◌then◌else◌, List, [], ◌∷◌, ◌++◌, length, take, drop, refl, sym, ap, subst, ◌∙◌, arith, nat_lt, take-take, take-append-drop, length-append, length-take, length-take-le, length-drop, take_at, drop_at, append-nil}
+use Rattle.std.proofs.Common.{◌≡◌, ℕ, ◌+◌, ◌-◌, ◌≤◌, ◌<◌, min, Bool, true, false, if◌then◌else◌, List, ◌∷◌, ◌++◌, length, take, drop, refl, sym, ap, subst, ◌∙◌, arith, nat_lt, take-take, take-append-drop, length-append, length-take, length-take-le, length-drop, take_at, drop_at, append-nil}
 use Rattle.std.specs.Prelude.{◌==◌}
-use Rattle.std.proofs.lemmas.Bool.{cond-false, cond-true, false≢true, le-ltb, ltb-false, ne_eqb}
+use Rattle.std.proofs.lemmas.Bool.{cond-false, cond-true, false≢true, le-ltb, ltb-false}
 use Rattle.std.proofs.lemmas.List.{drop-drop, drop_min, drop-take}
 use Rattle.path_text.specs.Text.{is_empty, name_size}
 use Rattle.path_text.specs.declared.path.TheConstants.{TEXT_MAX}
+use Rattle.path_text.proofs.TextLemmas.{is_empty-length}
 use Rattle.system_calls.specs.Errors.{EAGAIN, ENAMETOOLONG, ELOOP}
 use Rattle.system_calls.specs.Tries.{is_due, pause_after, TRIES}
 use Rattle.system_calls.specs.declared.tries.NextTry.{NextTry}
@@ -366,12 +367,8 @@ part_behind room start size rest k is within =
     ∙ (ap (λ n. drop n (take size (drop start room))) (is ∙ ap (min rest) (sym long))
     ∙ drop_min rest (take size (drop start room))))))
 
-none_is_empty : (text : List ℕ) → (length text == 0) ≡ is_empty text
-none_is_empty [] = refl
-none_is_empty (b ∷ bs) = ne_eqb (length (b ∷ bs)) 0 (λ none. omega arith)
-
 pub no_bytes : (text : List ℕ) (n : ℕ) → length text ≡ n → (n == 0) ≡ is_empty text
-no_bytes text n is = ap (λ k. k == 0) (sym is) ∙ none_is_empty text
+no_bytes text n is = ap (λ k. k == 0) (sym is) ∙ sym (is_empty-length text)
 
 pub seen_is : (follows follows_too : Bool) (call error : ℕ) (directory a b c x y z : Bool) → follows ≡ follows_too
     → a ≡ x → b ≡ y → c ≡ z

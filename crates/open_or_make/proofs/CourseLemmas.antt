@@ -1,9 +1,10 @@
 -- What is kept of a call after each answer.
-use Rattle.std.proofs.Common.{◌≡◌, ℕ, ◌+◌, ◌-◌, ◌^◌, ◌≤◌, ◌<◌, min, List, [], ◌∷◌, ◌++◌, Bool, true, false, if◌then◌else◌, length, take, drop, refl, sym, ap, subst, ◌∙◌, arith, append_assoc, take-take, take_at, length-append, length-take-le, nat_lt}
+use Rattle.std.proofs.Common.{◌≡◌, ℕ, ◌+◌, ◌-◌, ◌^◌, ◌≤◌, ◌<◌, min, List, ◌∷◌, ◌++◌, Bool, true, false, if◌then◌else◌, length, take, drop, refl, sym, ap, subst, ◌∙◌, arith, append_assoc, take-take, take_at, length-append, length-take-le, nat_lt}
 use Rattle.std.specs.Prelude.{◌==◌}
-use Rattle.std.proofs.lemmas.Bool.{false≢true, le-ltb, lt-ltb, ne_eqb}
+use Rattle.std.proofs.lemmas.Bool.{false≢true, le-ltb, lt-ltb}
 use Rattle.path_text.specs.Text.{is_empty}
 use Rattle.path_text.specs.declared.path.TheConstants.{TEXT_MAX}
+use Rattle.path_text.proofs.TextLemmas.{is_empty-length}
 use Rattle.system_calls.specs.Errors.{ENAMETOOLONG, ELOOP}
 use Rattle.open_or_make.specs.Course.{due_of, exchange, Goes, IsAt, Keeps}
 use Rattle.open_or_make.specs.History.{after_link, after_met, calls, fails, is_between, is_call, is_link, links_read, met_by, met_of, next_after, path_after, times_between, Asked, Due, Exchange, LINKS, STEP_READ_LINK}
@@ -147,13 +148,9 @@ at_next asked older course new room after text error at call goes =
     let due : course.next ≡ (next_after asked older).next = ap (λ (d : Due). d.next) at.1.due in
     ((record { call = due; is = call; path = kept.path }, at.0), goes kept)
 
-none_is_empty : (text : List ℕ) → (length text == 0) ≡ is_empty text
-none_is_empty [] = refl
-none_is_empty (b ∷ bs) = ne_eqb (length (b ∷ bs)) 0 (λ none. omega arith)
-
 pub met_now : (asked : Asked) (older : List Exchange) (course : Course) (room text : List ℕ) (error : ℕ) (nothing : Bool) (m : Met) → Keeps asked older course room
     → nothing ≡ (length text == 0) → met_by course.once course.follows course.next error nothing ≡ m → met_of asked (exchange course room error text) ≡ m
 met_now asked older course room text error nothing m keeps none is =
     ap (λ o. met_by o asked.follows course.next error (is_empty text)) (sym keeps.once)
     ∙ (ap (λ f. met_by course.once f course.next error (is_empty text)) (sym keeps.follows)
-    ∙ (ap (met_by course.once course.follows course.next error) (sym (none ∙ none_is_empty text)) ∙ is))
+    ∙ (ap (met_by course.once course.follows course.next error) (sym (none ∙ sym (is_empty-length text))) ∙ is))

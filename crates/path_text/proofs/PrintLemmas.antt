@@ -31,10 +31,10 @@ printed_more names at name before slashed after found slash pushed h =
 
 -- ---- what a valid name is
 
-record IsPlain (name : List ℕ) : Type 0 where
-  spells : IsNonSlash name
-  no_nul : list_any (λ b. b == NUL) name ≡ false
-  part : part_of name ≡ Named name
+pub record IsPlain (name : List ℕ) : Type 0 where
+  pub spells : IsNonSlash name
+  pub no_nul : list_any (λ b. b == NUL) name ≡ false
+  pub part : part_of name ≡ Named name
 
 component_of : (c long : Bool) → (if not c then Some Invalid else (if long then Some TooLong else None)) ≡ None → c ≡ true
 component_of true long h = refl
@@ -47,7 +47,7 @@ some_byte_of (b ∷ bs) h = refl
 part_named : (dot dots : Bool) (name : List ℕ) → dot ≡ false → dots ≡ false → (if dot then Cur else (if dots then Up else Named name)) ≡ Named name
 part_named dot dots name h k = rw (h, k)
 
-plain_of : (name : List ℕ) → name_fault name ≡ None → IsPlain name
+pub plain_of : (name : List ℕ) → name_fault name ≡ None → IsPlain name
 plain_of name h =
     let empty = not (same_bytes name []) in
     let dot = not (same_bytes name (codes ".")) in

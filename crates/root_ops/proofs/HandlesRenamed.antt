@@ -1,5 +1,5 @@
 -- The handles of what has other handles are those other handles: of walks, of bulk calls and of a root's calls.
-use Rattle.std.specs.Prelude.{◌≡◌, ℕ, suc, List, [], ◌∷◌, ◌++◌, length, refl}
+use Rattle.std.specs.Prelude.{◌≡◌, ℕ, List, [], ◌∷◌, ◌++◌, length, refl}
 use Rattle.std.proofs.Common.{sym, ap, ◌∙◌, arith}
 use Rattle.tree_model.specs.declared.answer.Answer.{Answer}
 use Rattle.tree_model.specs.declared.answer.Answer.TheVariants as answers
@@ -9,6 +9,7 @@ use Rattle.step_resolver.specs.Order.{Position, root_itself, holds, Walking, han
 use Rattle.step_resolver.specs.Order as walk
 use Rattle.bulk_ops.specs.MakeAllOrder as make
 use Rattle.bulk_ops.specs.RemoveAllOrder as remove
+pub use Rattle.bulk_ops.proofs.LikeFrames.{same_many as same_long}
 use Rattle.root_ops.specs.declared.aim.Aim.{Aim}
 use Rattle.root_ops.specs.declared.aim.Aim.TheVariants as aims
 use Rattle.root_ops.specs.declared.op.Op.{Op}
@@ -18,13 +19,6 @@ use Rattle.root_ops.specs.Order as call
 use Rattle.root_ops.specs.Renamed.{numbers_by, position_by, walk_after_by, walking_by, walk_after_handles, walking_handles, making_by, making_handles, levels_by, stage_by, removing_by, stage_handles, levels_handles, removing_handles, step_by, step_handles, answer_by, answer_handles, reply_by, reply_handles, after_by, after_handles, aim_by, aim_handles, doing_by, doing_handles, op_by, op_handles}
 
 -- ---- lists of numbers
-
-numbers_length : (f : ℕ → ℕ) (hs : List ℕ) → length (numbers_by f hs) ≡ length hs
-numbers_length f [] = refl
-numbers_length f (h ∷ hs) = ap suc (numbers_length f hs)
-
-pub same_long : (hs ks : List ℕ) → numbers_by (λ h. 0) hs ≡ numbers_by (λ h. 0) ks → length hs ≡ length ks
-same_long hs ks e = sym (numbers_length (λ h. 0) hs) ∙ (ap (λ ns. length ns) e ∙ numbers_length (λ h. 0) ks)
 
 -- lists that begin with equally many are the same part by part
 pub numbers_apart : (f g : ℕ → ℕ) (xs ys more others : List ℕ) → length xs ≡ length ys
