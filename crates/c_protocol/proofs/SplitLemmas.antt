@@ -1,5 +1,5 @@
 -- A path whose last piece is cut off, read as the path of a directory and a name.
-use Rattle.std.proofs.Common.{◌≡◌, ◌≢◌, ℕ, ◌-◌, ◌<◌, Bool, true, false, not, ◌==◌, ◌&&◌, List, [], ◌∷◌, ◌++◌, length, map, take, drop, refl, sym, ap, ◌∙◌, arith}
+use Rattle.std.proofs.Common.{◌≡◌, ℕ, ◌-◌, ◌<◌, Bool, true, false, not, ◌==◌, ◌&&◌, List, [], ◌∷◌, ◌++◌, length, map, take, drop, refl, sym, ap, ◌∙◌, arith}
 use Rattle.std.specs.Prelude.{Option, Some, None, Result, Ok, Err, MatchResult, slice_get, if◌then◌else◌, nat_lt, codes}
 use Rattle.std.specs.List.{list_any}
 use Rattle.std.proofs.Math.Seq.{take-append_seam, drop-append_seam, get_or-append_seam}
@@ -14,25 +14,14 @@ use Rattle.path_text.specs.declared.part.Part.{Part}
 use Rattle.path_text.specs.declared.part.Part.TheVariants.{Cur, Up, Named}
 use Rattle.path_text.specs.declared.path.Split.{Split}
 use Rattle.path_text.specs.Name.{same_bytes}
-use Rattle.path_text.specs.Parts.{BeginsWith, IsSeparated}
+use Rattle.path_text.specs.Parts.{BeginsWith}
 use Rattle.path_text.specs.Reading.{Reading}
 use Rattle.path_text.specs.Split.{before_last, dir_of, last_part, parts_without_slash, split_at, split_of}
 use Rattle.path_text.specs.Text.{is_empty, pieces, part_of, reading_of, text_fault, begins_with_slash, ends_with_slash, has_final_slash}
-use Rattle.path_text.proofs.PlacesLemmas.{IsCut, pieces_last, piece_some, rest_whole}
+use Rattle.path_text.proofs.PlacesLemmas.{pieces_last, rest_whole}
 use Rattle.path_text.proofs.TextLemmas.{has_final_slash_counted}
 use Rattle.c_protocol.specs.declared.last_name.Parted.{Parted}
 use Rattle.c_protocol.specs.Split.{piece_fault, refused, rule_of, without_slash, IsCutAt, IsParted, IsPartedAt}
-
-pub cut_at : (text rest : List ℕ) → text ≢ [] → ends_with_slash text ≡ false → IsCut text rest → IsSeparated rest → IsCutAt text (length rest)
-cut_at text rest some last h apart = record {
-  first = rest;
-  piece = h.0;
-  cut = h.1;
-  place = refl;
-  apart = apart;
-  some = piece_some text rest h.0 some last h.1 apart;
-  plain = h.2;
-}
 
 -- ---- lists and their last elements
 

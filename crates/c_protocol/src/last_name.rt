@@ -1,10 +1,9 @@
 //! Where a path's last name stands in it.
-ghost use Rattle.std.specs.Prelude.{◌≡◌, ◌≢◌, ◌++◌, ◌∷◌, ◌==◌, ℕ, [], false, not, ◌&&◌, MatchOption};
-ghost use Rattle.path_text.specs.Parts.{IsSeparated};
+ghost use Rattle.std.specs.Prelude.{◌≡◌, ◌≢◌, [], false, not, ◌&&◌};
 ghost use Rattle.path_text.specs.Text.{ends_with_slash, part_of};
 ghost use Rattle.c_protocol.specs.Split.{piece_fault, refused, IsCutAt, IsParted};
 
-use path_text::{Errno, NAME_MAX, Path, SLASH, before_slashes, ends_with_slash};
+use path_text::{Errno, NAME_MAX, Path, before_slashes, ends_with_slash};
 
 /// Where a path's last name stands in it, or why it has none. What comes before the name is its directory's path, which
 /// is empty where that is the one that the path begins at.
@@ -32,27 +31,13 @@ fn refused(error: Errno) -> Parted
     }
 }
 
-// The text without its last byte, where that is there and no slash.
-#[tactic(auto, using(path_text::proofs::PlacesLemmas::separated_after))]
-fn before_other(text: &[u8]) -> Option<&[u8]>
-    ensures { MatchOption result (IsSeparated text.now) (λ before. (byte : ℕ)
-        × (text.now ≡ before.now ++ byte ∷ []) × ((byte == SLASH) ≡ false)) }
-{
-    let (last, before) = text.split_last()?;
-    if *last == SLASH { None } else { Some(before) }
-}
-
 // How much comes before the last piece of a text that ends in one.
 pub(crate) fn before_piece(text: &[u8]) -> usize
     requires some { text.now ≢ [] }
     requires last { ends_with_slash text.now ≡ false }
     ensures { IsCutAt text.now result }
 {
-    let mut rest = text;
-    while let Some(before) = before_other(rest) {
-        rest = before;
-    }
-    rest.len()
+    path_text::before_piece(text).len()
 }
 
 // Whether a slash is there and is not taken away.

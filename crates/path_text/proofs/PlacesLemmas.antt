@@ -15,7 +15,7 @@ use Rattle.path_text.specs.declared.part.Part.{Part}
 use Rattle.path_text.specs.declared.part.Part.TheVariants.{Cur}
 use Rattle.path_text.specs.declared.places.Span.{Span}
 use Rattle.path_text.specs.Name.{NUL}
-use Rattle.path_text.specs.Parts.{bytes_at, is_said, part_said, parts_at, IsPlace, ArePlaces, BeginsWith, IsSeparated}
+use Rattle.path_text.specs.Parts.{bytes_at, is_said, part_said, parts_at, IsPlace, ArePlaces, BeginsWith, IsSeparated, IsBeforePiece}
 use Rattle.path_text.specs.Text.{is_empty, between_slashes, pieces, is_piece, part_of, parts_of, ends_with_slash, has_final_slash}
 use Rattle.path_text.proofs.NameBuffers.{cut_of_more}
 use Rattle.path_text.proofs.SpellingLemmas.{slices_piece}
@@ -114,9 +114,15 @@ IsCut text rest = (piece : List ℕ) × (text ≡ rest ++ piece) × (list_any (�
 pub cut_less : (text rest before : List ℕ) (byte : ℕ) → IsCut text rest → rest ≡ before ++ byte ∷ [] → (byte == SLASH) ≡ false → IsCut text before
 cut_less text rest before byte h k e = (byte ∷ h.0, piece_longer text rest before h.0 byte h.1 k, rw e h.2)
 
-pub cut_done : (text rest : List ℕ) → text ≢ [] → ends_with_slash text ≡ false → IsCut text rest → IsSeparated rest → (piece : List ℕ) × (text ≡ rest ++ piece) × (pieces text ≡ pieces rest ++ piece ∷ [])
-cut_done text rest some last h apart =
-    (h.0, h.1, ap pieces h.1 ∙ pieces_last rest h.0 apart (piece_some text rest h.0 some last h.1 apart) h.2)
+pub cut_done : (text rest : List ℕ) → text ≢ [] → ends_with_slash text ≡ false → IsCut text rest → IsSeparated rest → IsBeforePiece text rest
+cut_done text rest some last h apart = record {
+  piece = h.0;
+  cut = h.1;
+  apart = apart;
+  some = piece_some text rest h.0 some last h.1 apart;
+  plain = h.2;
+  pieces = ap pieces h.1 ∙ pieces_last rest h.0 apart (piece_some text rest h.0 some last h.1 apart) h.2;
+}
 
 -- ---- the parts at places
 

@@ -1,9 +1,11 @@
 -- Parts whose bytes lie in one buffer. Each has its place there, and the first part's place comes last.
-use Rattle.std.specs.Prelude.{◌≡◌, ◌≤◌, ◌-◌, ℕ, List, ◌++◌, Bool, true, ◌||◌, if◌then◌else◌, length, take, drop, map, reverse, All}
+use Rattle.std.specs.Prelude.{◌≡◌, ◌≤◌, ◌-◌, ℕ, List, ◌++◌, Bool, true, ◌||◌, if◌then◌else◌, length, take, drop, map, reverse, All, false, ◌==◌, ◌∷◌, []}
+use Rattle.std.specs.List.{list_any}
 use Rattle.path_text.specs.declared.part.Part.{Part}
 use Rattle.path_text.specs.declared.part.Part.TheVariants.{Cur}
 use Rattle.path_text.specs.declared.places.Span.{Span}
-use Rattle.path_text.specs.Text.{is_empty, is_piece, part_of, ends_with_slash}
+use Rattle.path_text.specs.Text.{is_empty, is_piece, part_of, ends_with_slash, pieces}
+use Rattle.path_text.specs.declared.name.TheConstants.{SLASH}
 
 -- the bytes at a place
 abbrev pub bytes_at : List ℕ → Span → List ℕ
@@ -38,3 +40,12 @@ BeginsWith text first = (more : List ℕ) × (text ≡ first ++ more)
 -- a piece that comes after this text stands alone
 abbrev pub IsSeparated : List ℕ → Type 0
 IsSeparated text = (is_empty text || ends_with_slash text) ≡ true
+
+-- the text is this beginning, and then its last piece
+pub record IsBeforePiece (text first : List ℕ) : Type 0 where
+  pub piece : List ℕ
+  pub cut : text ≡ first ++ piece
+  pub apart : IsSeparated first
+  pub some : is_empty piece ≡ false
+  pub plain : list_any (λ b. b == SLASH) piece ≡ false
+  pub pieces : pieces text ≡ pieces first ++ piece ∷ []

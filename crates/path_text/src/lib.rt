@@ -35,5 +35,6 @@ pub use part::{Component, Part};
 pub use parts::Parts;
 pub use path::{PARTS_MAX, Path, Rule, Split, TEXT_MAX};
 pub use texts::{
-    before_slashes, begins_with_slash, count_pieces, ends_with_slash, has_final_slash, name_length,
+    before_piece, before_slashes, begins_with_slash, count_pieces, ends_with_slash,
+    has_final_slash, name_length,
 };

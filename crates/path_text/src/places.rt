@@ -1,43 +1,18 @@
 //! Where the pieces of a text lie in it.
-ghost use Rattle.std.specs.Prelude.{◌≡◌, ◌≢◌, ◌≤◌, ◌<◌, ◌+◌, ℕ, List, [], ◌∷◌, ◌++◌, length, drop, map, false, ◌==◌, MatchOption};
+ghost use Rattle.std.specs.Prelude.{◌≡◌, ◌≤◌, ◌<◌, ◌+◌, ◌++◌, length, drop, map, false, ◌==◌};
 ghost use Rattle.std.specs.List.{list_any};
 ghost use Rattle.std.specs.Vec.{vec_len, vec_capacity};
 ghost use Rattle.path_text.specs.Name.{NUL};
-ghost use Rattle.path_text.specs.Parts.{parts_at, ArePlaces, BeginsWith, IsSeparated};
+ghost use Rattle.path_text.specs.Parts.{parts_at, ArePlaces, BeginsWith};
 ghost use Rattle.path_text.specs.Text.{pieces, part_of, ends_with_slash};
 
-use crate::name::SLASH;
-use crate::texts::before_slashes;
+use crate::texts::{before_piece, before_slashes};
 
 /// Where the bytes of a part lie in a buffer.
 #[derive(Clone, Copy, Debug)]
 pub(crate) struct Span {
     pub(crate) start: usize,
     pub(crate) end: usize,
-}
-
-// The text without its last byte, where that is there and no slash.
-#[tactic(auto, using(crate::proofs::PlacesLemmas::separated_after))]
-fn before_other(text: &[u8]) -> Option<&[u8]>
-    ensures { MatchOption result (IsSeparated text.now) (λ before. (byte : ℕ)
-        × (text.now ≡ before.now ++ byte ∷ []) × ((byte == SLASH) ≡ false)) }
-{
-    let (last, before) = text.split_last()?;
-    if *last == SLASH { None } else { Some(before) }
-}
-
-// A text that ends in a piece, without that piece.
-fn before_piece(text: &[u8]) -> &[u8]
-    requires some { text.now ≢ [] }
-    requires last { ends_with_slash text.now ≡ false }
-    ensures { (piece : List ℕ) × (text.now ≡ result.now ++ piece)
-        × (pieces text.now ≡ pieces result.now ++ piece ∷ []) }
-{
-    let mut rest = text;
-    while let Some(before) = before_other(rest) {
-        rest = before;
-    }
-    rest
 }
 
 // Puts the places of the pieces that stand in the buffer from `low` on onto the others, that of the first one last.

@@ -1,6 +1,6 @@
 //! What is seen of a path's text before it is read.
-ghost use Rattle.std.specs.Prelude.{◌≡◌, ◌≤◌, ◌++◌, ◌∷◌, [], ◌==◌, false, length, MatchOption};
-ghost use Rattle.path_text.specs.Parts.{BeginsWith};
+ghost use Rattle.std.specs.Prelude.{◌≡◌, ◌≢◌, ◌≤◌, ◌++◌, ◌∷◌, [], ℕ, ◌==◌, false, length, MatchOption};
+ghost use Rattle.path_text.specs.Parts.{BeginsWith, IsBeforePiece, IsSeparated};
 ghost use Rattle.path_text.specs.Text.{begins_with_slash, ends_with_slash, has_final_slash, name_size, pieces};
 
 use crate::name::SLASH;
@@ -67,6 +67,29 @@ pub fn before_slashes(text: &[u8]) -> &[u8]
 {
     let mut rest = text;
     while let Some(before) = before_slash(rest) {
+        rest = before;
+    }
+    rest
+}
+
+// The text without its last byte, where that is there and no slash.
+#[tactic(auto, using(crate::proofs::PlacesLemmas::separated_after))]
+fn before_other(text: &[u8]) -> Option<&[u8]>
+    ensures { MatchOption result (IsSeparated text.now) (λ before. (byte : ℕ)
+        × (text.now ≡ before.now ++ byte ∷ []) × ((byte == SLASH) ≡ false)) }
+{
+    let (last, before) = text.split_last()?;
+    if *last == SLASH { None } else { Some(before) }
+}
+
+/// A text that ends in a piece, without that piece: it is empty, or ends with a slash.
+pub fn before_piece(text: &[u8]) -> &[u8]
+    requires some { text.now ≢ [] }
+    requires last { ends_with_slash text.now ≡ false }
+    ensures { IsBeforePiece text.now result.now }
+{
+    let mut rest = text;
+    while let Some(before) = before_other(rest) {
         rest = before;
     }
     rest

@@ -1,18 +1,14 @@
-use Rattle.std.proofs.Common.{[], refl, sym}
-use Rattle.std.proofs.lemmas.List.{append-nil}
-use Rattle.path_text.proofs.PlacesLemmas.{one_less, cut_less}
-use Rattle.c_protocol.proofs.SplitLemmas.{cut_at}
+use Rattle.std.proofs.Common.{refl}
 use Rattle.c_protocol.proofs.last_name.before_piece.Goals as goal
 
-pub loop-before-init : goal.loop-before-init
-loop-before-init c = ([], sym (append-nil c.args.text.now), refl)
-
-pub loop-before-smaller : goal.loop-before-smaller
-loop-before-smaller c = one_less c.loop-before.rest.now c.in-Some.before.now c.in-Some.ensures.0 c.in-Some.ensures.1
-
-pub loop-before-preserved : goal.loop-before-preserved
-loop-before-preserved c =
-    cut_less c.args.text.now c.loop-before.rest.now c.in-Some.before.now c.in-Some.ensures.0 c.loop-before.invariant c.in-Some.ensures.1 c.in-Some.ensures.2
-
 pub returns : goal.returns
-returns c = cut_at c.args.text.now c.loop-before.rest.now c.requires.some c.requires.last c.loop-before.invariant c.in_default.ensures
+returns c =
+    let is = c.before_piece.ensures in record {
+      first = c.before_piece.result.now;
+      piece = is.piece;
+      cut = is.cut;
+      place = refl;
+      apart = is.apart;
+      some = is.some;
+      plain = is.plain;
+    }

@@ -7,7 +7,7 @@ place c = record {
   low_within = c.requires.low;
   beginning = c.requires.beginning;
   clean = c.requires.clean;
-  cut = (c.before_piece-before.ensures.0, (c.before_piece-before.ensures.1, c.before_piece-before.ensures.2));
+  cut = (c.before_piece-before.ensures.piece, (c.before_piece-before.ensures.cut, c.before_piece-before.ensures.pieces));
   start = refl;
   end = refl;
 }

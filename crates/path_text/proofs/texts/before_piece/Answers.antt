@@ -1,7 +1,7 @@
 use Rattle.std.proofs.Common.{[], refl, sym}
 use Rattle.std.proofs.lemmas.List.{append-nil}
 use Rattle.path_text.proofs.PlacesLemmas.{one_less, cut_less, cut_done}
-use Rattle.path_text.proofs.places.before_piece.Goals as goal
+use Rattle.path_text.proofs.texts.before_piece.Goals as goal
 
 pub loop-before-init : goal.loop-before-init
 loop-before-init c = ([], sym (append-nil c.args.text.now), refl)
