@@ -1,9 +1,9 @@
 -- What stands where in a list, in one with one more at its end, and in a mapped one.
 use Rattle.std.specs.Prelude.{◌≡◌, ◌<◌, ◌≤◌, ◌+◌, ◌⊎◌, ℕ, zero, suc, List, [], ◌∷◌, ◌++◌, length, take, drop, map, slice_get, Some, refl}
 use Rattle.std.specs.Option.{option_map}
-use Rattle.std.proofs.Common.{inl, inr, sym, ap, ◌∙◌, ⊎_elim, arith, get_or}
-use Rattle.std.proofs.lemmas.Option.{same_Some, none-some, slice_get-get_or, slice_get-map}
-pub use Rattle.path_text.proofs.Lists.{length-slice_set as length_set}
+use Rattle.std.proofs.Common.{inl, inr, sym, ap, ◌∙◌, ⊎_elim, arith}
+use Rattle.std.proofs.lemmas.Option.{same_Some, none-some, slice_get-map}
+pub use Rattle.path_text.proofs.Lists.{length-slice_set as length_set, length-one_more as length_push, slice_get-append as get_first, slice_get-last as get_last, slice_get-some as within_some}
 pub use Rattle.schedule_graph.proofs.Leading.{plus_swap, few_plus, last_of}
 pub use Rattle.schedule_graph.proofs.Spreading.{get_set}
 
@@ -20,15 +20,7 @@ join x y z e e' = e ∙ e'
 pub at_or_below : (i n : ℕ) → i < n + 1 → (i < n) ⊎ (i ≡ n)
 at_or_below i n lt = grind arith
 
-pub within_some : {A : Type 0} (xs : List A) (at : ℕ) → at < length xs → (x : A) × (slice_get xs at ≡ Some x)
-within_some [] at h = absurd (omega arith)
-within_some (x ∷ xs) at h = (get_or (x ∷ xs) at x, slice_get-get_or (x ∷ xs) at x h)
-
 -- ---- one more at the end
-
-pub length_push : {A : Type 0} (xs : List A) (y : A) → length (xs ++ y ∷ []) ≡ suc (length xs)
-length_push [] y = refl
-length_push (x ∷ xs) y = ap suc (length_push xs y)
 
 pub get_push : {A : Type 0} (xs : List A) (y : A) (k : ℕ) (x : A) → slice_get (xs ++ y ∷ []) k ≡ Some x
     → (slice_get xs k ≡ Some x) ⊎ ((k ≡ length xs) × (x ≡ y))
@@ -37,19 +29,9 @@ get_push [] y (suc k) x e = absurd (none-some x e)
 get_push (z ∷ zs) y zero x e = inl e
 get_push (z ∷ zs) y (suc k) x e = ⊎_elim (λ h. inl h) (λ h. inr (ap suc h.0, h.1)) (get_push zs y k x e)
 
-pub get_first : {A : Type 0} (xs ys : List A) (k : ℕ) (x : A) → slice_get xs k ≡ Some x
-    → slice_get (xs ++ ys) k ≡ Some x
-get_first [] ys k x e = absurd (none-some x e)
-get_first (z ∷ zs) ys zero x e = e
-get_first (z ∷ zs) ys (suc k) x e = get_first zs ys k x e
-
 pub get_left : {A : Type 0} (xs : List A) (y : A) (k : ℕ) (x : A) → slice_get xs k ≡ Some x
     → slice_get (xs ++ y ∷ []) k ≡ Some x
 get_left xs y = get_first xs (y ∷ [])
-
-pub get_last : {A : Type 0} (xs : List A) (y : A) → slice_get (xs ++ y ∷ []) (length xs) ≡ Some y
-get_last [] y = refl
-get_last (x ∷ xs) y = get_last xs y
 
 pub take_push : {A : Type 0} (xs : List A) (n : ℕ) (x : A) → slice_get xs n ≡ Some x
     → take (suc n) xs ≡ take n xs ++ x ∷ []

@@ -1,10 +1,11 @@
 -- Facts about lists, and about texts that are laid one after another.
-use Rattle.std.proofs.Common.{◌≡◌, ℕ, zero, suc, ◌+◌, ◌<◌, List, [], ◌∷◌, ◌++◌, length, take, drop, refl, sym, ap, ◌∙◌, arith, length-append, append_assoc, Bool, true, false, subst}
-use Rattle.std.specs.Prelude.{slice_set}
+use Rattle.std.proofs.Common.{◌≡◌, ℕ, zero, suc, ◌+◌, ◌<◌, List, [], ◌∷◌, ◌++◌, length, take, drop, refl, sym, ap, ◌∙◌, arith, length-append, append_assoc, Bool, true, false, subst, get_or}
+use Rattle.std.specs.Prelude.{slice_set, slice_get, Some}
 use Rattle.std.proofs.Math.Seq.{take-append_seam}
 use Rattle.std.proofs.lemmas.Slice.{drop-append-drop}
 use Rattle.std.specs.List.{onto_first, slice_split}
 use Rattle.std.proofs.lemmas.List.Splits.{slice_split-cons_yes, slice_split-cons_no}
+use Rattle.std.proofs.lemmas.Option.{none-some, slice_get-get_or}
 use Rattle.path_text.specs.declared.name.TheConstants.{SLASH}
 use Rattle.path_text.specs.Print.{after_slashes, printed}
 
@@ -13,6 +14,24 @@ pub length-slice_set : {A : Type 0} (xs : List A) (i : ℕ) (x : A) → length (
 length-slice_set [] i x = refl
 length-slice_set (y ∷ ys) zero x = refl
 length-slice_set (y ∷ ys) (suc i) x = ap suc (length-slice_set ys i x)
+
+-- an element stays where it is among more
+pub slice_get-append : {A : Type 0} (xs ys : List A) (i : ℕ) (x : A) → slice_get xs i ≡ Some x → slice_get (xs ++ ys) i ≡ Some x
+slice_get-append [] ys i x e = absurd (none-some x e)
+slice_get-append (y ∷ xs) ys zero x e = e
+slice_get-append (y ∷ xs) ys (suc i) x e = slice_get-append xs ys i x e
+
+pub slice_get-last : {A : Type 0} (xs : List A) (y : A) → slice_get (xs ++ y ∷ []) (length xs) ≡ Some y
+slice_get-last [] y = refl
+slice_get-last (x ∷ xs) y = slice_get-last xs y
+
+pub slice_get-some : {A : Type 0} (xs : List A) (at : ℕ) → at < length xs → (x : A) × (slice_get xs at ≡ Some x)
+slice_get-some [] at h = absurd (omega arith)
+slice_get-some (x ∷ xs) at h = (get_or (x ∷ xs) at x, slice_get-get_or (x ∷ xs) at x h)
+
+pub length-one_more : {A : Type 0} (xs : List A) (y : A) → length (xs ++ y ∷ []) ≡ suc (length xs)
+length-one_more [] y = refl
+length-one_more (x ∷ xs) y = ap suc (length-one_more xs y)
 
 -- there is a first element
 pub record HasFirst (parts : List (List ℕ)) : Type 0 where

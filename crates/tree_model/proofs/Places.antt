@@ -1,6 +1,7 @@
 -- What a node is and where it stands, once a node has another place and once there is one more node.
-use Rattle.std.proofs.Common.{◌≡◌, ◌≢◌, ◌⊎◌, inl, inr, ⊎_elim, ℕ, zero, suc, ◌<◌, List, [], ◌∷◌, ◌++◌, length, Option, Some, slice_get, refl, ap, arith}
+use Rattle.std.proofs.Common.{◌≡◌, ◌≢◌, ◌⊎◌, inl, inr, ⊎_elim, ℕ, zero, suc, ◌<◌, List, [], ◌∷◌, ◌++◌, length, Option, Some, refl, ap, arith}
 use Rattle.std.proofs.lemmas.Option.{none-some, same_Some}
+pub use Rattle.path_text.proofs.Lists.{slice_get-last}
 use Rattle.tree_model.specs.declared.inode.Inode.{Inode}
 use Rattle.tree_model.specs.declared.inode.Object.{Object}
 use Rattle.tree_model.specs.declared.inode.Place.{Place}
@@ -47,10 +48,6 @@ pub place_at-append : (nodes more : List Inode) (x : ℕ) (place : Place) → pl
 place_at-append [] more x place e = absurd (none-some place e)
 place_at-append (inode ∷ nodes) more zero place e = e
 place_at-append (inode ∷ nodes) more (suc x) place e = place_at-append nodes more x place e
-
-pub slice_get-last : {A : Type 0} (xs : List A) (y : A) → slice_get (xs ++ y ∷ []) (length xs) ≡ Some y
-slice_get-last [] y = refl
-slice_get-last (x ∷ xs) y = slice_get-last xs y
 
 pub object_at-within : (nodes : List Inode) (x : ℕ) (object : Object) → object_at nodes x ≡ Some object → x < length nodes
 object_at-within [] x object e = absurd (none-some object e)

@@ -3,6 +3,7 @@ use Rattle.std.proofs.Common.{◌≡◌, ◌≢◌, ⊎_elim, ℕ, zero, suc, �
 use Rattle.std.specs.Option.{option_map}
 use Rattle.std.proofs.lemmas.Bool.{false≢true, true≢false, eqb-false, cases_eq, cond-true, cond-false}
 use Rattle.std.proofs.lemmas.Option.{none-some, same_Some}
+pub use Rattle.path_text.proofs.Lists.{slice_get-append}
 use Rattle.tree_model.specs.declared.answer.Answer.TheVariants.{Opened, Done}
 use Rattle.tree_model.specs.declared.inode.Object.{Object}
 use Rattle.tree_model.specs.declared.inode.OpenHandle.{OpenHandle}
@@ -105,12 +106,6 @@ held_more-other [] a b x zero ne = node_held-other a b x ne
 held_more-other [] a b x (suc h) ne = refl
 held_more-other (first ∷ handles) a b x zero ne = refl
 held_more-other (first ∷ handles) a b x (suc h) ne = held_more-other handles a b x h ne
-
--- a handle that was open is the same among more
-pub slice_get-append : {A : Type 0} (xs ys : List A) (i : ℕ) (x : A) → slice_get xs i ≡ Some x → slice_get (xs ++ ys) i ≡ Some x
-slice_get-append [] ys i x e = absurd (none-some x e)
-slice_get-append (y ∷ xs) ys zero x e = e
-slice_get-append (y ∷ xs) ys (suc i) x e = slice_get-append xs ys i x e
 
 pub slice_get-set_other : {A : Type 0} (xs : List A) (i : ℕ) (y : A) (k : ℕ) → k ≢ i → slice_get (slice_set xs i y) k ≡ slice_get xs k
 slice_get-set_other [] i y k ne = refl

@@ -1,9 +1,10 @@
 -- A tree with one directory more: it is found, it is empty, and what stood stands.
-use Rattle.std.proofs.Common.{◌≡◌, ⊎_elim, ℕ, suc, ◌==◌, ◌&&◌, true, false, not, List, [], ◌∷◌, ◌++◌, length, Option, Some, None, is_some, refl, sym, ap, ◌∙◌, arith}
+use Rattle.std.proofs.Common.{◌≡◌, ⊎_elim, ℕ, ◌==◌, ◌&&◌, true, false, not, List, [], ◌∷◌, ◌++◌, length, Option, Some, None, is_some, refl, sym, ap, ◌∙◌, arith}
 use Rattle.std.specs.Option.{option_map}
 use Rattle.std.proofs.lemmas.Bool.{false≢true}
 use Rattle.std.proofs.lemmas.Option.{same_Some}
 use Rattle.std.proofs.Math.Bool.{and-false}
+pub use Rattle.path_text.proofs.Lists.{length-one_more}
 use Rattle.tree_model.specs.declared.inode.Inode.{Inode}
 use Rattle.tree_model.specs.declared.inode.Object.{Object}
 use Rattle.tree_model.specs.declared.inode.Object.TheVariants.{Dir}
@@ -13,10 +14,6 @@ use Rattle.tree_model.proofs.Places.{object_at-append, place_at-last, place_at-o
 use Rattle.tree_model.proofs.Children.{entry, place_at-child, child-entry}
 use Rattle.tree_model.proofs.StepsKept.{directory-within}
 use Rattle.tree_model.proofs.Standing.{Stands-append}
-
-pub length-one_more : {A : Type 0} (xs : List A) (y : A) → length (xs ++ y ∷ []) ≡ suc (length xs)
-length-one_more [] y = refl
-length-one_more (x ∷ xs) y = ap suc (length-one_more xs y)
 
 pub dir_stays : (nodes others : List Inode) (x : ℕ) → is_dir nodes x ≡ true → is_dir (nodes ++ others) x ≡ true
 dir_stays nodes others x e = on (object_at nodes x) refl

@@ -1,16 +1,17 @@
 -- Facts for the plain program.
-use Rattle.std.proofs.Common.{◌≡◌, ℕ, zero, suc, ◌+◌, ◌-◌, ◌<◌, ◌≤◌, nat_lt, Bool, true, false, ◌||◌, List, [], ◌∷◌, ◌++◌, length, map, drop, get_or, refl, sym, ap, ◌∙◌, subst, le_refl, arith}
+use Rattle.std.proofs.Common.{◌≡◌, ℕ, zero, suc, ◌+◌, ◌-◌, ◌<◌, ◌≤◌, nat_lt, Bool, true, false, ◌||◌, List, [], ◌∷◌, ◌++◌, length, map, drop, refl, sym, ap, ◌∙◌, subst, le_refl, arith}
 use Rattle.std.specs.Prelude.{Ok, Err, Option, Some, None, slice_get, if◌then◌else◌}
 use Rattle.std.specs.Option.{option_map, unwrap_or}
 use Rattle.std.proofs.lemmas.Bool.Decides.{nat_tests}
 use Rattle.std.proofs.lemmas.List.{drop_more, length-drop}
-use Rattle.std.proofs.lemmas.Option.{slice_get_within, slice_get-get_or, get_or_from_slice_get}
+use Rattle.std.proofs.lemmas.Option.{slice_get_within, get_or_from_slice_get}
 use native.Mathlib.Numerals.{unary_clauses}
 use Rattle.path_text.specs.declared.errno.Errno.{Errno}
 use Rattle.path_text.specs.declared.errno.Errno.TheVariants.{CrossRoot, Loop}
 use Rattle.path_text.specs.declared.part.Part.{Part}
 use Rattle.path_text.specs.declared.part.Part.TheVariants as part
 use Rattle.path_text.specs.Text.{part_of, parts_of, text_fault, begins_with_slash}
+pub use Rattle.path_text.proofs.Lists.{slice_get-some}
 use Rattle.tree_model.specs.declared.inode.Place.{Place}
 use Rattle.walk_plan.specs.Plan.{leads_out}
 use Rattle.step_resolver.specs.declared.plain.Arrived.{Arrived}
@@ -128,10 +129,6 @@ link_followed g d text (suc b) h allowed within =
     ∙ ap (λ c. parts_mean (meant g) g (from_of g.root d text) (asked true (parts_of text)) c) (let less : b ≡ suc b - 1 = omega arith in less)
 
 -- ---- pieces
-
-pub slice_get-some : {A : Type 0} (xs : List A) (at : ℕ) → at < length xs → (x : A) × (slice_get xs at ≡ Some x)
-slice_get-some [] at h = absurd (omega arith)
-slice_get-some (x ∷ xs) at h = (get_or (x ∷ xs) at x, slice_get-get_or (x ∷ xs) at x h)
 
 -- what is found at a place that there is
 pub found_there : {A B : Type 0} (v : A → B) (r : Option A) (xs : List B) (at : ℕ) (w z : A) → at < length xs → option_map v r ≡ slice_get xs at
