@@ -1,13 +1,13 @@
 -- A world is a system, and its keys are those of its states: laws, by those of `local_states`.
-use Rattle.std.specs.Prelude.{Bool, map, refl}
-use Rattle.std.proofs.Common.{sym, ap, ◌∙◌, subst}
+use Rattle.std.specs.Prelude.{Bool, map}
+use Rattle.std.proofs.Common.{◌∙◌, subst}
 use Rattle.layered_search.specs.System.{IsSystem, AreKeys, AreOutcomes}
 use Rattle.race_core.specs.Worlds.{WorldView}
 use Rattle.local_states.specs.declared.keys.Own.{Own}
 use Rattle.local_states.specs.Same.{IsSame}
 use Rattle.local_states.specs.Worlds.{worlds, world_outcomes, same, onward}
-use Rattle.local_states.proofs.Parted.Growing.{grows_same, grows_on, rows_grow, key_grows, few_copied, same_but_outside_print}
-use Rattle.local_states.proofs.Parted.SameKeys.{same_keys, key_again, keys_back}
+use Rattle.local_states.proofs.Parted.Growing.{grows_same, grows_on, rows_grow, key_grows, same_but_outside_print}
+use Rattle.local_states.proofs.Parted.SameKeys.{same_keys, key_again, keys_itself, keys_back, keys_on, keys_seen, few_copied}
 use Rattle.local_states.proofs.Worlds.System as laws
 use Rattle.explore.specs.Worlds.{world_keys}
 
@@ -38,28 +38,10 @@ worlds_have_keys told w = record {
     is = key_again known.components w v key other are is.is;
     few = few_copied n key other (keys_back key other are) is.few;
   };
-  same_itself = λ key. record { nodes = refl; events = refl; opened = refl; closed = refl; own = refl };
-  same_counts = λ key other are. record {
-    nodes = are.nodes;
-    events = are.events;
-    opened = are.opened;
-    closed = are.closed;
-    parts = ap (map (λ (o : Own). o.part)) are.own;
-  };
-  one_itself = λ key. record { nodes = refl; events = refl; opened = refl; closed = refl; parts = refl };
-  one_back = λ key other are. record {
-    nodes = sym are.nodes;
-    events = sym are.events;
-    opened = sym are.opened;
-    closed = sym are.closed;
-    parts = sym are.parts;
-  };
-  one_on = λ a b c first second. record {
-    nodes = first.nodes ∙ second.nodes;
-    events = first.events ∙ second.events;
-    opened = first.opened ∙ second.opened;
-    closed = first.closed ∙ second.closed;
-    parts = first.parts ∙ second.parts;
-  };
+  same_itself = λ key. keys_itself key;
+  same_counts = λ key other are. keys_seen (map (λ (o : Own). o.part)) key other are;
+  one_itself = λ key. keys_itself key;
+  one_back = λ key other are. keys_back key other are;
+  one_on = λ a b c first second. keys_on a b c first second;
   one_print = λ key other are. same_but_outside_print key other are;
 }

@@ -113,29 +113,25 @@ pub record AreFew (n : ℕ) (key : Key) : Type 0 where
 unfoldable pub print_of : Key → ℕ
 print_of key = mixed 0 (key.nodes ∷ key.events ∷ key.opened ∷ key.closed ∷ map (λ (o : Own). o.part) key.own.items)
 
--- the keys have the same numbers, and the same of each actor
-pub record AreSameKeys (key other : Key) : Type 0 where
+-- the keys have the same numbers, and what is seen of the actors' own is the same
+pub record AreSameKeysBy {Seen : Type 0} (seen : List Own → Seen) (key other : Key) : Type 0 where
   pub nodes : key.nodes ≡ other.nodes
   pub events : key.events ≡ other.events
   pub opened : key.opened ≡ other.opened
   pub closed : key.closed ≡ other.closed
-  pub own : key.own.items ≡ other.own.items
+  pub own : seen key.own.items ≡ seen other.own.items
+
+-- they have the same numbers, and the same of each actor
+abbrev pub AreSameKeys : Key → Key → Type 0
+AreSameKeys = AreSameKeysBy (λ own. own)
 
 -- they are the same but for changes outside of roots
-pub record AreSameKeysButOutside (key other : Key) : Type 0 where
-  pub nodes : key.nodes ≡ other.nodes
-  pub events : key.events ≡ other.events
-  pub opened : key.opened ≡ other.opened
-  pub closed : key.closed ≡ other.closed
-  pub parts : map (λ (o : Own). o.part) key.own.items ≡ map (λ (o : Own). o.part) other.own.items
+abbrev pub AreSameKeysButOutside : Key → Key → Type 0
+AreSameKeysButOutside = AreSameKeysBy (map (λ (o : Own). o.part))
 
 -- they are the same but for parts
-pub record AreSameKeysButParts (key other : Key) : Type 0 where
-  pub nodes : key.nodes ≡ other.nodes
-  pub events : key.events ≡ other.events
-  pub opened : key.opened ≡ other.opened
-  pub closed : key.closed ≡ other.closed
-  pub outside : map (λ (o : Own). o.outside) key.own.items ≡ map (λ (o : Own). o.outside) other.own.items
+abbrev pub AreSameKeysButParts : Key → Key → Type 0
+AreSameKeysButParts = AreSameKeysBy (map (λ (o : Own). o.outside))
 
 -- ---- a turn
 

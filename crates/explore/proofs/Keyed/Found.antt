@@ -33,7 +33,7 @@ use Rattle.local_states.specs.Outside.{outside_after, outside_from, outside_of, 
 use Rattle.local_states.specs.OutOfMemory.{EndsWell}
 use Rattle.local_states.proofs.Alike.Steps.{set_at}
 use Rattle.explore.proofs.Keyed.Growing.{part_grows, effect_grows, sound_grows, grows_on}
-use Rattle.explore.proofs.Keyed.KnownTurn.{same_outside, found_turn, found_whole}
+use Rattle.explore.proofs.Keyed.KnownTurn.{found_turn, found_whole}
 use Rattle.explore.proofs.Keyed.OneTurn.{grown_by, numbered_stays}
 use Rattle.local_states.proofs.OutOfMemory.Lucky.{full_turn, well_turned}
 use Rattle.explore.proofs.OutOfMemory.Lucky.{runs_full}
@@ -149,16 +149,6 @@ few_after n key next i effect lt few after = record {
 pub length_after : (key next : Key) (i : ℕ) (effect : Effect) → IsKeyAfter key i effect next
     → length next.own.items ≡ length key.own.items
 length_after key next i effect after = ap length after.own ∙ length-set key.own.items i _
-
-pub few_again : (n : ℕ) (mid next : Key) → AreSameKeysButParts mid next → AreFew n mid → AreFew n next
-few_again n mid next same few = record {
-  events = subst (λ k. k ≤ n) same.events few.events;
-  opened = subst (λ k. k ≤ n) same.opened few.opened;
-  closed = subst (λ k. k ≤ n) same.closed few.closed;
-  outside = λ j own there.
-      let was = same_outside next.own.items mid.own.items (sym same.outside) j own there in
-      subst (λ k. k ≤ n) (sym was.1.1) (few.outside j was.0 was.1.0);
-}
 
 pub effect_found : (d : ComponentsView) (told : Bool) (luck : Luck) (i : ℕ) (v after : WorldView) (effect : Effect)
     (before now : Counts) → d.told ≡ told

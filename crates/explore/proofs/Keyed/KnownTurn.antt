@@ -5,7 +5,7 @@ use Rattle.std.proofs.Common.{sym, ap, ◌∙◌, subst, ⊎_elim, length-set, a
 use Rattle.std.proofs.lemmas.List.{length-map}
 use Rattle.std.proofs.lemmas.Bool.{cases_eq}
 use Rattle.std.proofs.lemmas.Bool.Decides.{nat_tests}
-use Rattle.std.proofs.lemmas.Option.{none-some, same_Some, get_or_from_slice_get}
+use Rattle.std.proofs.lemmas.Option.{same_Some, get_or_from_slice_get}
 use Rattle.tree_model.specs.declared.tree.TheConstants.{NUMBERS_MAX}
 use Rattle.tree_model.proofs.StepLaws.{slice_get-set_other}
 use Rattle.layered_search.proofs.Places.{within_some}
@@ -28,7 +28,8 @@ use Rattle.local_states.proofs.Alike.Steps.{set_at}
 use Rattle.local_states.proofs.Counting.{bumped_none, bumped_first, bumped_next}
 use Rattle.explore.proofs.Keyed.Growing.{grows_same, rows_grow, key_grows}
 use Rattle.explore.proofs.Keyed.OneTurn.{lines_stay, numbered_stays}
-use Rattle.local_states.proofs.Parted.SameKeys.{part_given, one_part, part_of_same}
+use Rattle.local_states.proofs.Parted.SameKeys.{part_given, one_part, part_of_same, keys_itself}
+use Rattle.local_states.proofs.Parted.Parts.{like_there}
 use Rattle.local_states.proofs.Lists.Runs.{turn_stays}
 use Rattle.local_states.proofs.Local.Parts.{parts_stay}
 use Rattle.local_states.proofs.Local.Worlds.{turns_are_local, given_stay}
@@ -174,19 +175,6 @@ outside_again : (told : Bool) (xs ys : List Own) → map (λ (o : Own). o.outsid
 outside_again true xs ys e = e
 outside_again false xs ys e = refl
 
--- what is where all are the same but for parts
-pub same_outside : (xs ys : List Own) → map (λ (o : Own). o.outside) xs ≡ map (λ (o : Own). o.outside) ys
-    → (j : ℕ) (x : Own) → slice_get xs j ≡ Some x
-    → (y : Own) × ((slice_get ys j ≡ Some y) × (x.outside ≡ y.outside))
-same_outside [] ys e j x is = absurd (none-some _ is)
-same_outside (a ∷ xs) [] e j x is = absurd (omega (arith, ap length e))
-same_outside (a ∷ xs) (b ∷ ys) e zero x is =
-    let head : a.outside ≡ b.outside = cc (e) in
-    (b, (refl, ap (λ (o : Own). o.outside) (sym (same_Some a x is)) ∙ head))
-same_outside (a ∷ xs) (b ∷ ys) e (suc j) x is =
-    let tail : map (λ (o : Own). o.outside) xs ≡ map (λ (o : Own). o.outside) ys = cc (e) in
-    same_outside xs ys tail j x is
-
 -- ---- the key after a turn
 
 module _ (c d : ComponentsView) (w v : WorldView) (i : ℕ) (effect : Effect) (key mid : Key) (is : IsKey c w v key)
@@ -256,7 +244,7 @@ module _ (c d : ComponentsView) (w v : WorldView) (i : ℕ) (effect : Effect) (k
     numbered = numbered_stays full v i old.numbered;
     given = λ all. given_stay v full i (old.given all);
     many =
-        (sym (length-map next.own.items (λ (o : Own). o.outside)) ∙ ap length (sym same.outside)
+        (sym (length-map next.own.items (λ (o : Own). o.outside)) ∙ ap length (sym same.own)
         ∙ length-map mid.own.items (λ (o : Own). o.outside))
         ∙ (ap length after.own ∙ length-set key.own.items i (own_after (slice_index_or key.own.items i none) effect))
         ∙ (old.many ∙ sym (turn_stays full v i));
@@ -265,15 +253,15 @@ module _ (c d : ComponentsView) (w v : WorldView) (i : ℕ) (effect : Effect) (k
     outside =
         found.grown.outside ∙ ap (bumped effect.outside i) old.outside
         ∙ sym (outside_after_it d.told effect key.own.items i none)
-        ∙ ap (outside_in d.told) (sym after.own) ∙ outside_again d.told mid.own.items next.own.items same.outside;
+        ∙ ap (outside_in d.told) (sym after.own) ∙ outside_again d.told mid.own.items next.own.items same.own;
     untold = λ untold j own e.
-        let there = same_outside next.own.items mid.own.items (sym same.outside) j own e in
+        let there = like_there (λ (o : Own). o.outside) next.own.items mid.own.items (sym same.own) j own e in
         there.1.1 ∙ mid_untold untold j there.0 there.1.0;
   }
 
   pub found_turn : AreRows c.parts (length w.seats) → AreAllGiven w → IsKey d w (turn full v i) mid
   found_turn rows given =
-      found_whole mid (record { nodes = refl; events = refl; opened = refl; closed = refl; outside = refl }) parts
+      found_whole mid (keys_itself mid) parts
     where
       parts : (j : ℕ) (own : Own) → slice_get mid.own.items j ≡ Some own → IsPartAt d (turn full v i) j own.part
       parts j own e = ⊎_elim here there (cases_eq i j)

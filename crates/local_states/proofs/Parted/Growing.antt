@@ -1,13 +1,12 @@
 -- What is said by places stays so when more is met.
-use Rattle.std.specs.Prelude.{◌≡◌, ◌<◌, ◌≤◌, ◌∷◌, ℕ, List, length, slice_get, Some, refl}
+use Rattle.std.specs.Prelude.{◌≡◌, ◌<◌, ◌∷◌, ℕ, length, refl}
 use Rattle.std.proofs.Common.{sym, ap, ◌∙◌, subst, arith}
 use Rattle.std.proofs.lemmas.Option.{same_Some, slice_get_within}
 use Rattle.layered_search.proofs.Places.{within_some}
 use Rattle.race_core.specs.Worlds.{WorldView}
 use Rattle.local_states.specs.declared.keys.Key.{Key}
-use Rattle.local_states.specs.declared.keys.Own.{Own}
 use Rattle.local_states.specs.Fingerprint.{mixed}
-use Rattle.local_states.specs.Keys.{PartsView, ComponentsView, AreRows, Grows, IsPartAt, IsKey, AreFew, AreSameKeys, AreSameKeysButOutside, outside_in, print_of}
+use Rattle.local_states.specs.Keys.{PartsView, ComponentsView, AreRows, Grows, IsPartAt, IsKey, AreSameKeysButOutside, outside_in, print_of}
 use Rattle.local_states.specs.Outside.{roots_of, outside_of}
 use Rattle.local_states.proofs.Parted.Parts.{more_itself, more_on, in_more}
 
@@ -67,17 +66,7 @@ key_grows {c} {d} {w} {v} {key} grows is =
       untold = λ none. is.untold (told ∙ none);
     }
 
--- ---- keys that are the same
-
-pub few_copied : (n : ℕ) (key copy : Key) → AreSameKeys copy key → AreFew n key → AreFew n copy
-few_copied n key copy same few = record {
-  events = subst (λ k. k ≤ n) (sym same.events) few.events;
-  opened = subst (λ k. k ≤ n) (sym same.opened) few.opened;
-  closed = subst (λ k. k ≤ n) (sym same.closed) few.closed;
-  outside = λ j own there. few.outside j own (subst (λ (os : List Own). slice_get os j ≡ Some own) same.own there);
-}
-
 -- keys that are the same but for changes outside of roots have one number
 pub same_but_outside_print : (key other : Key) → AreSameKeysButOutside key other → print_of key ≡ print_of other
 unfolding print_of
-same_but_outside_print key other is = λ i. mixed 0 (is.nodes i ∷ is.events i ∷ is.opened i ∷ is.closed i ∷ is.parts i)
+same_but_outside_print key other is = λ i. mixed 0 (is.nodes i ∷ is.events i ∷ is.opened i ∷ is.closed i ∷ is.own i)

@@ -6,7 +6,7 @@ use Rattle.std.proofs.lemmas.Option.{same_Some, none-some, slice_get_within}
 use Rattle.tree_model.specs.State.{State}
 use Rattle.tree_model.specs.declared.inode.OpenHandle.{OpenHandle}
 use Rattle.tree_model.specs.Steps.{node_held, held, held_count}
-use Rattle.layered_search.proofs.Places.{at_or_below, within_some, get_push, mapped_to}
+use Rattle.layered_search.proofs.Places.{at_or_below, within_some, get_push, mapped_to, mapped_from}
 use Rattle.race_core.specs.Book.{tree_now}
 use Rattle.race_core.specs.declared.seat.Seat.{Seat}
 use Rattle.race_core.specs.declared.report.Outcome.{Outcome}
@@ -18,24 +18,29 @@ use Rattle.local_states.specs.Distinct.{AreEachOnce, Keeps}
 use Rattle.local_states.specs.HandleTables.{IsHandleTableOf, HasHandleTable, AreGivenPairs, LikeHandleTables, PartView, AreNamed, HasOutcomes, IsPartOf, AreLikeParts, ArePartsOf}
 use Rattle.local_states.specs.Keys.{PartsView, AreApartParts, IsPartIn, HasMore}
 use Rattle.local_states.specs.Local.{actor_of, AreNumbered, SamePart, SamePartAt}
-use Rattle.local_states.specs.Paired.{AreAt}
 use Rattle.local_states.proofs.Alike.Paired.{same_numbers}
 use Rattle.local_states.proofs.Local.Parts.{one_actor, part_itself, part_back, part_join}
 use Rattle.local_states.proofs.Local.Worlds.{parts_busy}
 
--- ---- handle tables
+-- ---- mapped lists
 
-same_maps : {B : Type 0} (f g : ℕ → B) (hs ks : List ℕ) → length hs ≡ length ks
-    → ((at h k : ℕ) → AreAt hs ks at h k → f h ≡ g k) → map f hs ≡ map g ks
+pub same_maps : {A B : Type 0} (f g : A → B) (xs ys : List A) → length xs ≡ length ys
+    → ((at : ℕ) (x y : A) → slice_get xs at ≡ Some x → slice_get ys at ≡ Some y → f x ≡ g y) → map f xs ≡ map g ys
 same_maps f g [] [] many each = refl
-same_maps f g [] (k ∷ ks) many each = absurd (omega (arith, many))
-same_maps f g (h ∷ hs) [] many each = absurd (omega (arith, many))
-same_maps f g (h ∷ hs) (k ∷ ks) many each =
-    let n : length hs ≡ length ks = omega (arith, many) in
-    let here : f h ≡ g k = each 0 h k (record { here = refl; there = refl }) in
-    let rest : map f hs ≡ map g ks = same_maps f g hs ks n
-    (λ at i j are. each (suc at) i j (record { here = are.here; there = are.there })) in
-    cc
+same_maps f g [] (y ∷ ys) many each = absurd (omega (arith, many))
+same_maps f g (x ∷ xs) [] many each = absurd (omega (arith, many))
+same_maps f g (x ∷ xs) (y ∷ ys) many each =
+    let n : length xs ≡ length ys = omega (arith, many) in
+    let first : f x ≡ g y = each 0 x y refl refl in
+    let rest : map f xs ≡ map g ys = same_maps f g xs ys n (λ at a b e q. each (suc at) a b e q) in
+    λ i. first i ∷ rest i
+
+-- where lists are the same as f sees them, what stands in the one stands in the other, as f sees it
+pub like_there : {A B : Type 0} (f : A → B) (xs ys : List A) → map f xs ≡ map f ys → (i : ℕ) (x : A)
+    → slice_get xs i ≡ Some x → (y : A) × ((slice_get ys i ≡ Some y) × (f x ≡ f y))
+like_there f xs ys e i x is = mapped_from f ys i (f x) (ap (λ zs. slice_get zs i) (sym e) ∙ mapped_to f xs i x is)
+
+-- ---- handle tables
 
 given_onto : (n m p q : ℕ) (hs ks xs ys : List ℕ) → n ≡ p → m ≡ q → hs ≡ xs → ks ≡ ys → AreGivenPairs n m hs ks
     → AreGivenPairs p q xs ys
@@ -74,7 +79,7 @@ handle_tables_of_part s t x y g h here there part =
           ∙ (part.held_handles ∙ (ap (λ a. held_count t a) actor ∙ sym there.held_handles));
       many = ap length here.handles ∙ (many ∙ ap length (sym there.handles));
       nodes = here.nodes ∙ (same_maps (held s (actor_of x)) (held t (actor_of x)) (seat_handles x)
-          (seat_handles y) many (λ at i j are. (part.pairs at i j are).holds)
+          (seat_handles y) many (λ at i j e q. (part.pairs at i j (record { here = e; there = q })).holds)
           ∙ (ap (λ a. map (held t a) (seat_handles y)) actor ∙ sym there.nodes));
       pairs = given_onto (length s.handles) (length t.handles) g.given h.given (seat_handles x)
           (seat_handles y) g.handles.items h.handles.items

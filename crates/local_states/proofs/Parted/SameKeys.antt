@@ -1,8 +1,7 @@
 -- Worlds with one key are the same, and those that are the same have one key.
-use Rattle.std.specs.Prelude.{◌≡◌, ◌<◌, ℕ, suc, ◌+◌, List, [], ◌∷◌, length, map, Option, Some, slice_get, refl}
-use Rattle.std.specs.Option.{option_map}
+use Rattle.std.specs.Prelude.{◌≡◌, ◌≤◌, ◌<◌, ℕ, ◌+◌, List, length, map, Some, slice_get, refl}
 use Rattle.std.proofs.Common.{sym, ap, ◌∙◌, subst, ⊎_elim, arith}
-use Rattle.std.proofs.lemmas.Option.{same_Some, slice_get-map, slice_get_within}
+use Rattle.std.proofs.lemmas.Option.{same_Some, slice_get_within}
 use Rattle.tree_model.specs.State.{State}
 use Rattle.layered_search.proofs.Places.{within_some}
 use Rattle.race_core.specs.declared.seat.Seat.{Seat}
@@ -12,12 +11,12 @@ use Rattle.local_states.specs.declared.keys.Key.{Key}
 use Rattle.local_states.specs.declared.keys.Own.{Own}
 use Rattle.local_states.specs.Worlds.{full}
 use Rattle.local_states.specs.HandleTables.{PartView, IsPartOf}
-use Rattle.local_states.specs.Keys.{PartsView, IsPartIn, ComponentsView, AreRows, AreInterned, IsPartAt, IsKey, AreSameKeys, AreSameKeysButOutside, outside_in}
+use Rattle.local_states.specs.Keys.{PartsView, IsPartIn, ComponentsView, AreRows, AreInterned, IsPartAt, IsKey, AreFew, AreSameKeysBy, AreSameKeys, AreSameKeysButOutside, AreSameKeysButParts, outside_in}
 use Rattle.local_states.specs.Local.{actor_of, SamePart, SamePartAt, AreGiven, AreAllGiven, AreNumbered, SameParts}
 use Rattle.local_states.specs.Same.{IsSame}
 use Rattle.local_states.proofs.Local.OutsideSame.{same_worlds_act}
 use Rattle.local_states.proofs.Local.Parts.{one_actor, part_itself, number_there}
-use Rattle.local_states.proofs.Parted.Parts.{at_back, at_join, one_kept}
+use Rattle.local_states.proofs.Parted.Parts.{same_maps, like_there, at_back, at_join, one_kept}
 
 -- ---- one actor's part
 
@@ -138,14 +137,54 @@ key_of_same c w u v key is same =
           };
         }
 
-pub keys_back : (key other : Key) → AreSameKeys key other → AreSameKeys other key
-keys_back key other same = record {
-  nodes = sym same.nodes;
-  events = sym same.events;
-  opened = sym same.opened;
-  closed = sym same.closed;
-  own = sym same.own;
+-- ---- keys that are the same, by what is seen of the actors' own
+
+module _ {Seen : Type 0} {seen : List Own → Seen} where
+  pub keys_itself : (key : Key) → AreSameKeysBy seen key key
+  keys_itself key = record { nodes = refl; events = refl; opened = refl; closed = refl; own = refl }
+
+  pub keys_back : (key other : Key) → AreSameKeysBy seen key other → AreSameKeysBy seen other key
+  keys_back key other same = record {
+    nodes = sym same.nodes;
+    events = sym same.events;
+    opened = sym same.opened;
+    closed = sym same.closed;
+    own = sym same.own;
+  }
+
+  pub keys_on : (a b c : Key) → AreSameKeysBy seen a b → AreSameKeysBy seen b c → AreSameKeysBy seen a c
+  keys_on a b c first second = record {
+    nodes = first.nodes ∙ second.nodes;
+    events = first.events ∙ second.events;
+    opened = first.opened ∙ second.opened;
+    closed = first.closed ∙ second.closed;
+    own = first.own ∙ second.own;
+  }
+
+-- the same keys are the same by less
+pub keys_seen : {Seen : Type 0} (seen : List Own → Seen) (key other : Key) → AreSameKeys key other
+    → AreSameKeysBy seen key other
+keys_seen seen key other same = record {
+  nodes = same.nodes;
+  events = same.events;
+  opened = same.opened;
+  closed = same.closed;
+  own = ap seen same.own;
 }
+
+pub few_again : (n : ℕ) (key other : Key) → AreSameKeysButParts key other → AreFew n key → AreFew n other
+few_again n key other same few = record {
+  events = subst (λ k. k ≤ n) same.events few.events;
+  opened = subst (λ k. k ≤ n) same.opened few.opened;
+  closed = subst (λ k. k ≤ n) same.closed few.closed;
+  outside = λ i own there.
+      let was = like_there (λ (o : Own). o.outside) other.own.items key.own.items (sym same.own) i own there in
+      subst (λ k. k ≤ n) (sym was.1.1) (few.outside i was.0 was.1.0);
+}
+
+pub few_copied : (n : ℕ) (key copy : Key) → AreSameKeys copy key → AreFew n key → AreFew n copy
+few_copied n key copy same =
+    few_again n key copy (keys_seen (map (λ (o : Own). o.outside)) key copy (keys_back copy key same))
 
 -- a key and one with the same numbers are keys of one world
 pub key_again : (c : ComponentsView) (w v : WorldView) (key other : Key) → AreSameKeys key other → IsKey c w v key
@@ -177,24 +216,6 @@ key_turned c d w u v i key next rows here there after told =
 
 -- ---- keys that are the same but for changes outside of roots
 
-same_part : (xs ys : List Own) → map (λ (o : Own). o.part) xs ≡ map (λ (o : Own). o.part) ys → (i : ℕ) (x y : Own)
-    → slice_get xs i ≡ Some x → slice_get ys i ≡ Some y → x.part ≡ y.part
-same_part xs ys e i x y here there =
-    let at = λ (os : List Own) (o : Own) (is : slice_get os i ≡ Some o). slice_get-map (λ (o : Own). o.part) os i
-    ∙ ap (λ (o : Option Own). option_map (λ (o : Own). o.part) o) is in
-    same_Some x.part y.part (sym (at xs x here) ∙ (ap (λ ps. slice_get ps i) e ∙ at ys y there))
-
-same_owns : (xs ys : List Own) → length xs ≡ length ys
-    → ((i : ℕ) (x y : Own) → slice_get xs i ≡ Some x → slice_get ys i ≡ Some y → x.part ≡ y.part)
-    → map (λ (o : Own). o.part) xs ≡ map (λ (o : Own). o.part) ys
-same_owns [] [] long part = refl
-same_owns [] (y ∷ ys) long part = absurd (omega (arith, long))
-same_owns (x ∷ xs) [] long part = absurd (omega (arith, long))
-same_owns (x ∷ xs) (y ∷ ys) long part =
-    let first = part 0 x y refl refl in
-    let rest = same_owns xs ys (omega (arith, long)) (λ i a b e q. part (suc i) a b e q) in
-    λ k. first k ∷ rest k
-
 module _ (c : ComponentsView) (w u v : WorldView) (key other : Key) (rows : AreRows c.parts (length w.seats))
     (here : IsKey c w u key) (there : IsKey c w v other) where
   -- they are keys of worlds in which each actor has the same part
@@ -210,11 +231,9 @@ module _ (c : ComponentsView) (w u v : WorldView) (key other : Key) (rows : AreR
     numbered = here.numbered;
     parts = λ i lt.
         let own = within_some key.own.items i (subst (λ n. i < n) (sym here.many) lt) in
-        let its = within_some other.own.items i
-        (subst (λ n. i < n) (here.seats ∙ (sym there.seats ∙ sym there.many)) lt) in
-        let part = same_part key.own.items other.own.items are.parts i own.0 its.0 own.1 its.1 in
+        let its = like_there (λ (o : Own). o.part) key.own.items other.own.items are.own i own.0 own.1 in
         one_part c u v i own.0.part (length w.seats) rows (here.parts i own.0 own.1)
-        (subst (λ at. IsPartAt c v i at) (sym part) (there.parts i its.0 its.1));
+        (subst (λ at. IsPartAt c v i at) (sym its.1.1) (there.parts i its.0 its.1.0));
   }
 
   -- and such worlds have such keys
@@ -225,7 +244,8 @@ module _ (c : ComponentsView) (w u v : WorldView) (key other : Key) (rows : AreR
     opened = opened;
     closed = let one = here.open_handles in let two = there.open_handles in let both = same.open_handles in
         let e = opened in omega arith;
-    parts = same_owns key.own.items other.own.items (here.many ∙ (same.seats ∙ sym there.many)) part_once;
+    own = same_maps (λ (o : Own). o.part) (λ (o : Own). o.part) key.own.items other.own.items
+        (here.many ∙ (same.seats ∙ sym there.many)) part_once;
   }
     where
       opened : key.opened ≡ other.opened

@@ -9,7 +9,8 @@ use Rattle.explore.specs.Effects.{KnownView, IsSound, IsEffectFrom, AreCountsIn}
 use Rattle.local_states.specs.Keys.{AreRows, AreFew, Grows, IsKey, IsPartAt}
 use Rattle.local_states.specs.Local.{AreNumbered}
 use Rattle.local_states.specs.OutOfMemory.{EndsWell}
-use Rattle.explore.proofs.Keyed.Found.{effect_found, few_after, few_again, length_after, sound_mid, sound_whole, key_known, key_whole}
+use Rattle.local_states.proofs.Parted.SameKeys.{few_again}
+use Rattle.explore.proofs.Keyed.Found.{effect_found, few_after, length_after, sound_mid, sound_whole, key_known, key_whole}
 use Rattle.explore.proofs.Keyed.Growing.{grows_on, key_grows, rows_grow}
 use Rattle.explore.proofs.Keyed.OneTurn.{numbered_stays}
 use Rattle.explore.proofs.Lists.Replayed.{turn_actors}
@@ -57,7 +58,7 @@ returns-clause-few g c = λ n few.
             events = sym (ap (λ (k : Key). k.events) w.next-is);
             opened = sym (ap (λ (k : Key). k.opened) w.next-is);
             closed = sym (ap (λ (k : Key). k.closed) w.next-is);
-            outside = sym (ap (map (λ (o : Own). o.outside)) own ∙ (w.in_ok-put_parts.ensures.outside ∙ ap (map (λ (o : Own). o.outside)) w.as_mut_slice.ensures.value));
+            own = sym (ap (map (λ (o : Own). o.outside)) own ∙ (w.in_ok-put_parts.ensures.outside ∙ ap (map (λ (o : Own). o.outside)) w.as_mut_slice.ensures.value));
           }) mid
     ]
 
@@ -126,7 +127,7 @@ returns-clause-key g c = λ w sound is well.
             events = sym (ap (λ (k : Key). k.events) x.next-is);
             opened = sym (ap (λ (k : Key). k.opened) x.next-is);
             closed = sym (ap (λ (k : Key). k.closed) x.next-is);
-            outside = sym (ap (map (λ (o : Own). o.outside)) own ∙ (x.in_ok-put_parts.ensures.outside ∙ ap (map (λ (o : Own). o.outside)) x.as_mut_slice.ensures.value));
+            own = sym (ap (map (λ (o : Own). o.outside)) own ∙ (x.in_ok-put_parts.ensures.outside ∙ ap (map (λ (o : Own). o.outside)) x.as_mut_slice.ensures.value));
           })
           (λ j one there. subst (λ u. IsPartAt x.put_parts.new.self.components u j one.part) all
           (x.in_ok-put_parts.ensures.parts j one (ap (λ (os : List Own). slice_get os j) (sym own) ∙ there))))

@@ -5,10 +5,9 @@ use Rattle.local_states.specs.Worlds.{full}
 use Rattle.local_states.specs.Keys.{AreRows, AreSameKeys, IsKey}
 use Rattle.local_states.specs.Local.{AreNumbered}
 use Rattle.local_states.specs.OutOfMemory.{EndsWell}
-use Rattle.local_states.proofs.Parted.Growing.{few_copied}
 use Rattle.explore.proofs.Keyed.Growing.{grows_on, grows_same, rows_grow}
 use Rattle.explore.proofs.Keyed.OneTurn.{numbered_stays}
-use Rattle.local_states.proofs.Parted.SameKeys.{keys_back, key_again}
+use Rattle.local_states.proofs.Parted.SameKeys.{keys_back, key_again, few_copied}
 use Rattle.local_states.proofs.Lists.Runs.{turn_stays}
 use Rattle.local_states.proofs.OutOfMemory.Lucky.{full_turn, well_turned}
 use Rattle.explore.proofs.turns.known_turns.KnownTurns.learn.Goals as goal
