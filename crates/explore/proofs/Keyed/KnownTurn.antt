@@ -28,7 +28,7 @@ use Rattle.local_states.proofs.Alike.Steps.{set_at}
 use Rattle.local_states.proofs.Counting.{bumped_none, bumped_first, bumped_next}
 use Rattle.explore.proofs.Keyed.Growing.{grows_same, rows_grow, key_grows}
 use Rattle.explore.proofs.Keyed.OneTurn.{lines_stay, numbered_stays}
-use Rattle.local_states.proofs.Parted.SameKeys.{part_given, one_part, part_of_same, keys_itself}
+use Rattle.local_states.proofs.Parted.SameKeys.{part_given, one_part, part_moved, part_of_same, keys_itself}
 use Rattle.local_states.proofs.Parted.Parts.{like_there}
 use Rattle.local_states.proofs.Lists.Runs.{turn_stays}
 use Rattle.local_states.proofs.Local.Parts.{parts_stay}
@@ -127,25 +127,15 @@ others_part c v i j at actors rows ne lt numbered given part =
     let differ : actor_of x.0 ≢ actor_of old.here =
     (λ e. apart (sym (numbered i x.0 x.1) ∙ (e ∙ numbered part.row.actor old.here old.is_here))) in
     let stays = parts_stay v full i part.row.actor x.0 old.here apart x.1 old.is_here differ in
-    record {
-      row = part.row;
-      there = part.there;
-      is = record {
-        part = part.is.part;
-        there = part.is.there;
-        other = part.is.other;
-        is = part.is.is;
-        same = record {
-          here = old.here;
-          there = old.there;
-          is_here = stays.0;
-          is_there = old.is_there;
-          part = stays.1 (tree_now part.is.other.book) old.there old.part
-              (part_given (tree_now v.book) (tree_now part.is.other.book) old.here old.there old.part
-              (given part.row.actor old.here old.is_here));
-        };
-      };
-    }
+    part_moved part (record {
+      here = old.here;
+      there = old.there;
+      is_here = stays.0;
+      is_there = old.is_there;
+      part = stays.1 (tree_now part.is.other.book) old.there old.part
+          (part_given (tree_now v.book) (tree_now part.is.other.book) old.here old.there old.part
+          (given part.row.actor old.here old.is_here));
+    })
 
 -- ---- changes outside of roots
 

@@ -47,22 +47,21 @@ one_part c u v i at actors rows here there =
     (one_kept here.row.outcomes here.is.other is.other here.row.actor here.is.part here.is.is kept) in
     at_join (at_actor i own here.is) (at_join others (at_back (at_actor i own is)))
 
--- the part is at its place for all worlds where it is the same
+-- the place is that of the part in each world that is the same
+pub part_moved : {c : ComponentsView} {u v : WorldView} {i at : ℕ} (part : IsPartAt c v i at)
+    → SamePartAt u part.is.other part.row.actor → IsPartAt c u i at
+part_moved part same = record {
+  row = part.row;
+  there = part.there;
+  is = record { part = part.is.part; there = part.is.there; other = part.is.other; is = part.is.is; same = same };
+}
+
+-- so it is where the part is the same in two worlds
 pub part_of_same : (c : ComponentsView) (u v : WorldView) (i at actors : ℕ) → AreRows c.parts actors → SamePartAt u v i
     → IsPartAt c v i at → IsPartAt c u i at
 part_of_same c u v i at actors rows same part =
     let own : part.row.actor ≡ i = rows.own i part.row part.there in
-    record {
-      row = part.row;
-      there = part.there;
-      is = record {
-        part = part.is.part;
-        there = part.is.there;
-        other = part.is.other;
-        is = part.is.is;
-        same = at_join (subst (λ n. SamePartAt u v n) (sym own) same) part.is.same;
-      };
-    }
+    part_moved part (at_join (subst (λ n. SamePartAt u v n) (sym own) same) part.is.same)
 
 -- ---- whole worlds
 
@@ -125,17 +124,7 @@ key_of_same c w u v key is same =
         let part = is.parts i own e in
         let lt : part.row.actor < length v.seats =
         slice_get_within v.seats part.row.actor part.is.same.here part.is.same.is_here in
-        record {
-          row = part.row;
-          there = part.there;
-          is = record {
-            part = part.is.part;
-            there = part.is.there;
-            other = part.is.other;
-            is = part.is.is;
-            same = at_join (at_back (same.parts.parts part.row.actor lt)) part.is.same;
-          };
-        }
+        part_moved part (at_join (at_back (same.parts.parts part.row.actor lt)) part.is.same)
 
 -- ---- keys that are the same, by what is seen of the actors' own
 
