@@ -88,9 +88,6 @@ IsLongest w scope = asked.IsLongestOf world_moves w scope.cuts scope.begin.items
 
 -- ---- states
 
-abbrev pub IsOnWay : WorldView → Scope → List ℕ → Type 0
-IsOnWay w scope = asked.IsOnWayOf world_moves w scope.cuts scope.begin.items
-
 -- worlds in which each actor has the same part count as one state
 abbrev pub AreStates : WorldView → Scope → ℕ → Type 0
 AreStates w scope = asked.AreStatesOf world_moves w SameParts scope.cuts scope.begin.items
