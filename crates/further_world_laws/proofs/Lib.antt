@@ -1,3 +1,5 @@
+pub mod PlainTurns
+pub mod EachSeat
 mod OpensNothing
 mod Shorter
 mod LegalTurns

@@ -1,38 +1,22 @@
 -- A call that is given up opens nothing: no step of it is made but its Closes, and no object is found by one.
-use Rattle.std.specs.Prelude.{◌≡◌, ℕ, List, [], ◌∷◌, Bool, true, false, if◌then◌else◌, Option, Some, None, Result, Ok, Err, slice_get, slice_set, zero, suc, refl}
+use Rattle.std.specs.Prelude.{◌≡◌, ℕ, List, [], ◌∷◌, Bool, true, Option, Some, None}
 use Rattle.std.proofs.Common.{sym, subst}
 use Rattle.std.proofs.lemmas.Bool.{false≢true}
-use Rattle.std.proofs.lemmas.Option.{none-some, same_Some}
 use Rattle.path_text.specs.declared.errno.Errno.{Errno}
-use Rattle.path_text.specs.declared.errno.Errno.TheVariants.{NoMemory, Exists, Invalid}
-use Rattle.path_text.specs.declared.path.Rule.{Rule}
-use Rattle.path_text.specs.declared.path.Rule.TheVariants.{Drop, Refuse}
-use Rattle.path_text.specs.declared.path.Split.{Split}
-use Rattle.path_text.specs.Split.{split_of}
-use Rattle.path_text.specs.Text.{text_fault, reading_of}
+use Rattle.path_text.specs.declared.errno.Errno.TheVariants.{Exists}
 use Rattle.tree_model.specs.declared.answer.Answer.{Answer}
 use Rattle.tree_model.specs.declared.answer.Answer.TheVariants.{Opened, Text, Done, Refused}
-use Rattle.tree_model.specs.declared.step.Mode.{Mode}
-use Rattle.tree_model.specs.StepWith.{StepWith}
-use Rattle.handles.specs.Objects.{StandingObject}
-use Rattle.walk_plan.specs.declared.goal.Goal.TheVariants.{Follow, NoFollow}
 use Rattle.step_resolver.specs.Order.{Way, Handle, Walking, found, partial, failed, is_dir_kind}
 use Rattle.step_resolver.specs.Order as walk
-use Rattle.step_resolver.specs.View.{way_from}
 use Rattle.bulk_ops.specs.MakeAllOrder as make
 use Rattle.bulk_ops.specs.RemoveAllOrder as remove
 use Rattle.root_ops.specs.declared.aim.Aim.{Aim}
-use Rattle.root_ops.specs.declared.aim.Aim.TheVariants.{Opens, Reads, Changes, WalksOn, Renames}
-use Rattle.root_ops.specs.declared.aim.Change.{Change}
-use Rattle.root_ops.specs.declared.aim.Change.TheVariants as changes
-use Rattle.root_ops.specs.declared.aim.Renaming.{Renaming}
 use Rattle.root_ops.specs.declared.aim.Wanted.{Wanted}
 use Rattle.root_ops.specs.declared.aim.Wanted.TheVariants as wants
 use Rattle.root_ops.specs.declared.below.Below.{Below}
 use Rattle.root_ops.specs.declared.op.Op.{Op}
-use Rattle.root_ops.specs.declared.op.Op.TheVariants.{Resolve, ResolveNoFollow, ReadLink, CreateFile, CreateDir, CreateLink, RemoveFile, RemoveDir, Rename, MkdirAll, RemoveAll, Single, Release}
 use Rattle.root_ops.specs.declared.op.Request.{Request}
-use Rattle.root_ops.specs.Order.{Reply, opened, link_text, done, count, stepped, kept, fault, After, gives, acts, Doing, walking, acting, checking, closing, making, removing, releasing, CallTurn, more, ends, rename_step, reply_to, held_by, way_of, make_way, makes, removing_turn, reached, checked, is_single, same_owner, starts, take, due}
+use Rattle.root_ops.specs.Order.{Reply, opened, link_text, done, count, stepped, kept, fault, After, gives, acts, Doing, walking, acting, checking, closing, making, removing, releasing, CallTurn, more, ends, reply_to, held_by, way_of, make_way, makes, removing_turn, checked, starts, take, due}
 use Rattle.root_ops.specs.Order as call
 use Rattle.root_ops.specs.TurnView.{below_of}
 use Rattle.root_ops.specs.View.{CallView}
@@ -44,7 +28,9 @@ use Rattle.race_core.specs.JoinedRuns.{TakesTurns}
 use Rattle.race_core.specs.Ledgers.{LedgerView}
 use Rattle.race_core.specs.Opening.{seats_of}
 use Rattle.race_core.specs.Turns.{Luck, stepped_by, comes, begins, begins_next, begun, goes_on, turned, request_of, left_by}
-use Rattle.race_core.specs.Worlds.{WorldView, turn_of, turn}
+use Rattle.race_core.specs.Worlds.{WorldView}
+use Rattle.further_world_laws.proofs.EachSeat.{EachSeat, turn_keeps}
+use Rattle.further_world_laws.proofs.PlainTurns.{IsPlain, walked_plain, checked_plain, made_plain, starts_plain}
 
 -- ---- what opens nothing
 
@@ -104,50 +90,12 @@ closing_on h (k ∷ hs) (acts wanted step ks) none = tt
 given_up_call : (hs : List ℕ) (error : Errno) → EndsInNone (call.gives_up hs error)
 given_up_call hs error = closes_to hs (fault error) tt
 
-renaming_both : (old new : ℕ) (renaming : Renaming) → EndsInNone (call.renames old new renaming)
-renaming_both old new renaming = on renaming.slash
-  where
-    on : (b : Bool) → EndsInNone (if b then more (checking old new renaming) else more (acting wants.Done (rename_step renaming old new) (new ∷ old ∷ [])))
-    on true = tt
-    on false = tt
-
-second_walk : (old : ℕ) (renaming : Renaming) (turn : walk.Turn) → EndsInNone (call.walked_on old renaming turn)
-second_walk old renaming (walk.more w) = tt
-second_walk old renaming (found handle names) = renaming_both old handle.number renaming
-second_walk old renaming (partial handle names rest) = tt
-second_walk old renaming (failed error) = tt
-
 -- a walk that found nothing
 walked_to_none : (below : Below) (room : Bool) (aim : Aim) (turn : walk.Turn) → FindsNone turn → EndsInNone (call.walked below room aim turn)
 walked_to_none below room aim (walk.more w) none = tt
 walked_to_none below room aim (found handle names) none = absurd none
 walked_to_none below room aim (partial handle names rest) none = absurd none
 walked_to_none below room aim (failed error) none = given_up_call (held_by aim) error
-
-reached_so : (below : Below) (room : Bool) (handle : Handle) (names : List (List ℕ)) (aim : Aim) → GoesToNone (reached below room handle names aim)
-reached_so below room handle names (Opens goal) = tt
-reached_so below room handle names Reads = tt
-reached_so below room handle names (Changes change n) = tt
-reached_so below room handle names (WalksOn path renaming) =
-    let turn = walk.starts (way_from below.root Follow below.flags) room path in
-    goes_too (call.walked_on handle.number renaming turn) (second_walk handle.number renaming turn)
-reached_so below room handle names (Renames old renaming) = goes_too (call.renames old handle.number renaming) (renaming_both old handle.number renaming)
-
--- any walk
-walked_so : (below : Below) (room : Bool) (aim : Aim) (turn : walk.Turn) → GoesToNone (call.walked below room aim turn)
-walked_so below room aim (walk.more w) = tt
-walked_so below room aim (found handle names) = reached_so below room handle names aim
-walked_so below room aim (partial handle names rest) = tt
-walked_so below room aim (failed error) = goes_too (call.gives_up (held_by aim) error) (given_up_call (held_by aim) error)
-
-checked_so : (old new : ℕ) (renaming : Renaming) (child : ℕ) (is_dir : Bool) → GoesToNone (checked old new renaming child is_dir)
-checked_so old new renaming child true = tt
-checked_so old new renaming child false = tt
-
-made_so : (turn : make.MakeTurn) → GoesToNone (makes turn)
-made_so (make.more m) = tt
-made_so (make.made handle names) = tt
-made_so (make.failed error) = tt
 
 cleared_so : (turn : remove.Turn) → EndsInNone (removing_turn turn)
 cleared_so (remove.more r) = tt
@@ -244,94 +192,31 @@ close_opens_none below room (releasing h) answer e none = replies_none wants.Don
 
 -- ---- any step
 
+-- a turn beside a call's answers
+plain_so : (turn : CallTurn) → IsPlain turn → GoesToNone turn
+plain_so (more (closing h hs (gives (fault error)))) plain = tt
+plain_so (more (closing h hs (gives reply))) plain = absurd plain
+plain_so (more doing) plain = tt
+plain_so (ends reply) plain = tt
+
 taken_so : (below : Below) (room : Bool) (doing : Doing) (answer : Answer) → ClosesToNone doing → GoesToNone (take below room doing answer)
-taken_so below room (walking w aim) answer none = walked_so below room aim (walk.take (way_of below aim) room w answer)
+taken_so below room (walking w aim) answer none =
+    let turn = walk.take (way_of below aim) room w answer in
+    plain_so (call.walked below room aim turn) (walked_plain below room aim turn)
 taken_so below room (acting wanted step hs) answer none =
     goes_too (call.closes hs (gives (reply_to wanted answer))) (closes_to hs (reply_to wanted answer) (replies_none wanted answer))
-taken_so below room (checking old new renaming) (Opened h x kind) none = checked_so old new renaming h (is_dir_kind kind)
+taken_so below room (checking old new renaming) (Opened h x kind) none =
+    plain_so (checked old new renaming h (is_dir_kind kind)) (checked_plain old new renaming h (is_dir_kind kind))
 taken_so below room (checking old new renaming) answer none = tt
 taken_so below room (closing h hs after) answer none = goes_too (call.closes hs after) (closing_on h hs after none)
-taken_so below room (making m) answer none = made_so (make.take (make_way below) room m answer)
+taken_so below room (making m) answer none =
+    let turn = make.take (make_way below) room m answer in
+    plain_so (makes turn) (made_plain turn)
 taken_so below room (removing r) answer none = goes_too (removing_turn (remove.take room r answer)) (cleared_so (remove.take room r answer))
 taken_so below room (releasing h) answer none = tt
 
--- ---- a call's start
-
-unless_so : (why : Option Errno) (turn : CallTurn) → GoesToNone turn → GoesToNone (call.unless_fault why turn)
-unless_so (Some error) turn none = tt
-unless_so None turn none = none
-
-module _ (below : Below) where
-  in_its_directory : (change : Change) (split : Result Split Errno) → GoesToNone (call.in_directory below change split)
-  in_its_directory change (Err error) = tt
-  in_its_directory change (Ok split) =
-      walked_so below true (Changes change split.name) (walk.starts (way_of below (Changes change split.name)) true split.dir)
-
-  on_an_entry : (rule : Rule) (change : Change) (text : List ℕ) → GoesToNone (call.on_entry below rule change text)
-  on_an_entry rule change text =
-      unless_so (text_fault text) (call.in_directory below change (split_of (reading_of text) rule)) (in_its_directory change (split_of (reading_of text) rule))
-
-  on_a_path : (aim : Aim) (text : List ℕ) → GoesToNone (call.on_path below aim text)
-  on_a_path aim text =
-      unless_so (text_fault text) (call.walks below aim (reading_of text)) (walked_so below true aim (walk.starts (way_of below aim) true (reading_of text)))
-
-  between_both : (mode : Mode) (old : Split) (split : Result Split Errno) → GoesToNone (call.between below mode old split)
-  between_both mode old (Err error) = tt
-  between_both mode old (Ok new) =
-      let aim = WalksOn new.dir (call.renaming_of old new mode) in walked_so below true aim (walk.starts (way_of below aim) true old.dir)
-
-  from_an_entry : (mode : Mode) (new : List ℕ) (split : Result Split Errno) → GoesToNone (call.from_entry below mode new split)
-  from_an_entry mode new (Err error) = tt
-  from_an_entry mode new (Ok old) =
-      unless_so (text_fault new) (call.between below mode old (split_of (reading_of new) Drop)) (between_both mode old (split_of (reading_of new) Drop))
-
-  clearing_in : (split : Result Split Errno) → GoesToNone (call.clear_in below split)
-  clearing_in (Err error) = tt
-  clearing_in (Ok split) =
-      let turn = remove.begins (way_from below.root Follow below.flags) split.name split.dir in goes_too (removing_turn turn) (cleared_so turn)
-
-  one_step : (step : StepWith ℕ) (b : Bool) → GoesToNone (if b then more (acting wants.Any step []) else ends (fault Invalid))
-  one_step step true = tt
-  one_step step false = tt
-
-  no_step : (b : Bool) → GoesToNone (if b then ends (fault NoMemory) else ends (fault Invalid))
-  no_step true = tt
-  no_step false = tt
-
-  released : (standing : StandingObject) (b : Bool) → GoesToNone (if b then more (releasing standing.handle) else ends (kept standing))
-  released standing true = tt
-  released standing false = tt
-
-  starts_so : (room : Bool) (op : Op) → GoesToNone (starts below room op)
-  starts_so true (Resolve path) = on_a_path (Opens Follow) path
-  starts_so true (ResolveNoFollow path) = on_a_path (Opens NoFollow) path
-  starts_so true (ReadLink path) = on_a_path Reads path
-  starts_so true (CreateFile path) = on_an_entry Refuse changes.MakeFile path
-  starts_so true (CreateDir path) = on_an_entry Drop changes.MakeDir path
-  starts_so true (CreateLink path text) = on_an_entry Refuse (changes.MakeLink text) path
-  starts_so true (RemoveFile path) = on_an_entry Refuse changes.RemoveFile path
-  starts_so true (RemoveDir path) = on_an_entry Drop changes.RemoveDir path
-  starts_so true (Rename old new mode) =
-      unless_so (text_fault old) (call.from_entry below mode new (split_of (reading_of old) Drop)) (from_an_entry mode new (split_of (reading_of old) Drop))
-  starts_so true (MkdirAll path) =
-      let turn = make.begins (make_way below) (reading_of path) in unless_so (text_fault path) (makes turn) (made_so turn)
-  starts_so true (RemoveAll path) =
-      unless_so (text_fault path) (call.clear_in below (split_of (reading_of path) Drop)) (clearing_in (split_of (reading_of path) Drop))
-  starts_so true (Single step) = one_step step (is_single step)
-  starts_so true (Release standing) = released standing (same_owner standing.owner below.root.owner)
-  starts_so false (Resolve path) = unless_so (text_fault path) (ends (fault NoMemory)) tt
-  starts_so false (ResolveNoFollow path) = unless_so (text_fault path) (ends (fault NoMemory)) tt
-  starts_so false (ReadLink path) = unless_so (text_fault path) (ends (fault NoMemory)) tt
-  starts_so false (CreateFile path) = unless_so (text_fault path) (ends (fault NoMemory)) tt
-  starts_so false (CreateDir path) = unless_so (text_fault path) (ends (fault NoMemory)) tt
-  starts_so false (CreateLink path text) = unless_so (text_fault path) (ends (fault NoMemory)) tt
-  starts_so false (RemoveFile path) = unless_so (text_fault path) (ends (fault NoMemory)) tt
-  starts_so false (RemoveDir path) = unless_so (text_fault path) (ends (fault NoMemory)) tt
-  starts_so false (Rename old new mode) = unless_so (text_fault old) (ends (fault NoMemory)) tt
-  starts_so false (MkdirAll path) = unless_so (text_fault path) (ends (fault NoMemory)) tt
-  starts_so false (RemoveAll path) = unless_so (text_fault path) (ends (fault NoMemory)) tt
-  starts_so false (Single step) = no_step (is_single step)
-  starts_so false (Release standing) = released standing (same_owner standing.owner below.root.owner)
+starts_so : (below : Below) (room : Bool) (op : Op) → GoesToNone (starts below room op)
+starts_so below room op = plain_so (starts below room op) (starts_plain below room op)
 
 -- ---- an actor's turns
 
@@ -372,33 +257,16 @@ turned_so luck book ledger doing none =
 -- ---- all actors
 
 abbrev pub AllGoToNone : List Seat → Type 0
-AllGoToNone [] = Unit {0}
-AllGoToNone (seat ∷ seats) = CallGoesToNone seat.doing × AllGoToNone seats
+AllGoToNone = EachSeat (λ seat. CallGoesToNone seat.doing)
 
 pub opened_so : (ledgers : List LedgerView) → AllGoToNone (seats_of ledgers)
 opened_so [] = tt
 opened_so (ledger ∷ ledgers) = (tt, opened_so ledgers)
 
-one_so : (seats : List Seat) (i : ℕ) (seat : Seat) → AllGoToNone seats → slice_get seats i ≡ Some seat → CallGoesToNone seat.doing
-one_so [] i seat all e = absurd (none-some seat e)
-one_so (s ∷ seats) zero seat all e = subst (λ (t : Seat). CallGoesToNone t.doing) (same_Some s seat e) all.0
-one_so (s ∷ seats) (suc i) seat all e = one_so seats i seat all.1 e
-
-set_so : (seats : List Seat) (i : ℕ) (seat : Seat) → AllGoToNone seats → CallGoesToNone seat.doing → AllGoToNone (slice_set seats i seat)
-set_so [] i seat all none = tt
-set_so (s ∷ seats) zero seat all none = (none, all.1)
-set_so (s ∷ seats) (suc i) seat all none = (all.0, set_so seats i seat all.1 none)
-
-turn_so : (luck : Luck) (w : WorldView) (i : ℕ) → AllGoToNone w.seats → AllGoToNone (turn luck w i).seats
-turn_so luck w i all = on (slice_get w.seats i) refl
-  where
-    on : (o : Option Seat) → slice_get w.seats i ≡ o → AllGoToNone (turn_of luck w i o).seats
-    on None e = all
-    on (Some seat) e =
-        set_so w.seats i (turned luck w.book seat.ledger seat.doing).seat all (turned_so luck w.book seat.ledger seat.doing (one_so w.seats i seat all e))
-
 pub turns_go_to_none : (w : WorldView) (made : List ℕ) (v : WorldView) → TakesTurns w made v → AllGoToNone w.seats → AllGoToNone v.seats
 turns_go_to_none w [] v taken all = subst (λ (u : WorldView). AllGoToNone u.seats) (sym taken) all
 turns_go_to_none w (i ∷ made) v taken all =
     let one = taken.1.1 in
-    turns_go_to_none taken.0 made v taken.2 (subst (λ (u : WorldView). AllGoToNone u.seats) (sym one.is) (turn_so one.luck w i all))
+    turns_go_to_none taken.0 made v taken.2 (subst (λ (u : WorldView). AllGoToNone u.seats) (sym one.is)
+    (turn_keeps (λ seat. CallGoesToNone seat.doing) (λ luck book seat none. turned_so luck book seat.ledger seat.doing none)
+    one.luck w i all))
