@@ -56,21 +56,14 @@ tells_none (stepped answer) none = refl
 tells_none (kept standing) none = refl
 tells_none (fault error) none = refl
 
--- The actor of that number goes to its end, where this is left of its seat; its call comes to this last outcome.
-record GoesOver (w : WorldView) (i : ℕ) (ledger : LedgerView) (doing : Option CallView) (after : BookedHistory) : Type 0 where
-  pub end : WorldView
-  pub goes : GoesToEnd w i end
-  pub book : end.book ≡ after
-  pub spent : end.spent ≡ w.spent
-  pub new : Seat
-  pub seats : end.seats ≡ slice_set w.seats i new
-  pub idle : is_busy new ≡ false
+-- what an actor's outcomes come to
+pub record IsTold (old new : Seat) : Type 0 where
   pub last : List Outcome
-  pub told : new.ledger.outcomes ≡ ledger.outcomes ++ last
-  pub is_last : LastOutcome doing last
+  pub told : new.ledger.outcomes ≡ old.ledger.outcomes ++ last
+  pub is_last : LastOutcome old.doing last
 
--- that this turn leads to, with an outcome that says of nothing that it was opened
-record ComesOver (w : WorldView) (i : ℕ) (ledger : LedgerView) (after : BookedHistory) : Type 0 where
+-- The actor of that number goes to its end, and leaves this seat.
+record EndsOver (w : WorldView) (i : ℕ) (after : BookedHistory) : Type 0 where
   pub end : WorldView
   pub goes : GoesToEnd w i end
   pub book : end.book ≡ after
@@ -78,28 +71,41 @@ record ComesOver (w : WorldView) (i : ℕ) (ledger : LedgerView) (after : Booked
   pub new : Seat
   pub seats : end.seats ≡ slice_set w.seats i new
   pub idle : is_busy new ≡ false
+
+-- so it goes from a seat of which this is left
+record GoesOver (w : WorldView) (i : ℕ) (ledger : LedgerView) (doing : Option CallView) (after : BookedHistory) : Type 0 where
+  pub over : EndsOver w i after
+  pub told : IsTold (record { ledger = ledger; doing = doing }) over.new
+
+-- and from a turn, with an outcome that says of nothing that it was opened
+record ComesOver (w : WorldView) (i : ℕ) (ledger : LedgerView) (after : BookedHistory) : Type 0 where
+  pub over : EndsOver w i after
   pub outcome : Outcome
-  pub told : new.ledger.outcomes ≡ ledger.outcomes ++ outcome ∷ []
+  pub told : over.new.ledger.outcomes ≡ ledger.outcomes ++ outcome ∷ []
   pub none : tells_opened outcome ≡ false
+
+-- it is at its end
+abbrev is_over : (w : WorldView) (i : ℕ) (new : Seat) (after : BookedHistory) → slice_get w.seats i ≡ Some new
+    → is_busy new ≡ false → after ≡ w.book → EndsOver w i after
+is_over w i new after at idle same = record {
+  end = w;
+  goes = record { turns = 0; run = refl; over = ap is_busy_in at ∙ idle };
+  book = sym same;
+  spent = refl;
+  new = new;
+  seats = sym (set_same w.seats i new at);
+  idle = idle;
+}
 
 comes_over : (rooms : List Bool) (w : WorldView) (i : ℕ) (ledger : LedgerView) (below : Below) (t : CallTurn) (after : BookedHistory)
     → slice_get w.seats i ≡ Some (comes ledger below t) → ledger.to_come ≡ [] → EndsInNone t → GoesWithout ledger.root.owner.actor below w.book t rooms after
     → ComesOver w i ledger after
-comes_over [] w i ledger below (ends reply) after at none_left none goes =
-    let new : Seat = comes ledger below (ends reply) in
-    let idle : is_busy new ≡ false = ap are_some none_left in
-    record {
-      end = w;
-      goes = record { turns = 0; run = refl; over = ap is_busy_in at ∙ idle };
-      book = sym goes;
-      spent = refl;
-      new = new;
-      seats = sym (set_same w.seats i new at);
-      idle = idle;
-      outcome = outcome_of reply;
-      told = refl;
-      none = tells_none reply none;
-    }
+comes_over [] w i ledger below (ends reply) after at none_left none goes = record {
+  over = is_over w i (comes ledger below (ends reply)) after at (ap are_some none_left) goes;
+  outcome = outcome_of reply;
+  told = refl;
+  none = tells_none reply none;
+}
 comes_over (room ∷ rooms) w i ledger below (more doing) after at none_left none goes =
     let luck : Luck = record { start = true; step = false; room = room } in
     let step : Stepped = stepped_by false w.book ledger.root.owner.actor (due below doing) in
@@ -108,18 +114,21 @@ comes_over (room ∷ rooms) w i ledger below (more doing) after at none_left non
     let x : WorldView = turn_of luck w i (Some seat) in
     let rest = comes_over rooms x i ledger below next after (placed_there w.seats i seat (comes ledger below next) at) none_left
     (without_memory ledger.root.owner.actor below w.book room doing none) goes in
+    let over = rest.over in
     record {
-      end = rest.end;
-      goes = record {
-        turns = suc rest.goes.turns;
-        run = (luck, subst (λ (u : WorldView). Runs u (again i rest.goes.turns) rest.end) (ap (λ (o : Option Seat). turn_of luck w i o) (sym at)) rest.goes.run);
-        over = rest.goes.over;
+      over = record {
+        end = over.end;
+        goes = record {
+          turns = suc over.goes.turns;
+          run = (luck, subst (λ (u : WorldView). Runs u (again i over.goes.turns) over.end) (ap (λ (o : Option Seat). turn_of luck w i o) (sym at)) over.goes.run);
+          over = over.goes.over;
+        };
+        book = over.book;
+        spent = over.spent;
+        new = over.new;
+        seats = over.seats ∙ placed_twice w.seats i (comes ledger below next) over.new;
+        idle = over.idle;
       };
-      book = rest.book;
-      spent = rest.spent;
-      new = rest.new;
-      seats = rest.seats ∙ placed_twice w.seats i (comes ledger below next) rest.new;
-      idle = rest.idle;
       outcome = rest.outcome;
       told = rest.told;
       none = rest.none;
@@ -129,34 +138,15 @@ comes_over [] w i ledger below (more doing) after at none_left none goes = absur
 
 goes_over : (w : WorldView) (i : ℕ) (ledger : LedgerView) (doing : Option CallView) (after : BookedHistory) → slice_get w.seats i ≡ Some (record { ledger = ledger; doing = doing })
     → ledger.to_come ≡ [] → CallGoesToNone doing → GivesCallUp ledger.root.owner.actor w.book doing after → GoesOver w i ledger doing after
-goes_over w i ledger None after at none_left none gives =
-    let new : Seat = record { ledger = ledger; doing = None } in
-    let idle : is_busy new ≡ false = ap are_some none_left in
-    record {
-      end = w;
-      goes = record { turns = 0; run = refl; over = ap is_busy_in at ∙ idle };
-      book = sym gives;
-      spent = refl;
-      new = new;
-      seats = sym (set_same w.seats i new at);
-      idle = idle;
-      last = [];
-      told = sym (append-nil ledger.outcomes);
-      is_last = refl;
-    }
+goes_over w i ledger None after at none_left none gives = record {
+  over = is_over w i (record { ledger = ledger; doing = None }) after at (ap are_some none_left) gives;
+  told = record { last = []; told = sym (append-nil ledger.outcomes); is_last = refl };
+}
 goes_over w i ledger (Some view) after at none_left none gives =
-    let over = comes_over gives.rooms w i ledger view.below (more view.doing) after at none_left none gives.goes in
+    let came = comes_over gives.rooms w i ledger view.below (more view.doing) after at none_left none gives.goes in
     record {
-      end = over.end;
-      goes = over.goes;
-      book = over.book;
-      spent = over.spent;
-      new = over.new;
-      seats = over.seats;
-      idle = over.idle;
-      last = over.outcome ∷ [];
-      told = over.told;
-      is_last = (over.outcome, (refl, over.none));
+      over = came.over;
+      told = record { last = came.outcome ∷ []; told = came.told; is_last = (came.outcome, (refl, came.none)) };
     }
 
 -- ---- all calls
@@ -179,12 +169,6 @@ numbers_are (suc n) = ap (λ (ns : List ℕ). ns ++ n ∷ []) (numbers_are n) �
   where
     from_zero : (n : ℕ) → n ≡ 0 + n
     from_zero n = omega arith
-
--- what an actor's outcomes come to
-pub record IsTold (old new : Seat) : Type 0 where
-  pub last : List Outcome
-  pub told : new.ledger.outcomes ≡ old.ledger.outcomes ++ last
-  pub is_last : LastOutcome old.doing last
 
 abbrev pub AreTold : List Seat → List Seat → Type 0
 AreTold [] [] = Unit {0}
@@ -222,7 +206,8 @@ all_go_over [] w before after e left none gives = record {
 }
 all_go_over (seat ∷ seats) w before after e left none gives =
     let at : slice_get w.seats (length before) ≡ Some seat = ap (λ (ss : List Seat). slice_get ss (length before)) e ∙ got_after before seat seats in
-    let one = goes_over w (length before) seat.ledger seat.doing gives.0 at left.0 none.0 gives.1 in
+    let gone = goes_over w (length before) seat.ledger seat.doing gives.0 at left.0 none.0 gives.1 in
+    let one = gone.over in
     let seated : one.end.seats ≡ (before ++ one.new ∷ []) ++ seats =
     one.seats ∙ (ap (λ (ss : List Seat). slice_set ss (length before) one.new) e
     ∙ (set_after before seat seats one.new ∙ sym (append_assoc before (one.new ∷ []) seats))) in
@@ -237,7 +222,7 @@ all_go_over (seat ∷ seats) w before after e left none gives =
       news = one.new ∷ rest.news;
       seated = rest.seated ∙ append_assoc before (one.new ∷ []) rest.news;
       over = (one.idle, rest.over);
-      told = (record { last = one.last; told = one.told; is_last = one.is_last }, rest.told);
+      told = (gone.told, rest.told);
     }
 
 -- ---- of seats with nothing to come
