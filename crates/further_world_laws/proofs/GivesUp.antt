@@ -7,7 +7,7 @@ use Rattle.path_text.specs.declared.errno.Errno.TheVariants.{NoMemory}
 use Rattle.tree_model.specs.declared.answer.Answer.TheVariants.{Refused}
 use Rattle.tree_model.specs.StepWith.{StepWith}
 use Rattle.root_ops.specs.declared.below.Below.{Below}
-use Rattle.root_ops.specs.Order.{Reply, opened, link_text, done, count, stepped, kept, fault, Doing, CallTurn, more, ends, take, due}
+use Rattle.root_ops.specs.Order.{Reply, opened, Doing, CallTurn, more, ends, take, due}
 use Rattle.root_ops.specs.View.{CallView}
 use Rattle.race_core.specs.declared.report.Outcome.{Outcome}
 use Rattle.race_core.specs.declared.seat.Seat.{Seat}
@@ -49,12 +49,7 @@ without_memory a below book room doing none = on (is_close (due below doing)) re
 
 tells_none : (reply : Reply) → OpensNone reply → tells_opened (outcome_of reply) ≡ false
 tells_none (opened handle names) none = absurd none
-tells_none (link_text text) none = refl
-tells_none done none = refl
-tells_none (count n) none = refl
-tells_none (stepped answer) none = refl
-tells_none (kept standing) none = refl
-tells_none (fault error) none = refl
+tells_none reply none = refl
 
 -- what an actor's outcomes come to
 pub record IsTold (old new : Seat) : Type 0 where

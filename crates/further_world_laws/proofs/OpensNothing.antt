@@ -16,7 +16,7 @@ use Rattle.root_ops.specs.declared.aim.Wanted.TheVariants as wants
 use Rattle.root_ops.specs.declared.below.Below.{Below}
 use Rattle.root_ops.specs.declared.op.Op.{Op}
 use Rattle.root_ops.specs.declared.op.Request.{Request}
-use Rattle.root_ops.specs.Order.{Reply, opened, link_text, done, count, stepped, kept, fault, After, gives, acts, Doing, walking, acting, checking, closing, making, removing, releasing, CallTurn, more, ends, reply_to, held_by, way_of, make_way, makes, removing_turn, checked, starts, take, due}
+use Rattle.root_ops.specs.Order.{Reply, opened, fault, After, gives, acts, Doing, walking, acting, checking, closing, making, removing, releasing, CallTurn, more, ends, reply_to, held_by, way_of, make_way, makes, removing_turn, checked, starts, take, due}
 use Rattle.root_ops.specs.Order as call
 use Rattle.root_ops.specs.TurnView.{below_of}
 use Rattle.root_ops.specs.View.{CallView}
@@ -36,23 +36,12 @@ use Rattle.further_world_laws.proofs.PlainTurns.{IsPlain, walked_plain, checked_
 
 abbrev pub OpensNone : Reply → Type 0
 OpensNone (opened handle names) = ⊥
-OpensNone (link_text text) = Unit {0}
-OpensNone done = Unit {0}
-OpensNone (count n) = Unit {0}
-OpensNone (stepped answer) = Unit {0}
-OpensNone (kept standing) = Unit {0}
-OpensNone (fault error) = Unit {0}
+OpensNone reply = Unit {0}
 
 -- where closings are due that end the call, it has opened nothing that it tells
 abbrev pub ClosesToNone : Doing → Type 0
-ClosesToNone (walking w aim) = Unit {0}
-ClosesToNone (acting wanted step hs) = Unit {0}
-ClosesToNone (checking old new renaming) = Unit {0}
 ClosesToNone (closing h hs (gives reply)) = OpensNone reply
-ClosesToNone (closing h hs (acts wanted step ks)) = Unit {0}
-ClosesToNone (making m) = Unit {0}
-ClosesToNone (removing r) = Unit {0}
-ClosesToNone (releasing h) = Unit {0}
+ClosesToNone doing = Unit {0}
 
 -- so it is at a turn that goes on
 abbrev pub GoesToNone : CallTurn → Type 0
@@ -106,21 +95,13 @@ cleared_so (remove.failed error) = tt
 
 walk_refused : (way : Way) (room : Bool) (w : Walking) (error : Errno) → FindsNone (walk.take way room w (Refused error))
 walk_refused way room (walk.opening position own follow n rest) error = not_opened way position own follow n rest error
-walk_refused way room (walk.reading position link rest) error = tt
 walk_refused way room (walk.rising old names rest) error = not_risen way old error
-walk_refused way room (walk.judging new names rest) error = tt
-walk_refused way room (walk.duping rest) error = tt
-walk_refused way room (walk.ending handle names rest) error = tt
 walk_refused way room (walk.closing h hs after) error = closed way hs after
+walk_refused way room w error = tt
 
 walk_closed : (way : Way) (room : Bool) (w : Walking) (answer : Answer) → is_close (walk.due way w) ≡ true → FindsNone (walk.take way room w answer)
-walk_closed way room (walk.opening position own follow n rest) answer e = absurd (false≢true e)
-walk_closed way room (walk.reading position link rest) answer e = absurd (false≢true e)
-walk_closed way room (walk.rising old names rest) answer e = absurd (false≢true e)
-walk_closed way room (walk.judging new names rest) answer e = absurd (false≢true e)
-walk_closed way room (walk.duping rest) answer e = absurd (false≢true e)
-walk_closed way room (walk.ending handle names rest) answer e = absurd (false≢true e)
 walk_closed way room (walk.closing h hs after) answer e = closed way hs after
+walk_closed way room w answer e = absurd (false≢true e)
 
 -- a MkdirAll that isn't done
 abbrev MakesNone : make.MakeTurn → Type 0
@@ -154,18 +135,15 @@ goes_down_so held names (n ∷ left) = tt
 make_refused : (way : Way) (room : Bool) (m : make.Making) (error : Errno) → MakesNone (make.take way room m (Refused error))
 make_refused way room (make.walking w) error = make_walked room (walk.take way room w (Refused error)) (walk_refused way room w error)
 make_refused way room (make.making held names n left) error = not_made_so held names n left error
-make_refused way room (make.opening held names n left) error = tt
 make_refused way room (make.leaving old new names left) error = goes_down_so new names left
-make_refused way room (make.ending held names) error = tt
 make_refused way room (make.closing h hs why) error = make_given_up hs why
+make_refused way room m error = tt
 
 make_closed : (way : Way) (room : Bool) (m : make.Making) (answer : Answer) → is_close (make.due way m) ≡ true → MakesNone (make.take way room m answer)
 make_closed way room (make.walking w) answer e = make_walked room (walk.take way room w answer) (walk_closed way room w answer e)
-make_closed way room (make.making held names n left) answer e = absurd (false≢true e)
-make_closed way room (make.opening held names n left) answer e = absurd (false≢true e)
 make_closed way room (make.leaving old new names left) answer e = goes_down_so new names left
-make_closed way room (make.ending held names) answer e = absurd (false≢true e)
 make_closed way room (make.closing h hs why) answer e = make_given_up hs why
+make_closed way room m answer e = absurd (false≢true e)
 
 -- a step that isn't made opens nothing
 pub refused_opens_none : (below : Below) (room : Bool) (doing : Doing) (error : Errno) → ClosesToNone doing → EndsInNone (take below room doing (Refused error))

@@ -25,21 +25,15 @@ use Rattle.root_ops.specs.declared.aim.Wanted.TheVariants as wants
 use Rattle.root_ops.specs.declared.below.Below.{Below}
 use Rattle.root_ops.specs.declared.op.Op.{Op}
 use Rattle.root_ops.specs.declared.op.Op.TheVariants.{Resolve, ResolveNoFollow, ReadLink, CreateFile, CreateDir, CreateLink, RemoveFile, RemoveDir, Rename, MkdirAll, RemoveAll, Single, Release}
-use Rattle.root_ops.specs.Order.{kept, fault, stepped, gives, acts, Doing, walking, acting, checking, closing, making, removing, releasing, CallTurn, more, ends, rename_step, held_by, way_of, make_way, makes, removing_turn, reached, checked, is_single, same_owner, starts}
+use Rattle.root_ops.specs.Order.{kept, fault, stepped, gives, acts, Doing, acting, checking, closing, releasing, CallTurn, more, ends, rename_step, held_by, way_of, make_way, makes, removing_turn, reached, checked, is_single, same_owner, starts}
 use Rattle.root_ops.specs.Order as call
 
 abbrev pub IsPlainDoing : Doing → Type 0
-IsPlainDoing (walking w aim) = Unit {0}
 IsPlainDoing (acting wants.Any step hs) = is_single step ≡ true
-IsPlainDoing (acting wanted step hs) = Unit {0}
-IsPlainDoing (checking old new renaming) = Unit {0}
 IsPlainDoing (closing h hs (gives (fault error))) = Unit {0}
 IsPlainDoing (closing h hs (gives reply)) = ⊥
 IsPlainDoing (closing h hs (acts wants.Any step ks)) = ⊥
-IsPlainDoing (closing h hs (acts wanted step ks)) = Unit {0}
-IsPlainDoing (making m) = Unit {0}
-IsPlainDoing (removing r) = Unit {0}
-IsPlainDoing (releasing h) = Unit {0}
+IsPlainDoing doing = Unit {0}
 
 abbrev pub IsPlain : CallTurn → Type 0
 IsPlain (more doing) = IsPlainDoing doing
