@@ -180,10 +180,6 @@ pub at_refused : (n : ℕ) (error : Errno) → at_number n (Refused error) ≡ R
 unfolding at_number
 at_refused n error = refl
 
-pub shows_tells : (s : State) (o : Option (List (List ℕ))) → only_tells (shows s o).answer ≡ true
-shows_tells s None = refl
-shows_tells s (Some names) = refl
-
 -- what was looked up with others
 pub passed_name : (t : State) (k d : ℕ) (name : List ℕ) (nodes : List Inode) (c : ℕ) (what : Object) → t.nodes ≡ nodes
     → held t 0 k ≡ Some d → is_full t 0 ≡ false → is_dir nodes d ≡ true → child nodes d name ≡ Some c
