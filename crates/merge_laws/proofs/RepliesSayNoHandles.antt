@@ -1,7 +1,5 @@
 -- No reply of a world that was opened for plans says a handle's number.
-use Rattle.std.specs.Prelude.{◌≡◌, ℕ, zero, suc, List, [], ◌∷◌, ◌++◌, Bool, Option, Some, None, Result, Ok, Err, slice_get, slice_set, refl}
-use Rattle.std.proofs.Common.{subst}
-use Rattle.std.proofs.lemmas.Option.{none-some, same_Some}
+use Rattle.std.specs.Prelude.{◌≡◌, ℕ, suc, List, [], ◌∷◌, ◌++◌, Bool, Option, Some, None, Result, Ok, Err, refl}
 use Rattle.path_text.specs.declared.errno.Errno.{Errno}
 use Rattle.path_text.specs.declared.errno.Errno.TheVariants.{BadHandle}
 use Rattle.tree_model.specs.declared.answer.Answer.{Answer}
@@ -10,7 +8,7 @@ use Rattle.tree_model.specs.State.{State}
 use Rattle.tree_model.specs.Steps.{grants}
 use Rattle.root_ops.specs.declared.below.Below.{Below}
 use Rattle.root_ops.specs.declared.op.Request.{Request}
-use Rattle.root_ops.specs.Order.{Reply, opened, link_text, done, count, stepped, kept, fault, CallTurn, more, ends, starts, take, due}
+use Rattle.root_ops.specs.Order.{Reply, stepped, fault, CallTurn, more, ends, starts, take, due}
 use Rattle.root_ops.specs.TurnView.{below_of}
 use Rattle.root_ops.specs.View.{CallView}
 use Rattle.call_plans.specs.declared.plan.ActorPlan.{ActorPlan}
@@ -23,21 +21,18 @@ use Rattle.race_core.specs.Ledgers.{LedgerView}
 use Rattle.race_core.specs.Opening.{Grants, before, onward_from, granted, root_in, seats_of}
 use Rattle.race_core.specs.Renamed.{answer_by, outcome_by, outcomes_by, replies_by}
 use Rattle.race_core.specs.Turns.{Luck, stepped_by, opened_ledger, outcome_of, comes, begins, begins_next, begun, goes_on, turned, request_of, left_by}
-use Rattle.race_core.specs.Worlds.{WorldView, turn_of, turn, ledgers_in, replies_in}
+use Rattle.race_core.specs.Worlds.{WorldView, turn, ledgers_in, replies_in}
 use Rattle.local_states.specs.Worlds.{full, after_turns}
 use Rattle.explore.specs.Opened.{world_over, opened_world}
+use Rattle.further_world_laws.proofs.EachSeat.{EachSeat, turn_keeps}
 use Rattle.merge_laws.specs.Merged.{RepliesSayNoHandles}
 use Rattle.merge_laws.proofs.CallsSayNoHandles.{SaysNone, TellsNone, WillTellNone, ComesToNone, stepped_so, taken_so, starts_so}
 
 -- ---- an actor
 
 abbrev OutcomeSaysNone : Outcome → Type 0
-OutcomeSaysNone (outcome.Opened x kind names) = Unit {0}
-OutcomeSaysNone (outcome.Text text) = Unit {0}
-OutcomeSaysNone outcome.Done = Unit {0}
-OutcomeSaysNone (outcome.Count n) = Unit {0}
 OutcomeSaysNone (outcome.Stepped answer) = SaysNone answer
-OutcomeSaysNone (outcome.Fault error) = Unit {0}
+OutcomeSaysNone o = Unit {0}
 
 abbrev AllSayNone : List Outcome → Type 0
 AllSayNone [] = Unit {0}
@@ -55,13 +50,8 @@ one_more [] o none last = (last, tt)
 one_more (x ∷ os) o none last = (none.0, one_more os o none.1 last)
 
 ends_so : (reply : Reply) → TellsNone reply → OutcomeSaysNone (outcome_of reply)
-ends_so (opened handle names) none = tt
-ends_so (link_text text) none = tt
-ends_so done none = tt
-ends_so (count n) none = tt
 ends_so (stepped answer) none = none
-ends_so (kept standing) none = tt
-ends_so (fault error) none = tt
+ends_so reply none = tt
 
 comes_so : (ledger : LedgerView) (below : Below) (t : CallTurn) → AllSayNone ledger.outcomes → ComesToNone t → SeatSaysNone (comes ledger below t)
 comes_so ledger below (more doing) said none = (said, none)
@@ -100,29 +90,11 @@ turned_so luck book seat none =
 -- ---- all actors
 
 abbrev SeatsSayNone : List Seat → Type 0
-SeatsSayNone [] = Unit {0}
-SeatsSayNone (seat ∷ seats) = SeatSaysNone seat × SeatsSayNone seats
-
-one_so : (seats : List Seat) (i : ℕ) (seat : Seat) → SeatsSayNone seats → slice_get seats i ≡ Some seat → SeatSaysNone seat
-one_so [] i seat all e = absurd (none-some seat e)
-one_so (s ∷ seats) zero seat all e = subst (λ (t : Seat). SeatSaysNone t) (same_Some s seat e) all.0
-one_so (s ∷ seats) (suc i) seat all e = one_so seats i seat all.1 e
-
-set_so : (seats : List Seat) (i : ℕ) (seat : Seat) → SeatsSayNone seats → SeatSaysNone seat → SeatsSayNone (slice_set seats i seat)
-set_so [] i seat all none = tt
-set_so (s ∷ seats) zero seat all none = (none, all.1)
-set_so (s ∷ seats) (suc i) seat all none = (all.0, set_so seats i seat all.1 none)
-
-turn_so : (luck : Luck) (w : WorldView) (i : ℕ) → SeatsSayNone w.seats → SeatsSayNone (turn luck w i).seats
-turn_so luck w i all = on (slice_get w.seats i) refl
-  where
-    on : (o : Option Seat) → slice_get w.seats i ≡ o → SeatsSayNone (turn_of luck w i o).seats
-    on None e = all
-    on (Some seat) e = set_so w.seats i (turned luck w.book seat.ledger seat.doing).seat all (turned_so luck w.book seat (one_so w.seats i seat all e))
+SeatsSayNone = EachSeat SeatSaysNone
 
 after_so : (w : WorldView) (is : List ℕ) → SeatsSayNone w.seats → SeatsSayNone (after_turns w is).seats
 after_so w [] all = all
-after_so w (i ∷ is) all = after_so (turn full w i) is (turn_so full w i all)
+after_so w (i ∷ is) all = after_so (turn full w i) is (turn_keeps SeatSaysNone turned_so full w i all)
 
 -- ---- a world that is opened
 
@@ -152,20 +124,11 @@ opened_so s lines (Err refusal) none = tt
 module _ (f : ℕ → ℕ) where
   answer_same : (answer : Answer) → SaysNone answer → answer_by f answer ≡ answer
   answer_same (answers.Opened h x kind) none = absurd none
-  answer_same (answers.Text text) none = refl
-  answer_same (answers.Names names) none = refl
-  answer_same answers.NotBelow none = refl
-  answer_same (answers.Listed names) none = refl
-  answer_same answers.Done none = refl
-  answer_same (answers.Refused error) none = refl
+  answer_same answer none = refl
 
   outcome_same : (o : Outcome) → OutcomeSaysNone o → outcome_by f o ≡ o
-  outcome_same (outcome.Opened x kind names) none = refl
-  outcome_same (outcome.Text text) none = refl
-  outcome_same outcome.Done none = refl
-  outcome_same (outcome.Count n) none = refl
   outcome_same (outcome.Stepped answer) none = λ i. outcome.Stepped (answer_same answer none i)
-  outcome_same (outcome.Fault error) none = refl
+  outcome_same o none = refl
 
   outcomes_same : (os : List Outcome) → AllSayNone os → outcomes_by f os ≡ os
   outcomes_same [] none = refl
