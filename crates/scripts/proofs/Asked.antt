@@ -1,5 +1,5 @@
 -- The turns that pieces of a text say, read one after another.
-use Rattle.std.proofs.Common.{◌≡◌, ℕ, ◌+◌, ◌<◌, ◌≤◌, Bool, Bor, inl, inr, true, false, cond, List, [], ◌∷◌, ◌++◌, length, map, drop, get_or, refl, sym, ap, ◌∙◌, subst, append_assoc}
+use Rattle.std.proofs.Common.{◌≡◌, ℕ, ◌+◌, ◌<◌, ◌≤◌, Bool, Bor, inl, inr, true, false, cond, List, [], ◌∷◌, ◌++◌, length, map, drop, get_or, refl, ap, ◌∙◌, subst}
 use Rattle.std.specs.Prelude.{◌≢◌, Option, Some, None, Result, Ok, Err, IfOk, MatchOption, codes, nat_lt}
 use Rattle.std.proofs.lemmas.List.{append-nil, drop_more, drop_all}
 use Rattle.scripts.specs.declared.turns.Turns.{Turns}
@@ -13,20 +13,6 @@ use Rattle.tree_model.specs.Entries.{refuse_if}
 pub record IsSaidSoFar (pieces left : List (List ℕ)) (all : List Turns) : Type 0 where
   pub onward : (rest : List Turns) → AllSay left rest → AllSay pieces (all ++ rest)
   pub back : (turns : List Turns) → AllSay pieces turns → (rest : List Turns) × AllSay left rest
-
-pub nothing_said : (pieces : List (List ℕ)) → IsSaidSoFar pieces pieces []
-nothing_said pieces = record { onward = λ rest says. says; back = λ turns says. (turns, says) }
-
-pub one_more : (pieces : List (List ℕ)) (piece : List ℕ) (left : List (List ℕ)) (all : List Turns) (turns : Turns) → AreTurns (words_of piece) turns
-    → IsSaidSoFar pieces (piece ∷ left) all → IsSaidSoFar pieces left (all ++ turns ∷ [])
-one_more pieces piece left all turns says so_far = record {
-  onward = λ rest others. subst (λ (is : List Turns). AllSay pieces is) (sym (append_assoc all (turns ∷ []) rest)) (so_far.onward (turns ∷ rest) (says, others));
-  back = λ whole all_say. let r = so_far.back whole all_say in by r.0 r.1;
-}
-  where
-    by : (rest : List Turns) → AllSay (piece ∷ left) rest → (more : List Turns) × AllSay left more
-    by [] says = absurd says
-    by (first ∷ more) says = (more, says.1)
 
 -- where a piece says none, the whole says none
 pub none_said : (pieces : List (List ℕ)) (piece : List ℕ) (left : List (List ℕ)) (all : List Turns) → ((turns : Turns) → AreTurns (words_of piece) turns → ⊥)
