@@ -13,9 +13,6 @@ module _ {X : Type 0} (along : X → X → Bool) (itself : (x : X) → along x x
   apart_in [] = true
   apart_in (x ∷ xs) = not (list_any (along x) xs) && apart_in xs
 
-  passes : (X → Bool) → X → ℕ
-  passes p x = cond (p x) 1 0
-
   one_more : (p : X → Bool) (x : X) (xs : List X) → p x ≡ true → count_by p (x ∷ xs) ≡ suc (count_by p xs)
   one_more p x xs e = let here : ◌≡◌ {A = ℕ} (cond (p x) 1 0) 1 = ap (λ b. cond b 1 0) e in omega (arith, here, sum_by-cons (λ y. cond (p y) 1 0) x xs)
 

@@ -49,9 +49,6 @@ few_lists all look = by (list_any (has_look look) all)
     by true = omega arith
     by false = omega arith
 
-same : Bor (List ℕ) → Bor (List ℕ) → Bool
-same x y = same_bytes x.now y.now
-
 module _ {S : Type 0} (old new : HashMap (Bor (List ℕ)) ℕ S) (told : Told) (key : Bor (List ℕ)) (is : key.now ≡ told.look) where
   -- the table has one more outcome's lists
   pub sums_more : (all : List Told) (lists : ℕ) → AreSums old all → lists ≡ min (unwrap_or (entry_of old key) 0 + told.lists) COUNT_MAX
