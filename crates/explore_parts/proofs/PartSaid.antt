@@ -50,9 +50,6 @@ items_shallow f n each (x ∷ xs) = omega (arith, each x, items_shallow f n each
 
 -- ---- numbers and texts
 
-abbrev IsCount : ℕ → Type 0
-IsCount n = n < 2 ^ 64
-
 abbrev IsActor : ℕ → Type 0
 IsActor n = n < 2 ^ 32
 
