@@ -1,0 +1,50 @@
+//! The laws of whole calls, of single steps and of calls from C are called as a caller has them at hand. They do
+//! nothing.
+
+#[test]
+fn laws_of_whole_calls() {
+    call_course::what_is_given_is_all_that_stays_open();
+    call_course::its_own_proc_is_closed();
+    call_course::what_was_changed_is_not_begun_again();
+    call_course::another_proc_is_tried_once();
+    call_course::tries_are_few();
+    call_course::the_thread_goes_home();
+    call_course::the_roots_errors_come_first();
+    call_course::the_own_root_is_checked_first();
+    call_course::why_it_fails();
+    call_course::exchanges_are_few();
+}
+
+#[test]
+fn laws_of_single_steps() {
+    step_calls::opens_stood();
+    step_calls::parents_stood();
+    step_calls::there_stood();
+    step_calls::links_were_read();
+    step_calls::links_are_followed_by_leave();
+    step_calls::each_descriptor_is_closed_once();
+    step_calls::no_error_is_passed_over();
+    step_calls::changes_stood();
+    step_calls::renames_stood();
+    step_calls::a_change_is_made_once();
+    step_calls::refusals_are_the_steps_own();
+    step_calls::above_is_found_by_leave();
+    step_calls::calls_are_few();
+    step_calls::what_is_known_was_shown_last();
+}
+
+#[test]
+fn laws_of_calls_from_c() {
+    c_protocol::conversations_are_calls();
+    c_protocol::conversations_tell();
+    c_protocol::conversations_with_runs_tell();
+    c_protocol::opens_at_once_tell();
+    c_protocol::fails_at_once_tell();
+    c_protocol::opens_through_tell();
+    c_protocol::paths_that_lead_on();
+    c_protocol::conversations_close();
+    c_protocol::unmade_steps_end_calls();
+    c_protocol::seen_below_tell();
+    c_protocol::links_seen_below_tell();
+    c_protocol::steps_are_refused_so();
+}

@@ -1,0 +1,13 @@
+//! Calls from C: whole ones, their single steps, their turns, and what is decided of one by its numbers and its path.
+#![tactic(auto)]
+
+#[cfg(test)]
+mod c_paths;
+#[cfg(test)]
+mod c_turns;
+#[cfg(test)]
+mod callings;
+#[cfg(test)]
+mod laws;
+#[cfg(test)]
+mod steps;
