@@ -28,23 +28,6 @@ void inroot_jail_done(void)
 
 /* ---- the current directory of a thread in a jail */
 
-/*
- * Threads that this one made since it moved share its current directory, and may have changed it. From here to the end of the
- * call it is this thread's own.
- */
-static bool be_alone(struct inroot_driver *d)
-{
-    char path[2];
-    if (d->alone)
-        return true;
-    if (unshare(CLONE_FS) != 0)
-        return false;
-    d->alone = true;
-    /* No directory but the thread's root has a path of one byte. */
-    d->moved = syscall(SYS_getcwd, path, sizeof path) != sizeof path;
-    return true;
-}
-
 bool inroot_jail_enter(struct inroot_driver *d, int fd)
 {
     if (!d->alone && unshare(CLONE_FS) != 0)
@@ -53,6 +36,10 @@ bool inroot_jail_enter(struct inroot_driver *d, int fd)
     return fchdir(fd) == 0;
 }
 
+/*
+ * Threads that this one made since it moved share its current directory, and may have changed it. From here to the end of the
+ * call it is this thread's own. Its path wouldn't say whether it is the root: what is mounted over that has the same one.
+ */
 bool inroot_jail_start(struct inroot_driver *d, int *dir)
 {
     int kept = *dir == INROOT_JAILED ? inroot_trust_root() : *dir;
@@ -60,7 +47,11 @@ bool inroot_jail_start(struct inroot_driver *d, int *dir)
         *dir = kept;
         return true;
     }
-    if (!be_alone(d) || (d->moved && chdir("/") != 0))
+    if (!d->alone && unshare(CLONE_FS) != 0)
+        return false;
+    d->moved |= !d->alone;
+    d->alone = true;
+    if (d->moved && chdir("/") != 0)
         return false;
     d->moved = false;
     *dir = AT_FDCWD;

@@ -207,13 +207,29 @@ static void look_up(struct search *s)
         s->answer.yes = !inroot_has_openat2();
 }
 
-/* The root is opened anew, so that the call goes on with it if the object is the root. */
+/* The root is opened anew, so that the call goes on with it if the object is the root. That of a jail is the thread's own. */
 static void find_root(struct search *s)
 {
-    s->found = openat(s->root, ".", O_PATH | O_DIRECTORY | O_CLOEXEC);
+    const bool jailed = s->root == INROOT_JAILED;
+    s->found = openat(jailed ? AT_FDCWD : s->root, jailed ? "/" : ".", O_PATH | O_DIRECTORY | O_CLOEXEC);
     note(s, s->found);
     if (s->found >= 0)
         compare(s);
+}
+
+/*
+ * A slash alone is also the path of what is mounted over the root, to which `..` leads. If that is the root once more, by another
+ * mount, the call goes on with the root itself.
+ */
+static void read_path(struct search *s)
+{
+    enum inroot_kind kind;
+    s->text_length = note(s, read_cwd(s->text, INROOT_TEXT_MAX));
+    if (s->text_length != sizeof "/" || inroot_is_entry(AT_FDCWD, "/", s->slot->fd, &kind))
+        return;
+    find_root(s);
+    if (s->answer.error == 0 && !inroot_is_same_object(&s->answer.held, &s->answer.found, true))
+        s->answer.error = EAGAIN;
 }
 
 /* The call goes on with what was found, if it is the object, so that no step rests on the numbers that were compared. */
@@ -234,7 +250,7 @@ static void ask(struct search *s)
     s->answer.yes = false;
     switch (s->told.what) {
     case INROOT_PLACE_ENTER: note(s, inroot_jail_enter(s->d, s->slot->fd) ? 0 : -1); break;
-    case INROOT_PLACE_CWD: s->text_length = note(s, read_cwd(s->text, INROOT_TEXT_MAX)); break;
+    case INROOT_PLACE_CWD: read_path(s); break;
     case INROOT_PLACE_CWD_AGAIN: read_cwd_again(s); break;
     case INROOT_PLACE_KEPT_LINK: s->text_length = note(s, kept_link(s)); break;
     case INROOT_PLACE_ROOT_LINK: read_root(s); break;
