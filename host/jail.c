@@ -28,18 +28,27 @@ void inroot_jail_done(void)
 
 /* ---- the current directory of a thread in a jail */
 
-bool inroot_jail_enter(struct inroot_driver *d, int fd)
-{
-    if (!d->alone && unshare(CLONE_FS) != 0)
-        return false;
-    d->alone = d->moved = true;
-    return fchdir(fd) == 0;
-}
-
 /*
  * Threads that this one made since it moved share its current directory, and may have changed it. From here to the end of the
  * call it is this thread's own. Its path wouldn't say whether it is the root: what is mounted over that has the same one.
  */
+static bool be_alone(struct inroot_driver *d)
+{
+    if (!d->alone && unshare(CLONE_FS) != 0)
+        return false;
+    d->moved |= !d->alone;
+    d->alone = true;
+    return true;
+}
+
+bool inroot_jail_enter(struct inroot_driver *d, int fd)
+{
+    if (!be_alone(d))
+        return false;
+    d->moved = true;
+    return fchdir(fd) == 0;
+}
+
 bool inroot_jail_start(struct inroot_driver *d, int *dir)
 {
     int kept = *dir == INROOT_JAILED ? inroot_trust_root() : *dir;
@@ -47,11 +56,7 @@ bool inroot_jail_start(struct inroot_driver *d, int *dir)
         *dir = kept;
         return true;
     }
-    if (!d->alone && unshare(CLONE_FS) != 0)
-        return false;
-    d->moved |= !d->alone;
-    d->alone = true;
-    if (d->moved && chdir("/") != 0)
+    if (!be_alone(d) || (d->moved && chdir("/") != 0))
         return false;
     d->moved = false;
     *dir = AT_FDCWD;

@@ -24,10 +24,10 @@ struct asking {
     struct inroot_asking_answer answer;
 };
 
-static uint32_t look(struct asking *a, int dir, const char *name)
+static uint32_t look(struct asking *a, int fd)
 {
     struct inroot_which which;
-    if (!inroot_find_which(dir, name, &which))
+    if (!inroot_find_which(fd, "", &which))
         return (uint32_t)errno;
     a->slot->kind = inroot_kind_of(which.mode);
     a->answer.object = which.object;
@@ -72,6 +72,23 @@ static int open_names(int root, char *names)
 }
 
 /*
+ * The same of the place's names. In a jail they begin at the thread's own root: a path from there could lead out of it by a link
+ * of proc(5).
+ */
+static int open_place(const struct asking *a)
+{
+    if (a->root != INROOT_JAILED)
+        return open_names(a->root, a->text + 1);
+    int top = open("/", O_PATH | O_DIRECTORY | O_CLOEXEC);
+    int found = top < 0 ? top : open_names(top, a->text + 1);
+    int error = errno;
+    if (top >= 0 && found != top)
+        close(top);
+    errno = error;
+    return found;
+}
+
+/*
  * Whether the names lead from the root to the object: 0 or an error's number. If an object was opened in another mount namespace,
  * or the root is mounted nowhere, a text tells nothing of the one below the other. The slot goes on with what was found: so no step
  * leads up another tree.
@@ -81,7 +98,7 @@ static uint32_t look_for(struct asking *a)
     enum inroot_kind kind;
     if (a->text[1] == 0)
         return 0;
-    int found = open_names(a->root, a->text + 1);
+    int found = open_place(a);
     if (found < 0)
         return errno == ENOENT || errno == ENOTDIR ? EAGAIN : (uint32_t)errno;
     bool same = inroot_is_entry(found, "", a->slot->fd, &kind);
@@ -91,13 +108,13 @@ static uint32_t look_for(struct asking *a)
     return same ? 0 : EAGAIN;
 }
 
-/* Without openat2(2) a text alone has told the place. In a jail it is that of the thread's own root. */
+/* Without openat2(2) a text alone has told the place. */
 static uint32_t find(struct asking *a)
 {
     struct inroot_result result = inroot_find_place(a->d, a->root, a->slot, a->text, &a->answer.length);
     const bool alone = !inroot_has_openat2(), jailed = a->root == INROOT_JAILED;
     uint32_t error = result.what == INROOT_ANSWER_NAMES ? 0 : (uint32_t)a->d->unmade;
-    if (error == 0 && alone && !jailed)
+    if (error == 0 && alone && (!jailed || a->slot->kind == INROOT_KIND_DIR))
         error = look_for(a);
     /* A look-up was made while the copy was open, so it has another number. */
     a->slot->is_shared = a->slot->fd == a->copied;
@@ -108,15 +125,18 @@ static uint32_t find(struct asking *a)
 
 static uint32_t look_up(struct asking *a)
 {
-    int dir = INROOT_JAILED;
-    return inroot_jail_start(a->d, &dir) ? look(a, dir, a->text + 1) : (uint32_t)errno;
+    int found = open_place(a);
+    uint32_t error = found < 0 ? (uint32_t)errno : look(a, found);
+    if (found >= 0)
+        close(found);
+    return error;
 }
 
 /* Asks what comes next. Gives 0 or an error's number. */
 static uint32_t turn(struct asking *a)
 {
     switch (a->course.next) {
-    case INROOT_ASKING_LOOK: return look(a, a->fd, "");
+    case INROOT_ASKING_LOOK: return look(a, a->fd);
     case INROOT_ASKING_COPY: return copy(a);
     case INROOT_ASKING_FIND: return find(a);
     case INROOT_ASKING_LOOK_UP: return look_up(a);
