@@ -25,32 +25,44 @@ static const char *kind_of(mode_t mode)
     }
 }
 
-/* Prints where the link in /proc of what was opened says that it stands, and its kind before. */
-static enum fs_status tell_object(const struct fs_call *call, int object, bool with_kind)
+/* Writes the root's path, as the kernel tells it, and behind it the object's below the root: how long both are, or -errno. */
+static ssize_t find_place(const struct fs_call *call, int object, char place[2 * PATH_MAX])
 {
-    char link[32], place[PATH_MAX];
-    struct stat about;
-    snprintf(link, sizeof link, "/proc/self/fd/%d", object);
-    ssize_t length = readlink(link, place, sizeof place);
-    if (length < 0 || fstat(object, &about) != 0)
-        return fs_fault(call, "what was opened can't be told", errno);
+    char link[32], below[PATH_MAX];
+    snprintf(link, sizeof link, "/proc/self/fd/%d", call->root);
+    ssize_t above = readlink(link, place, PATH_MAX);
+    if (above < 0)
+        return -errno;
+    ssize_t length = inroot_place(call->root, object, below, sizeof below);
+    if (length < 0)
+        return length;
+    /* Of a slash alone the other one has the slash. */
+    if (above == 1)
+        above = 0;
+    if (length == 1 && above > 0)
+        length = 0;
+    memcpy(place + above, below, (size_t)length);
+    return above + length;
+}
+
+/* Prints the object's place, and its kind before. */
+static enum fs_status find_and_tell(const struct fs_call *call, bool with_kind)
+{
+    char place[2 * PATH_MAX];
+    struct stat about = {0};
+    int object = inroot_open(call->root, call->words[0], call->flags);
+    ssize_t length = object < 0 ? object : fstat(object, &about) != 0 ? -errno : find_place(call, object, place);
+    if (object >= 0)
+        close(object);
+    if (length < 0) {
+        if (with_kind)
+            printf("fault %s\n", error_name((int)-length));
+        return fs_refused(call, call->words[0], (int)-length);
+    }
     if (with_kind)
         printf("opened %s ", kind_of(about.st_mode));
     fs_print_line(call, place, (size_t)length);
     return FS_DONE;
-}
-
-static enum fs_status find_and_tell(const struct fs_call *call, bool with_kind)
-{
-    int object = inroot_open(call->root, call->words[0], call->flags);
-    if (object < 0) {
-        if (with_kind)
-            printf("fault %s\n", error_name(-object));
-        return fs_refused(call, call->words[0], -object);
-    }
-    enum fs_status status = tell_object(call, object, with_kind);
-    close(object);
-    return status;
 }
 
 enum fs_status fs_resolve(const struct fs_call *call)

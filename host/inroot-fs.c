@@ -299,7 +299,16 @@ static enum fs_status run_line(int count, char **words)
     return run(count, words);
 }
 
+/* The number of a standard file that is closed is no other file's: what is told would be written there. */
+static bool hold_standard_files(void)
+{
+    for (int fd = 0; fd <= STDERR_FILENO; fd++)
+        if (fcntl(fd, F_GETFD) < 0 && open("/", O_PATH | O_DIRECTORY | O_CLOEXEC) != fd)
+            return false;
+    return true;
+}
+
 int main(int count, char **words)
 {
-    return (int)run_line(count, words);
+    return hold_standard_files() ? (int)run_line(count, words) : FS_FAULT;
 }

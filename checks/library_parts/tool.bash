@@ -106,6 +106,13 @@ expect 0 '' '' write a/chain-1 <<<made
 expect 0 made '' cat a/made
 expect 1 '' "inroot-fs: write 'loop': ELOOP: Too many levels of symbolic links" write loop <<<lost
 rm "$box/a/chain-1" "$box/chain-2" "$box/loop" "$box/a/made"
+# Where standard files are closed, what is told doesn't come to the file that is written.
+"$watched_fs" "$box" write closed <&- 2>&-
+[ $? -eq 4 ] && [ -f "$box/closed" ] && [ ! -s "$box/closed" ]
+verdict $? "inroot-fs write without standard input and error: $(cat "$box/closed" 2>&1)"
+rm -f "$box/closed"
+[ "$("$watched_fs" / realpath /)" = / ] && [ "$("$watched_fs" / realpath "$box/a")" = "$(realpath "$box")/a" ]
+verdict $? "inroot-fs / realpath: $("$watched_fs" / realpath /) and $("$watched_fs" / realpath "$box/a")"
 # There is a /proc, which is a mount of its own.
 [ "$("$watched_fs" / resolve -D proc/version 2>/dev/null)" = 'fault EXDEV' ] &&
     [[ $("$watched_fs" / resolve proc/version) == 'opened file '*/version ]]
