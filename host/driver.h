@@ -343,11 +343,11 @@ const char *inroot_step_name(unsigned step);
 enum { INROOT_PROC_NAME = 48 };
 /*
  * A directory of a proc(5) that the library keeps open, and which one it is: none where the descriptor is INROOT_NONE. Of a top
- * also the number of its file system, by which another proc(5) is known.
+ * also the number of its file system, by which another proc(5) is known. Of one that was handed in also that of its mount, or 0.
  */
 struct inroot_own {
     int fd;
-    uint64_t device, inode, system;
+    uint64_t device, inode, mount, system;
 };
 /* Takes a descriptor over, by a number above those of the standard files: 0, or -errno and it is closed. */
 int inroot_proc_own(int fd, struct inroot_own *own);
@@ -530,6 +530,8 @@ int inroot_magic_follow(struct inroot_driver *d, int dir, const char *name);
 int inroot_partial(int root, int from, char *text, int flags, bool follows, size_t *rest);
 
 /* mount.c */
+/* The number of the mount that a descriptor is on, which no other mount ever gets (Linux 6.8); or 0 where the kernel doesn't tell. */
+uint64_t inroot_mount_unique(int fd);
 /* Whether an object is on the mount of the root, as far as the kernel shows it. */
 bool inroot_mount_has(struct inroot_driver *d, int fd);
 /* Returns the descriptor if it is on the mount of the root. Else closes it, and returns -1 with EXDEV. */

@@ -19,7 +19,7 @@ struct told {
 
 _Static_assert(sizeof(struct told) == 256 && offsetof(struct told, mount) == 144, "statx(2) tells so");
 
-enum { TELLS_MOUNT = 0x1000, DONT_SYNC = 0x4000 };
+enum { TELLS_MOUNT = 0x1000, TELLS_UNIQUE = 0x4000, DONT_SYNC = 0x4000 };
 
 /*
  * Asks for the mount's number, of Linux 5.8; else for the device, which two mounts of one file system share. The number 0 counts
@@ -37,6 +37,16 @@ static struct inroot_mount ask(int dir, const char *path)
 #endif
     bool is_known = fstatat(dir, path, &about, how) == 0;
     return (struct inroot_mount){.is_known = is_known, .number = is_known ? about.st_dev : 0};
+}
+
+uint64_t inroot_mount_unique(int fd)
+{
+#ifdef SYS_statx
+    struct told told;
+    if (syscall(SYS_statx, fd, "", AT_EMPTY_PATH | DONT_SYNC, TELLS_UNIQUE, &told) == 0 && told.mask & TELLS_UNIQUE)
+        return told.mount;
+#endif
+    return 0;
 }
 
 /* Asks on which mount the root is: in a jail, the thread's own root. The first handle of a call is the root's. */

@@ -3,7 +3,7 @@
  * the program. Before each use it checks that this is still that proc(5): the program may have closed the number, or it
  * may be another file's in a thread's own table of descriptors. Another file of that proc(5) lacks the names that the
  * library looks for: then the library checks whether it is the one that it opened, and does without. A program that hands
- * one in may know that /proc is covered: so the library never goes by /proc in its place.
+ * one in may know that /proc is covered: so the library never goes by /proc in its place, nor by another mount of the same one.
  */
 #define _GNU_SOURCE
 #include "driver.h"
@@ -20,7 +20,7 @@
 
 /* The program's descriptor; and that of a thread with a table of its own, which lacks the program's and can't open one later. */
 static atomic_int kept = INROOT_NONE;
-static _Atomic uint64_t kept_device, kept_inode, kept_system;
+static _Atomic uint64_t kept_device, kept_inode, kept_mount, kept_system;
 static _Thread_local struct inroot_own of_thread = {.fd = INROOT_NONE};
 
 /* Whether the program has handed one in. */
@@ -45,9 +45,12 @@ static bool find_system(int fd, uint64_t *system)
     return true;
 }
 
-static bool is_in(int fd, uint64_t system)
+/* Whether it is a file on that mount, or where that isn't known, of that file system. */
+static bool is_in(int fd, uint64_t mount, uint64_t system)
 {
-    uint64_t found;
+    uint64_t found = mount != 0 && fd >= 0 ? inroot_mount_unique(fd) : 0;
+    if (found != 0)
+        return found == mount;
     return find_system(fd, &found) && found == system;
 }
 
@@ -80,8 +83,9 @@ int inroot_proc_own(int fd, struct inroot_own *own)
 static bool is_own(const struct inroot_own *own)
 {
     struct stat about;
-    return inroot_proc_is(own->fd) && fstat(own->fd, &about) == 0 && about.st_dev == own->device &&
-           about.st_ino == own->inode;
+    const uint64_t mount = own->mount != 0 ? inroot_mount_unique(own->fd) : 0;
+    const bool is_there = mount != 0 ? mount == own->mount : inroot_proc_is(own->fd);
+    return is_there && fstat(own->fd, &about) == 0 && about.st_dev == own->device && about.st_ino == own->inode;
 }
 
 void inroot_proc_close(struct inroot_own *own)
@@ -123,6 +127,7 @@ static bool keep(const struct inroot_own *own)
         return false;
     kept_device = own->device;
     kept_inode = own->inode;
+    kept_mount = own->mount;
     kept_system = own->system;
     atomic_store(&kept, own->fd);
     return true;
@@ -131,7 +136,7 @@ static bool keep(const struct inroot_own *own)
 /* Whether it is the program's, and the number is still that of the directory that was opened. */
 static bool is_kept(int fd)
 {
-    const struct inroot_own own = {.fd = fd, .device = kept_device, .inode = kept_inode};
+    const struct inroot_own own = {.fd = fd, .device = kept_device, .inode = kept_inode, .mount = kept_mount};
     return is_own(&own);
 }
 
@@ -152,9 +157,9 @@ bool inroot_proc_is_lost(int proc)
 static int at_hand(bool surely)
 {
     int fd = atomic_load(&kept);
-    if (surely ? is_kept(fd) : is_in(fd, kept_system))
+    if (surely ? is_kept(fd) : is_in(fd, kept_mount, kept_system))
         return fd;
-    return (surely ? is_own(&of_thread) : is_in(of_thread.fd, of_thread.system)) ? of_thread.fd : INROOT_NONE;
+    return (surely ? is_own(&of_thread) : is_in(of_thread.fd, 0, of_thread.system)) ? of_thread.fd : INROOT_NONE;
 }
 
 int inroot_proc_open(bool surely, bool *is_callers)
@@ -273,6 +278,7 @@ static int take_over(int proc)
     int failed = fd < 0 ? -errno : own_top(fd, system, &own);
     if (failed)
         return failed;
+    own.mount = inroot_mount_unique(own.fd);
     if (keep(&own)) {
         atomic_store(&is_handed_in, true);
         return 0;

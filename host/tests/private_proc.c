@@ -1,7 +1,8 @@
 /*
  * private_proc: in a mount namespace whose /proc is covered, calls by inroot_use_private_proc() go on as they should: /proc as a
  * whole, and the directory of this thread's descriptors, by one with links that lead elsewhere. Where the program has closed it,
- * no call goes by another one. Nor does any by a proc(5) that the program has opened by the number of the one that it closed.
+ * no call goes by another one. Nor does any by a proc(5) that the program has opened by the number of the one that it closed, be it
+ * another mount of the same one.
  *
  * usage: private_proc DIR. Exits 0 where that holds. 78: no right to mount here, so that nothing was tried.
  */
@@ -148,7 +149,7 @@ static void another(void)
     apart_from_others();
     reads("by /proc", 0);
     snprintf(other, sizeof other, "%s/proc", where);
-    sure(mkdir(other, 0755), other);
+    sure(mkdir(other, 0755) == 0 || errno == EEXIST ? 0 : -1, other);
     if (mount("proc", other, "proc", 0, NULL) != 0 || number_of(other) == number_of("/proc"))
         _exit(NO_RIGHT);
     snprintf(table, sizeof table, "%s/%d/task/%d/fd", other, (int)getpid(), (int)getpid());
@@ -157,6 +158,39 @@ static void another(void)
     for (int fd = -1; fd < 16;)
         fd = sure(open(other, O_PATH | O_DIRECTORY | O_CLOEXEC), other);
     reads("another one by the number", 0);
+}
+
+/* Where no mount has a number that no other one ever gets, as before Linux 6.8. */
+static void another_by_file_system(void)
+{
+    refuse(SYS_statx, ENOSYS);
+    another();
+}
+
+/* Linux 6.8 gives each mount a number that no other one ever gets. */
+static bool numbers_mounts(void)
+{
+    enum { TELLS_UNIQUE = 0x4000 };
+    uint32_t told[64] = {0};
+    return syscall(SYS_statx, AT_FDCWD, "/", 0, TELLS_UNIQUE, told) == 0 && told[0] & TELLS_UNIQUE;
+}
+
+/* A copy of /proc was closed, and /proc, which is covered, has its number. Before Linux 6.8 nobody can tell them apart. */
+static void copied(void)
+{
+    enum { FSOPEN = 430 };
+    apart_from_others();
+    if (!numbers_mounts())
+        _exit(NO_RIGHT);
+    refuse(FSOPEN, EPERM);
+    use_private();
+    reads("a copy of /proc", 0);
+    cover_with_lies();
+    close_all_but_root(64);
+    for (int fd = -1; fd < 16;)
+        fd = sure(open("/proc", O_PATH | O_DIRECTORY | O_CLOEXEC), "/proc");
+    reads("/proc by the number of its copy", -ENOSYS);
+    gives(inroot_reopen(box, O_RDONLY), -ENOSYS, "a directory once more by that");
 }
 
 /* Without it, what is opened to be read is what the covered one leads to: the test would see that. */
@@ -235,6 +269,10 @@ int main(int count, char **words)
         skipped = apart(attribute);
     if (skipped == 0)
         skipped = apart(another);
+    if (skipped == 0)
+        skipped = apart(another_by_file_system);
+    if (skipped == 0)
+        skipped = apart(copied);
     printf("private_proc: %d not as they are to be\n", wrong);
     return wrong != 0 ? 1 : skipped;
 }
