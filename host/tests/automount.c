@@ -1,0 +1,177 @@
+/*
+ * automount: a directory below the root on which autofs mounts. A call that goes through it, or wants a directory at its end, has it
+ * mounted, as open(2) does, and finds or makes what is in there; a call that only finds it mounts nothing, as open(2) with O_PATH.
+ * By a descriptor, in a jail and in one that trusts; by runs of names, name by name and with INROOT_BELOW. The daemon is the test's
+ * own: it mounts an empty file system with the file `f` and the directory `d`.
+ *
+ * usage: automount DIR. Exits 0 where that holds. 77: no openat2(2) here. 78: no right to mount here, or no autofs.
+ */
+#define _GNU_SOURCE
+#include "support.h"
+
+#include <linux/auto_fs.h>
+#include <linux/magic.h>
+#include <sched.h>
+#include <signal.h>
+#include <sys/ioctl.h>
+#include <sys/mount.h>
+#include <sys/prctl.h>
+#include <sys/vfs.h>
+
+enum { BY_DESCRIPTOR = -1, TRAP = 0x187, SECONDS = 60 };
+
+static int base, root, way, flags, case_at;
+static char where[PATH_MAX], trap[PATH_MAX + 16], place[PATH_MAX + 16];
+
+/* ---- the daemon */
+
+static void make_at_place(void)
+{
+    sure(mount("made", place, "tmpfs", 0, NULL), place);
+    int dir = sure(open(place, O_PATH | O_DIRECTORY | O_CLOEXEC), place);
+    sure(mknodat(dir, "f", S_IFREG | 0600, 0), "f");
+    sure(mkdirat(dir, "d", 0755), "d");
+    close(dir);
+}
+
+static void answer_each(int questions)
+{
+    union autofs_v5_packet_union question;
+    int above = sure(open(trap, O_RDONLY | O_DIRECTORY | O_CLOEXEC), trap);
+    while (read(questions, &question, sizeof question) > 0) {
+        make_at_place();
+        sure(ioctl(above, AUTOFS_IOC_READY, question.v5_packet.wait_queue_token), "ready");
+    }
+}
+
+/* What the daemon's own process group does is asked of nobody. It tells by a byte that it serves, or ends before. */
+static void serve(int ready)
+{
+    int questions[2];
+    char options[128];
+    prctl(PR_SET_PDEATHSIG, SIGKILL);
+    sure(setpgid(0, 0), "setpgid");
+    sure(pipe2(questions, O_CLOEXEC), "pipe");
+    snprintf(options, sizeof options, "fd=%d,pgrp=%d,minproto=5,maxproto=5,indirect", questions[1], (int)getpgrp());
+    if (mount("automount", trap, "autofs", 0, options) != 0)
+        _exit(NO_RIGHT);
+    sure(mkdir(place, 0755), place);
+    sure((int)write(ready, "", 1), "ready");
+    answer_each(questions[0]);
+    _exit(0);
+}
+
+static void begin_daemon(void)
+{
+    int ready[2];
+    char byte;
+    if (unshare(CLONE_NEWNS) != 0 || mount(NULL, "/", NULL, MS_REC | MS_PRIVATE, NULL) != 0)
+        exit(NO_RIGHT);
+    /* By the mounts of this namespace. */
+    snprintf(place, sizeof place, "%s/box", where);
+    root = sure(open(place, O_PATH | O_DIRECTORY | O_CLOEXEC), place);
+    snprintf(trap, sizeof trap, "%s/box/net", where);
+    snprintf(place, sizeof place, "%s/box/net/k", where);
+    sure(pipe2(ready, O_CLOEXEC), "pipe");
+    fflush(stdout);
+    if (sure(fork(), "fork") == 0)
+        serve(ready[1]);
+    close(ready[1]);
+    if (read(ready[0], &byte, 1) != 1)
+        exit(NO_RIGHT);
+    close(ready[0]);
+}
+
+/* ---- the calls */
+
+static int open_it(int at, const char *path)
+{
+    return inroot_open(at, path, flags);
+}
+
+static int read_it(int at, const char *path)
+{
+    return inroot_openat(at, path, O_RDONLY, 0, flags);
+}
+
+static int read_directory(int at, const char *path)
+{
+    return inroot_openat(at, path, O_RDONLY | O_DIRECTORY, 0, flags);
+}
+
+static int create(int at, const char *path)
+{
+    return inroot_openat(at, path, O_RDWR | O_CREAT | O_EXCL, 0600, flags);
+}
+
+static int make_all(int at, const char *path)
+{
+    return inroot_mkdir_all(at, path, 0755, flags & ~INROOT_BELOW);
+}
+
+static int open_parent(int at, const char *path)
+{
+    char last[256];
+    return inroot_open_parent(at, path, flags, last);
+}
+
+/* What each call gives is of this file system; or it fails by this error. */
+static const struct {
+    const char *path;
+    int (*call)(int at, const char *path);
+    long wanted;
+} cases[] = {
+    {"net/k", open_it, TRAP},
+    {"net/k", read_it, -ENOENT},
+    {"net/k/", open_it, TMPFS_MAGIC},
+    {"net/k", read_directory, TMPFS_MAGIC},
+    {"net/k/f", open_it, TMPFS_MAGIC},
+    {"net/k/f", read_it, TMPFS_MAGIC},
+    {"net/k/d/../f", open_it, TMPFS_MAGIC},
+    {"net/k/../k/f", open_it, TMPFS_MAGIC},
+    {"l/f", open_it, TMPFS_MAGIC},
+    {"net/k/new", create, TMPFS_MAGIC},
+    {"net/k/n/e/w", make_all, TMPFS_MAGIC},
+    {"net/k/new", open_parent, TMPFS_MAGIC},
+    {"net/k/..", open_it, TRAP},
+};
+enum { CASES = sizeof cases / sizeof *cases };
+
+static void one(void)
+{
+    struct statfs about = {0};
+    int at = root_or_jail(root, way);
+    alarm(SECONDS);
+    int fd = cases[case_at].call(at, cases[case_at].path);
+    const long got = fd < 0 ? fd : fstatfs(fd, &about) == 0 ? (long)about.f_type : -errno;
+    gives(got, cases[case_at].wanted, "case %d, %s, way %d, flags %d", case_at, cases[case_at].path, way, flags);
+}
+
+/* Each case begins without the mount. */
+static int each(void)
+{
+    static const int more[] = {0, INROOT_ONE_BY_ONE, INROOT_BELOW};
+    int skipped = 0;
+    for (case_at = 0; case_at < CASES; case_at++)
+        for (size_t at = 0; at < sizeof more / sizeof *more; at++) {
+            flags = more[at];
+            skipped |= apart(one);
+            umount2(place, MNT_DETACH);
+        }
+    return skipped;
+}
+
+int main(int count, char **words)
+{
+    begin_in_box(count, words, &base, &root);
+    sure(mkdirat(root, "net", 0755), "net");
+    sure(symlinkat("net/k", root, "l"), "l");
+    if (realpath(words[1], where) == NULL)
+        return 1;
+    begin_daemon();
+    int skipped = 0;
+    for (way = BY_DESCRIPTOR; way <= INROOT_TRUST_PROC; way += way == 0 ? INROOT_TRUST_PROC : 1)
+        skipped |= each();
+    printf("automount: %d not as they are to be\n", wrong);
+    return wrong != 0 ? 1 : skipped;
+}
