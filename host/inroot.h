@@ -175,9 +175,9 @@ enum { INROOT_PLAIN = 0, INROOT_NOREPLACE = 1, INROOT_EXCHANGE = 2, INROOT_WHITE
  * keeps a descriptor of its own. If the program closes that, as a child of fork(2) may, what needs a proc(5) gives ENOSYS
  * from there on, and no call goes by /proc.
  *
- * Gives 0; -EBADF where PROC isn't a descriptor, -EINVAL where it is of another file system, -EMFILE, -EBUSY where
- * there is one already. The call doesn't check whether PROC is the topmost directory: later calls give ENOSYS where
- * it isn't.
+ * Gives 0; -EBADF where PROC isn't a descriptor, -EINVAL where it is of another file system or on a mount with nosymfollow
+ * (mount(8)), -EMFILE, -EBUSY where there is one already. The call doesn't check whether PROC is the topmost directory:
+ * later calls give ENOSYS where it isn't.
  */
 int inroot_use_proc(int proc);
 

@@ -34,7 +34,10 @@ static pthread_once_t key_once = PTHREAD_ONCE_INIT;
 static pthread_key_t key;
 static bool has_key;
 
-/* Whether it is of a proc(5); and the number of that one, which is zero in old kernels (statfs(2)). */
+/* ST_NOSYMFOLLOW of statfs(2), Linux 5.10: the mount follows no link, and so none of those that the calls ask for. */
+enum { FOLLOWS_NONE = 0x2000 };
+
+/* Whether it is of a proc(5) that follows links; and the number of that one, which is zero in old kernels (statfs(2)). */
 static bool find_system(int fd, uint64_t *system)
 {
     struct statfs about;
@@ -42,7 +45,7 @@ static bool find_system(int fd, uint64_t *system)
     if (fd < 0 || fstatfs(fd, &about) != 0 || about.f_type != PROC_SUPER_MAGIC)
         return false;
     memcpy(system, &about.f_fsid, sizeof *system);
-    return true;
+    return !((uint64_t)about.f_flags & FOLLOWS_NONE);
 }
 
 /* Whether it is a file on that mount, or where that isn't known, of that file system. */

@@ -168,6 +168,22 @@ static void table_covered(void)
     gives(inroot_open(INROOT_JAIL, "f", 0), -ENOSYS, "a file in a jail that trusts whose table is covered");
 }
 
+/* It is a proc(5), but on a mount where no link of it is followed (nosymfollow, Linux 5.10). */
+static void follows_none(void)
+{
+    enum { NOSYMFOLLOW = 256, ST_FOLLOWS_NONE = 0x2000 };
+    struct statfs about;
+    const unsigned long flags = MS_REMOUNT | MS_BIND | MS_NOSUID | MS_NODEV | MS_NOEXEC | NOSYMFOLLOW;
+    if (unshare(CLONE_NEWNS) != 0 || mount(NULL, "/", NULL, MS_REC | MS_PRIVATE, NULL) != 0 ||
+        mount(NULL, "/proc", NULL, flags, NULL) != 0 || statfs("/proc", &about) != 0 || !(about.f_flags & ST_FOLLOWS_NONE))
+        _exit(NO_RIGHT);
+    no_use("by a /proc that follows no link");
+    gives(inroot_open(root, "f", 0), -ENOSYS, "a file by a /proc that follows no link");
+    gives(inroot_jail(root), -ENOSYS, "a jail by a /proc that follows no link");
+    gives(inroot_use_proc(good), 0, "another mount of it");
+    gives_fd(inroot_open(root, "f", 0), "a file by another mount of it");
+}
+
 /* Below another directory of a proc(5) there is no thread-self. */
 static void not_its_top(void)
 {
@@ -185,7 +201,10 @@ static void not_its_top(void)
 
 int main(int count, char **words)
 {
-    static void (*const parts[])(void) = {no_proc, forged, handed_in, handed_in_to_trust, covered_later, not_its_top, of_the_jail, table_covered};
+    static void (*const parts[])(void) = {
+        no_proc, forged, handed_in, handed_in_to_trust, covered_later, not_its_top, of_the_jail, table_covered,
+        follows_none,
+    };
     if (count != 2)
         return 2;
     root = sure(open(words[1], O_PATH | O_DIRECTORY | O_CLOEXEC), words[1]);
