@@ -96,8 +96,6 @@ static int open_place(const struct asking *a)
 static uint32_t look_for(struct asking *a)
 {
     enum inroot_kind kind;
-    if (a->text[1] == 0)
-        return 0;
     int found = open_place(a);
     if (found < 0)
         return errno == ENOENT || errno == ENOTDIR ? EAGAIN : (uint32_t)errno;
@@ -108,27 +106,18 @@ static uint32_t look_for(struct asking *a)
     return same ? 0 : EAGAIN;
 }
 
-/* Without openat2(2) a text alone has told the place. */
+/* Without openat2(2) a text alone has told the place. Then the slot gets what its names lead to, where there are names. */
 static uint32_t find(struct asking *a)
 {
     struct inroot_result result = inroot_find_place(a->d, a->root, a->slot, a->text, &a->answer.length);
     const bool alone = !inroot_has_openat2(), jailed = a->root == INROOT_JAILED;
     uint32_t error = result.what == INROOT_ANSWER_NAMES ? 0 : (uint32_t)a->d->unmade;
-    if (error == 0 && alone && (!jailed || a->slot->kind == INROOT_KIND_DIR))
+    if (error == 0 && alone && a->answer.length > 1)
         error = look_for(a);
     /* A look-up was made while the copy was open, so it has another number. */
     a->slot->is_shared = a->slot->fd == a->copied;
     a->answer.yes = jailed && alone;
     a->d->unmade = 0;
-    return error;
-}
-
-static uint32_t look_up(struct asking *a)
-{
-    int found = open_place(a);
-    uint32_t error = found < 0 ? (uint32_t)errno : look(a, found);
-    if (found >= 0)
-        close(found);
     return error;
 }
 
@@ -139,7 +128,7 @@ static uint32_t turn(struct asking *a)
     case INROOT_ASKING_LOOK: return look(a, a->fd);
     case INROOT_ASKING_COPY: return copy(a);
     case INROOT_ASKING_FIND: return find(a);
-    case INROOT_ASKING_LOOK_UP: return look_up(a);
+    case INROOT_ASKING_LOOK_UP: return look(a, a->slot->fd);
     case INROOT_ASKING_DEAD: a->answer.yes = inroot_is_dead(a->slot->fd); return 0;
     default: return close(a->slot->fd) < 0 ? (uint32_t)errno : 0;
     }

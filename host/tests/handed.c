@@ -3,13 +3,16 @@
  * path from the top, as is that of an object in the root. A link in the root leads to a proc(5) and by it out of the root, so that
  * this path leads to the object from the root, too; or the object is a directory that may not be searched.
  *
- * usage: handed DIR. Exits 0 where no such object has a place. 77: no openat2(2) here. 78: no right to do what it takes.
+ * If too few descriptors are left, that is the error.
+ *
+ * usage: handed DIR. Exits 0 where that holds, and no such object has a place. 77: no openat2(2) here. 78: no right to do what it takes.
  */
 #define _GNU_SOURCE
 #include "filter.h"
 
 #include <sched.h>
 #include <sys/mount.h>
+#include <sys/resource.h>
 
 /* The number is that of every machine. */
 enum { OPENAT2 = 437 };
@@ -78,6 +81,24 @@ static void ask(void)
     has_none(directories[OUTSIDE], "a directory");
 }
 
+/* That nothing could be looked for doesn't say that it is outside: one descriptor is a copy, one the root, and one the next name. */
+static void ask_with_few_left(void)
+{
+    char place[PATH_MAX];
+    struct rlimit most;
+    sure(getrlimit(RLIMIT_NOFILE, &most), "getrlimit");
+    const rlim_t before = most.rlim_cur, next = (rlim_t)take_gaps(root);
+    for (rlim_t left = 0; left < 4; left++) {
+        most.rlim_cur = next + left;
+        sure(setrlimit(RLIMIT_NOFILE, &most), "setrlimit");
+        const long wanted = left < 3 ? -EMFILE : 2;
+        gives(inroot_place(INROOT_JAIL, files[INSIDE], place, sizeof place), wanted, "a file inside, with %d left", (int)left);
+        gives(inroot_place(INROOT_JAIL, directories[INSIDE], place, sizeof place), wanted, "a directory inside, with %d left", (int)left);
+    }
+    most.rlim_cur = before;
+    sure(setrlimit(RLIMIT_NOFILE, &most), "setrlimit");
+}
+
 /* In a process of its own: its parent has the same mounts, and the root directory of the machine. */
 static void in_jail(void)
 {
@@ -85,6 +106,7 @@ static void in_jail(void)
     root_or_jail(root, 0);
     refuse(OPENAT2, ENOSYS);
     ask();
+    ask_with_few_left();
     if (!may_be_nobody())
         _exit(wrong ? wrong : NO_RIGHT);
     sure(seteuid(65534), "nobody");
