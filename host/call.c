@@ -188,7 +188,9 @@ static void walk(struct work *w)
     switch (w->course.next) {
     case INROOT_CALLING_JOIN: tell(w, join(w)); break;
     case INROOT_CALLING_AT_ONCE: tell(w, inroot_at_once(w->d, w->root, &w->numbers, w->room, &w->answer.fails)); break;
-    case INROOT_CALLING_OWN_ROOT: tell(w, inroot_own_root_check(w->d, w->root)); break;
+    case INROOT_CALLING_SECOND: tell(w, inroot_has_openat2() ? 0 : -ENOSYS); break;
+    case INROOT_CALLING_FIND_PROC: tell(w, inroot_proc_for(w->d)); break;
+    case INROOT_CALLING_OWN_ROOT: tell(w, inroot_own_root_check(w->d)); break;
     case INROOT_CALLING_PLACE: tell(w, inroot_stands(w->d, w->root, w->room)); break;
     case INROOT_CALLING_TAKE: tell(w, inroot_handles_take(w->d, w->told.handle)); break;
     default:

@@ -486,22 +486,24 @@ struct inroot_calling_facts {
 
 /*
  * A try begins, after a pause of ABOUT nanoseconds: nothing is known of it. The place of the directory at which the paths begin is
- * asked for, and its names are put before them. One system call opens the whole path. It is checked that /proc can distinguish the
- * thread's own root directory from outside. The object's place is asked for. The proved call is driven to its reply. What it opened
+ * asked for, and its names are put before them. One system call opens the whole path. It is asked whether the thread has openat2(2).
+ * A /proc is found for the call. It is checked that this one can distinguish the thread's own root directory from outside. The
+ * object's place is asked for. The proved call is driven to its reply. What it opened
  * is taken out of its handle. All that a try holds beside is closed. The descriptor ABOUT is closed. It is looked at whether the
  * number of /proc is another file's by now. Another /proc is opened, and the try begins anew by it: nothing is known but where the
  * thread is. The call's own /proc is closed. The thread goes to its root directory: chdir(2). The root is looked at: fstat(2). If it
  * ENDS, VALUE is what the call gives. If it FAILS, there is an error.
  */
 enum inroot_calling_next {
-    INROOT_CALLING_BEGIN = 1, INROOT_CALLING_JOIN, INROOT_CALLING_AT_ONCE, INROOT_CALLING_OWN_ROOT, INROOT_CALLING_PLACE,
-    INROOT_CALLING_CONVERSE, INROOT_CALLING_TAKE, INROOT_CALLING_LET_GO, INROOT_CALLING_CLOSE, INROOT_CALLING_LOOK_AT_PROC,
-    INROOT_CALLING_ANOTHER_PROC, INROOT_CALLING_CLOSE_PROC, INROOT_CALLING_GO_HOME, INROOT_CALLING_LOOK_AT_ROOT,
-    INROOT_CALLING_ENDS, INROOT_CALLING_FAILS,
+    INROOT_CALLING_BEGIN = 1, INROOT_CALLING_JOIN, INROOT_CALLING_AT_ONCE, INROOT_CALLING_SECOND, INROOT_CALLING_FIND_PROC,
+    INROOT_CALLING_OWN_ROOT, INROOT_CALLING_PLACE, INROOT_CALLING_CONVERSE, INROOT_CALLING_TAKE, INROOT_CALLING_LET_GO,
+    INROOT_CALLING_CLOSE, INROOT_CALLING_LOOK_AT_PROC, INROOT_CALLING_ANOTHER_PROC, INROOT_CALLING_CLOSE_PROC,
+    INROOT_CALLING_GO_HOME, INROOT_CALLING_LOOK_AT_ROOT, INROOT_CALLING_ENDS, INROOT_CALLING_FAILS,
 };
 
 /*
- * What a thing gave: 0, or an error. AT_ONCE may give any number if it opened nothing, and LOOK_AT_PROC if it is another file. The
+ * What a thing gave: 0, or an error. AT_ONCE may give any number if it opened nothing, SECOND if openat2(2) isn't there, FIND_PROC if
+ * there is no /proc, and LOOK_AT_PROC if it is another file. The
  * VALUE is the descriptor that was opened or taken, a reply's count, or the root's kind. LENGTH is a text's. Of the proved call: its
  * reply, and whether the text is WHOLE; 0, or why a step wasn't made; 0, or why what it made could not be opened; and the
  * descriptor of that, its number and one, or 0. Of all things up to TAKE: a step was made; an entry was changed, so that another try

@@ -538,12 +538,10 @@ bool inroot_mount_has(struct inroot_driver *d, int fd);
 int inroot_mount_stay(struct inroot_driver *d, int fd);
 
 /* own_root.c */
-/*
- * Without openat2(2): whether /proc can distinguish objects below this root from others. The check comes before any step: 0, or
- * -errno and the call is left at INROOT_STEP_OWN_ROOT.
- */
+/* Whether /proc can distinguish objects below the thread's own root directory from others. It is asked until it can. */
 bool inroot_own_root_tells(struct inroot_driver *d, int proc);
-int inroot_own_root_check(struct inroot_driver *d, int root);
+/* The same by the call's /proc: 0, or -errno and the call is left at INROOT_STEP_OWN_ROOT. */
+int inroot_own_root_check(struct inroot_driver *d);
 
 /* listing.c */
 struct inroot_result inroot_list(struct inroot_driver *d, uint64_t handle);

@@ -72,13 +72,9 @@ bool inroot_own_root_tells(struct inroot_driver *d, int proc)
     return d->told_apart;
 }
 
-int inroot_own_root_check(struct inroot_driver *d, int root)
+int inroot_own_root_check(struct inroot_driver *d)
 {
-    if (root == INROOT_JAILED || inroot_has_openat2())
-        return 0;
-    int proc = inroot_proc_for(d);
-    /* The first question for a place says why there is none. */
-    if (proc < 0 || inroot_own_root_tells(d, proc))
+    if (inroot_own_root_tells(d, d->proc))
         return 0;
     d->step = INROOT_STEP_OWN_ROOT;
     return -EOPNOTSUPP;

@@ -3,8 +3,8 @@
  * answers. What a program is asked for can be done: it closes what is open, and closes it once. What it gives was opened last, and is
  * all that is open in the end. It comes to an end within 32 tries and 19 milliseconds of pauses. A call that has changed an entry
  * isn't begun again. The thread is home in the end, or the call fails since it isn't. A walk by steps, and the question for a place,
- * come right behind a check of the thread's own root without an error, unless the root is held: then that isn't checked. A call that has
- * failed before only makes this check, and fails by it or as before.
+ * come right behind a check of the thread's own root, which found openat2(2), or no /proc, or no error. In a jail and where the root is
+ * held that isn't checked. A call that has failed before only makes this check, and fails by it or as before.
  *
  * For libFuzzer, or with fuzz_main.c for stored cases. A case is bytes: what is known of the call, and the answers.
  */
@@ -15,12 +15,12 @@
 #include <errno.h>
 #include <stdlib.h>
 
-enum { TRIES = 32, PAUSES = 18270000, EXCHANGES = 18 * TRIES + 1 };
+enum { TRIES = 32, PAUSES = 18270000, EXCHANGES = 22 * TRIES + 1 };
 
 /* What was seen of a call. Each thing is at most once open: what was found, what was made, and a /proc. */
 struct seen {
     uint64_t found, made, pauses;
-    bool has_found, has_made, owns_proc, away, changed, stepped, looked, stuck, checked, is_fine;
+    bool has_found, has_made, owns_proc, away, changed, stepped, looked, stuck, checked, is_fine, is_alone, has_proc;
     unsigned begun, others, exchanges;
     uint64_t opened;               /* so many descriptors were */
     uint32_t why, check;           /* the error of the way home; that of the own root in this try, or of another /proc */
@@ -60,17 +60,23 @@ static void find(struct seen *seen, uint64_t fd)
     seen->opened++;
 }
 
-/* Whether the thread's own root is checked where it has to be. */
+/* Whether the thread's own root is checked where it has to be: without openat2(2), by a /proc. */
 static void check_own_root(struct seen *seen, const struct inroot_calling *now, const struct inroot_calling_answer *answer)
 {
-    bool is_check = now->next == INROOT_CALLING_OWN_ROOT;
-    bool is_due = now->next == INROOT_CALLING_PLACE || now->next == INROOT_CALLING_CONVERSE;
-    MUST(!is_check || !now->facts.held);
-    MUST(!is_due || now->facts.held || seen->is_fine);
+    const bool is_last = now->next == INROOT_CALLING_OWN_ROOT, works = answer->error == 0;
+    const bool is_check = is_last || now->next == INROOT_CALLING_SECOND || now->next == INROOT_CALLING_FIND_PROC;
+    const bool is_due = now->next == INROOT_CALLING_PLACE || now->next == INROOT_CALLING_CONVERSE;
+    const bool is_spared = now->facts.held || now->facts.jailed;
+    MUST(!is_check || !is_spared);
+    MUST(!is_due || is_spared || seen->is_fine);
     MUST(is_check || now->facts.error == 0);
-    seen->is_fine = is_check && answer->error == 0;
-    seen->checked |= is_check;
-    seen->check = is_check ? answer->error : seen->check;
+    MUST(now->next != INROOT_CALLING_FIND_PROC || seen->is_alone);
+    MUST(!is_last || seen->has_proc);
+    seen->is_alone = now->next == INROOT_CALLING_SECOND && !works;
+    seen->has_proc = now->next == INROOT_CALLING_FIND_PROC && works;
+    seen->is_fine = is_check && (now->next == INROOT_CALLING_FIND_PROC ? !works : works);
+    seen->checked |= is_last || seen->is_fine;
+    seen->check = is_last ? answer->error : seen->check;
 }
 
 /* A thing of a try. */
@@ -149,7 +155,7 @@ static void must_end(const struct inroot_calling *now, const struct seen *seen)
         MUST(seen->stuck || seen->stepped || now->facts.jailed || seen->looked);
     }
     if (now->facts.error != 0) {
-        MUST(now->next == INROOT_CALLING_FAILS && (now->facts.held || seen->checked));
+        MUST(now->next == INROOT_CALLING_FAILS && (now->facts.held || now->facts.jailed || seen->checked));
         MUST(now->is_root || seen->stuck || now->error == (seen->check ? seen->check : now->facts.error));
     }
 }

@@ -1,8 +1,9 @@
 //! Which thing comes next in a call, by what those before gave.
 
 use call_course::{
-    ANOTHER_PROC, AT_ONCE, Answer, BEGIN, CLOSE, CLOSE_PROC, CONVERSE, Calling, ENDS, FAILS, Facts,
-    GO_HOME, JOIN, LET_GO, LOOK_AT_PROC, LOOK_AT_ROOT, OWN_ROOT, PLACE, TAKE, begin, next,
+    ANOTHER_PROC, AT_ONCE, Answer, BEGIN, CLOSE, CLOSE_PROC, CONVERSE, Calling, ENDS, FAILS,
+    FIND_PROC, Facts, GO_HOME, JOIN, LET_GO, LOOK_AT_PROC, LOOK_AT_ROOT, OWN_ROOT, PLACE, SECOND,
+    TAKE, begin, next,
 };
 use std::test::Fail;
 
@@ -94,15 +95,21 @@ fn goes(calling: Calling, answer: Answer) -> Calling {
     next(calling, &answer)
 }
 
-// Where the proved call is due: the path could not be opened at once.
+fn no_step() -> Answer {
+    Answer {
+        stepped: false,
+        ..fine()
+    }
+}
+
+// Where the proved call is due: the path could not be opened at once, and openat2(2) is there.
 fn due(facts: Facts) -> Calling {
-    goes(
-        goes(goes(begin(&facts), fine()), fails(NO_ANSWER)),
-        Answer {
-            stepped: false,
-            ..fine()
-        },
-    )
+    let tried = goes(goes(begin(&facts), fine()), fails(NO_ANSWER));
+    if tried.next == SECOND {
+        goes(tried, no_step())
+    } else {
+        tried
+    }
 }
 
 fn is(calling: &Calling, next: u8, error: u32) -> bool {
@@ -135,7 +142,7 @@ fn what_fails_at_once_needs_no_steps(rt: HostRuntime) -> Result<(), Fail> {
 #[test]
 fn what_a_reply_opened_is_taken(rt: HostRuntime) -> Result<(), Fail> {
     let first = goes(goes(begin(&plain()), fine()), fails(NO_ANSWER));
-    assert!(rt; is(&first, OWN_ROOT, 0));
+    assert!(rt; is(&first, SECOND, 0));
     let walk = goes(first, fine());
     assert!(rt; is(&walk, CONVERSE, 0));
     let opened = goes(walk, replies(OPENED, 99));
@@ -333,14 +340,8 @@ fn the_roots_errors_come_before_those_of_the_path(rt: HostRuntime) -> Result<(),
             ..fails(NO_ANSWER)
         },
     );
-    assert!(rt; first.next == OWN_ROOT);
-    let walk = goes(
-        none,
-        Answer {
-            stepped: false,
-            ..fine()
-        },
-    );
+    assert!(rt; first.next == SECOND);
+    let walk = goes(none, no_step());
     let look = goes(goes(walk, unseen), fine());
     assert!(rt; is(&look, LOOK_AT_ROOT, EACCES));
     let directory = Answer { value: 1, ..fine() };
@@ -360,22 +361,22 @@ fn an_error_from_before_comes_behind_the_own_roots(rt: HostRuntime) -> Result<()
     });
     assert!(rt; is(&before, BEGIN, EACCES) && before.about == 0);
     let check = goes(before, fine());
-    assert!(rt; is(&check, OWN_ROOT, EACCES));
-    let no_step = Answer {
-        stepped: false,
-        ..fine()
-    };
-    let look = goes(goes(check, no_step), fine());
+    assert!(rt; is(&check, SECOND, EACCES));
+    let look = goes(goes(check, no_step()), fine());
     assert!(rt; is(&look, LOOK_AT_ROOT, EACCES));
     let directory = Answer { value: 1, ..fine() };
     let file = Answer { value: 2, ..fine() };
     assert!(rt; is(&goes(look, directory), FAILS, EACCES));
     assert!(rt; is(&goes(look, file), FAILS, ENOTDIR) && goes(look, file).is_root);
+    let missing = Answer {
+        error: ENOSYS,
+        ..no_step()
+    };
     let refused = Answer {
         error: EOPNOTSUPP,
-        ..no_step
+        ..no_step()
     };
-    let own = goes(goes(check, refused), fine());
+    let own = goes(goes(goes(goes(check, missing), no_step()), refused), fine());
     assert!(rt; is(&own, LOOK_AT_ROOT, EOPNOTSUPP));
     assert!(rt; is(&goes(own, directory), FAILS, EOPNOTSUPP));
     assert!(rt; is(&goes(own, fails(EBADF)), FAILS, EBADF));
@@ -391,17 +392,62 @@ fn an_error_from_before_is_given_in_a_jail_and_by_another_proc(
         jailed: true,
         ..plain()
     };
-    let check = goes(begin(&jailed), fine());
-    assert!(rt; is(&check, OWN_ROOT, ENOTDIR));
-    assert!(rt; is(&goes(goes(check, fine()), fine()), FAILS, ENOTDIR));
+    let unchecked = goes(begin(&jailed), fine());
+    assert!(rt; is(&unchecked, LET_GO, ENOTDIR) && is(&goes(unchecked, fine()), FAILS, ENOTDIR));
+    let outside = Facts {
+        jailed: false,
+        ..jailed
+    };
     let proc = Answer {
         has_proc: true,
         ..fine()
     };
+    let check = goes(begin(&outside), fine());
+    assert!(rt; is(&check, SECOND, ENOTDIR));
     let lost = goes(goes(goes(check, proc), fine()), fails(NO_ANSWER));
     assert!(rt; is(&lost, ANOTHER_PROC, ENOTDIR));
-    assert!(rt; is(&goes(lost, fine()), OWN_ROOT, ENOTDIR));
+    assert!(rt; is(&goes(lost, fine()), SECOND, ENOTDIR));
     assert!(rt; is(&goes(lost, fails(EMFILE)), FAILS, EMFILE));
+    Ok(())
+}
+
+#[test]
+fn the_own_root_is_checked_where_openat2_is_missing(rt: HostRuntime) -> Result<(), Fail> {
+    let asked = goes(goes(begin(&plain()), fine()), fails(NO_ANSWER));
+    assert!(rt; is(&asked, SECOND, 0));
+    let alone = goes(asked, fails(ENOSYS));
+    assert!(rt; is(&alone, FIND_PROC, 0));
+    assert!(rt; is(&goes(alone, fails(ENOSYS)), CONVERSE, 0));
+    let check = goes(alone, fine());
+    assert!(rt; is(&check, OWN_ROOT, 0) && is(&goes(check, fine()), CONVERSE, 0));
+    let refused = goes(check, fails(EOPNOTSUPP));
+    assert!(rt; is(&refused, LET_GO, EOPNOTSUPP) && is(&goes(refused, fine()), FAILS, EOPNOTSUPP));
+    let places = Facts {
+        places: true,
+        ..plain()
+    };
+    let without_proc = goes(goes(goes(begin(&places), fine()), fails(ENOSYS)), fails(EMFILE));
+    assert!(rt; is(&without_proc, PLACE, 0));
+    Ok(())
+}
+
+#[test]
+fn the_own_root_is_not_checked_in_a_jail(rt: HostRuntime) -> Result<(), Fail> {
+    let jailed = Facts {
+        jailed: true,
+        ..plain()
+    };
+    assert!(rt; is(&goes(goes(begin(&jailed), fine()), fails(NO_ANSWER)), CONVERSE, 0));
+    let places = Facts {
+        places: true,
+        ..jailed
+    };
+    assert!(rt; is(&goes(begin(&places), fine()), PLACE, 0));
+    let from = Facts {
+        from: true,
+        ..jailed
+    };
+    assert!(rt; is(&goes(goes(begin(&from), fine()), fine()), CONVERSE, 0));
     Ok(())
 }
 
@@ -440,7 +486,7 @@ fn a_place_is_asked_for_and_paths_are_joined(rt: HostRuntime) -> Result<(), Fail
         }),
         fine(),
     );
-    assert!(rt; is(&places, OWN_ROOT, 0));
+    assert!(rt; is(&places, SECOND, 0));
     let asked = goes(places, fine());
     assert!(rt; is(&asked, PLACE, 0));
     let there = goes(
@@ -460,7 +506,7 @@ fn a_place_is_asked_for_and_paths_are_joined(rt: HostRuntime) -> Result<(), Fail
         fine(),
     );
     assert!(rt; is(&from, JOIN, 0));
-    assert!(rt; is(&goes(from, fine()), OWN_ROOT, 0));
+    assert!(rt; is(&goes(from, fine()), SECOND, 0));
     let unknown = goes(from, fails(EACCES));
     assert!(rt; is(&unknown, LET_GO, EACCES));
     assert!(rt; is(&goes(unknown, fine()), FAILS, EACCES));

@@ -10,7 +10,7 @@ use Rattle.call_course.specs.declared.calling.Answer.{Answer}
 use Rattle.call_course.specs.declared.calling.Facts.{Facts}
 use Rattle.call_course.specs.declared.calling.TheConstants.{BEGIN, LOOK_AT_ROOT, FAILS}
 use Rattle.std.proofs.lemmas.Bool.{false≢true}
-use Rattle.call_course.proofs.Leads.{Leads, Turn, to_proc, to_close, to_home, to_root, to_end, to_again, to_fail, t_begin, t_join, t_join_held, t_no_join, t_once, t_missing, t_not_once, t_not_once_held, t_own_place, t_own_walk, t_own_given, t_no_own, t_place, t_no_place, t_opened, t_text, t_cut, t_done, t_made, t_lost, t_unopened, t_count, t_fault, t_took, t_not_took, t_let_go, t_close_made, t_closed, t_closed_stuck, t_same_proc, t_lost_proc, t_another, t_no_other, t_proc_closed, t_home, t_stuck_holds, t_stuck, t_root, t_bad_root}
+use Rattle.call_course.proofs.Leads.{Leads, Turn, to_proc, to_close, to_home, to_root, to_end, to_again, to_fail, t_begin, t_join, t_join_held, t_no_join, t_once, t_missing, t_not_once, t_not_once_held, t_there_place, t_there_walk, t_there_given, t_alone, t_proc, t_none_place, t_none_walk, t_none_given, t_own_place, t_own_walk, t_own_given, t_no_own, t_place, t_no_place, t_opened, t_text, t_cut, t_done, t_made, t_lost, t_unopened, t_count, t_fault, t_took, t_not_took, t_let_go, t_close_made, t_closed, t_closed_stuck, t_same_proc, t_lost_proc, t_another, t_no_other, t_proc_closed, t_home, t_stuck_holds, t_stuck, t_root, t_bad_root}
 use Rattle.call_course.proofs.Sound.{sound}
 use Rattle.call_course.proofs.Rule.{always, leads_same, sound_root, sound_stuck}
 
@@ -68,6 +68,22 @@ root_turn c a n s t =
           subst (λ m. root_seen (looked_by (exchange c a)) m ≡ true) (sym is) (grind (arith, p0, p1, pf, p2, so))
       | t_not_once_held p0 p1 pf p2 is ↦
           subst (λ m. root_seen (looked_by (exchange c a)) m ≡ true) (sym is) (grind (arith, p0, p1, pf, p2, so))
+      | t_there_place p0 p1 p2 p3 is ↦
+          subst (λ m. root_seen (looked_by (exchange c a)) m ≡ true) (sym is) (grind (arith, p0, p1, p2, p3, so))
+      | t_there_walk p0 p1 p2 p3 is ↦
+          subst (λ m. root_seen (looked_by (exchange c a)) m ≡ true) (sym is) (grind (arith, p0, p1, p2, p3, so))
+      | t_there_given p0 p1 p2 is ↦
+          subst (λ m. root_seen (looked_by (exchange c a)) m ≡ true) (sym is) (grind (arith, p0, p1, p2, so))
+      | t_none_place p0 p1 p2 p3 is ↦
+          subst (λ m. root_seen (looked_by (exchange c a)) m ≡ true) (sym is) (grind (arith, p0, p1, p2, p3, so))
+      | t_none_walk p0 p1 p2 p3 is ↦
+          subst (λ m. root_seen (looked_by (exchange c a)) m ≡ true) (sym is) (grind (arith, p0, p1, p2, p3, so))
+      | t_none_given p0 p1 p2 is ↦
+          subst (λ m. root_seen (looked_by (exchange c a)) m ≡ true) (sym is) (grind (arith, p0, p1, p2, so))
+      | t_alone p0 p1 is ↦ subst (λ m. root_seen (looked_by (exchange c a)) m ≡ true) (sym is)
+          (grind (arith, p0, p1, so))
+      | t_proc p0 p1 is ↦ subst (λ m. root_seen (looked_by (exchange c a)) m ≡ true) (sym is)
+          (grind (arith, p0, p1, so))
       | t_own_place p0 p1 p2 p3 is ↦
           subst (λ m. root_seen (looked_by (exchange c a)) m ≡ true) (sym is) (grind (arith, p0, p1, p2, p3, so))
       | t_own_walk p0 p1 p2 p3 is ↦
@@ -163,6 +179,14 @@ again_turn c a n t =
       | t_missing p0 p1 p2 l ↦ again_leads false true (lacks a.error (noted a c)) n false l
       | t_not_once p0 p1 pf p2 is ↦ subst (λ m. again_ok false m ≡ true) (sym is) (grind (arith, p0, p1, pf, p2))
       | t_not_once_held p0 p1 pf p2 is ↦ subst (λ m. again_ok false m ≡ true) (sym is) (grind (arith, p0, p1, pf, p2))
+      | t_there_place p0 p1 p2 p3 is ↦ subst (λ m. again_ok false m ≡ true) (sym is) (grind (arith, p0, p1, p2, p3))
+      | t_there_walk p0 p1 p2 p3 is ↦ subst (λ m. again_ok false m ≡ true) (sym is) (grind (arith, p0, p1, p2, p3))
+      | t_there_given p0 p1 p2 is ↦ subst (λ m. again_ok false m ≡ true) (sym is) (grind (arith, p0, p1, p2))
+      | t_none_place p0 p1 p2 p3 is ↦ subst (λ m. again_ok false m ≡ true) (sym is) (grind (arith, p0, p1, p2, p3))
+      | t_none_walk p0 p1 p2 p3 is ↦ subst (λ m. again_ok false m ≡ true) (sym is) (grind (arith, p0, p1, p2, p3))
+      | t_none_given p0 p1 p2 is ↦ subst (λ m. again_ok false m ≡ true) (sym is) (grind (arith, p0, p1, p2))
+      | t_alone p0 p1 is ↦ subst (λ m. again_ok false m ≡ true) (sym is) (grind (arith, p0, p1))
+      | t_proc p0 p1 is ↦ subst (λ m. again_ok false m ≡ true) (sym is) (grind (arith, p0, p1))
       | t_own_place p0 p1 p2 p3 is ↦ subst (λ m. again_ok false m ≡ true) (sym is) (grind (arith, p0, p1, p2, p3))
       | t_own_walk p0 p1 p2 p3 is ↦ subst (λ m. again_ok false m ≡ true) (sym is) (grind (arith, p0, p1, p2, p3))
       | t_own_given p0 p1 p2 is ↦ subst (λ m. again_ok false m ≡ true) (sym is) (grind (arith, p0, p1, p2))
@@ -234,6 +258,14 @@ own_turn older c a n s t r =
           (grind (arith, p0, p1, p2, leads_same false true (lacks a.error (noted a c)) n l, so, r))
       | t_not_once p0 p1 pf p2 is ↦ absurd (grind (arith, p0, p1, pf, p2, is, so, r))
       | t_not_once_held p0 p1 pf p2 is ↦ absurd (grind (arith, p0, p1, pf, p2, is, so, r))
+      | t_there_place p0 p1 p2 p3 is ↦ absurd (grind (arith, p0, p1, p2, p3, is, so, r))
+      | t_there_walk p0 p1 p2 p3 is ↦ absurd (grind (arith, p0, p1, p2, p3, is, so, r))
+      | t_there_given p0 p1 p2 is ↦ absurd (grind (arith, p0, p1, p2, is, so, r))
+      | t_none_place p0 p1 p2 p3 is ↦ absurd (grind (arith, p0, p1, p2, p3, is, so, r))
+      | t_none_walk p0 p1 p2 p3 is ↦ absurd (grind (arith, p0, p1, p2, p3, is, so, r))
+      | t_none_given p0 p1 p2 is ↦ absurd (grind (arith, p0, p1, p2, is, so, r))
+      | t_alone p0 p1 is ↦ absurd (grind (arith, p0, p1, is, so, r))
+      | t_proc p0 p1 is ↦ absurd (grind (arith, p0, p1, is, so, r))
       | t_own_place p0 p1 p2 p3 is ↦ absurd (grind (arith, p0, p1, p2, p3, is, so, r))
       | t_own_walk p0 p1 p2 p3 is ↦ absurd (grind (arith, p0, p1, p2, p3, is, so, r))
       | t_own_given p0 p1 p2 is ↦ absurd (grind (arith, p0, p1, p2, is, so, r))
@@ -298,6 +330,14 @@ home_turn older c a n s w t r =
           (grind (arith, p0, p1, p2, leads_same false true (lacks a.error (noted a c)) n l, so, r))
       | t_not_once p0 p1 pf p2 is ↦ absurd (grind (arith, p0, p1, pf, p2, is, so, r))
       | t_not_once_held p0 p1 pf p2 is ↦ absurd (grind (arith, p0, p1, pf, p2, is, so, r))
+      | t_there_place p0 p1 p2 p3 is ↦ absurd (grind (arith, p0, p1, p2, p3, is, so, r))
+      | t_there_walk p0 p1 p2 p3 is ↦ absurd (grind (arith, p0, p1, p2, p3, is, so, r))
+      | t_there_given p0 p1 p2 is ↦ absurd (grind (arith, p0, p1, p2, is, so, r))
+      | t_none_place p0 p1 p2 p3 is ↦ absurd (grind (arith, p0, p1, p2, p3, is, so, r))
+      | t_none_walk p0 p1 p2 p3 is ↦ absurd (grind (arith, p0, p1, p2, p3, is, so, r))
+      | t_none_given p0 p1 p2 is ↦ absurd (grind (arith, p0, p1, p2, is, so, r))
+      | t_alone p0 p1 is ↦ absurd (grind (arith, p0, p1, is, so, r))
+      | t_proc p0 p1 is ↦ absurd (grind (arith, p0, p1, is, so, r))
       | t_own_place p0 p1 p2 p3 is ↦ absurd (grind (arith, p0, p1, p2, p3, is, so, r))
       | t_own_walk p0 p1 p2 p3 is ↦ absurd (grind (arith, p0, p1, p2, p3, is, so, r))
       | t_own_given p0 p1 p2 is ↦ absurd (grind (arith, p0, p1, p2, is, so, r))

@@ -260,14 +260,14 @@ tries_before : (c : Calling) → tries_ok c ≡ true → (c.next == BEGIN) ≡ t
 tries_before c h at = grind (arith, h, at)
 
 room_by : (c : Calling) → tries_ok c ≡ true → (b : Bool) → (c.next == BEGIN) ≡ b
-    → 18 * c.tries + (if b then 19 else 1) ≤ 577
+    → 22 * c.tries + (if b then 23 else 1) ≤ 705
 room_by c h true at = let few = tries_before c h at in omega (arith, few)
 room_by c h false at = let few = tries_most c h in omega (arith, few)
 
-few_room : (count : ℕ) (c : Calling) → few_ok count c → tries_ok c ≡ true → count ≤ 18 * TRIES + 1
+few_room : (count : ℕ) (c : Calling) → few_ok count c → tries_ok c ≡ true → count ≤ 22 * TRIES + 1
 few_room count c few h = few_number count (rank c) (room c) few (room_by c h (c.next == BEGIN) refl)
 
-pub exchanges : (facts : Facts) (history : List Exchange) → IsHistory facts history → length history ≤ 18 * TRIES + 1
+pub exchanges : (facts : Facts) (history : List Exchange) → IsHistory facts history → length history ≤ 22 * TRIES + 1
 exchanges facts history h =
     let s = is_sound facts history h in
     few_room (length history) (next_after facts history) (few_are facts history h)

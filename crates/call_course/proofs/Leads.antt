@@ -3,12 +3,12 @@ use Rattle.std.proofs.Common.{◌≡◌, ◌-◌, ℕ, Bool, true, false, not, �
 use Rattle.std.specs.Prelude.{◌==◌, if◌then◌else◌}
 use Rattle.system_calls.specs.Errors.{EAGAIN, ENOMEM}
 use Rattle.system_calls.specs.Tries.{pause_after}
-use Rattle.call_course.specs.Turns.{after_answer, after_own_root, after_proc, asks, began, begun, checked, ended, first, gains, homeward, is_again, is_unseen, judged, lacks, may_go_by_another, noted, over, replied, reply_error, root_error, done, text_of, stuck, COUNT, DONE, OPENED, TEXT}
+use Rattle.call_course.specs.Turns.{after_answer, after_own_root, after_proc, asks, began, begun, checked, ended, first, found_proc, gains, has_second, homeward, is_again, is_unseen, judged, lacks, may_go_by_another, needs_no_check, noted, over, replied, reply_error, root_error, done, text_of, stuck, COUNT, DONE, OPENED, TEXT}
 use Rattle.call_course.specs.declared.calling.Calling.{Calling}
 use Rattle.call_course.specs.declared.calling.Answer.{Answer}
 use Rattle.call_course.specs.declared.calling.Facts.{Facts}
-use Rattle.call_course.specs.declared.calling.TheConstants.{BEGIN, JOIN, AT_ONCE, OWN_ROOT, PLACE, CONVERSE, TAKE, LET_GO, CLOSE, LOOK_AT_PROC, ANOTHER_PROC, CLOSE_PROC, GO_HOME, LOOK_AT_ROOT, ENDS, FAILS}
-use Rattle.call_course.proofs.Asked.{Asked, is_begin, is_join, is_at_once, is_own_root, is_place, is_converse, is_take, is_let_go, is_close, is_look_at_proc, is_another_proc, is_close_proc, is_go_home, is_look_at_root}
+use Rattle.call_course.specs.declared.calling.TheConstants.{BEGIN, JOIN, AT_ONCE, SECOND, FIND_PROC, OWN_ROOT, PLACE, CONVERSE, TAKE, LET_GO, CLOSE, LOOK_AT_PROC, ANOTHER_PROC, CLOSE_PROC, GO_HOME, LOOK_AT_ROOT, ENDS, FAILS}
+use Rattle.call_course.proofs.Asked.{Asked, is_begin, is_join, is_at_once, is_second, is_find_proc, is_own_root, is_place, is_converse, is_take, is_let_go, is_close, is_look_at_proc, is_another_proc, is_close_proc, is_go_home, is_look_at_root}
 
 pub pick : (P : Calling → Type 0) (b : Bool) (x y : Calling) → (b ≡ true → P x) → (b ≡ false → P y)
     → P (if b then x else y)
@@ -18,26 +18,26 @@ pick P false x y f g = g refl
 -- ---- what a try begins with
 
 pub data First (facts : Facts) (next : ℕ) : Type 0 where
-  f_given : (facts.error == 0) ≡ false → facts.held ≡ true → next ≡ LET_GO → First facts next
-  f_check : (facts.error == 0) ≡ false → facts.held ≡ false → next ≡ OWN_ROOT → First facts next
-  f_check_place : (facts.error == 0) ≡ true → facts.held ≡ false → next ≡ OWN_ROOT → First facts next
-  f_place : (facts.error == 0) ≡ true → facts.held ≡ true → next ≡ PLACE → First facts next
+  f_given : (facts.error == 0) ≡ false → needs_no_check facts ≡ true → next ≡ LET_GO → First facts next
+  f_check : (facts.error == 0) ≡ false → needs_no_check facts ≡ false → next ≡ SECOND → First facts next
+  f_check_place : (facts.error == 0) ≡ true → needs_no_check facts ≡ false → next ≡ SECOND → First facts next
+  f_place : (facts.error == 0) ≡ true → needs_no_check facts ≡ true → next ≡ PLACE → First facts next
   f_join : (facts.error == 0) ≡ true → next ≡ JOIN → First facts next
   f_once : (facts.error == 0) ≡ true → next ≡ AT_ONCE → First facts next
 
-first_by : (facts : Facts) (none places held from : Bool) → (facts.error == 0) ≡ none → facts.held ≡ held
+first_by : (facts : Facts) (none places spared from : Bool) → (facts.error == 0) ≡ none → needs_no_check facts ≡ spared
     → First facts (if not none || places
-    then (if held then (if not none then LET_GO else (if places then PLACE else CONVERSE)) else OWN_ROOT)
+    then (if spared then (if not none then LET_GO else (if places then PLACE else CONVERSE)) else SECOND)
     else (if from then JOIN else AT_ONCE))
 first_by facts false places true from is by = f_given is by refl
 first_by facts false places false from is by = f_check is by refl
 first_by facts true true true from is by = f_place is by refl
 first_by facts true true false from is by = f_check_place is by refl
-first_by facts true false held true is by = f_join is refl
-first_by facts true false held false is by = f_once is refl
+first_by facts true false spared true is by = f_join is refl
+first_by facts true false spared false is by = f_once is refl
 
 pub first_is : (facts : Facts) → First facts (first facts)
-first_is facts = first_by facts (facts.error == 0) facts.places facts.held facts.from refl refl
+first_is facts = first_by facts (facts.error == 0) facts.places (needs_no_check facts) facts.from refl refl
 
 -- ---- behind a try; SEEN: the root was looked at right before
 
@@ -94,17 +94,31 @@ away a c = record c { error = a.error; holds = false; stuck = true }
 
 pub data Turn (c : Calling) (a : Answer) (n : Calling) : Type 0 where
   t_begin : c.next ≡ BEGIN → n ≡ began c → Turn c a n
-  t_join : c.next ≡ JOIN → (a.error == 0) ≡ true → c.facts.held ≡ false → n ≡ asks OWN_ROOT 0 (noted a c) → Turn c a n
-  t_join_held : c.next ≡ JOIN → (a.error == 0) ≡ true → c.facts.held ≡ true → n ≡ asks CONVERSE 0 (noted a c)
+  t_join : c.next ≡ JOIN → (a.error == 0) ≡ true → needs_no_check c.facts ≡ false → n ≡ asks SECOND 0 (noted a c) → Turn c a n
+  t_join_held : c.next ≡ JOIN → (a.error == 0) ≡ true → needs_no_check c.facts ≡ true → n ≡ asks CONVERSE 0 (noted a c)
       → Turn c a n
   t_no_join : c.next ≡ JOIN → (a.error == 0) ≡ false → n ≡ asks LET_GO 0 (lacks a.error (noted a c)) → Turn c a n
   t_once : c.next ≡ AT_ONCE → (a.error == 0) ≡ true → Leads false true (gains a.value true (noted a c)) n → Turn c a n
   t_missing : c.next ≡ AT_ONCE → (a.error == 0) ≡ false → a.fails ≡ true → Leads false true (lacks a.error (noted a c)) n
       → Turn c a n
-  t_not_once : c.next ≡ AT_ONCE → (a.error == 0) ≡ false → a.fails ≡ false → c.facts.held ≡ false → n ≡ asks OWN_ROOT 0 (noted a c)
+  t_not_once : c.next ≡ AT_ONCE → (a.error == 0) ≡ false → a.fails ≡ false → needs_no_check c.facts ≡ false → n ≡ asks SECOND 0 (noted a c)
       → Turn c a n
-  t_not_once_held : c.next ≡ AT_ONCE → (a.error == 0) ≡ false → a.fails ≡ false → c.facts.held ≡ true → n ≡ asks CONVERSE 0 (noted a c)
+  t_not_once_held : c.next ≡ AT_ONCE → (a.error == 0) ≡ false → a.fails ≡ false → needs_no_check c.facts ≡ true → n ≡ asks CONVERSE 0 (noted a c)
       → Turn c a n
+  t_there_place : c.next ≡ SECOND → (a.error == 0) ≡ true → (c.facts.error == 0) ≡ true → c.facts.places ≡ true
+      → n ≡ asks PLACE 0 (noted a c) → Turn c a n
+  t_there_walk : c.next ≡ SECOND → (a.error == 0) ≡ true → (c.facts.error == 0) ≡ true → c.facts.places ≡ false
+      → n ≡ asks CONVERSE 0 (noted a c) → Turn c a n
+  t_there_given : c.next ≡ SECOND → (a.error == 0) ≡ true → (c.facts.error == 0) ≡ false → n ≡ asks LET_GO 0 (noted a c)
+      → Turn c a n
+  t_none_place : c.next ≡ FIND_PROC → (a.error == 0) ≡ false → (c.facts.error == 0) ≡ true → c.facts.places ≡ true
+      → n ≡ asks PLACE 0 (noted a c) → Turn c a n
+  t_none_walk : c.next ≡ FIND_PROC → (a.error == 0) ≡ false → (c.facts.error == 0) ≡ true → c.facts.places ≡ false
+      → n ≡ asks CONVERSE 0 (noted a c) → Turn c a n
+  t_none_given : c.next ≡ FIND_PROC → (a.error == 0) ≡ false → (c.facts.error == 0) ≡ false → n ≡ asks LET_GO 0 (noted a c)
+      → Turn c a n
+  t_alone : c.next ≡ SECOND → (a.error == 0) ≡ false → n ≡ asks FIND_PROC 0 (noted a c) → Turn c a n
+  t_proc : c.next ≡ FIND_PROC → (a.error == 0) ≡ true → n ≡ asks OWN_ROOT 0 (noted a c) → Turn c a n
   t_own_place : c.next ≡ OWN_ROOT → (a.error == 0) ≡ true → (c.facts.error == 0) ≡ true → c.facts.places ≡ true
       → n ≡ asks PLACE 0 (noted a c) → Turn c a n
   t_own_walk : c.next ≡ OWN_ROOT → (a.error == 0) ≡ true → (c.facts.error == 0) ≡ true → c.facts.places ≡ false
@@ -161,6 +175,24 @@ answered_turn : (c : Calling) (a : Answer) (next : ℕ) → ((a.error == 0) ≡ 
 answered_turn c a next f g =
     pick (Turn c a) (a.error == 0) (asks next 0 (noted a c)) (asks LET_GO 0 (lacks a.error (noted a c))) f g
 
+there_turn : (c : Calling) (a : Answer) → c.next ≡ SECOND → (fine none places : Bool) → (a.error == 0) ≡ fine
+    → (c.facts.error == 0) ≡ none → c.facts.places ≡ places
+    → Turn c a (asks (if fine then (if not none then LET_GO else (if places then PLACE else CONVERSE)) else FIND_PROC) 0
+    (noted a c))
+there_turn c a at true true true fine is to = t_there_place at fine is to refl
+there_turn c a at true true false fine is to = t_there_walk at fine is to refl
+there_turn c a at true false places fine is to = t_there_given at fine is refl
+there_turn c a at false none places fine is to = t_alone at fine refl
+
+proc_turn : (c : Calling) (a : Answer) → c.next ≡ FIND_PROC → (fine none places : Bool) → (a.error == 0) ≡ fine
+    → (c.facts.error == 0) ≡ none → c.facts.places ≡ places
+    → Turn c a (asks (if fine then OWN_ROOT else (if not none then LET_GO else (if places then PLACE else CONVERSE))) 0
+    (noted a c))
+proc_turn c a at true none places fine is to = t_proc at fine refl
+proc_turn c a at false true true fine is to = t_none_place at fine is to refl
+proc_turn c a at false true false fine is to = t_none_walk at fine is to refl
+proc_turn c a at false false places fine is to = t_none_given at fine is refl
+
 own_turn : (c : Calling) (a : Answer) → c.next ≡ OWN_ROOT → (a.error == 0) ≡ true → (none places : Bool)
     → (c.facts.error == 0) ≡ none → c.facts.places ≡ places
     → Turn c a (asks (if not none then LET_GO else (if places then PLACE else CONVERSE)) 0 (noted a c))
@@ -168,15 +200,16 @@ own_turn c a at fine true true is to = t_own_place at fine is to refl
 own_turn c a at fine true false is to = t_own_walk at fine is to refl
 own_turn c a at fine false places is to = t_own_given at fine is refl
 
-join_turn : (c : Calling) (a : Answer) → c.next ≡ JOIN → (a.error == 0) ≡ true → (held : Bool) → c.facts.held ≡ held
-    → Turn c a (asks (if held then CONVERSE else OWN_ROOT) 0 (noted a c))
+join_turn : (c : Calling) (a : Answer) → c.next ≡ JOIN → (a.error == 0) ≡ true → (spared : Bool)
+    → needs_no_check c.facts ≡ spared → Turn c a (asks (if spared then CONVERSE else SECOND) 0 (noted a c))
 join_turn c a at fine true is = t_join_held at fine is refl
 join_turn c a at fine false is = t_join at fine is refl
 
-once_turn : (c : Calling) (a : Answer) → c.next ≡ AT_ONCE → (a.error == 0) ≡ false → (fails held : Bool)
-    → a.fails ≡ fails → c.facts.held ≡ held
-    → Turn c a (if fails then ended (lacks a.error (noted a c)) else asks (if held then CONVERSE else OWN_ROOT) 0 (noted a c))
-once_turn c a at none true held so is = t_missing at none so (ended_leads (lacks a.error (noted a c)))
+once_turn : (c : Calling) (a : Answer) → c.next ≡ AT_ONCE → (a.error == 0) ≡ false → (fails spared : Bool)
+    → a.fails ≡ fails → needs_no_check c.facts ≡ spared
+    → Turn c a (if fails then ended (lacks a.error (noted a c))
+    else asks (if spared then CONVERSE else SECOND) 0 (noted a c))
+once_turn c a at none true spared so is = t_missing at none so (ended_leads (lacks a.error (noted a c)))
 once_turn c a at none false true so is = t_not_once_held at none so is refl
 once_turn c a at none false false so is = t_not_once at none so is refl
 
@@ -227,13 +260,17 @@ turn_at c a asked home_owns root_owns root_moved =
     elim asked [
       | is_begin at ↦ subst (λ k. Turn c a (after_answer k a c)) (sym at) (t_begin at refl)
       | is_join at ↦ subst (λ k. Turn c a (after_answer k a c)) (sym at)
-          (answered_turn c a (checked CONVERSE c.facts) (λ x. join_turn c a at x c.facts.held refl)
+          (answered_turn c a (checked CONVERSE c.facts) (λ x. join_turn c a at x (needs_no_check c.facts) refl)
           (λ x. t_no_join at x refl))
       | is_at_once at ↦ subst (λ k. Turn c a (after_answer k a c)) (sym at)
           (pick (Turn c a) (a.error == 0) (ended (gains a.value true (noted a c)))
           (if a.fails then ended (lacks a.error (noted a c)) else asks (checked CONVERSE c.facts) 0 (noted a c))
           (λ x. t_once at x (ended_leads (gains a.value true (noted a c))))
-          (λ x. once_turn c a at x a.fails c.facts.held refl refl))
+          (λ x. once_turn c a at x a.fails (needs_no_check c.facts) refl refl))
+      | is_second at ↦ subst (λ k. Turn c a (after_answer k a c)) (sym at)
+          (there_turn c a at (a.error == 0) (c.facts.error == 0) c.facts.places refl refl refl)
+      | is_find_proc at ↦ subst (λ k. Turn c a (after_answer k a c)) (sym at)
+          (proc_turn c a at (a.error == 0) (c.facts.error == 0) c.facts.places refl refl refl)
       | is_own_root at ↦ subst (λ k. Turn c a (after_answer k a c)) (sym at)
           (answered_turn c a (after_own_root c.facts)
           (λ x. own_turn c a at x (c.facts.error == 0) c.facts.places refl refl) (λ x. t_no_own at x refl))

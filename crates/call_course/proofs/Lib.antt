@@ -3,6 +3,7 @@ pub mod Ends
 pub mod Fields
 pub mod LawLemmas
 pub mod Leads
+pub mod Needed
 pub mod Open
 pub mod Others
 pub mod Own

@@ -8,7 +8,7 @@ use Rattle.call_course.specs.declared.calling.Calling.{Calling}
 use Rattle.call_course.specs.declared.calling.Answer.{Answer}
 use Rattle.call_course.specs.declared.calling.Facts.{Facts}
 use Rattle.call_course.specs.declared.calling.TheConstants.{JOIN, ANOTHER_PROC}
-use Rattle.call_course.proofs.Leads.{Leads, Turn, to_proc, to_close, to_home, to_root, to_end, to_again, to_fail, t_begin, t_join, t_join_held, t_no_join, t_once, t_missing, t_not_once, t_not_once_held, t_own_place, t_own_walk, t_own_given, t_no_own, t_place, t_no_place, t_opened, t_text, t_cut, t_done, t_made, t_lost, t_unopened, t_count, t_fault, t_took, t_not_took, t_let_go, t_close_made, t_closed, t_closed_stuck, t_same_proc, t_lost_proc, t_another, t_no_other, t_proc_closed, t_home, t_stuck_holds, t_stuck, t_root, t_bad_root}
+use Rattle.call_course.proofs.Leads.{Leads, Turn, to_proc, to_close, to_home, to_root, to_end, to_again, to_fail, t_begin, t_join, t_join_held, t_no_join, t_once, t_missing, t_not_once, t_not_once_held, t_there_place, t_there_walk, t_there_given, t_alone, t_proc, t_none_place, t_none_walk, t_none_given, t_own_place, t_own_walk, t_own_given, t_no_own, t_place, t_no_place, t_opened, t_text, t_cut, t_done, t_made, t_lost, t_unopened, t_count, t_fault, t_took, t_not_took, t_let_go, t_close_made, t_closed, t_closed_stuck, t_same_proc, t_lost_proc, t_another, t_no_other, t_proc_closed, t_home, t_stuck_holds, t_stuck, t_root, t_bad_root}
 use Rattle.call_course.proofs.Sound.{sound, within}
 use Rattle.call_course.proofs.Rule.{always, sound_another, sound_stuck}
 
@@ -55,6 +55,26 @@ others_turn c a n was s w t =
           subst (λ m. others_ok (others_by (exchange c a) was) m ≡ true) (sym is) (grind (arith, p0, p1, pf, p2, w, so, sa))
       | t_not_once_held p0 p1 pf p2 is ↦
           subst (λ m. others_ok (others_by (exchange c a) was) m ≡ true) (sym is) (grind (arith, p0, p1, pf, p2, w, so, sa))
+      | t_there_place p0 p1 p2 p3 is ↦
+          subst (λ m. others_ok (others_by (exchange c a) was) m ≡ true) (sym is)
+          (grind (arith, p0, p1, p2, p3, w, so, sa))
+      | t_there_walk p0 p1 p2 p3 is ↦
+          subst (λ m. others_ok (others_by (exchange c a) was) m ≡ true) (sym is)
+          (grind (arith, p0, p1, p2, p3, w, so, sa))
+      | t_there_given p0 p1 p2 is ↦
+          subst (λ m. others_ok (others_by (exchange c a) was) m ≡ true) (sym is) (grind (arith, p0, p1, p2, w, so, sa))
+      | t_none_place p0 p1 p2 p3 is ↦
+          subst (λ m. others_ok (others_by (exchange c a) was) m ≡ true) (sym is)
+          (grind (arith, p0, p1, p2, p3, w, so, sa))
+      | t_none_walk p0 p1 p2 p3 is ↦
+          subst (λ m. others_ok (others_by (exchange c a) was) m ≡ true) (sym is)
+          (grind (arith, p0, p1, p2, p3, w, so, sa))
+      | t_none_given p0 p1 p2 is ↦
+          subst (λ m. others_ok (others_by (exchange c a) was) m ≡ true) (sym is) (grind (arith, p0, p1, p2, w, so, sa))
+      | t_alone p0 p1 is ↦ subst (λ m. others_ok (others_by (exchange c a) was) m ≡ true) (sym is)
+          (grind (arith, p0, p1, w, so, sa))
+      | t_proc p0 p1 is ↦ subst (λ m. others_ok (others_by (exchange c a) was) m ≡ true) (sym is)
+          (grind (arith, p0, p1, w, so, sa))
       | t_own_place p0 p1 p2 p3 is ↦
           subst (λ m. others_ok (others_by (exchange c a) was) m ≡ true) (sym is)
           (grind (arith, p0, p1, p2, p3, w, so, sa))

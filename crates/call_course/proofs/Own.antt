@@ -1,27 +1,27 @@
 -- The thread's own root is checked before.
 use Rattle.std.proofs.Common.{◌≡◌, ◌≢◌, ℕ, List, ◌∷◌, length, Bool, true, false, not, ◌&&◌, ◌||◌, ◌⊎◌, inl, inr, refl, ap, sym, subst, ◌∙◌, arith}
 use Rattle.std.specs.Prelude.{◌==◌}
-use Rattle.call_course.specs.Turns.{began, begun, first, gains, lacks, noted, start}
+use Rattle.call_course.specs.Turns.{began, begun, first, gains, lacks, needs_no_check, noted, start}
 use Rattle.call_course.specs.History.{exchange, next_after, Exchange, IsHistory}
-use Rattle.call_course.specs.Promises.{check_error_after, check_error_by, checked_after, checked_by, is_walk, last_error, HomeFailed, IsChecked}
+use Rattle.call_course.specs.Promises.{check_error_after, check_error_by, checked_after, checked_by, is_check, is_walk, last_error, passes, HomeFailed, IsAlone, IsChecked, IsNeeded}
 use Rattle.call_course.specs.declared.calling.Calling.{Calling}
 use Rattle.call_course.specs.declared.calling.Answer.{Answer}
 use Rattle.call_course.specs.declared.calling.Facts.{Facts}
-use Rattle.call_course.specs.declared.calling.TheConstants.{BEGIN, JOIN, OWN_ROOT, PLACE, CONVERSE, TAKE, ENDS, FAILS}
+use Rattle.call_course.specs.declared.calling.TheConstants.{BEGIN, JOIN, PLACE, CONVERSE, TAKE, ENDS, FAILS}
 use Rattle.std.proofs.lemmas.Bool.{eqb-true, false≢true}
-use Rattle.call_course.proofs.Leads.{First, f_given, f_check, f_check_place, f_place, f_join, f_once, first_is, Leads, Turn, to_proc, to_close, to_home, to_root, to_end, to_again, to_fail, t_begin, t_join, t_join_held, t_no_join, t_once, t_missing, t_not_once, t_not_once_held, t_own_place, t_own_walk, t_own_given, t_no_own, t_place, t_no_place, t_opened, t_text, t_cut, t_done, t_made, t_lost, t_unopened, t_count, t_fault, t_took, t_not_took, t_let_go, t_close_made, t_closed, t_closed_stuck, t_same_proc, t_lost_proc, t_another, t_no_other, t_proc_closed, t_home, t_stuck_holds, t_stuck, t_root, t_bad_root}
+use Rattle.call_course.proofs.Leads.{First, f_given, f_check, f_check_place, f_place, f_join, f_once, first_is, Leads, Turn, to_proc, to_close, to_home, to_root, to_end, to_again, to_fail, t_begin, t_join, t_join_held, t_no_join, t_once, t_missing, t_not_once, t_not_once_held, t_there_place, t_there_walk, t_there_given, t_alone, t_proc, t_none_place, t_none_walk, t_none_given, t_own_place, t_own_walk, t_own_given, t_no_own, t_place, t_no_place, t_opened, t_text, t_cut, t_done, t_made, t_lost, t_unopened, t_count, t_fault, t_took, t_not_took, t_let_go, t_close_made, t_closed, t_closed_stuck, t_same_proc, t_lost_proc, t_another, t_no_other, t_proc_closed, t_home, t_stuck_holds, t_stuck, t_root, t_bad_root}
 use Rattle.call_course.proofs.Sound.{within}
 use Rattle.call_course.proofs.Ends.{home_is}
 use Rattle.call_course.proofs.Rule.{always, has_facts}
 
 -- ---- a call that has failed before makes that check, and nothing else of a try
 
--- what such a call does not do, and what comes only where the root isn't held
+-- what such a call does not do, and what comes only where the check is needed
 abbrev pub given_ok : Calling → Bool
 given_ok c =
     ((c.facts.error == 0) || (not (c.error == 0)
-    && (not (within JOIN TAKE c.next || (c.next == ENDS)) || ((c.next == OWN_ROOT) && (c.error == c.facts.error)))))
-    && (not (c.next == OWN_ROOT) || not c.facts.held)
+    && (not (within JOIN TAKE c.next || (c.next == ENDS)) || (is_check c.next && (c.error == c.facts.error)))))
+    && (not (is_check c.next) || not (needs_no_check c.facts))
 
 abbrev pub fails_given : Calling → Bool
 fails_given c = (c.facts.error == 0) || not (c.error == 0)
@@ -39,10 +39,10 @@ given_leads seen may c n w l =
     ]
 
 -- the number of what comes next, and what a try begins with
-abbrev begins : Calling → ℕ → Calling
+abbrev pub begins : Calling → ℕ → Calling
 begins c k = record (began c) { next = k }
 
-abbrev anew : Calling → Answer → ℕ → Calling
+abbrev pub anew : Calling → Answer → ℕ → Calling
 anew c a k = record (begun c) { next = k; has_proc = true; owns_proc = a.owns_proc; by_another = true }
 
 given_begun : (c : Calling) (k : ℕ) → First c.facts k → given_ok (begins c k) ≡ true
@@ -78,6 +78,14 @@ given_turn c a n w t =
       | t_missing p0 p1 p2 l ↦ given_leads false true (lacks a.error (noted a c)) n (grind (arith, p0, p1, p2, w)) l
       | t_not_once p0 p1 pf p2 is ↦ subst (λ m. given_ok m ≡ true) (sym is) (grind (arith, p0, p1, pf, p2, w))
       | t_not_once_held p0 p1 pf p2 is ↦ subst (λ m. given_ok m ≡ true) (sym is) (grind (arith, p0, p1, pf, p2, w))
+      | t_there_place p0 p1 p2 p3 is ↦ subst (λ m. given_ok m ≡ true) (sym is) (grind (arith, p0, p1, p2, p3, w))
+      | t_there_walk p0 p1 p2 p3 is ↦ subst (λ m. given_ok m ≡ true) (sym is) (grind (arith, p0, p1, p2, p3, w))
+      | t_there_given p0 p1 p2 is ↦ subst (λ m. given_ok m ≡ true) (sym is) (grind (arith, p0, p1, p2, w))
+      | t_none_place p0 p1 p2 p3 is ↦ subst (λ m. given_ok m ≡ true) (sym is) (grind (arith, p0, p1, p2, p3, w))
+      | t_none_walk p0 p1 p2 p3 is ↦ subst (λ m. given_ok m ≡ true) (sym is) (grind (arith, p0, p1, p2, p3, w))
+      | t_none_given p0 p1 p2 is ↦ subst (λ m. given_ok m ≡ true) (sym is) (grind (arith, p0, p1, p2, w))
+      | t_alone p0 p1 is ↦ subst (λ m. given_ok m ≡ true) (sym is) (grind (arith, p0, p1, w))
+      | t_proc p0 p1 is ↦ subst (λ m. given_ok m ≡ true) (sym is) (grind (arith, p0, p1, w))
       | t_own_place p0 p1 p2 p3 is ↦ subst (λ m. given_ok m ≡ true) (sym is) (grind (arith, p0, p1, p2, p3, w))
       | t_own_walk p0 p1 p2 p3 is ↦ subst (λ m. given_ok m ≡ true) (sym is) (grind (arith, p0, p1, p2, p3, w))
       | t_own_given p0 p1 p2 is ↦ subst (λ m. given_ok m ≡ true) (sym is) (grind (arith, p0, p1, p2, w))
@@ -124,10 +132,11 @@ given_is facts =
 -- ---- such a call fails after the check
 
 abbrev pub asked_ok : Bool → Calling → Bool
-asked_ok checked c = (c.facts.error == 0) || (c.facts.held || (checked || ((c.next == BEGIN) || (c.next == OWN_ROOT))))
+asked_ok checked c =
+    (c.facts.error == 0) || (needs_no_check c.facts || (checked || ((c.next == BEGIN) || is_check c.next)))
 
 asked_leads : (seen may : Bool) (c n : Calling) (checked : Bool)
-    → ((c.facts.error == 0) || (c.facts.held || checked)) ≡ true → Leads seen may c n → asked_ok checked n ≡ true
+    → ((c.facts.error == 0) || (needs_no_check c.facts || checked)) ≡ true → Leads seen may c n → asked_ok checked n ≡ true
 asked_leads seen may c n checked w l =
     elim l [
       | to_proc p0 p1 is ↦ subst (λ m. asked_ok checked m ≡ true) (sym is) (grind (arith, p0, p1, w))
@@ -184,6 +193,22 @@ asked_turn c a n was g w t =
           subst (λ m. asked_ok (checked_by (exchange c a) was) m ≡ true) (sym is) (grind (arith, p0, p1, pf, p2, g, w))
       | t_not_once_held p0 p1 pf p2 is ↦
           subst (λ m. asked_ok (checked_by (exchange c a) was) m ≡ true) (sym is) (grind (arith, p0, p1, pf, p2, g, w))
+      | t_there_place p0 p1 p2 p3 is ↦
+          subst (λ m. asked_ok (checked_by (exchange c a) was) m ≡ true) (sym is) (grind (arith, p0, p1, p2, p3, g, w))
+      | t_there_walk p0 p1 p2 p3 is ↦
+          subst (λ m. asked_ok (checked_by (exchange c a) was) m ≡ true) (sym is) (grind (arith, p0, p1, p2, p3, g, w))
+      | t_there_given p0 p1 p2 is ↦
+          subst (λ m. asked_ok (checked_by (exchange c a) was) m ≡ true) (sym is) (grind (arith, p0, p1, p2, g, w))
+      | t_none_place p0 p1 p2 p3 is ↦
+          subst (λ m. asked_ok (checked_by (exchange c a) was) m ≡ true) (sym is) (grind (arith, p0, p1, p2, p3, g, w))
+      | t_none_walk p0 p1 p2 p3 is ↦
+          subst (λ m. asked_ok (checked_by (exchange c a) was) m ≡ true) (sym is) (grind (arith, p0, p1, p2, p3, g, w))
+      | t_none_given p0 p1 p2 is ↦
+          subst (λ m. asked_ok (checked_by (exchange c a) was) m ≡ true) (sym is) (grind (arith, p0, p1, p2, g, w))
+      | t_alone p0 p1 is ↦ subst (λ m. asked_ok (checked_by (exchange c a) was) m ≡ true) (sym is)
+          (grind (arith, p0, p1, g, w))
+      | t_proc p0 p1 is ↦ subst (λ m. asked_ok (checked_by (exchange c a) was) m ≡ true) (sym is)
+          (grind (arith, p0, p1, g, w))
       | t_own_place p0 p1 p2 p3 is ↦
           subst (λ m. asked_ok (checked_by (exchange c a) was) m ≡ true) (sym is) (grind (arith, p0, p1, p2, p3, g, w))
       | t_own_walk p0 p1 p2 p3 is ↦
@@ -306,6 +331,26 @@ order_turn c a n was g w t =
           subst (λ m. order_ok (check_error_by (exchange c a) was) m ≡ true) (sym is) (grind (arith, p0, p1, pf, p2, g, w))
       | t_not_once_held p0 p1 pf p2 is ↦
           subst (λ m. order_ok (check_error_by (exchange c a) was) m ≡ true) (sym is) (grind (arith, p0, p1, pf, p2, g, w))
+      | t_there_place p0 p1 p2 p3 is ↦
+          subst (λ m. order_ok (check_error_by (exchange c a) was) m ≡ true) (sym is)
+          (grind (arith, p0, p1, p2, p3, g, w))
+      | t_there_walk p0 p1 p2 p3 is ↦
+          subst (λ m. order_ok (check_error_by (exchange c a) was) m ≡ true) (sym is)
+          (grind (arith, p0, p1, p2, p3, g, w))
+      | t_there_given p0 p1 p2 is ↦
+          subst (λ m. order_ok (check_error_by (exchange c a) was) m ≡ true) (sym is) (grind (arith, p0, p1, p2, g, w))
+      | t_none_place p0 p1 p2 p3 is ↦
+          subst (λ m. order_ok (check_error_by (exchange c a) was) m ≡ true) (sym is)
+          (grind (arith, p0, p1, p2, p3, g, w))
+      | t_none_walk p0 p1 p2 p3 is ↦
+          subst (λ m. order_ok (check_error_by (exchange c a) was) m ≡ true) (sym is)
+          (grind (arith, p0, p1, p2, p3, g, w))
+      | t_none_given p0 p1 p2 is ↦
+          subst (λ m. order_ok (check_error_by (exchange c a) was) m ≡ true) (sym is) (grind (arith, p0, p1, p2, g, w))
+      | t_alone p0 p1 is ↦ subst (λ m. order_ok (check_error_by (exchange c a) was) m ≡ true) (sym is)
+          (grind (arith, p0, p1, g, w))
+      | t_proc p0 p1 is ↦ subst (λ m. order_ok (check_error_by (exchange c a) was) m ≡ true) (sym is)
+          (grind (arith, p0, p1, g, w))
       | t_own_place p0 p1 p2 p3 is ↦
           subst (λ m. order_ok (check_error_by (exchange c a) was) m ≡ true) (sym is)
           (grind (arith, p0, p1, p2, p3, g, w))
@@ -412,18 +457,18 @@ not_both : (b : Bool) → b ≡ false → b ≡ true → ⊥
 not_both true x y = false≢true (sym x)
 not_both false x y = false≢true y
 
-steps_first : (facts : Facts) (k : ℕ) → facts.held ≡ false → First facts k → steps k ≡ false
+steps_first : (facts : Facts) (k : ℕ) → needs_no_check facts ≡ false → First facts k → steps k ≡ false
 steps_first facts k own f =
     elim f [
       | f_given p0 held at ↦ subst (λ j. steps j ≡ false) (sym at) refl
       | f_check p0 held at ↦ subst (λ j. steps j ≡ false) (sym at) refl
       | f_check_place p0 held at ↦ subst (λ j. steps j ≡ false) (sym at) refl
-      | f_place p0 held at ↦ absurd (not_both facts.held own held)
+      | f_place p0 held at ↦ absurd (not_both (needs_no_check facts) own held)
       | f_join p0 at ↦ subst (λ j. steps j ≡ false) (sym at) refl
       | f_once p0 at ↦ subst (λ j. steps j ≡ false) (sym at) refl
     ]
 
-steps_turn : (older : List Exchange) (c : Calling) (a : Answer) (n : Calling) → c.facts.held ≡ false → Turn c a n
+steps_turn : (older : List Exchange) (c : Calling) (a : Answer) (n : Calling) → needs_no_check c.facts ≡ false → Turn c a n
     → steps n.next ≡ true
     → IsChecked (exchange c a ∷ older)
 steps_turn older c a n own t r =
@@ -432,16 +477,24 @@ steps_turn older c a n own t r =
           (not_both (steps n.next)
           (subst (λ m. steps m.next ≡ false) (sym is) (steps_first c.facts (first c.facts) own (first_is c.facts))) r)
       | t_join p0 p1 p2 is ↦ absurd (not_both (steps n.next) (subst (λ m. steps m.next ≡ false) (sym is) refl) r)
-      | t_join_held p0 p1 p2 is ↦ absurd (not_both c.facts.held own p2)
+      | t_join_held p0 p1 p2 is ↦ absurd (not_both (needs_no_check c.facts) own p2)
       | t_no_join p0 p1 is ↦ absurd (not_both (steps n.next) (subst (λ m. steps m.next ≡ false) (sym is) refl) r)
       | t_once p0 p1 l ↦ absurd
           (not_both (steps n.next) (steps_no_leads false true (gains a.value true (noted a c)) n l) r)
       | t_missing p0 p1 p2 l ↦ absurd
           (not_both (steps n.next) (steps_no_leads false true (lacks a.error (noted a c)) n l) r)
       | t_not_once p0 p1 pf p2 is ↦ absurd (not_both (steps n.next) (subst (λ m. steps m.next ≡ false) (sym is) refl) r)
-      | t_not_once_held p0 p1 pf p2 is ↦ absurd (not_both c.facts.held own p2)
-      | t_own_place p0 p1 p2 p3 is ↦ (p0, eqb-true a.error 0 p1)
-      | t_own_walk p0 p1 p2 p3 is ↦ (p0, eqb-true a.error 0 p1)
+      | t_not_once_held p0 p1 pf p2 is ↦ absurd (not_both (needs_no_check c.facts) own p2)
+      | t_there_place p0 p1 p2 p3 is ↦ grind (arith, p0, p1)
+      | t_there_walk p0 p1 p2 p3 is ↦ grind (arith, p0, p1)
+      | t_there_given p0 p1 p2 is ↦ absurd (not_both (steps n.next) (subst (λ m. steps m.next ≡ false) (sym is) refl) r)
+      | t_none_place p0 p1 p2 p3 is ↦ grind (arith, p0, p1)
+      | t_none_walk p0 p1 p2 p3 is ↦ grind (arith, p0, p1)
+      | t_none_given p0 p1 p2 is ↦ absurd (not_both (steps n.next) (subst (λ m. steps m.next ≡ false) (sym is) refl) r)
+      | t_alone p0 p1 is ↦ absurd (not_both (steps n.next) (subst (λ m. steps m.next ≡ false) (sym is) refl) r)
+      | t_proc p0 p1 is ↦ absurd (not_both (steps n.next) (subst (λ m. steps m.next ≡ false) (sym is) refl) r)
+      | t_own_place p0 p1 p2 p3 is ↦ grind (arith, p0, p1)
+      | t_own_walk p0 p1 p2 p3 is ↦ grind (arith, p0, p1)
       | t_own_given p0 p1 p2 is ↦ absurd (not_both (steps n.next) (subst (λ m. steps m.next ≡ false) (sym is) refl) r)
       | t_no_own p0 p1 is ↦ absurd (not_both (steps n.next) (subst (λ m. steps m.next ≡ false) (sym is) refl) r)
       | t_place p0 p1 l ↦ absurd
@@ -482,11 +535,11 @@ steps_turn older c a n own t r =
       | t_bad_root p0 p1 is ↦ absurd (not_both (steps n.next) (subst (λ m. steps m.next ≡ false) (sym is) refl) r)
     ]
 
-steps_are : (facts : Facts) → facts.held ≡ false → (history : List Exchange) → IsHistory facts history
+steps_are : (facts : Facts) → needs_no_check facts ≡ false → (history : List Exchange) → IsHistory facts history
     → steps (next_after facts history).next ≡ true → IsChecked history
 steps_are facts own =
     always facts (λ h c. steps c.next ≡ true → IsChecked h) (λ is. absurd (false≢true is))
-    (λ older c a n s same t w. steps_turn older c a n (ap (λ f. f.held) same ∙ own) t)
+    (λ older c a n s same t w. steps_turn older c a n (ap needs_no_check same ∙ own) t)
 
 -- ---- the law
 
@@ -494,39 +547,39 @@ steps_or : (next : ℕ) → (next ≡ PLACE) ⊎ (next ≡ CONVERSE) → steps n
 steps_or next (inl at) = subst (λ k. steps k ≡ true) (sym at) refl
 steps_or next (inr at) = subst (λ k. steps k ≡ true) (sym at) refl
 
-pub own_walks : (facts : Facts) (history : List Exchange) → IsHistory facts history → facts.held ≡ false
+pub own_walks : (facts : Facts) (history : List Exchange) → IsHistory facts history → needs_no_check facts ≡ false
     → ((next_after facts history).next ≡ PLACE) ⊎ ((next_after facts history).next ≡ CONVERSE) → IsChecked history
 own_walks facts history h own at = steps_are facts own history h (steps_or (next_after facts history).next at)
 
-held_not : (c : Calling) → given_ok c ≡ true → c.facts.held ≡ true → c.next ≢ OWN_ROOT
-held_not c w held at = absurd (grind (arith, w, held, at))
+spared_not : (c : Calling) → given_ok c ≡ true → needs_no_check c.facts ≡ true → is_check c.next ≡ false
+spared_not c w spared = grind (arith, w, spared)
 
-pub own_held : (facts : Facts) (history : List Exchange) → IsHistory facts history → facts.held ≡ true
-    → (next_after facts history).next ≢ OWN_ROOT
-own_held facts history h held =
-    held_not (next_after facts history) (given_is facts history h) (ap (λ f. f.held) (has_facts facts history h) ∙ held)
+pub own_spared : (facts : Facts) (history : List Exchange) → IsHistory facts history → needs_no_check facts ≡ true
+    → is_check (next_after facts history).next ≡ false
+own_spared facts history h spared =
+    spared_not (next_after facts history) (given_is facts history h)
+    (ap needs_no_check (has_facts facts history h) ∙ spared)
 
-alone : (c : Calling) → given_ok c ≡ true → c.facts.error ≢ 0 → is_walk c.next ≡ true → c.next ≡ OWN_ROOT
+alone : (c : Calling) → given_ok c ≡ true → c.facts.error ≢ 0 → is_walk c.next ≡ true → is_check c.next ≡ true
 alone c w some at = grind (arith, w, some, at)
 
 pub own_alone : (facts : Facts) (history : List Exchange) → IsHistory facts history → facts.error ≢ 0
-    → is_walk (next_after facts history).next ≡ true → (next_after facts history).next ≡ OWN_ROOT
+    → is_walk (next_after facts history).next ≡ true → is_check (next_after facts history).next ≡ true
 own_alone facts history h some =
     alone (next_after facts history) (given_is facts history h)
     (subst (λ f. f.error ≢ 0) (sym (has_facts facts history h)) some)
 
-asked_fails : (c : Calling) (checked : Bool) → asked_ok checked c ≡ true → c.facts.error ≢ 0 → c.facts.held ≡ false
-    → c.next ≡ FAILS
+asked_fails : (c : Calling) (checked : Bool) → asked_ok checked c ≡ true → c.facts.error ≢ 0
+    → needs_no_check c.facts ≡ false → c.next ≡ FAILS
     → checked ≡ true
 asked_fails c checked w some own at = grind (arith, w, some, own, at)
 
 pub own_asked : (facts : Facts) (history : List Exchange) → IsHistory facts history → facts.error ≢ 0
-    → facts.held ≡ false
-    → (next_after facts history).next ≡ FAILS → checked_after history ≡ true
+    → needs_no_check facts ≡ false → (next_after facts history).next ≡ FAILS → checked_after history ≡ true
 own_asked facts history h some own =
     let same = has_facts facts history h in
     asked_fails (next_after facts history) (checked_after history) (asked_are facts history h).1
-    (subst (λ f. f.error ≢ 0) (sym same) some) (subst (λ f. f.held ≡ false) (sym same) own)
+    (subst (λ f. f.error ≢ 0) (sym same) some) (ap needs_no_check same ∙ own)
 
 no_end : (c : Calling) → given_ok c ≡ true → c.facts.error ≢ 0 → c.next ≢ ENDS
 no_end c w some at = absurd (grind (arith, w, some, at))

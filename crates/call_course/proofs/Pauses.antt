@@ -8,8 +8,8 @@ use Rattle.call_course.specs.Promises.{pauses_of}
 use Rattle.call_course.specs.declared.calling.Calling.{Calling}
 use Rattle.call_course.specs.declared.calling.Answer.{Answer}
 use Rattle.call_course.specs.declared.calling.Facts.{Facts}
-use Rattle.call_course.specs.declared.calling.TheConstants.{BEGIN, JOIN, AT_ONCE, OWN_ROOT, PLACE, CONVERSE, TAKE, LET_GO, CLOSE, LOOK_AT_PROC, ANOTHER_PROC, CLOSE_PROC, GO_HOME, LOOK_AT_ROOT}
-use Rattle.call_course.proofs.Leads.{away, Leads, Turn, to_proc, to_close, to_home, to_root, to_end, to_again, to_fail, t_begin, t_join, t_join_held, t_no_join, t_once, t_missing, t_not_once, t_not_once_held, t_own_place, t_own_walk, t_own_given, t_no_own, t_place, t_no_place, t_opened, t_text, t_cut, t_done, t_made, t_lost, t_unopened, t_count, t_fault, t_took, t_not_took, t_let_go, t_close_made, t_closed, t_closed_stuck, t_same_proc, t_lost_proc, t_another, t_no_other, t_proc_closed, t_home, t_stuck_holds, t_stuck, t_root, t_bad_root}
+use Rattle.call_course.specs.declared.calling.TheConstants.{BEGIN, JOIN, AT_ONCE, SECOND, FIND_PROC, OWN_ROOT, PLACE, CONVERSE, TAKE, LET_GO, CLOSE, LOOK_AT_PROC, ANOTHER_PROC, CLOSE_PROC, GO_HOME, LOOK_AT_ROOT}
+use Rattle.call_course.proofs.Leads.{away, Leads, Turn, to_proc, to_close, to_home, to_root, to_end, to_again, to_fail, t_begin, t_join, t_join_held, t_no_join, t_once, t_missing, t_not_once, t_not_once_held, t_there_place, t_there_walk, t_there_given, t_alone, t_proc, t_none_place, t_none_walk, t_none_given, t_own_place, t_own_walk, t_own_given, t_no_own, t_place, t_no_place, t_opened, t_text, t_cut, t_done, t_made, t_lost, t_unopened, t_count, t_fault, t_took, t_not_took, t_let_go, t_close_made, t_closed, t_closed_stuck, t_same_proc, t_lost_proc, t_another, t_no_other, t_proc_closed, t_home, t_stuck_holds, t_stuck, t_root, t_bad_root}
 use Rattle.call_course.proofs.Sound.{another_ok, moved_ok, owns_ok, sound, stuck_ok, tries_ok}
 use Rattle.call_course.proofs.Rule.{always, sound_another, sound_moved, sound_owns, sound_stuck, sound_tries}
 
@@ -74,6 +74,30 @@ pauses_turn c a n was s w t =
           (grind (arith, p0, w))
       | t_not_once_held p0 p1 pf p2 is ↦
           subst (λ m. pauses_ok (if (exchange c a).asked == BEGIN then was + (exchange c a).about else was) m) (sym is)
+          (grind (arith, p0, w))
+      | t_there_place p0 p1 p2 p3 is ↦
+          subst (λ m. pauses_ok (if (exchange c a).asked == BEGIN then was + (exchange c a).about else was) m) (sym is)
+          (grind (arith, p0, w))
+      | t_there_walk p0 p1 p2 p3 is ↦
+          subst (λ m. pauses_ok (if (exchange c a).asked == BEGIN then was + (exchange c a).about else was) m) (sym is)
+          (grind (arith, p0, w))
+      | t_there_given p0 p1 p2 is ↦
+          subst (λ m. pauses_ok (if (exchange c a).asked == BEGIN then was + (exchange c a).about else was) m) (sym is)
+          (grind (arith, p0, w))
+      | t_none_place p0 p1 p2 p3 is ↦
+          subst (λ m. pauses_ok (if (exchange c a).asked == BEGIN then was + (exchange c a).about else was) m) (sym is)
+          (grind (arith, p0, w))
+      | t_none_walk p0 p1 p2 p3 is ↦
+          subst (λ m. pauses_ok (if (exchange c a).asked == BEGIN then was + (exchange c a).about else was) m) (sym is)
+          (grind (arith, p0, w))
+      | t_none_given p0 p1 p2 is ↦
+          subst (λ m. pauses_ok (if (exchange c a).asked == BEGIN then was + (exchange c a).about else was) m) (sym is)
+          (grind (arith, p0, w))
+      | t_alone p0 p1 is ↦ subst
+          (λ m. pauses_ok (if (exchange c a).asked == BEGIN then was + (exchange c a).about else was) m) (sym is)
+          (grind (arith, p0, w))
+      | t_proc p0 p1 is ↦ subst
+          (λ m. pauses_ok (if (exchange c a).asked == BEGIN then was + (exchange c a).about else was) m) (sym is)
           (grind (arith, p0, w))
       | t_own_place p0 p1 p2 p3 is ↦
           subst (λ m. pauses_ok (if (exchange c a).asked == BEGIN then was + (exchange c a).about else was) m) (sym is)
@@ -190,36 +214,38 @@ pauses_most few most h =
 
 -- so many exchanges may come until the call ends or another try begins
 abbrev pub far : Calling → ℕ
-far c = if c.by_another then 0 else 8
+far c = if c.by_another then 0 else 10
 
 abbrev pub rank : Calling → ℕ
 rank c =
-    if c.next == BEGIN then 18
-    else (if (c.next == JOIN) || (c.next == AT_ONCE) then 9 + far c
+    if c.next == BEGIN then 22
+    else (if (c.next == JOIN) || (c.next == AT_ONCE) then 11 + far c
+    else (if c.next == SECOND then 10 + far c
+    else (if c.next == FIND_PROC then 9 + far c
     else (if c.next == OWN_ROOT then 8 + far c
     else (if c.next == CONVERSE then 7 + far c
     else (if c.next == TAKE then 6 + far c
     else (if c.next == LET_GO then 5 + far c
     else (if c.next == PLACE then 4 + far c
     else (if c.next == CLOSE then (if c.stuck then 1 else 4 + far c)
-    else (if c.next == LOOK_AT_PROC then 11
-    else (if c.next == ANOTHER_PROC then 10
+    else (if c.next == LOOK_AT_PROC then 13
+    else (if c.next == ANOTHER_PROC then 12
     else (if c.next == CLOSE_PROC then 3
     else (if c.next == GO_HOME then 2
-    else (if c.next == LOOK_AT_ROOT then 1 else 0))))))))))))
+    else (if c.next == LOOK_AT_ROOT then 1 else 0))))))))))))))
 
 abbrev pub room : Calling → ℕ
-room c = 18 * c.tries + (if c.next == BEGIN then 19 else 1)
+room c = 22 * c.tries + (if c.next == BEGIN then 23 else 1)
 
 abbrev pub few_ok : ℕ → Calling → Type 0
 few_ok count c = count + rank c ≤ room c
 
 few_leads : (seen may : Bool) (c n : Calling) (count : ℕ)
-    → (may ≡ true → may_go_by_another c ≡ true → count + 11 ≤ 18 * c.tries + 1)
-    → (c.owns_proc ≡ true → count + 3 ≤ 18 * c.tries + 1)
-    → (c.owns_proc ≡ false → c.moved ≡ true → count + 2 ≤ 18 * c.tries + 1)
-    → (seen ≡ false → count + 1 ≤ 18 * c.tries + 1)
-    → count ≤ 18 * c.tries + 1 → Leads seen may c n → few_ok count n
+    → (may ≡ true → may_go_by_another c ≡ true → count + 13 ≤ 22 * c.tries + 1)
+    → (c.owns_proc ≡ true → count + 3 ≤ 22 * c.tries + 1)
+    → (c.owns_proc ≡ false → c.moved ≡ true → count + 2 ≤ 22 * c.tries + 1)
+    → (seen ≡ false → count + 1 ≤ 22 * c.tries + 1)
+    → count ≤ 22 * c.tries + 1 → Leads seen may c n → few_ok count n
 few_leads seen may c n count f1 f2 f3 f4 f5 l =
     elim l [
       | to_proc p0 p1 p2 ↦ subst (λ m. few_ok count m) (sym p2) (omega (arith, f1 p0 p1))
@@ -263,6 +289,28 @@ few_turn c a n was so sa ss st sm t =
       | t_not_once_held p0 p1 pf p2 is ↦
           few_via AT_ONCE c was (few_ok (suc was) n) p0
           (λ w. subst (λ m. few_ok (suc was) m) (sym is) (grind (arith, p0, p1, pf, p2, w)))
+      | t_there_place p0 p1 p2 p3 is ↦
+          few_via SECOND c was (few_ok (suc was) n) p0
+          (λ w. subst (λ m. few_ok (suc was) m) (sym is) (grind (arith, p0, p1, p2, p3, w)))
+      | t_there_walk p0 p1 p2 p3 is ↦
+          few_via SECOND c was (few_ok (suc was) n) p0
+          (λ w. subst (λ m. few_ok (suc was) m) (sym is) (grind (arith, p0, p1, p2, p3, w)))
+      | t_there_given p0 p1 p2 is ↦
+          few_via SECOND c was (few_ok (suc was) n) p0
+          (λ w. subst (λ m. few_ok (suc was) m) (sym is) (grind (arith, p0, p1, p2, w)))
+      | t_none_place p0 p1 p2 p3 is ↦
+          few_via FIND_PROC c was (few_ok (suc was) n) p0
+          (λ w. subst (λ m. few_ok (suc was) m) (sym is) (grind (arith, p0, p1, p2, p3, w)))
+      | t_none_walk p0 p1 p2 p3 is ↦
+          few_via FIND_PROC c was (few_ok (suc was) n) p0
+          (λ w. subst (λ m. few_ok (suc was) m) (sym is) (grind (arith, p0, p1, p2, p3, w)))
+      | t_none_given p0 p1 p2 is ↦
+          few_via FIND_PROC c was (few_ok (suc was) n) p0
+          (λ w. subst (λ m. few_ok (suc was) m) (sym is) (grind (arith, p0, p1, p2, w)))
+      | t_alone p0 p1 is ↦ few_via SECOND c was (few_ok (suc was) n) p0
+          (λ w. subst (λ m. few_ok (suc was) m) (sym is) (grind (arith, p0, p1, w)))
+      | t_proc p0 p1 is ↦ few_via FIND_PROC c was (few_ok (suc was) n) p0
+          (λ w. subst (λ m. few_ok (suc was) m) (sym is) (grind (arith, p0, p1, w)))
       | t_own_place p0 p1 p2 p3 is ↦
           few_via OWN_ROOT c was (few_ok (suc was) n) p0
           (λ w. subst (λ m. few_ok (suc was) m) (sym is) (grind (arith, p0, p1, p2, p3, w)))

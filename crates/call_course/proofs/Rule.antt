@@ -7,7 +7,7 @@ use Rattle.call_course.specs.declared.calling.Answer.{Answer}
 use Rattle.call_course.specs.declared.calling.Facts.{Facts}
 use Rattle.call_course.specs.declared.calling.TheConstants.{GO_HOME, LOOK_AT_ROOT}
 use Rattle.call_course.proofs.Asked.{asked_is}
-use Rattle.call_course.proofs.Leads.{turn_at, Leads, Turn, to_proc, to_close, to_home, to_root, to_end, to_again, to_fail, t_begin, t_join, t_join_held, t_no_join, t_once, t_missing, t_not_once, t_not_once_held, t_own_place, t_own_walk, t_own_given, t_no_own, t_place, t_no_place, t_opened, t_text, t_cut, t_done, t_made, t_lost, t_unopened, t_count, t_fault, t_took, t_not_took, t_let_go, t_close_made, t_closed, t_closed_stuck, t_same_proc, t_lost_proc, t_another, t_no_other, t_proc_closed, t_home, t_stuck_holds, t_stuck, t_root, t_bad_root}
+use Rattle.call_course.proofs.Leads.{turn_at, Leads, Turn, to_proc, to_close, to_home, to_root, to_end, to_again, to_fail, t_begin, t_join, t_join_held, t_no_join, t_once, t_missing, t_not_once, t_not_once_held, t_there_place, t_there_walk, t_there_given, t_alone, t_proc, t_none_place, t_none_walk, t_none_given, t_own_place, t_own_walk, t_own_given, t_no_own, t_place, t_no_place, t_opened, t_text, t_cut, t_done, t_made, t_lost, t_unopened, t_count, t_fault, t_took, t_not_took, t_let_go, t_close_made, t_closed, t_closed_stuck, t_same_proc, t_lost_proc, t_another, t_no_other, t_proc_closed, t_home, t_stuck_holds, t_stuck, t_root, t_bad_root}
 use Rattle.call_course.proofs.Sound.{another_ok, changed_ok, error_ok, holds_ok, made_ok, moved_ok, owns_ok, root_ok, sound, sound_start, sound_turn, stuck_ok, tries_ok}
 
 -- ---- what sound says
@@ -88,6 +88,14 @@ facts_turn c a n t =
       | t_missing p0 p1 p2 l ↦ ap (λ m. m.facts) (leads_same false true (lacks a.error (noted a c)) n l)
       | t_not_once p0 p1 pf p2 is ↦ ap (λ m. m.facts) is
       | t_not_once_held p0 p1 pf p2 is ↦ ap (λ m. m.facts) is
+      | t_there_place p0 p1 p2 p3 is ↦ ap (λ m. m.facts) is
+      | t_there_walk p0 p1 p2 p3 is ↦ ap (λ m. m.facts) is
+      | t_there_given p0 p1 p2 is ↦ ap (λ m. m.facts) is
+      | t_none_place p0 p1 p2 p3 is ↦ ap (λ m. m.facts) is
+      | t_none_walk p0 p1 p2 p3 is ↦ ap (λ m. m.facts) is
+      | t_none_given p0 p1 p2 is ↦ ap (λ m. m.facts) is
+      | t_alone p0 p1 is ↦ ap (λ m. m.facts) is
+      | t_proc p0 p1 is ↦ ap (λ m. m.facts) is
       | t_own_place p0 p1 p2 p3 is ↦ ap (λ m. m.facts) is
       | t_own_walk p0 p1 p2 p3 is ↦ ap (λ m. m.facts) is
       | t_own_given p0 p1 p2 is ↦ ap (λ m. m.facts) is

@@ -6,8 +6,8 @@ use Rattle.call_course.specs.Turns.{began, begun, first, gains, lacks, noted, st
 use Rattle.call_course.specs.declared.calling.Calling.{Calling}
 use Rattle.call_course.specs.declared.calling.Answer.{Answer}
 use Rattle.call_course.specs.declared.calling.Facts.{Facts}
-use Rattle.call_course.specs.declared.calling.TheConstants.{BEGIN, JOIN, AT_ONCE, OWN_ROOT, PLACE, CONVERSE, TAKE, LET_GO, CLOSE, LOOK_AT_PROC, ANOTHER_PROC, CLOSE_PROC, GO_HOME, LOOK_AT_ROOT, ENDS, FAILS}
-use Rattle.call_course.proofs.Leads.{First, f_given, f_check, f_check_place, f_place, f_join, f_once, first_is, Leads, Turn, to_proc, to_close, to_home, to_root, to_end, to_again, to_fail, t_begin, t_join, t_join_held, t_no_join, t_once, t_missing, t_not_once, t_not_once_held, t_own_place, t_own_walk, t_own_given, t_no_own, t_place, t_no_place, t_opened, t_text, t_cut, t_done, t_made, t_lost, t_unopened, t_count, t_fault, t_took, t_not_took, t_let_go, t_close_made, t_closed, t_closed_stuck, t_same_proc, t_lost_proc, t_another, t_no_other, t_proc_closed, t_home, t_stuck_holds, t_stuck, t_root, t_bad_root}
+use Rattle.call_course.specs.declared.calling.TheConstants.{BEGIN, JOIN, AT_ONCE, SECOND, FIND_PROC, OWN_ROOT, PLACE, CONVERSE, TAKE, LET_GO, CLOSE, LOOK_AT_PROC, ANOTHER_PROC, CLOSE_PROC, GO_HOME, LOOK_AT_ROOT, ENDS, FAILS}
+use Rattle.call_course.proofs.Leads.{First, f_given, f_check, f_check_place, f_place, f_join, f_once, first_is, Leads, Turn, to_proc, to_close, to_home, to_root, to_end, to_again, to_fail, t_begin, t_join, t_join_held, t_no_join, t_once, t_missing, t_not_once, t_not_once_held, t_there_place, t_there_walk, t_there_given, t_alone, t_proc, t_none_place, t_none_walk, t_none_given, t_own_place, t_own_walk, t_own_given, t_no_own, t_place, t_no_place, t_opened, t_text, t_cut, t_done, t_made, t_lost, t_unopened, t_count, t_fault, t_took, t_not_took, t_let_go, t_close_made, t_closed, t_closed_stuck, t_same_proc, t_lost_proc, t_another, t_no_other, t_proc_closed, t_home, t_stuck_holds, t_stuck, t_root, t_bad_root}
 
 abbrev pub within : ℕ → ℕ → ℕ → Bool
 within low high n = nat_le low n && nat_le n high
@@ -20,7 +20,7 @@ holds_ok c = (nat_lt TAKE c.next && (c.error == 0)) || not c.holds
 abbrev pub error_ok : Calling → Bool
 error_ok c =
     (not (within JOIN TAKE c.next || (c.next == ENDS)) ||
-    ((c.error == 0) || ((c.next == OWN_ROOT) && not (c.facts.error == 0))))
+    ((c.error == 0) || (within SECOND OWN_ROOT c.next && not (c.facts.error == 0))))
     && (not (within LOOK_AT_PROC ANOTHER_PROC c.next || ((c.next == LOOK_AT_ROOT) || (c.next == FAILS))) || not
     (c.error == 0))
 
@@ -134,6 +134,22 @@ sound_turn c a n t =
           via AT_ONCE c (sound n ≡ true) p0 (λ g. subst (λ m. sound m ≡ true) (sym is) (grind (arith, p1, pf, p2, g)))
       | t_not_once_held p0 p1 pf p2 is ↦
           via AT_ONCE c (sound n ≡ true) p0 (λ g. subst (λ m. sound m ≡ true) (sym is) (grind (arith, p1, pf, p2, g)))
+      | t_there_place p0 p1 p2 p3 is ↦
+          via SECOND c (sound n ≡ true) p0 (λ g. subst (λ m. sound m ≡ true) (sym is) (grind (arith, p1, p2, p3, g)))
+      | t_there_walk p0 p1 p2 p3 is ↦
+          via SECOND c (sound n ≡ true) p0 (λ g. subst (λ m. sound m ≡ true) (sym is) (grind (arith, p1, p2, p3, g)))
+      | t_there_given p0 p1 p2 is ↦
+          via SECOND c (sound n ≡ true) p0 (λ g. subst (λ m. sound m ≡ true) (sym is) (grind (arith, p1, p2, g)))
+      | t_none_place p0 p1 p2 p3 is ↦
+          via FIND_PROC c (sound n ≡ true) p0 (λ g. subst (λ m. sound m ≡ true) (sym is) (grind (arith, p1, p2, p3, g)))
+      | t_none_walk p0 p1 p2 p3 is ↦
+          via FIND_PROC c (sound n ≡ true) p0 (λ g. subst (λ m. sound m ≡ true) (sym is) (grind (arith, p1, p2, p3, g)))
+      | t_none_given p0 p1 p2 is ↦
+          via FIND_PROC c (sound n ≡ true) p0 (λ g. subst (λ m. sound m ≡ true) (sym is) (grind (arith, p1, p2, g)))
+      | t_alone p0 p1 is ↦ via SECOND c (sound n ≡ true) p0
+          (λ g. subst (λ m. sound m ≡ true) (sym is) (grind (arith, p1, g)))
+      | t_proc p0 p1 is ↦ via FIND_PROC c (sound n ≡ true) p0
+          (λ g. subst (λ m. sound m ≡ true) (sym is) (grind (arith, p1, g)))
       | t_own_place p0 p1 p2 p3 is ↦
           via OWN_ROOT c (sound n ≡ true) p0 (λ g. subst (λ m. sound m ≡ true) (sym is) (grind (arith, p1, p2, p3, g)))
       | t_own_walk p0 p1 p2 p3 is ↦

@@ -1,5 +1,5 @@
 -- What holds of every history.
-use Rattle.std.specs.Prelude.{◌≡◌, ℕ, suc, ◌+◌, ◌-◌, List, [], ◌∷◌, ◌++◌, ◌==◌, ◌⊎◌, Bool, true, false, ◌&&◌, ◌||◌, not, if◌then◌else◌, nat_le}
+use Rattle.std.specs.Prelude.{◌≡◌, ◌≢◌, ℕ, suc, ◌+◌, ◌-◌, List, [], ◌∷◌, ◌++◌, ◌==◌, ◌⊎◌, Bool, true, false, ◌&&◌, ◌||◌, not, if◌then◌else◌, nat_le}
 use Rattle.system_calls.specs.Errors.{EAGAIN, ENOMEM}
 use Rattle.system_calls.specs.Held.{without}
 use Rattle.call_course.specs.Turns.{reply_error, root_error, COUNT, DONE, OPENED, TEXT}
@@ -7,7 +7,7 @@ use Rattle.call_course.specs.History.{Exchange}
 use Rattle.call_course.specs.declared.calling.Answer.{Answer}
 use Rattle.call_course.specs.declared.calling.Calling.{Calling}
 use Rattle.call_course.specs.declared.calling.Facts.{Facts}
-use Rattle.call_course.specs.declared.calling.TheConstants.{BEGIN, JOIN, AT_ONCE, OWN_ROOT, PLACE, CONVERSE, TAKE, CLOSE, ANOTHER_PROC, CLOSE_PROC, GO_HOME, LOOK_AT_ROOT}
+use Rattle.call_course.specs.declared.calling.TheConstants.{BEGIN, JOIN, AT_ONCE, SECOND, FIND_PROC, OWN_ROOT, PLACE, CONVERSE, TAKE, CLOSE, ANOTHER_PROC, CLOSE_PROC, GO_HOME, LOOK_AT_ROOT}
 
 -- what a try does: its answers say what is known of the try
 abbrev pub is_walk : ℕ → Bool
@@ -104,7 +104,7 @@ error_of facts a =
 abbrev pub last_error : ℕ → ℕ → ℕ
 last_error error before = if error == 0 then before else error
 
--- the error of the last thing that has one
+-- The error of the last thing that has one. That openat2(2) isn't there, or no /proc, is none of the call.
 abbrev pub why_by : Facts → Exchange → ℕ → ℕ
 why_by facts e before =
     if e.asked == BEGIN then facts.error
@@ -112,8 +112,9 @@ why_by facts e before =
     else (if e.asked == CONVERSE then error_of facts e.gave
     else (if e.asked == ANOTHER_PROC then last_error e.gave.error facts.error
     else (if (e.asked == OWN_ROOT) || (e.asked == GO_HOME) then last_error e.gave.error before
+    else (if (e.asked == SECOND) || (e.asked == FIND_PROC) then before
     else (if is_walk e.asked then e.gave.error
-    else (if e.asked == LOOK_AT_ROOT then last_error (root_error e.gave) before else before))))))
+    else (if e.asked == LOOK_AT_ROOT then last_error (root_error e.gave) before else before)))))))
 
 abbrev pub why_after : Facts → List Exchange → ℕ
 why_after facts [] = facts.error
@@ -130,10 +131,21 @@ RootHas error (e ∷ older) = (e.asked ≡ LOOK_AT_ROOT) × (root_error e.gave �
 
 -- ---- the thread's own root
 
+-- what its check asks for
+abbrev pub is_check : ℕ → Bool
+is_check asked = nat_le SECOND asked && nat_le asked OWN_ROOT
+
+-- Nothing is in the way: the thread has openat2(2); or there is no /proc to be read; or that can distinguish the root.
+abbrev pub passes : Exchange → Bool
+passes e =
+    if e.asked == FIND_PROC then not (e.gave.error == 0)
+    else ((e.asked == SECOND) || (e.asked == OWN_ROOT)) && (e.gave.error == 0)
+
 -- whether it was checked since the try began, or began anew
 abbrev pub checked_by : Exchange → Bool → Bool
 checked_by e was =
-    if (e.asked == BEGIN) || went_well ANOTHER_PROC e then false else (if e.asked == OWN_ROOT then true else was)
+    if (e.asked == BEGIN) || went_well ANOTHER_PROC e then false
+    else (if (e.asked == OWN_ROOT) || passes e then true else was)
 
 abbrev pub checked_after : List Exchange → Bool
 checked_after [] = false
@@ -149,10 +161,20 @@ abbrev pub check_error_after : List Exchange → ℕ
 check_error_after [] = 0
 check_error_after (e ∷ older) = check_error_by e (check_error_after older)
 
--- it was checked last, and there was no error
+-- it was checked last, and nothing is in the way
 abbrev pub IsChecked : List Exchange → Type 0
 IsChecked [] = ⊥
-IsChecked (e ∷ older) = (e.asked ≡ OWN_ROOT) × (e.gave.error ≡ 0)
+IsChecked (e ∷ older) = passes e ≡ true
+
+-- openat2(2) was asked for last, and isn't there
+abbrev pub IsAlone : List Exchange → Type 0
+IsAlone [] = ⊥
+IsAlone (e ∷ older) = (e.asked ≡ SECOND) × (e.gave.error ≢ 0)
+
+-- a /proc was found last, and right before openat2(2) wasn't there
+abbrev pub IsNeeded : List Exchange → Type 0
+IsNeeded [] = ⊥
+IsNeeded (e ∷ older) = (e.asked ≡ FIND_PROC) × ((e.gave.error ≡ 0) × IsAlone older)
 
 -- ---- the result
 

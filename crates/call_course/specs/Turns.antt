@@ -6,7 +6,7 @@ use Rattle.system_calls.specs.Tries.{is_due, pause_after, TRIES}
 use Rattle.call_course.specs.declared.calling.Answer.{Answer}
 use Rattle.call_course.specs.declared.calling.Calling.{Calling}
 use Rattle.call_course.specs.declared.calling.Facts.{Facts}
-use Rattle.call_course.specs.declared.calling.TheConstants.{BEGIN, JOIN, AT_ONCE, OWN_ROOT, PLACE, CONVERSE, TAKE, LET_GO, CLOSE, LOOK_AT_PROC, ANOTHER_PROC, CLOSE_PROC, GO_HOME, LOOK_AT_ROOT, ENDS, FAILS}
+use Rattle.call_course.specs.declared.calling.TheConstants.{BEGIN, JOIN, AT_ONCE, SECOND, FIND_PROC, OWN_ROOT, PLACE, CONVERSE, TAKE, LET_GO, CLOSE, LOOK_AT_PROC, ANOTHER_PROC, CLOSE_PROC, GO_HOME, LOOK_AT_ROOT, ENDS, FAILS}
 
 abbrev pub OPENED : ℕ
 OPENED = 32
@@ -84,10 +84,14 @@ noted a c = record c {
   owns_proc = c.owns_proc || a.owns_proc;
 }
 
--- The thread's own root is checked before, unless the root is a directory that is held: then no place is asked for by a
--- text.
+-- Where the root is a directory that is held, no place is asked for by a text. In a jail the text is that of the thread's
+-- own root.
+abbrev pub needs_no_check : Facts → Bool
+needs_no_check facts = facts.held || facts.jailed
+
+-- Else the thread's own root is checked before, which begins with the question whether openat2(2) is there.
 abbrev pub checked : ℕ → Facts → ℕ
-checked next facts = if facts.held then next else OWN_ROOT
+checked next facts = if needs_no_check facts then next else SECOND
 
 -- what comes after that check
 abbrev pub after_own_root : Facts → ℕ
@@ -125,6 +129,14 @@ abbrev pub at_once : Answer → Calling → Calling
 at_once a c =
     if a.error == 0 then ended (gains a.value true (noted a c))
     else (if a.fails then ended (lacks a.error (noted a c)) else asks (checked CONVERSE c.facts) 0 (noted a c))
+
+-- With openat2(2) /proc has not to distinguish anything: a second witness says what is below the root.
+abbrev pub has_second : Answer → Calling → Calling
+has_second a c = asks (if a.error == 0 then after_own_root c.facts else FIND_PROC) 0 (noted a c)
+
+-- Without a /proc there is nothing to check: the first question for a place says why there is none.
+abbrev pub found_proc : Answer → Calling → Calling
+found_proc a c = asks (if a.error == 0 then OWN_ROOT else after_own_root c.facts) 0 (noted a c)
 
 abbrev pub placed : Answer → Calling → Calling
 placed a c = if a.error == 0 then ended (gains a.length false (noted a c)) else ended (lacks a.error (noted a c))
@@ -224,6 +236,8 @@ after_answer asked a c =
     if asked == BEGIN then began c
     else (if asked == JOIN then answered a (checked CONVERSE c.facts) c
     else (if asked == AT_ONCE then at_once a c
+    else (if asked == SECOND then has_second a c
+    else (if asked == FIND_PROC then found_proc a c
     else (if asked == OWN_ROOT then answered a (after_own_root c.facts) c
     else (if asked == PLACE then placed a c
     else (if asked == CONVERSE then conversed a c
@@ -234,4 +248,4 @@ after_answer asked a c =
     else (if asked == ANOTHER_PROC then went_by_another a c
     else (if asked == CLOSE_PROC then homeward (record c { owns_proc = false })
     else (if asked == GO_HOME then went_home a c
-    else looked_at_root a c))))))))))))
+    else looked_at_root a c))))))))))))))

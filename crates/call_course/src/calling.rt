@@ -1,7 +1,7 @@
 //! How far a call has come, and what comes next.
 ghost use Rattle.std.specs.Prelude.{◌≡◌, ◌<◌, List, [], ◌∷◌, ◌==◌, true, false, ◌&&◌, ◌||◌};
 ghost use Rattle.system_calls.specs.Tries.{TRIES};
-ghost use Rattle.call_course.specs.Turns.{after_close, after_own_root, after_proc, answered, asks, at_once, began, begun, checked, conversed, directory_error, done, ended, first, gains, homeward, judged, lacks, let_go, looked_at_proc, looked_at_root, may_go_by_another, noted, over, placed, replied, reply_error, stuck, took, went_by_another, went_home};
+ghost use Rattle.call_course.specs.Turns.{after_close, after_own_root, after_proc, answered, asks, at_once, began, begun, checked, conversed, directory_error, done, ended, first, gains, homeward, judged, lacks, let_go, looked_at_proc, looked_at_root, may_go_by_another, noted, over, placed, replied, reply_error, stuck, took, went_by_another, went_home, found_proc, has_second, needs_no_check};
 ghost use Rattle.call_course.specs.History.{exchange, is_question, Exchange, IsAt};
 
 use system_calls::errors::{EAGAIN, EIO, ENOMEM, ENOSYS, ENOTDIR};
@@ -16,44 +16,50 @@ pub const JOIN: u8 = 2;
 /// One system call opens the whole path.
 pub const AT_ONCE: u8 = 3;
 
-/// It is checked that /proc can distinguish the thread's own root directory from outside.
-pub const OWN_ROOT: u8 = 4;
+/// It is asked whether the thread has openat2(2), the second witness for a place.
+pub const SECOND: u8 = 4;
+
+/// A /proc is found for the call.
+pub const FIND_PROC: u8 = 5;
+
+/// It is checked that this /proc can distinguish the thread's own root directory from outside.
+pub const OWN_ROOT: u8 = 6;
 
 /// The place of the object is asked for, which is the call's reply.
-pub const PLACE: u8 = 5;
+pub const PLACE: u8 = 7;
 
 /// The proved call is driven to its reply.
-pub const CONVERSE: u8 = 6;
+pub const CONVERSE: u8 = 8;
 
 /// What it opened is taken out of its handle.
-pub const TAKE: u8 = 7;
+pub const TAKE: u8 = 9;
 
 /// All that a try holds beside is closed.
-pub const LET_GO: u8 = 8;
+pub const LET_GO: u8 = 10;
 
 /// This descriptor is closed.
-pub const CLOSE: u8 = 9;
+pub const CLOSE: u8 = 11;
 
 /// It is looked at whether the number of /proc is another file's by now.
-pub const LOOK_AT_PROC: u8 = 10;
+pub const LOOK_AT_PROC: u8 = 12;
 
 /// Another /proc is opened, and the try begins anew by it: nothing is known but where the thread is.
-pub const ANOTHER_PROC: u8 = 11;
+pub const ANOTHER_PROC: u8 = 13;
 
 /// The /proc that is the call's own is closed.
-pub const CLOSE_PROC: u8 = 12;
+pub const CLOSE_PROC: u8 = 14;
 
 /// The thread goes to its root directory: chdir(2).
-pub const GO_HOME: u8 = 13;
+pub const GO_HOME: u8 = 15;
 
 /// The root is looked at: fstat(2).
-pub const LOOK_AT_ROOT: u8 = 14;
+pub const LOOK_AT_ROOT: u8 = 16;
 
 /// Nothing comes: the call has its result.
-pub const ENDS: u8 = 15;
+pub const ENDS: u8 = 17;
 
 /// Nothing comes: it failed by an error.
-pub const FAILS: u8 = 16;
+pub const FAILS: u8 = 18;
 
 // What the proved call's reply is, by its number (c_protocol).
 const OPENED: u8 = 32;
@@ -99,7 +105,8 @@ pub struct Answer {
     /// How long a text is: of CONVERSE, and of PLACE.
     pub length: u64,
     /// 0, or the number of an error (errno(3)). Of AT_ONCE any number but 0 says that it opened nothing; the steps
-    /// decide then, unless it `fails`. Of LOOK_AT_PROC one says that the number is another file's by now.
+    /// decide then, unless it `fails`. Of SECOND any says that openat2(2) isn't there, and of FIND_PROC that there is no
+    /// /proc. Of LOOK_AT_PROC one says that the number is another file's by now.
     pub error: u32,
     /// Of CONVERSE: 0, or the kernel's error for which a step wasn't made.
     pub unmade: u32,
@@ -271,11 +278,18 @@ fn noted(c: Calling, a: &Answer) -> Calling
     }
 }
 
-// The thread's own root is checked before.
+// No place is asked for by a text, or it is that of the thread's own root.
+fn needs_no_check(facts: Facts) -> bool
+    ensures { result ≡ needs_no_check facts }
+{
+    facts.held || facts.jailed
+}
+
+// Else the thread's own root is checked before.
 fn checked(facts: Facts, next: u8) -> u8
     ensures { result ≡ checked next facts }
 {
-    if facts.held { next } else { OWN_ROOT }
+    if needs_no_check(facts) { next } else { SECOND }
 }
 
 fn after_own_root(facts: Facts) -> u8
@@ -358,6 +372,36 @@ fn at_once(c: Calling, a: &Answer) -> Calling
     } else {
         asks(noted(c, a), checked(c.facts, CONVERSE), 0)
     }
+}
+
+// A second witness says what is below the root.
+fn has_second(c: Calling, a: &Answer) -> Calling
+    ensures { result ≡ has_second a.now c }
+{
+    asks(
+        noted(c, a),
+        if a.error == 0 {
+            after_own_root(c.facts)
+        } else {
+            FIND_PROC
+        },
+        0,
+    )
+}
+
+// Without a /proc the first question for a place says why there is none.
+fn found_proc(c: Calling, a: &Answer) -> Calling
+    ensures { result ≡ found_proc a.now c }
+{
+    asks(
+        noted(c, a),
+        if a.error == 0 {
+            OWN_ROOT
+        } else {
+            after_own_root(c.facts)
+        },
+        0,
+    )
 }
 
 fn placed(c: Calling, a: &Answer) -> Calling
@@ -567,6 +611,8 @@ pub fn next(calling: Calling, answer: &Answer) -> Calling
         BEGIN => began(calling),
         JOIN => answered(calling, answer, checked(calling.facts, CONVERSE)),
         AT_ONCE => at_once(calling, answer),
+        SECOND => has_second(calling, answer),
+        FIND_PROC => found_proc(calling, answer),
         OWN_ROOT => answered(calling, answer, after_own_root(calling.facts)),
         PLACE => placed(calling, answer),
         CONVERSE => conversed(calling, answer),

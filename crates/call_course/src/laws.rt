@@ -3,7 +3,8 @@ ghost use Rattle.std.specs.Prelude.{◌≡◌, ◌≢◌, ◌≤◌, ◌⊎◌, 
 ghost use Rattle.system_calls.specs.Errors.{EAGAIN};
 ghost use Rattle.system_calls.specs.Tries.{TRIES};
 ghost use Rattle.call_course.specs.History.{next_after, Exchange, IsHistory};
-ghost use Rattle.call_course.specs.Promises.{away_after, begun_after, changed_after, check_error_after, checked_after, given, is_own_error, is_walk, last_error, open_after, others_after, owns_after, pauses_of, stepped_after, value_after, why_after, HomeFailed, IsChecked, LastWas, RootHas};
+ghost use Rattle.call_course.specs.Promises.{away_after, begun_after, changed_after, check_error_after, checked_after, given, is_check, is_own_error, is_walk, last_error, open_after, others_after, owns_after, pauses_of, stepped_after, value_after, why_after, HomeFailed, IsChecked, IsNeeded, LastWas, RootHas};
+ghost use Rattle.call_course.specs.Turns.{needs_no_check};
 ghost use Rattle.call_course.specs.declared.calling.Facts.{Facts};
 ghost use Rattle.call_course.specs.declared.calling.TheConstants.{BEGIN, OWN_ROOT, PLACE, CONVERSE, CLOSE, ANOTHER_PROC, CLOSE_PROC, LOOK_AT_ROOT, ENDS, FAILS};
 
@@ -79,19 +80,22 @@ pub fn the_roots_errors_come_first()
         → is_own_error (next_after facts history) ≡ true → RootHas (next_after facts history).error history }
 {}
 
-/// Right before a path is walked by steps, and before a place is asked for, the thread's own root is checked without an
-/// error, unless the root is held: then it is not checked. A call that has failed before makes that check, and nothing
-/// else of a try, and fails. The root's own error comes first, then that of the check, then the one by which it has
-/// failed before; but an error of the way home hides all of them.
+/// Right before a path is walked by steps, and before a place is asked for, the thread's own root is checked, and nothing
+/// is in the way; but not in a jail, nor where the root is held. It is checked only where openat2(2) isn't there and a
+/// /proc is. A call that has failed before makes that check, and nothing else of a try, and fails. The root's own error
+/// comes first, then that of the check, then the one by which it has failed before; but an error of the way home hides
+/// all of them.
 pub fn the_own_root_is_checked_first()
-    ensures walks { (facts : Facts) (history : List Exchange) → IsHistory facts history → facts.held ≡ false
+    ensures walks { (facts : Facts) (history : List Exchange) → IsHistory facts history → needs_no_check facts ≡ false
         → ((next_after facts history).next ≡ PLACE) ⊎ ((next_after facts history).next ≡ CONVERSE) → IsChecked history }
-    ensures held { (facts : Facts) (history : List Exchange) → IsHistory facts history → facts.held ≡ true
-        → (next_after facts history).next ≢ OWN_ROOT }
+    ensures spared { (facts : Facts) (history : List Exchange) → IsHistory facts history → needs_no_check facts ≡ true
+        → is_check (next_after facts history).next ≡ false }
+    ensures needed { (facts : Facts) (history : List Exchange) → IsHistory facts history
+        → (next_after facts history).next ≡ OWN_ROOT → IsNeeded history }
     ensures alone { (facts : Facts) (history : List Exchange) → IsHistory facts history → facts.error ≢ 0
-        → is_walk (next_after facts history).next ≡ true → (next_after facts history).next ≡ OWN_ROOT }
+        → is_walk (next_after facts history).next ≡ true → is_check (next_after facts history).next ≡ true }
     ensures before { (facts : Facts) (history : List Exchange) → IsHistory facts history → facts.error ≢ 0
-        → facts.held ≡ false → (next_after facts history).next ≡ FAILS → checked_after history ≡ true }
+        → needs_no_check facts ≡ false → (next_after facts history).next ≡ FAILS → checked_after history ≡ true }
     ensures never_ends { (facts : Facts) (history : List Exchange) → IsHistory facts history → facts.error ≢ 0
         → (next_after facts history).next ≢ ENDS }
     ensures order { (facts : Facts) (history : List Exchange) → IsHistory facts history → facts.error ≢ 0
@@ -109,7 +113,7 @@ pub fn why_it_fails()
         → (next_after facts history).next ≡ ENDS → why_after facts history ≡ 0 }
 {}
 
-/// It comes to an end: there are 18 exchanges for each try at most, and one.
+/// It comes to an end: there are 22 exchanges for each try at most, and one.
 pub fn exchanges_are_few()
-    ensures { (facts : Facts) (history : List Exchange) → IsHistory facts history → length history ≤ 18 * TRIES + 1 }
+    ensures { (facts : Facts) (history : List Exchange) → IsHistory facts history → length history ≤ 22 * TRIES + 1 }
 {}

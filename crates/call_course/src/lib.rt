@@ -8,8 +8,9 @@ mod calling;
 mod laws;
 
 pub use calling::{
-    ANOTHER_PROC, AT_ONCE, Answer, BEGIN, CLOSE, CLOSE_PROC, CONVERSE, Calling, ENDS, FAILS, Facts,
-    GO_HOME, JOIN, LET_GO, LOOK_AT_PROC, LOOK_AT_ROOT, OWN_ROOT, PLACE, TAKE, begin, next,
+    ANOTHER_PROC, AT_ONCE, Answer, BEGIN, CLOSE, CLOSE_PROC, CONVERSE, Calling, ENDS, FAILS,
+    FIND_PROC, Facts, GO_HOME, JOIN, LET_GO, LOOK_AT_PROC, LOOK_AT_ROOT, OWN_ROOT, PLACE, SECOND,
+    TAKE, begin, next,
 };
 pub use laws::{
     another_proc_is_tried_once, exchanges_are_few, its_own_proc_is_closed,

@@ -1,11 +1,15 @@
-use Rattle.call_course.proofs.Own.{own_alone, own_asked, own_held, own_no_end, own_order, own_walks}
+use Rattle.call_course.proofs.Own.{own_alone, own_asked, own_no_end, own_order, own_spared, own_walks}
+use Rattle.call_course.proofs.Needed.{own_needed}
 use Rattle.call_course.proofs.laws.the_own_root_is_checked_first.Goals as goal
 
 pub returns-clause-walks : goal.returns-clause-walks
 returns-clause-walks c = own_walks
 
-pub returns-clause-held : goal.returns-clause-held
-returns-clause-held c = own_held
+pub returns-clause-spared : goal.returns-clause-spared
+returns-clause-spared c = own_spared
+
+pub returns-clause-needed : goal.returns-clause-needed
+returns-clause-needed c = own_needed
 
 pub returns-clause-alone : goal.returns-clause-alone
 returns-clause-alone c = own_alone
