@@ -66,7 +66,8 @@ static uint32_t ask_file_system(int fd, struct inroot_step_answer *answer)
 static uint32_t ask_mount_flags(struct inroot_driver *d, const struct inroot_work *w, struct inroot_step_answer *answer)
 {
     struct statfs about = {0};
-    const uint32_t error = w->facts.was_read ? (uint32_t)inroot_followed_ask(d, &about) : error_of(fstatfs(w->looks, &about));
+    const bool was_read = w->facts.known == INROOT_SHOWN_LINK_READ;
+    const uint32_t error = was_read ? (uint32_t)inroot_followed_ask(d, &about) : error_of(fstatfs(w->looks, &about));
     answer->number = (uint64_t)about.f_flags;
     return error;
 }

@@ -273,7 +273,7 @@ static struct inroot_result open_parent(struct inroot_driver *d, uint64_t handle
     work.facts.clears = d->counts;
     work.facts.one_by_one = d->asked->flags & INROOT_ONE_BY_ONE;
     work.facts.second = inroot_has_openat2();
-    work.facts.lived = d->known == INROOT_SHOWN_FOLLOWED;
+    work.facts.known = d->known;
     struct inroot_result result = open_by(d, &work);
     if (result.what == INROOT_ANSWER_OPENED && work.handle == 0) {
         inroot_handles_slot(d, result.handle)->is_above = true;
@@ -286,26 +286,24 @@ int inroot_parent_of(struct inroot_driver *d, int child)
 {
     const struct entry above = {.dir = child, .held = child, .name = ".."};
     struct inroot_work work = work_on(d, INROOT_STEP_PARENT, 0, &above);
-    work.facts.lived = true;
+    work.facts.known = INROOT_SHOWN_FOLLOWED;
     inroot_by_calls(d, &work);
     return work.course.next == INROOT_ENDS_OPENED ? work.fd : -1;
 }
 
 /* ---- other steps */
 
-/*
- * Of a link that was read as it was opened the text lies there still. A walk that has come to the link which it was to find, where
- * its place was asked for, wants the link's own text.
- */
+/* Of a link that was read as it was opened the text lies there still. Such a link has no descriptor. */
 static struct inroot_result read_link(struct inroot_driver *d, uint64_t handle, char *text, size_t *length)
 {
-    struct inroot_work work = {.facts = {.what = INROOT_STEP_READLINK}, .text = text, .length = d->link_length};
-    work.facts.was_read = d->known == INROOT_SHOWN_LINK_READ;
-    if (!work.facts.was_read) {
+    struct inroot_work work = {
+        .facts = {.what = INROOT_STEP_READLINK, .known = d->known, .follows = d->asked->follows}, .text = text,
+        .length = d->link_length,
+    };
+    if (!inroot_handles_is_passed(handle)) {
         int error = inroot_handles_fd(d, handle, &work.looks);
         if (error)
             return inroot_unmade(d, error);
-        work.facts.own_text = d->known == INROOT_SHOWN_PLACED && !d->asked->follows;
         work.facts.link = inroot_handles_slot(d, handle)->kind == INROOT_KIND_LINK;
     }
     inroot_by_calls(d, &work);

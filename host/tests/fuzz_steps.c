@@ -36,9 +36,8 @@ static struct inroot_step_facts some_facts(struct input *in)
     facts.mount = more & 2;
     facts.no_magic = more & 4;
     facts.goes_on = more & 8;
-    facts.lived = more & 16;
-    facts.own_text = more & 32;
-    facts.was_read = more & 64;
+    facts.known = (uint8_t)(more / 16 % 4);
+    facts.follows = more & 64;
     facts.link = more & 128;
     facts.second_name = last & 128;
     facts.named = above & 1;
@@ -173,7 +172,7 @@ static void others(const struct inroot_step_facts *facts, uint8_t next, const st
             follows(error, seen);
         break;
     case INROOT_CALL_NO_FOLLOW:
-        MUST(facts->what == INROOT_STEP_READLINK && !facts->own_text);
+        MUST(facts->what == INROOT_STEP_READLINK && (facts->known != INROOT_SHOWN_PLACED || facts->follows));
         seen->is_kept = error != 0 || answer->number & NOSYMFOLLOW;
         seen->why = error == EINTR ? 0 : error != 0 ? error : seen->is_kept ? ELOOP : 0;
         seen->costs += error == EINTR;

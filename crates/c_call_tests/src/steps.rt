@@ -67,9 +67,8 @@ fn step(what: u8) -> Facts {
         clears: false,
         one_by_one: false,
         second: false,
-        lived: false,
-        own_text: false,
-        was_read: false,
+        known: NOTHING,
+        follows: false,
         link: false,
         second_name: false,
     }
@@ -196,7 +195,7 @@ fn removed_directories_have_no_parent(rt: HostRuntime) -> Result<(), Fail> {
     assert!(rt; gone.next == CLOSE);
     assert!(rt; ends(works(&facts, gone), REFUSED, ENOENT));
     let lived = Facts {
-        lived: true,
+        known: FOLLOWED,
         ..facts
     };
     assert!(rt; works(&lived, begin(&lived)).next == OPENED);
@@ -223,7 +222,7 @@ fn what_is_above_is_looked_up_by_the_names(rt: HostRuntime) -> Result<(), Fail> 
     let above = works(&facts, other);
     assert!(rt; above.next == OPEN_DIRECTORY && works(&facts, above).next == LINKS);
     let lived = Facts {
-        lived: true,
+        known: FOLLOWED,
         ..facts
     };
     let found = works(&lived, works(&lived, begin(&lived)));
@@ -323,14 +322,19 @@ fn texts_are_read(rt: HostRuntime) -> Result<(), Fail> {
     assert!(rt; ends(fails(&facts, read, EINVAL), UNMADE, EINVAL));
     let file = Facts {
         link: false,
-        own_text: true,
+        known: PLACED,
         ..facts
     };
     assert!(rt; begin(&file).next == READ_LINK);
     assert!(rt; ends(fails(&file, begin(&file), ENOENT), REFUSED, EINVAL));
     assert!(rt; ends(fails(&file, begin(&file), EIO), UNMADE, EIO));
+    let followed = Facts {
+        follows: true,
+        ..file
+    };
+    assert!(rt; begin(&followed).next == NO_FOLLOW);
     let known = Facts {
-        was_read: true,
+        known: LINK_READ,
         ..facts
     };
     assert!(rt; works(&known, begin(&known)).next == TEXT);

@@ -30,9 +30,8 @@ facts_of what = record {
   clears = false;
   one_by_one = false;
   second = false;
-  lived = false;
-  own_text = false;
-  was_read = false;
+  known = 0;
+  follows = false;
   link = false;
   second_name = false;
 }

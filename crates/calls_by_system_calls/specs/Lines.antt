@@ -15,7 +15,7 @@ use Rattle.tree_model.specs.declared.step.StepOf.TheVariants as steps
 use Rattle.tree_model.specs.State.{child, is_dir, names_below, names_in, object_at, parent, sorted_names}
 use Rattle.tree_model.specs.Steps.{kind_of, shows}
 use Rattle.tree_model.specs.StepWith.{StepWith}
-use Rattle.step_calls.specs.History.{next_after, Exchange, IsHistory, Next}
+use Rattle.step_calls.specs.History.{is_known_there, is_read_already, next_after, Exchange, IsHistory, Next}
 use Rattle.step_calls.specs.Moments.{moment, number_of_kind, AreAnswers, CouldNotAsk, IsNoLink, IsThere, LinkSays, OpenSays, ParentSays, World}
 use Rattle.step_calls.specs.declared.course.TheConstants.{OPENED, TEXT, REFUSED}
 use Rattle.step_calls.specs.declared.facts.Facts.{Facts}
@@ -101,7 +101,7 @@ pub record ParentIsMade (x : Linux) (nodes : ℕ → ℕ) (m calls dir : ℕ) (a
   pub is : IsHistory facts history
   pub directory : is_dir (state_at x m).nodes dir ≡ true
   pub says : AreAnswers (ParentSays (world x m dir [] on []) layered) history
-  pub lived : facts.lived ≡ true → (n : ℕ) → n ≤ calls → IsThere (world x m dir [] on []) n
+  pub lived : is_known_there facts ≡ true → (n : ℕ) → n ≤ calls → IsThere (world x m dir [] on []) n
   pub could_ask : CouldNotAsk history → ⊥
   pub tells : TellsAbove nodes (on (moment history)) (next_after facts history) answer
 
@@ -113,7 +113,7 @@ pub record TextIsRead (x : Linux) (m calls link : ℕ) (answer : Answer) : Type 
   pub what : facts.what ≡ READ_TEXT
   pub all : moment history ≡ calls
   pub is : IsHistory facts history
-  pub was_read : facts.was_read ≡ true → object_at (state_at x m).nodes link ≡ Some (object.Link text)
+  pub was_read : is_read_already facts ≡ true → object_at (state_at x m).nodes link ≡ Some (object.Link text)
   pub none : facts.link ≡ false → IsNoLink (world x m link [] (λ n. 0) text)
   pub says : AreAnswers (LinkSays (world x m link [] (λ n. 0) text)) history
   pub tells : TellsText text (next_after facts history) answer

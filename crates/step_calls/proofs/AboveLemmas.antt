@@ -2,7 +2,7 @@
 use Rattle.std.proofs.Common.{◌≡◌, ℕ, List, [], ◌∷◌, Bool, true, false, if◌then◌else◌, ◌&&◌, not, refl, subst}
 use Rattle.std.specs.Prelude.{◌==◌, MatchBool}
 use Rattle.std.proofs.lemmas.Bool.{eqb-true, false≢true}
-use Rattle.step_calls.specs.History.{after_exchange, asks, first, first_above, may_look_above, next_after, Exchange, Next}
+use Rattle.step_calls.specs.History.{after_exchange, asks, first, first_above, may_look_above, next_after, wants_own_text, Exchange, Next}
 use Rattle.step_calls.specs.Promises.{AboveIsFoundByLeave, IsByNames}
 use Rattle.step_calls.specs.declared.course.TheConstants.{OPEN_DIRECTORY, OPEN_ANY, IS_ROOT, LOOK_ABOVE, LINKS, NO_FOLLOW, READ_LINK, CHANGE}
 use Rattle.step_calls.specs.declared.facts.Facts.{Facts}
@@ -51,8 +51,8 @@ begins f =
     (λ s. if_elim P f.goes_on (asks IS_ROOT) (asks OPEN_DIRECTORY) (λ g. (by_names f d m, s, g)) (λ g. tt))
     (λ s. if_elim P f.jailed (asks OPEN_DIRECTORY) (asks LOOK_ABOVE) (λ j. tt) (λ j. (by_names f d m, s, j))))
     (λ m. tt))
-    (λ d. if_elim P (f.what == READ_TEXT) (if f.own_text then asks READ_LINK else asks NO_FOLLOW) _
-    (λ g. if_elim P f.own_text (asks READ_LINK) (asks NO_FOLLOW) (λ h. tt) (λ h. tt))
+    (λ d. if_elim P (f.what == READ_TEXT) (if wants_own_text f then asks READ_LINK else asks NO_FOLLOW) _
+    (λ g. if_elim P (wants_own_text f) (asks READ_LINK) (asks NO_FOLLOW) (λ h. tt) (λ h. tt))
     (λ g. if_elim P (f.what == IS_THERE) (asks LINKS) (asks CHANGE) (λ h. tt) (λ h. tt)))))
 
 -- behind an exchange neither comes

@@ -4,7 +4,7 @@ use Rattle.std.specs.Prelude.{◌==◌}
 use Rattle.std.specs.List.{AllByRecursion}
 use Rattle.std.proofs.lemmas.Bool.{eqb-true, false≢true}
 use Rattle.system_calls.specs.Errors.{ENOENT, EINTR, EEXIST, EXDEV, ENOTDIR, ELOOP}
-use Rattle.step_calls.specs.History.{after_exchange, asked, asks, came_to, ends_by, fails, gone, has_followed, has_magic, is_ordinary, keeps_links, knows, next_after, not_ordinary, not_read, opened, stayed, there, unasked, waits, Exchange, opens_directory, opens_any, spares, asks_mount, asks_kind, asks_holder, asks_magic, asks_root, looks_above, compares_above, closes_above, asks_links, asks_layers, opens_to_read, reads, closes_read, asks_follow, reads_link, changes, closes, IsHistory, Next}
+use Rattle.step_calls.specs.History.{after_exchange, asked, asks, came_to, ends_by, fails, gone, has_followed, has_magic, is_ordinary, keeps_links, knows, next_after, not_ordinary, not_read, opened, stayed, there, unasked, waits, opens_directory, opens_any, spares, asks_mount, asks_kind, asks_holder, asks_magic, asks_root, looks_above, compares_above, closes_above, asks_links, asks_layers, opens_to_read, reads, closes_read, asks_follow, reads_link, changes, closes, is_read_already, Exchange, IsHistory, Next}
 use Rattle.step_calls.specs.Promises.{is_no_error, is_none_left, NoError}
 use Rattle.step_calls.specs.declared.course.TheConstants.{OPEN_DIRECTORY, OPEN_ANY, MAGIC, COMPARE_ABOVE, CLOSE_ABOVE, LAYERS, OPEN_TO_READ, READ, CLOSE_READ, NO_FOLLOW, READ_LINK, CLOSE, OPENED, TEXT, REFUSED, UNMADE, DONE}
 use Rattle.step_calls.specs.declared.facts.Facts.{Facts}
@@ -134,10 +134,10 @@ well f (asks_follow error flags) due =
     let P = Well f (asks_follow error flags) due in
     if_elim P (error == EINTR) (asks NO_FOLLOW) _
     (λ b h. (first_is (error == EINTR) ((error == 0) && has_followed flags) b, refl))
-    (λ b. if_elim P ((error == 0) && has_followed flags) (if f.was_read then asks TEXT else asks READ_LINK)
+    (λ b. if_elim P ((error == 0) && has_followed flags) (if is_read_already f then asks TEXT else asks READ_LINK)
     (fails UNMADE (if error == 0 then ELOOP else error))
     (λ c. let ok = second_is (error == EINTR) _ c in
-    if_elim P f.was_read (asks TEXT) (asks READ_LINK) (λ d h. (ok, refl)) (λ d h. (ok, refl))) (λ c. no_way))
+    if_elim P (is_read_already f) (asks TEXT) (asks READ_LINK) (λ d h. (ok, refl)) (λ d h. (ok, refl))) (λ c. no_way))
 well f (reads_link error) due =
     let P = Well f (reads_link error) due in
     if_elim P (error == 0) (asks TEXT) _ (λ b h. (first_is (error == 0) (error == EINTR) b, refl))

@@ -2,7 +2,7 @@
 use Rattle.std.proofs.Common.{◌≡◌, ◌≤◌, ◌+◌, ℕ, suc, List, [], ◌∷◌, Bool, true, if◌then◌else◌, ◌&&◌, not, length, ap, arith}
 use Rattle.std.specs.Prelude.{◌==◌}
 use Rattle.system_calls.specs.Errors.{ENOENT, EINTR, EEXIST, EXDEV, ENOTDIR, ELOOP}
-use Rattle.step_calls.specs.History.{after_exchange, asked, asks, came_to, ends_by, fails, first, first_above, gone, has_followed, has_magic, is_ordinary, keeps_links, knows, next_after, not_ordinary, not_read, opened, stayed, there, unasked, waits, Exchange, opens_directory, opens_any, spares, asks_mount, asks_kind, asks_holder, asks_magic, asks_root, looks_above, compares_above, closes_above, asks_links, asks_layers, opens_to_read, reads, closes_read, asks_follow, reads_link, changes, closes, IsHistory, Next}
+use Rattle.step_calls.specs.History.{after_exchange, asked, asks, came_to, ends_by, fails, first, first_above, gone, has_followed, has_magic, is_ordinary, keeps_links, knows, next_after, not_ordinary, not_read, opened, stayed, there, unasked, waits, opens_directory, opens_any, spares, asks_mount, asks_kind, asks_holder, asks_magic, asks_root, looks_above, compares_above, closes_above, asks_links, asks_layers, opens_to_read, reads, closes_read, asks_follow, reads_link, changes, closes, is_read_already, wants_own_text, Exchange, IsHistory, Next}
 use Rattle.step_calls.specs.Promises.{cost_of, costs}
 use Rattle.step_calls.specs.declared.course.TheConstants.{OPEN_DIRECTORY, OPEN_ANY, SPARE, MOUNT, KIND, MAY_HOLD_MAGIC, MAGIC, IS_ROOT, LOOK_ABOVE, COMPARE_ABOVE, CLOSE_ABOVE, LINKS, LAYERS, OPEN_TO_READ, READ, CLOSE_READ, NO_FOLLOW, READ_LINK, CHANGE, CLOSE, OPENED, TEXT, REFUSED, UNMADE, DONE}
 use Rattle.step_calls.specs.declared.facts.Facts.{Facts}
@@ -117,9 +117,9 @@ falls f closes_read due =
 falls f (asks_follow error flags) due =
     let P = Falls (asks_follow error flags) in
     if_elim P (error == EINTR) (asks NO_FOLLOW) _ (λ b. omega (arith, one error b))
-    (λ b. if_elim P ((error == 0) && has_followed flags) (if f.was_read then asks TEXT else asks READ_LINK)
+    (λ b. if_elim P ((error == 0) && has_followed flags) (if is_read_already f then asks TEXT else asks READ_LINK)
     (fails UNMADE (if error == 0 then ELOOP else error))
-    (λ c. if_elim P f.was_read (asks TEXT) (asks READ_LINK) (λ d. omega arith) (λ d. omega arith)) (λ c. omega arith))
+    (λ c. if_elim P (is_read_already f) (asks TEXT) (asks READ_LINK) (λ d. omega arith) (λ d. omega arith)) (λ c. omega arith))
 falls f (reads_link error) due =
     let P = Falls (reads_link error) in
     if_elim P (error == 0) (asks TEXT) _ (λ b. omega arith)
@@ -143,8 +143,8 @@ rank_first f =
     (λ b. if_elim P (f.what == DUP) (asks OPEN_DIRECTORY) _ (λ c. omega arith)
     (λ c. if_elim P (f.what == PARENT) (first_above f) _
     (λ d. first_above_all P f (omega arith) (omega arith) (omega arith))
-    (λ d. if_elim P (f.what == READ_TEXT) (if f.own_text then asks READ_LINK else asks NO_FOLLOW) _
-    (λ g. if_elim P f.own_text (asks READ_LINK) (asks NO_FOLLOW) (λ h. omega arith) (λ h. omega arith))
+    (λ d. if_elim P (f.what == READ_TEXT) (if wants_own_text f then asks READ_LINK else asks NO_FOLLOW) _
+    (λ g. if_elim P (wants_own_text f) (asks READ_LINK) (asks NO_FOLLOW) (λ h. omega arith) (λ h. omega arith))
     (λ g. if_elim P (f.what == IS_THERE) (asks LINKS) (asks CHANGE) (λ h. omega arith) (λ h. omega arith)))))
 
 few_step : (f : Facts) (history : List Exchange) → IsHistory f history

@@ -3,7 +3,7 @@ use Rattle.std.proofs.Common.{◌≡◌, ℕ, List, [], ◌∷◌, Bool, true, f
 use Rattle.std.specs.Prelude.{◌==◌}
 use Rattle.std.proofs.lemmas.Bool.{false≢true}
 use Rattle.system_calls.specs.Errors.{ENOENT, EINTR, EEXIST, EXDEV, ENOTDIR, ELOOP}
-use Rattle.step_calls.specs.History.{after_exchange, asked, asks, came_to, ends_by, fails, first, first_above, gone, has_followed, has_magic, is_ordinary, keeps_links, knows, next_after, not_ordinary, not_read, opened, stayed, there, unasked, waits, Exchange, opens_directory, opens_any, spares, asks_mount, asks_kind, asks_holder, asks_magic, asks_root, looks_above, compares_above, closes_above, asks_links, asks_layers, opens_to_read, reads, closes_read, asks_follow, reads_link, changes, closes, IsHistory, Next}
+use Rattle.step_calls.specs.History.{after_exchange, asked, asks, came_to, ends_by, fails, first, first_above, gone, has_followed, has_magic, is_ordinary, keeps_links, knows, next_after, not_ordinary, not_read, opened, stayed, there, unasked, waits, opens_directory, opens_any, spares, asks_mount, asks_kind, asks_holder, asks_magic, asks_root, looks_above, compares_above, closes_above, asks_links, asks_layers, opens_to_read, reads, closes_read, asks_follow, reads_link, changes, closes, is_read_already, wants_own_text, Exchange, IsHistory, Next}
 use Rattle.step_calls.specs.Promises.{holds_after, holds_by, needs_opened, needs_read, reads_after, reads_by}
 use Rattle.step_calls.specs.declared.course.TheConstants.{OPEN_DIRECTORY, OPEN_ANY, READ, CLOSE_READ, NO_FOLLOW, COMPARE_ABOVE, CLOSE_ABOVE, LINKS, LAYERS, OPEN_TO_READ, READ_LINK, MAGIC, CHANGE, CLOSE, OPENED, TEXT, DONE, REFUSED, UNMADE}
 use Rattle.step_calls.specs.declared.facts.Facts.{Facts}
@@ -103,9 +103,9 @@ each P f closes_read due c =
     (λ h. unasked_all P f due.error (λ x. c.close UNMADE due.error) (λ x. c.unmade due.error)))
 each P f (asks_follow error flags) due c =
     if_elim P (error == EINTR) (asks NO_FOLLOW) _ (λ b. c.no_follow)
-    (λ b. if_elim P ((error == 0) && has_followed flags) (if f.was_read then asks TEXT else asks READ_LINK)
+    (λ b. if_elim P ((error == 0) && has_followed flags) (if is_read_already f then asks TEXT else asks READ_LINK)
     (fails UNMADE (if error == 0 then ELOOP else error))
-    (λ d. if_elim P f.was_read (asks TEXT) (asks READ_LINK) (λ g. c.text) (λ g. c.read_link))
+    (λ d. if_elim P (is_read_already f) (asks TEXT) (asks READ_LINK) (λ g. c.text) (λ g. c.read_link))
     (λ d. c.unmade (if error == 0 then ELOOP else error)))
 each P f (reads_link error) due c =
     if_elim P (error == 0) (asks TEXT) _ (λ b. c.text)
@@ -263,9 +263,9 @@ holds_step f closes_read due was is =
 holds_step f (asks_follow error flags) due was is =
     let P = λ (n : Next). was ≡ needs_opened f n.next in
     if_elim P (error == EINTR) (asks NO_FOLLOW) _ (λ b. is)
-    (λ b. if_elim P ((error == 0) && has_followed flags) (if f.was_read then asks TEXT else asks READ_LINK)
+    (λ b. if_elim P ((error == 0) && has_followed flags) (if is_read_already f then asks TEXT else asks READ_LINK)
     (fails UNMADE (if error == 0 then ELOOP else error))
-    (λ c. if_elim P f.was_read (asks TEXT) (asks READ_LINK) (λ d. is) (λ d. is)) (λ c. is))
+    (λ c. if_elim P (is_read_already f) (asks TEXT) (asks READ_LINK) (λ d. is) (λ d. is)) (λ c. is))
 holds_step f (reads_link error) due was is =
     let P = λ (n : Next). was ≡ needs_opened f n.next in
     if_elim P (error == 0) (asks TEXT) _ (λ b. is)
@@ -294,8 +294,8 @@ holds_first f =
     (λ b. if_elim P f.directory (asks OPEN_DIRECTORY) (asks OPEN_ANY) (λ c. n) (λ c. n))
     (λ b. if_elim P (f.what == DUP) (asks OPEN_DIRECTORY) _ (λ c. n)
     (λ c. if_elim P (f.what == PARENT) (first_above f) _ (λ d. first_above_all P f n n n)
-    (λ d. if_elim P (f.what == READ_TEXT) (if f.own_text then asks READ_LINK else asks NO_FOLLOW) _
-    (λ g. if_elim P f.own_text (asks READ_LINK) (asks NO_FOLLOW) (λ h. n) (λ h. n))
+    (λ d. if_elim P (f.what == READ_TEXT) (if wants_own_text f then asks READ_LINK else asks NO_FOLLOW) _
+    (λ g. if_elim P (wants_own_text f) (asks READ_LINK) (asks NO_FOLLOW) (λ h. n) (λ h. n))
     (λ g. if_elim P (f.what == IS_THERE) (asks LINKS) (asks CHANGE) (λ h. shut (f.what == PARENT) d) (λ h. n)))))
 
 pub holds : (f : Facts) (history : List Exchange) → IsHistory f history
@@ -372,9 +372,9 @@ reads_step f (asks_layers error type) due was is =
 reads_step f (asks_follow error flags) due was is =
     let P = λ (n : Next). was ≡ needs_read n.next in
     if_elim P (error == EINTR) (asks NO_FOLLOW) _ (λ b. is)
-    (λ b. if_elim P ((error == 0) && has_followed flags) (if f.was_read then asks TEXT else asks READ_LINK)
+    (λ b. if_elim P ((error == 0) && has_followed flags) (if is_read_already f then asks TEXT else asks READ_LINK)
     (fails UNMADE (if error == 0 then ELOOP else error))
-    (λ c. if_elim P f.was_read (asks TEXT) (asks READ_LINK) (λ d. is) (λ d. is)) (λ c. is))
+    (λ c. if_elim P (is_read_already f) (asks TEXT) (asks READ_LINK) (λ d. is) (λ d. is)) (λ c. is))
 reads_step f (reads_link error) due was is =
     let P = λ (n : Next). was ≡ needs_read n.next in
     if_elim P (error == 0) (asks TEXT) _ (λ b. is)
@@ -397,8 +397,8 @@ reads_first f =
     (λ b. if_elim P f.directory (asks OPEN_DIRECTORY) (asks OPEN_ANY) (λ c. refl) (λ c. refl))
     (λ b. if_elim P (f.what == DUP) (asks OPEN_DIRECTORY) _ (λ c. refl)
     (λ c. if_elim P (f.what == PARENT) (first_above f) _ (λ d. first_above_all P f refl refl refl)
-    (λ d. if_elim P (f.what == READ_TEXT) (if f.own_text then asks READ_LINK else asks NO_FOLLOW) _
-    (λ g. if_elim P f.own_text (asks READ_LINK) (asks NO_FOLLOW) (λ h. refl) (λ h. refl))
+    (λ d. if_elim P (f.what == READ_TEXT) (if wants_own_text f then asks READ_LINK else asks NO_FOLLOW) _
+    (λ g. if_elim P (wants_own_text f) (asks READ_LINK) (asks NO_FOLLOW) (λ h. refl) (λ h. refl))
     (λ g. if_elim P (f.what == IS_THERE) (asks LINKS) (asks CHANGE) (λ h. refl) (λ h. refl)))))
 
 pub is_read : (f : Facts) (history : List Exchange) → IsHistory f history

@@ -4,7 +4,7 @@ use Rattle.std.specs.Prelude.{◌==◌, MatchBool}
 use Rattle.std.specs.List.{list_any}
 use Rattle.std.proofs.lemmas.Bool.{false≢true}
 use Rattle.system_calls.specs.Errors.{ENOENT, EINTR, EEXIST, EXDEV, ENOTDIR, ELOOP}
-use Rattle.step_calls.specs.History.{after_exchange, asked, asks, came_to, ends_by, fails, first, gone, has_followed, has_magic, is_ordinary, keeps_links, knows, next_after, not_ordinary, not_read, opened, stayed, there, unasked, waits, Exchange, opens_directory, opens_any, spares, asks_mount, asks_kind, asks_holder, asks_magic, asks_root, looks_above, compares_above, closes_above, asks_links, asks_layers, opens_to_read, reads, closes_read, asks_follow, reads_link, changes, closes, IsHistory, Next}
+use Rattle.step_calls.specs.History.{after_exchange, asked, asks, came_to, ends_by, fails, first, gone, has_followed, has_magic, is_ordinary, keeps_links, knows, next_after, not_ordinary, not_read, opened, stayed, there, unasked, waits, opens_directory, opens_any, spares, asks_mount, asks_kind, asks_holder, asks_magic, asks_root, looks_above, compares_above, closes_above, asks_links, asks_layers, opens_to_read, reads, closes_read, asks_follow, reads_link, changes, closes, is_known_there, is_read_already, wants_own_text, Exchange, IsHistory, Next}
 use Rattle.step_calls.specs.Leave.{says_followed, says_ordinary, NoMagicIsOpened, TextsAreFollowed}
 use Rattle.step_calls.specs.declared.course.TheConstants.{OPEN_DIRECTORY, OPEN_ANY, MOUNT, KIND, MAY_HOLD_MAGIC, MAGIC, COMPARE_ABOVE, CLOSE_ABOVE, LINKS, LAYERS, OPEN_TO_READ, READ, CLOSE_READ, READ_LINK, NO_FOLLOW, CLOSE, OPENED, TEXT, DONE, REFUSED, UNMADE}
 use Rattle.step_calls.specs.declared.facts.Facts.{Facts}
@@ -22,7 +22,7 @@ Plain said due = MatchBool (due.next == OPENED) ((due.kind == LINK) ≡ true →
 module _ (f : Facts) (above : (f.what == PARENT) ≡ false) (magic : f.no_magic ≡ true) (said : Bool) where
   came : (k : ℕ) → Plain said (came_to f k)
   came k =
-      if_elim (Plain said) (f.what == PARENT) (if f.lived then knows OPENED k else asks LINKS) _
+      if_elim (Plain said) (f.what == PARENT) (if is_known_there f then knows OPENED k else asks LINKS) _
       (λ b. absurd (false≢true (sym above ∙ b)))
       (λ b. if_elim (Plain said) (f.no_magic && (k == LINK)) (knows MAY_HOLD_MAGIC k) (knows OPENED k) (λ c. tt)
       (λ c h. absurd (false≢true (sym c ∙ ap (λ t. t && (k == LINK)) magic ∙ h))))
@@ -103,9 +103,9 @@ magic_step f closes_read due said above magic =
 magic_step f (asks_follow error flags) due said above magic =
     let P = Plain said in
     if_elim P (error == EINTR) (asks NO_FOLLOW) _ (λ b. tt)
-    (λ b. if_elim P ((error == 0) && has_followed flags) (if f.was_read then asks TEXT else asks READ_LINK)
+    (λ b. if_elim P ((error == 0) && has_followed flags) (if is_read_already f then asks TEXT else asks READ_LINK)
     (fails UNMADE (if error == 0 then ELOOP else error))
-    (λ c. if_elim P f.was_read (asks TEXT) (asks READ_LINK) (λ d. tt) (λ d. tt)) (λ c. tt))
+    (λ c. if_elim P (is_read_already f) (asks TEXT) (asks READ_LINK) (λ d. tt) (λ d. tt)) (λ c. tt))
 magic_step f (reads_link error) due said above magic =
     let P = Plain said in
     if_elim P (error == 0) (asks TEXT) _ (λ b. tt)
@@ -154,10 +154,10 @@ text_step : (f : Facts) (e : Exchange) (due : Next) (said : Bool) → Says said 
 text_step f (asks_follow error flags) due said was =
     let P = Followed (((error == 0) && has_followed flags) || said) in
     if_elim P (error == EINTR) (asks NO_FOLLOW) _ (λ b. tt)
-    (λ b. if_elim P ((error == 0) && has_followed flags) (if f.was_read then asks TEXT else asks READ_LINK)
+    (λ b. if_elim P ((error == 0) && has_followed flags) (if is_read_already f then asks TEXT else asks READ_LINK)
     (fails UNMADE (if error == 0 then ELOOP else error))
     (λ c. let is = first_is ((error == 0) && has_followed flags) said c in
-    if_elim P f.was_read (asks TEXT) (asks READ_LINK) (λ d. is) (λ d. is)) (λ c. tt))
+    if_elim P (is_read_already f) (asks TEXT) (asks READ_LINK) (λ d. is) (λ d. is)) (λ c. tt))
 text_step f (reads_link error) due said was =
     let P = Followed said in
     if_elim P (error == 0) (asks TEXT) _ (λ b. was)
@@ -183,12 +183,12 @@ text_step f closes_read due said was = absurd was
 text_step f (changes error) due said was = absurd was
 text_step f closes due said was = absurd was
 
-text_begins : (f : Facts) → f.what ≡ READ_TEXT → f.own_text ≡ false → Followed false (first f)
+text_begins : (f : Facts) → f.what ≡ READ_TEXT → wants_own_text f ≡ false → Followed false (first f)
 text_begins f links own =
     subst (λ (n : ℕ). Followed false (first (record f { what = n }))) (sym links)
-    (if_elim (Followed false) f.own_text (asks READ_LINK) (asks NO_FOLLOW) (λ b. absurd (false≢true (sym own ∙ b))) (λ b. tt))
+    (if_elim (Followed false) (wants_own_text f) (asks READ_LINK) (asks NO_FOLLOW) (λ b. absurd (false≢true (sym own ∙ b))) (λ b. tt))
 
-all_followed : (f : Facts) (history : List Exchange) → f.what ≡ READ_TEXT → f.own_text ≡ false → IsHistory f history
+all_followed : (f : Facts) (history : List Exchange) → f.what ≡ READ_TEXT → wants_own_text f ≡ false → IsHistory f history
     → Followed (list_any says_followed history) (next_after f history)
 all_followed f [] links own is = text_begins f links own
 all_followed f (e ∷ older) links own is =

@@ -10,7 +10,7 @@ use Rattle.tree_model.specs.declared.inode.Object.TheVariants as object
 use Rattle.tree_model.specs.declared.step.StepOf.TheVariants.{ReadLink}
 use Rattle.tree_model.specs.State.{State, object_at}
 use Rattle.tree_model.specs.Steps.{held, outcome, reads as reads_node}
-use Rattle.step_calls.specs.History.{after_exchange, asks, asked, ends_by, fails, first, has_followed, next_after, not_read, Exchange, opens_directory, opens_any, spares, asks_mount, asks_kind, asks_holder, asks_magic, asks_root, looks_above, compares_above, closes_above, asks_links, asks_layers, opens_to_read, reads, closes_read, asks_follow, reads_link, changes, closes, IsHistory, Next}
+use Rattle.step_calls.specs.History.{after_exchange, asks, asked, ends_by, fails, first, has_followed, next_after, not_read, opens_directory, opens_any, spares, asks_mount, asks_kind, asks_holder, asks_magic, asks_root, looks_above, compares_above, closes_above, asks_links, asks_layers, opens_to_read, reads, closes_read, asks_follow, reads_link, changes, closes, is_read_already, wants_own_text, Exchange, IsHistory, Next}
 use Rattle.step_calls.specs.Moments.{moment, AreAnswers, IsNoLink, LinkSays, LinksWereRead, World}
 use Rattle.step_calls.specs.declared.course.TheConstants.{NO_FOLLOW, READ_LINK, TEXT, REFUSED, UNMADE}
 use Rattle.step_calls.specs.declared.facts.Facts.{Facts}
@@ -37,13 +37,13 @@ not_text w f now error links none =
     (if_elim (Stood w now) (error == 22) (fails REFUSED error) (fails UNMADE error) (λ b. none) (λ b. tt))
 
 step : (w : World) (f : Facts) (now : ℕ) (e : Exchange) (due : Next) → f.what ≡ READ_TEXT
-    → (f.was_read ≡ true → object_at (w.states 0).nodes w.node ≡ Some (object.Link w.text))
+    → (is_read_already f ≡ true → object_at (w.states 0).nodes w.node ≡ Some (object.Link w.text))
     → (f.link ≡ false → IsNoLink w) → LinkSays w now e → Says w now (asked e) → Stood w (suc now) (after_exchange f e due)
 step w f now (asks_follow error flags) due links read none says was =
     if_elim (Stood w (suc now)) (error == EINTR) (asks NO_FOLLOW) _ (λ b. tt)
-    (λ b. if_elim (Stood w (suc now)) ((error == 0) && has_followed flags) (if f.was_read then asks TEXT else asks READ_LINK)
+    (λ b. if_elim (Stood w (suc now)) ((error == 0) && has_followed flags) (if is_read_already f then asks TEXT else asks READ_LINK)
     (fails UNMADE (if error == 0 then ELOOP else error))
-    (λ c. if_elim (Stood w (suc now)) f.was_read (asks TEXT) (asks READ_LINK)
+    (λ c. if_elim (Stood w (suc now)) (is_read_already f) (asks TEXT) (asks READ_LINK)
     (λ d. (0, omega arith, read d)) (λ d. tt)) (λ c. tt))
 step w f now (reads_link error) due links read none says was =
     if_elim (Stood w (suc now)) (error == 0) (asks TEXT) _ (λ b. (suc now, omega arith, says (eqb-true error 0 b)))
@@ -72,10 +72,10 @@ step w f now closes due links read none says was = absurd was
 begins : (w : World) (f : Facts) → f.what ≡ READ_TEXT → Stood w 0 (first f)
 begins w f links =
     subst (λ (n : ℕ). Stood w 0 (first (record f { what = n }))) (sym links)
-    (if_elim (Stood w 0) f.own_text (asks READ_LINK) (asks NO_FOLLOW) (λ b. tt) (λ b. tt))
+    (if_elim (Stood w 0) (wants_own_text f) (asks READ_LINK) (asks NO_FOLLOW) (λ b. tt) (λ b. tt))
 
 stood : (w : World) (f : Facts) (history : List Exchange) → f.what ≡ READ_TEXT
-    → (f.was_read ≡ true → object_at (w.states 0).nodes w.node ≡ Some (object.Link w.text))
+    → (is_read_already f ≡ true → object_at (w.states 0).nodes w.node ≡ Some (object.Link w.text))
     → (f.link ≡ false → IsNoLink w) → AreAnswers (LinkSays w) history → IsHistory f history
     → Stood w (moment history) (next_after f history)
 stood w f [] links read none says is = begins w f links

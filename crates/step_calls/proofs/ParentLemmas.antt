@@ -12,7 +12,7 @@ use Rattle.tree_model.specs.declared.step.StepOf.TheVariants.{Parent}
 use Rattle.tree_model.specs.declared.inode.Place.{Place}
 use Rattle.tree_model.specs.State.{State, TOP, is_dir, is_gone, object_at, parent, place_at}
 use Rattle.tree_model.specs.Steps.{held, is_full, outcome}
-use Rattle.step_calls.specs.History.{after_exchange, after_spare, asks, asked, came_to, ends_by, fails, first, gone, keeps_links, knows, next_after, not_opened, opened, stayed, there, unasked, waits, Exchange, opens_directory, opens_any, spares, asks_mount, asks_kind, asks_holder, asks_magic, asks_root, looks_above, compares_above, closes_above, asks_links, asks_layers, opens_to_read, reads, closes_read, asks_follow, reads_link, changes, closes, IsHistory, Next}
+use Rattle.step_calls.specs.History.{after_exchange, after_spare, asks, asked, came_to, ends_by, fails, first, gone, keeps_links, knows, next_after, not_opened, opened, stayed, there, unasked, waits, opens_directory, opens_any, spares, asks_mount, asks_kind, asks_holder, asks_magic, asks_root, looks_above, compares_above, closes_above, asks_links, asks_layers, opens_to_read, reads, closes_read, asks_follow, reads_link, changes, closes, is_known_there, Exchange, IsHistory, Next}
 use Rattle.step_calls.specs.Moments.{moment, AreAnswers, CouldNotAsk, IsGone, IsThere, IsWorld, OpensAbove, ParentSays, ParentsStood, Stays, World}
 use Rattle.step_calls.specs.declared.course.TheConstants.{OPEN_DIRECTORY, SPARE, MOUNT, IS_ROOT, LOOK_ABOVE, COMPARE_ABOVE, CLOSE_ABOVE, LINKS, LAYERS, OPEN_TO_READ, READ, CLOSE_READ, CLOSE, OPENED, REFUSED, UNMADE}
 use Rattle.step_calls.specs.declared.facts.Facts.{Facts}
@@ -35,7 +35,7 @@ WasGone w now = (n : ℕ) × (n ≤ now) × IsGone w n
 
 abbrev Led : World → Facts → List Exchange → ℕ → ℕ → Type 0
 Led w f history now n =
-    (parent (w.states n).nodes w.node ≡ Some (w.on now)) ⊎ ((IsGone w n × (f.lived ≡ true)) ⊎ CouldNotAsk history)
+    (parent (w.states n).nodes w.node ≡ Some (w.on now)) ⊎ ((IsGone w n × (is_known_there f ≡ true)) ⊎ CouldNotAsk history)
 
 abbrev Says : World → Bool → Facts → List Exchange → ℕ → ℕ → ℕ → ℕ → ℕ → Type 0
 Says w layered f history now next behind error kind =
@@ -96,7 +96,7 @@ led w f history now a (inl is_there) =
       | inr p ↦ inl p
     ]
 
-lived_led : (w : World) (f : Facts) (history : List Exchange) (now : ℕ) (a : Above w now) → f.lived ≡ true
+lived_led : (w : World) (f : Facts) (history : List Exchange) (now : ℕ) (a : Above w now) → is_known_there f ≡ true
     → Led w f history now a.n
 lived_led w f history now a lived =
     elim a.above [
@@ -110,7 +110,7 @@ came : (w : World) (layered : Bool) (f : Facts) (history : List Exchange) (now k
     → Stood w layered f history now (came_to f k)
 came w layered f history now k parents a =
     subst (λ (n : ℕ). Stood w layered f history now (came_to (record f { what = n }) k)) (sym parents)
-    (if_elim (Stood w layered f history now) f.lived (knows OPENED k) (asks LINKS)
+    (if_elim (Stood w layered f history now) (is_known_there f) (knows OPENED k) (asks LINKS)
     (λ b. (a, lived_led w f history now a b)) (λ b. a))
 
 found : (w : World) (layered : Bool) (f : Facts) (history : List Exchange) (now : ℕ) → f.what ≡ PARENT → Above w now

@@ -3,7 +3,7 @@ use Rattle.std.proofs.Common.{◌≡◌, ◌≢◌, ℕ, List, [], ◌∷◌, tr
 use Rattle.std.specs.Prelude.{◌==◌, MatchBool}
 use Rattle.std.proofs.lemmas.Bool.{eqb-true}
 use Rattle.system_calls.specs.Errors.{ENOENT, EINTR, EEXIST, EXDEV, ENOTDIR, ENFILE, EMFILE, ELOOP}
-use Rattle.step_calls.specs.History.{after_exchange, asked, asks, came_to, ends_by, fails, first, first_above, gone, has_followed, has_magic, is_ordinary, keeps_links, knows, next_after, not_opened, not_ordinary, not_read, opened, stayed, there, unasked, waits, Exchange, opens_directory, opens_any, spares, asks_mount, asks_kind, asks_holder, asks_magic, asks_root, looks_above, compares_above, closes_above, asks_links, asks_layers, opens_to_read, reads, closes_read, asks_follow, reads_link, changes, closes, IsHistory, Next}
+use Rattle.step_calls.specs.History.{after_exchange, asked, asks, came_to, ends_by, fails, first, first_above, gone, has_followed, has_magic, is_ordinary, keeps_links, knows, next_after, not_opened, not_ordinary, not_read, opened, stayed, there, unasked, waits, opens_directory, opens_any, spares, asks_mount, asks_kind, asks_holder, asks_magic, asks_root, looks_above, compares_above, closes_above, asks_links, asks_layers, opens_to_read, reads, closes_read, asks_follow, reads_link, changes, closes, is_known_there, is_read_already, wants_own_text, Exchange, IsHistory, Next}
 use Rattle.step_calls.specs.Promises.{is_about_child, RefusalsAreOwn}
 use Rattle.step_calls.specs.Refusals.{is_refusal}
 use Rattle.step_calls.specs.declared.course.TheConstants.{OPEN_DIRECTORY, OPEN_ANY, SPARE, MOUNT, KIND, MAY_HOLD_MAGIC, MAGIC, COMPARE_ABOVE, CLOSE_ABOVE, LINKS, LAYERS, OPEN_TO_READ, READ, CLOSE_READ, READ_LINK, NO_FOLLOW, CHANGE, CLOSE, OPENED, TEXT, DONE, REFUSED, UNMADE}
@@ -32,8 +32,8 @@ module _ (f : Facts) where
 
   came : (k : ℕ) → Stood f (came_to f k)
   came k =
-      if_elim (Stood f) (f.what == PARENT) (if f.lived then knows OPENED k else asks LINKS) _
-      (λ b. if_elim (Stood f) f.lived (knows OPENED k) (asks LINKS) (λ c. tt) (λ c. eqb-true f.what PARENT b))
+      if_elim (Stood f) (f.what == PARENT) (if is_known_there f then knows OPENED k else asks LINKS) _
+      (λ b. if_elim (Stood f) (is_known_there f) (knows OPENED k) (asks LINKS) (λ c. tt) (λ c. eqb-true f.what PARENT b))
       (λ b. if_elim (Stood f) (f.no_magic && (k == LINK)) (knows MAY_HOLD_MAGIC k) (knows OPENED k) (λ c. tt) (λ c. tt))
 
   stays : (k : ℕ) → Stood f (stayed f k)
@@ -109,9 +109,9 @@ module _ (f : Facts) where
       (λ c. is_unasked due.error))
   step (asks_follow error flags) due was =
       if_elim (Stood f) (error == EINTR) (asks NO_FOLLOW) _ (λ b. tt)
-      (λ b. if_elim (Stood f) ((error == 0) && has_followed flags) (if f.was_read then asks TEXT else asks READ_LINK)
+      (λ b. if_elim (Stood f) ((error == 0) && has_followed flags) (if is_read_already f then asks TEXT else asks READ_LINK)
       (fails UNMADE (if error == 0 then ELOOP else error))
-      (λ c. if_elim (Stood f) f.was_read (asks TEXT) (asks READ_LINK) (λ d. tt) (λ d. tt)) (λ c. tt))
+      (λ c. if_elim (Stood f) (is_read_already f) (asks TEXT) (asks READ_LINK) (λ d. tt) (λ d. tt)) (λ c. tt))
   step (reads_link error) due was =
       if_elim (Stood f) (error == 0) (asks TEXT) _ (λ b. tt)
       (λ b. if_elim (Stood f) (error == EINTR) (asks READ_LINK) _ (λ c. tt)
@@ -129,8 +129,8 @@ module _ (f : Facts) where
       (λ b. if_elim (Stood f) f.directory (asks OPEN_DIRECTORY) (asks OPEN_ANY) (λ c. tt) (λ c. tt))
       (λ b. if_elim (Stood f) (f.what == DUP) (asks OPEN_DIRECTORY) _ (λ c. tt)
       (λ c. if_elim (Stood f) (f.what == PARENT) (first_above f) _ (λ d. first_above_all (Stood f) f tt tt tt)
-      (λ d. if_elim (Stood f) (f.what == READ_TEXT) (if f.own_text then asks READ_LINK else asks NO_FOLLOW) _
-      (λ e. if_elim (Stood f) f.own_text (asks READ_LINK) (asks NO_FOLLOW) (λ g. tt) (λ g. tt))
+      (λ d. if_elim (Stood f) (f.what == READ_TEXT) (if wants_own_text f then asks READ_LINK else asks NO_FOLLOW) _
+      (λ e. if_elim (Stood f) (wants_own_text f) (asks READ_LINK) (asks NO_FOLLOW) (λ g. tt) (λ g. tt))
       (λ e. if_elim (Stood f) (f.what == IS_THERE) (asks LINKS) (asks CHANGE)
       (λ g. absurd (is_step (eqb-true f.what IS_THERE g))) (λ g. tt)))))
 

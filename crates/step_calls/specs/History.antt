@@ -5,6 +5,7 @@ use Rattle.system_calls.specs.Errors.{EPERM, ENOENT, EINTR, EEXIST, EXDEV, ENOTD
 use Rattle.step_calls.specs.Refusals.{is_refusal}
 use Rattle.step_calls.specs.declared.facts.Facts.{Facts}
 use Rattle.step_calls.specs.declared.facts.TheConstants.{IS_THERE, OPEN, DUP, PARENT, READ_TEXT, DIRECTORY, LINK}
+use Rattle.step_calls.specs.declared.last_step.TheConstants.{PLACED, LINK_READ, FOLLOWED}
 use Rattle.step_calls.specs.declared.course.TheConstants.{OPEN_DIRECTORY, OPEN_ANY, SPARE, MOUNT, KIND, MAY_HOLD_MAGIC, MAGIC, IS_ROOT, LOOK_ABOVE, COMPARE_ABOVE, CLOSE_ABOVE, LINKS, LAYERS, OPEN_TO_READ, READ, CLOSE_READ, NO_FOLLOW, READ_LINK, CHANGE, CLOSE, OPENED, TEXT, DONE, REFUSED, UNMADE}
 
 -- ---- numbers of statfs(2), <linux/magic.h>
@@ -37,6 +38,21 @@ BTRFS = 2435016766
 -- ST_NOSYMFOLLOW
 abbrev pub NOSYMFOLLOW : ℕ
 NOSYMFOLLOW = 8192
+
+-- ---- what is known from the steps before
+
+-- of a Parent: the child had an entry at the step before
+abbrev pub is_known_there : Facts → Bool
+is_known_there f = f.known == FOLLOWED
+
+-- Of a ReadLink: the place of the link was told, so the walk has come to what it was to find. Its text is what the caller
+-- wants, unless that is walked afterwards.
+abbrev pub wants_own_text : Facts → Bool
+wants_own_text f = (f.known == PLACED) && not f.follows
+
+-- of a ReadLink: the text was read by the link's name, as the link was opened
+abbrev pub is_read_already : Facts → Bool
+is_read_already f = f.known == LINK_READ
 
 -- ---- exchanges
 
@@ -136,7 +152,7 @@ ends_by f error = if is_refusal f.what f.mode f.text error then fails REFUSED er
 -- Its kind is known. A link may be a magic one. A directory above counts only if the child is there.
 abbrev pub came_to : Facts → ℕ → Next
 came_to f kind =
-    if f.what == PARENT then (if f.lived then knows OPENED kind else asks LINKS)
+    if f.what == PARENT then (if is_known_there f then knows OPENED kind else asks LINKS)
     else (if f.no_magic && (kind == LINK) then knows MAY_HOLD_MAGIC kind else knows OPENED kind)
 
 abbrev pub stayed : Facts → ℕ → Next
@@ -270,7 +286,7 @@ has_followed flags = not (bit_and flags NOSYMFOLLOW == NOSYMFOLLOW)
 abbrev pub after_follow : Facts → ℕ → ℕ → Next
 after_follow f error flags =
     if error == EINTR then asks NO_FOLLOW
-    else (if (error == 0) && has_followed flags then (if f.was_read then asks TEXT else asks READ_LINK)
+    else (if (error == 0) && has_followed flags then (if is_read_already f then asks TEXT else asks READ_LINK)
     else fails UNMADE (if error == 0 then ELOOP else error))
 
 -- readlinkat(2) of no link, with an empty path, gives ENOENT, which is the table's EINVAL; of a link it gives neither
@@ -325,7 +341,7 @@ first f =
     if f.what == OPEN then (if f.directory then asks OPEN_DIRECTORY else asks OPEN_ANY)
     else (if f.what == DUP then asks OPEN_DIRECTORY
     else (if f.what == PARENT then first_above f
-    else (if f.what == READ_TEXT then (if f.own_text then asks READ_LINK else asks NO_FOLLOW)
+    else (if f.what == READ_TEXT then (if wants_own_text f then asks READ_LINK else asks NO_FOLLOW)
     else (if f.what == IS_THERE then asks LINKS else asks CHANGE))))
 
 abbrev pub next_after : Facts → List Exchange → Next

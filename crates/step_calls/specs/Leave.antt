@@ -2,7 +2,7 @@
 -- links.
 use Rattle.std.specs.Prelude.{◌≡◌, List, ◌==◌, Bool, true, false, ◌&&◌, not}
 use Rattle.std.specs.List.{list_any}
-use Rattle.step_calls.specs.History.{has_followed, has_magic, is_ordinary, next_after, Exchange, asks_holder, asks_magic, asks_follow, IsHistory}
+use Rattle.step_calls.specs.History.{has_followed, has_magic, is_ordinary, next_after, asks_holder, asks_magic, asks_follow, wants_own_text, Exchange, IsHistory}
 use Rattle.step_calls.specs.declared.course.TheConstants.{OPENED, TEXT}
 use Rattle.step_calls.specs.declared.facts.Facts.{Facts}
 use Rattle.step_calls.specs.declared.facts.TheConstants.{LINK, OPEN, READ_TEXT}
@@ -26,5 +26,5 @@ NoMagicIsOpened = (f : Facts) (history : List Exchange) → f.what ≡ OPEN → 
 
 -- a text that is to be followed stood on a mount that has links followed, by an answer
 abbrev pub TextsAreFollowed : Type 0
-TextsAreFollowed = (f : Facts) (history : List Exchange) → f.what ≡ READ_TEXT → f.own_text ≡ false
+TextsAreFollowed = (f : Facts) (history : List Exchange) → f.what ≡ READ_TEXT → wants_own_text f ≡ false
     → IsHistory f history → (next_after f history).next ≡ TEXT → list_any says_followed history ≡ true

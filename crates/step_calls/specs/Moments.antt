@@ -13,7 +13,7 @@ use Rattle.tree_model.specs.declared.step.StepOf.TheVariants.{Open, Parent, Read
 use Rattle.tree_model.specs.State.{State, child, is_dir, is_gone, object_at, parent}
 use Rattle.tree_model.specs.Steps.{held, is_full, kind_of, outcome}
 use Rattle.tree_model.specs.StepWith.{StepWith}
-use Rattle.step_calls.specs.History.{next_after, Exchange, opens_directory, opens_any, asks_kind, asks_root, looks_above, compares_above, closes_above, asks_links, asks_layers, opens_to_read, reads, reads_link, keeps_links, IsHistory}
+use Rattle.step_calls.specs.History.{next_after, opens_directory, opens_any, asks_kind, asks_root, looks_above, compares_above, closes_above, asks_links, asks_layers, opens_to_read, reads, reads_link, keeps_links, is_known_there, is_read_already, Exchange, IsHistory}
 use Rattle.step_calls.specs.declared.course.TheConstants.{OPENED, TEXT, DONE, REFUSED}
 use Rattle.step_calls.specs.declared.facts.Facts.{Facts}
 use Rattle.step_calls.specs.declared.facts.TheConstants.{IS_THERE, OPEN, PARENT, READ_TEXT}
@@ -167,7 +167,7 @@ ParentsStood = (w : World) (layered : Bool) (f : Facts) (history : List Exchange
     → ((next_after f history).next ≡ OPENED
     → (n : ℕ) × (n ≤ moment history)
     × ((table w n (Parent w.handle) ≡ Opened (length (w.states n).handles) (w.on (moment history)) kind.Dir)
-    ⊎ ((IsGone w n × (f.lived ≡ true)) ⊎ CouldNotAsk history)))
+    ⊎ ((IsGone w n × (is_known_there f ≡ true)) ⊎ CouldNotAsk history)))
     × ((next_after f history).next ≡ REFUSED
     → (n : ℕ) × (n ≤ moment history) × (table w n (Parent w.handle) ≡ Refused NotFound))
 
@@ -187,7 +187,7 @@ IsNoLink w = (n : ℕ) (text : List ℕ) → object_at (w.states n).nodes w.node
 -- step is refused, the step table refuses it so.
 abbrev pub LinksWereRead : Type 0
 LinksWereRead = (w : World) (f : Facts) (history : List Exchange) → f.what ≡ READ_TEXT → IsWorld w
-    → (f.was_read ≡ true → object_at (w.states 0).nodes w.node ≡ Some (object.Link w.text))
+    → (is_read_already f ≡ true → object_at (w.states 0).nodes w.node ≡ Some (object.Link w.text))
     → (f.link ≡ false → IsNoLink w) → AreAnswers (LinkSays w) history → IsHistory f history
     → ((next_after f history).next ≡ TEXT
     → (n : ℕ) × (n ≤ moment history) × (table w n (ReadLink w.handle) ≡ Text w.text))

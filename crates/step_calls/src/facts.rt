@@ -56,12 +56,10 @@ pub struct Facts {
     pub one_by_one: bool,
     /// PARENT: there is openat2(2).
     pub second: bool,
-    /// PARENT: the child had an entry at the step before.
-    pub lived: bool,
-    /// READ_TEXT: the call wants the text itself, on each mount.
-    pub own_text: bool,
-    /// READ_TEXT: the text was read by the link's name, as the link was opened.
-    pub was_read: bool,
+    /// What is known of the step from those before: NOTHING to FOLLOWED (`LastStep`).
+    pub known: u8,
+    /// READ_TEXT: the text is walked afterwards.
+    pub follows: bool,
     /// READ_TEXT: the object was opened as a link.
     pub link: bool,
     /// A change: an object that is there gets a second name (linkat(2)).

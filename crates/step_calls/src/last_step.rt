@@ -1,8 +1,9 @@
 //! What is known of a step from the steps before.
 ghost use Rattle.std.specs.Prelude.{◌≡◌};
+ghost use Rattle.step_calls.specs.History.{is_known_there, is_read_already, wants_own_text};
 ghost use Rattle.step_calls.specs.LastStep.{closed, ended, is_followed, known_of, no_step, serves, taken};
 
-use crate::facts::{CLOSE_HANDLE, NAME_BELOW, OPEN, PARENT, READ_TEXT};
+use crate::facts::{CLOSE_HANDLE, Facts, NAME_BELOW, OPEN, PARENT, READ_TEXT};
 
 /// Nothing that bears on the next step.
 pub const NOTHING: u8 = 0;
@@ -29,6 +30,27 @@ pub struct LastStep {
     pub what: u8,
     /// NOTHING to FOLLOWED.
     pub shows: u8,
+}
+
+// The child had an entry at the step before.
+pub(crate) fn is_known_there(facts: &Facts) -> bool
+    ensures { result ≡ is_known_there facts.now }
+{
+    facts.known == FOLLOWED
+}
+
+// The walk has come to the link that it was to find.
+pub(crate) fn wants_own_text(facts: &Facts) -> bool
+    ensures { result ≡ wants_own_text facts.now }
+{
+    facts.known == PLACED && !facts.follows
+}
+
+// By the link's name, as the link was opened.
+pub(crate) fn is_read_already(facts: &Facts) -> bool
+    ensures { result ≡ is_read_already facts.now }
+{
+    facts.known == LINK_READ
 }
 
 fn serves(what: u8, shows: u8) -> bool

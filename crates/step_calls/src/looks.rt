@@ -8,6 +8,7 @@ use crate::course::{
     REFUSED, TEXT, UNMADE, asks, ends_by, fails, knows, waits,
 };
 use crate::facts::{DIRECTORY, Facts, PARENT};
+use crate::last_step::is_read_already;
 use system_calls::errors::{EEXIST, EINTR, EINVAL, ELOOP, ENOENT};
 
 const OVERLAYFS: u64 = 0x794c_7630;
@@ -137,7 +138,7 @@ pub(crate) fn after_follow(facts: &Facts, error: u32, flags: u64) -> Course
     if error == EINTR {
         asks(NO_FOLLOW)
     } else if error == 0 && has_followed(flags) {
-        if facts.was_read {
+        if is_read_already(facts) {
             asks(TEXT)
         } else {
             asks(READ_LINK)

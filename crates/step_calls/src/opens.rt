@@ -9,6 +9,7 @@ use crate::course::{
     knows, waits,
 };
 use crate::facts::{DIRECTORY, Facts, LINK, OPEN, PARENT};
+use crate::last_step::is_known_there;
 use system_calls::errors::{
     EINTR, ELOOP, EMFILE, ENAMETOOLONG, ENFILE, ENOSYS, ENOTDIR, EPERM, EXDEV,
 };
@@ -23,7 +24,7 @@ pub(crate) fn came_to(facts: &Facts, kind: u8) -> Course
     ensures { due_of result ≡ came_to facts.now kind }
 {
     if facts.what == PARENT {
-        if facts.lived {
+        if is_known_there(facts) {
             knows(OPENED, kind)
         } else {
             asks(LINKS)

@@ -9,6 +9,7 @@ use crate::course::{
     OPENED, READ, READ_LINK, SPARE, asks,
 };
 use crate::facts::{Answer, DUP, Facts, IS_THERE, OPEN, PARENT, READ_TEXT};
+use crate::last_step::wants_own_text;
 use crate::looks::{
     after_change, after_close, after_close_read, after_follow, after_layers, after_links,
     after_open_to_read, after_read, after_read_link,
@@ -32,7 +33,7 @@ fn first(facts: &Facts) -> Course
         DUP => asks(OPEN_DIRECTORY),
         PARENT => first_above(facts),
         READ_TEXT => {
-            if facts.own_text {
+            if wants_own_text(facts) {
                 asks(READ_LINK)
             } else {
                 asks(NO_FOLLOW)
