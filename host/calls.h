@@ -957,13 +957,16 @@ void inroot_through_next(const struct inroot_through_facts *facts, const struct 
  * The name is opened in the directory above: openat(2) with O_PATH, O_DIRECTORY, O_NOFOLLOW and O_CLOEXEC. A call opens what the
  * directory's path means, through no link at its end. Both are compared. `.` is opened in what was found: openat(2) with
  * O_RDONLY and O_DIRECTORY. What was found is closed; so is what was opened by its name. A call opens what the path of
- * the directory above means; that is compared with the one that is being listed, and closed. If it ENTERS, what was opened to be
- * read is the directory. If it FAILS, there is an error; if it LOSES, the directory above isn't where it was found, either.
+ * the directory above means; that is compared with the one that is being listed, and closed. The directory with which a walk begins
+ * stands in none: a call opens what its path means, `.` is opened in that to be read, and what the call found is closed. If it
+ * ENTERS, what was opened to be read is the directory. If it FAILS, there is an error; if it LOSES, the directory above isn't where
+ * it was found, either; if it MISSES, the error is that of the call which looked for the first directory.
  */
 enum inroot_entering_next {
     INROOT_ENTERING_OPEN = 1, INROOT_ENTERING_FIND, INROOT_ENTERING_COMPARE, INROOT_ENTERING_OPEN_TO_READ,
     INROOT_ENTERING_CLOSE_FOUND, INROOT_ENTERING_CLOSE, INROOT_ENTERING_FIND_ABOVE, INROOT_ENTERING_COMPARE_ABOVE,
-    INROOT_ENTERING_CLOSE_ABOVE, INROOT_ENTERING_ENTERS, INROOT_ENTERING_FAILS, INROOT_ENTERING_LOSES,
+    INROOT_ENTERING_CLOSE_ABOVE, INROOT_ENTERING_FIND_FIRST, INROOT_ENTERING_READ_FIRST, INROOT_ENTERING_CLOSE_FIRST,
+    INROOT_ENTERING_ENTERS, INROOT_ENTERING_FAILS, INROOT_ENTERING_LOSES, INROOT_ENTERING_MISSES,
 };
 
 /* What a call gave: an error, or 0; of a comparison, whether both are one directory. */
@@ -981,7 +984,8 @@ struct inroot_entering {
     uint8_t next;
 };
 
-void inroot_entering_begin(struct inroot_entering *entering);
+/* It is the FIRST one of a walk, or stands in one that is being listed. */
+void inroot_entering_begin(bool first, struct inroot_entering *entering);
 
 /* Takes what the last call gave. AGAIN: the caller lets it try again. */
 void inroot_entering_next(struct inroot_entering *entering, bool again, const struct inroot_entering_answer *answer);

@@ -82,6 +82,11 @@ static uint32_t find_above(struct entering *e)
     return error;
 }
 
+static uint32_t close_one(int fd)
+{
+    return close(fd) < 0 ? (uint32_t)errno : 0;
+}
+
 static uint32_t compare(const struct entering *e, int fd, struct inroot_entering_answer *answer)
 {
     enum inroot_kind kind;
@@ -92,46 +97,53 @@ static uint32_t compare(const struct entering *e, int fd, struct inroot_entering
 /* Makes the call that comes next. Gives 0 or an error's number. */
 static uint32_t turn(struct entering *e, struct inroot_entering_answer *answer)
 {
-    const int top = e->walk->top->fd;
+    const struct inroot_walk *walk = e->walk;
     switch (e->course.next) {
-    case INROOT_ENTERING_OPEN: return keep(&e->fd, open_by(top, e->name, O_PATH));
-    case INROOT_ENTERING_FIND: return keep(&e->found, open_text(e->walk, INROOT_NOFOLLOW));
+    case INROOT_ENTERING_OPEN: return keep(&e->fd, open_by(walk->top->fd, e->name, O_PATH));
+    case INROOT_ENTERING_FIND: return keep(&e->found, open_text(walk, INROOT_NOFOLLOW));
     case INROOT_ENTERING_COMPARE: return compare(e, e->fd, answer);
-    case INROOT_ENTERING_OPEN_TO_READ: return keep(&e->reads, open_by(e->found, ".", O_RDONLY));
-    case INROOT_ENTERING_CLOSE: return close(e->fd) < 0 ? (uint32_t)errno : 0;
+    case INROOT_ENTERING_OPEN_TO_READ: case INROOT_ENTERING_READ_FIRST:
+        return keep(&e->reads, open_by(e->found, ".", O_RDONLY));
+    case INROOT_ENTERING_CLOSE: return close_one(e->fd);
     case INROOT_ENTERING_FIND_ABOVE: return find_above(e);
-    case INROOT_ENTERING_COMPARE_ABOVE: return compare(e, top, answer);
-    default: return close(e->found) < 0 ? (uint32_t)errno : 0;
+    case INROOT_ENTERING_COMPARE_ABOVE: return compare(e, walk->top->fd, answer);
+    case INROOT_ENTERING_FIND_FIRST: return keep(&e->found, open_text(walk, walk->first));
+    default: return close_one(e->found);
     }
 }
 
-/* Opens the directory that the text names, and whose name lies at its end: its descriptor or -errno. */
-static int open_next(struct inroot_walk *walk, bool *is_lost)
+/* Of a directory that is open to be read. If there is no memory, it is closed. */
+static struct level *new_level(int fd)
 {
-    struct entering e = {.walk = walk, .name = walk->text + walk->top->course.length + 1};
-    inroot_entering_begin(&e.course);
+    struct level *level = malloc(sizeof *level);
+    if (level == NULL) {
+        close(fd);
+        return NULL;
+    }
+    level->above = NULL;
+    level->fd = fd;
+    level->got = 0;
+    return level;
+}
+
+/* Opens the directory that the text names; the first one of a walk has no NAME in another. Gives how that ended. */
+static uint8_t open_level(struct inroot_walk *walk, const char *name, struct level **level, uint32_t *error)
+{
+    struct entering e = {.walk = walk, .name = name};
+    inroot_entering_begin(name == NULL, &e.course);
     while (e.course.next < INROOT_ENTERING_ENTERS) {
         struct inroot_entering_answer answer = {0};
         inroot_wait(e.course.pause);
         answer.error = turn(&e, &answer);
         inroot_entering_next(&e.course, !(walk->flags & INROOT_NO_RETRY), &answer);
     }
-    *is_lost = e.course.next == INROOT_ENTERING_LOSES;
-    return e.course.next == INROOT_ENTERING_ENTERS ? e.reads : -(int)e.course.error;
+    const bool enters = e.course.next == INROOT_ENTERING_ENTERS;
+    *level = enters ? new_level(e.reads) : NULL;
+    *error = enters && *level == NULL ? ENOMEM : e.course.error;
+    return e.course.next;
 }
 
 /* ---- levels */
-
-static struct level *new_level(int fd)
-{
-    struct level *level = malloc(sizeof *level);
-    if (level == NULL)
-        return NULL;
-    level->above = NULL;
-    level->fd = fd;
-    level->got = 0;
-    return level;
-}
 
 static void drop(struct level *level)
 {
@@ -161,16 +173,12 @@ static void go_into(struct inroot_walk *walk)
 /* Opens it for the turns to come. Gives 0 or why it isn't gone into. */
 static uint32_t enter(struct inroot_walk *walk, bool *is_lost)
 {
-    int fd = open_next(walk, is_lost);
-    if (fd < 0)
-        return (uint32_t)-fd;
-    walk->entered = new_level(fd);
-    if (walk->entered == NULL) {
-        close(fd);
-        return ENOMEM;
-    }
-    inroot_level_below(&walk->top->course, &walk->entered->course);
-    return 0;
+    uint32_t error;
+    const char *name = walk->text + walk->top->course.length + 1;
+    *is_lost = open_level(walk, name, &walk->entered, &error) == INROOT_ENTERING_LOSES;
+    if (error == 0)
+        inroot_level_below(&walk->top->course, &walk->entered->course);
+    return error;
 }
 
 /* ---- entries */
@@ -250,24 +258,14 @@ static int next(struct inroot_walk *walk, struct inroot_walk_entry *entry)
 
 /* ---- the calls */
 
-/* The directory with which it begins, by a descriptor to read it: 0 or -errno. */
+/* Opens the directory with which it begins: 0 or -errno. A call that misses it has said why. */
 static int begin(struct inroot_walk *walk, int levels)
 {
-    int found = open_text(walk, walk->first);
-    if (found < 0)
-        return found;
-    int fd;
-    do
-        fd = open_by(found, ".", O_RDONLY);
-    while (fd == -EINTR);
-    close(found);
-    if (fd < 0)
-        return inroot_error_alone(-fd, "List", walk->text);
-    walk->top = new_level(fd);
-    if (walk->top == NULL) {
-        close(fd);
-        return inroot_error_alone(ENOMEM, "List", walk->text);
-    }
+    uint32_t error;
+    if (open_level(walk, NULL, &walk->top, &error) == INROOT_ENTERING_MISSES)
+        return -(int)error;
+    if (error)
+        return inroot_error_alone((int)error, "List", walk->text);
     inroot_level_begin((uint32_t)levels, strlen(walk->text), &walk->top->course);
     walk->begin = walk->top->course.length + 1;
     return 0;

@@ -1,10 +1,12 @@
 /*
  * fuzz_enterings: the proved library's functions that say which call comes next as a walk goes into a directory, with any answers. What
  * a program is asked for can be done: what is compared, read and closed is open. What is gone into was found by its path, and was
- * the same as what its name led to; nothing else is open in the end. It fails by the last error, and leaves the directory above only
- * where that one's path leads elsewhere. It comes to an end within the number of exchanges that there may be.
+ * the same as what its name led to, unless it is a walk's first one; nothing else is open in the end. It fails by the last error, and
+ * leaves the directory above only where that one's path leads elsewhere. It comes to an end within the number of exchanges that there
+ * may be.
  *
- * For libFuzzer, or with fuzz_main.c for stored cases. A case is bytes: whether it may try again, and the answers.
+ * For libFuzzer, or with fuzz_main.c for stored cases. A case is bytes: whether it may try again, whether it is a first one, and the
+ * answers.
  */
 #define _GNU_SOURCE
 #include "../calls.h"
@@ -14,7 +16,7 @@
 
 /* What was seen of it. */
 struct seen {
-    bool opened, found, reads, same, lost;
+    bool first, opened, found, reads, same, lost, missed;
     uint32_t error;                /* the last one, EAGAIN where others moved a directory */
     uint32_t tries, exchanges, signals;
 };
@@ -59,9 +61,31 @@ static void above(uint8_t next, const struct inroot_entering_answer *answer, str
     }
 }
 
+static void turn_first(uint8_t next, uint32_t error, struct seen *seen)
+{
+    MUST(seen->first && seen->found == (next != INROOT_ENTERING_FIND_FIRST));
+    if (next == INROOT_ENTERING_CLOSE_FIRST) {
+        seen->found = false;
+    } else if (next == INROOT_ENTERING_READ_FIRST) {
+        seen->reads = error == 0;
+        seen->error = error != 0 && error != EINTR ? error : seen->error;
+        seen->signals += error == EINTR;
+    } else {
+        MUST(seen->exchanges == 1);
+        seen->found = error == 0;
+        seen->missed = error != 0;
+        seen->error = error;
+    }
+}
+
 static void turn(uint8_t next, const struct inroot_entering_answer *answer, struct seen *seen)
 {
     seen->exchanges++;
+    if (next >= INROOT_ENTERING_FIND_FIRST) {
+        turn_first(next, answer->error, seen);
+        return;
+    }
+    MUST(!seen->first);
     switch (next) {
     case INROOT_ENTERING_OPEN:
         MUST(!seen->opened && !seen->found && !seen->reads);
@@ -99,10 +123,11 @@ static void turn(uint8_t next, const struct inroot_entering_answer *answer, stru
 int LLVMFuzzerTestOneInput(const uint8_t *data, size_t size)
 {
     struct input in = {data, size};
-    const bool again = byte(&in) & 1;
-    struct seen seen = {.error = 0};
+    const unsigned bits = byte(&in);
+    const bool again = bits & 1, first = bits & 2;
+    struct seen seen = {.first = first};
     struct inroot_entering now;
-    inroot_entering_begin(&now);
+    inroot_entering_begin(first, &now);
     while (now.next < INROOT_ENTERING_ENTERS) {
         const struct inroot_entering_answer answer = some_answer(&in);
         MUST(now.pause <= 1000000);
@@ -111,9 +136,9 @@ int LLVMFuzzerTestOneInput(const uint8_t *data, size_t size)
     }
     MUST(!seen.opened && !seen.found && seen.exchanges <= seen.signals + 195);
     MUST(seen.tries <= (again ? 32 : 1) && seen.reads == (now.next == INROOT_ENTERING_ENTERS));
-    MUST(now.next != INROOT_ENTERING_ENTERS || seen.same);
+    MUST(now.next != INROOT_ENTERING_ENTERS || seen.same || first);
     MUST(now.next == INROOT_ENTERING_ENTERS || (now.error != 0 && now.error == seen.error));
-    MUST((now.next == INROOT_ENTERING_LOSES) == seen.lost);
+    MUST((now.next == INROOT_ENTERING_LOSES) == seen.lost && (now.next == INROOT_ENTERING_MISSES) == seen.missed);
     const struct inroot_entering end = now;
     inroot_entering_next(&now, again, &(struct inroot_entering_answer){.error = EIO});
     MUST(now.next == end.next && now.error == end.error);

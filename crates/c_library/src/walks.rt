@@ -10,18 +10,18 @@ use walk_directory::Level;
 
 /// Begins to go into a directory: `enter_directory::begin`.
 #[unsafe(no_mangle)]
-pub extern "C" fn inroot_entering_begin(entering: &mut Entering)
-    ensures { (again : Bool) → IsAt again [] entering.new }
+pub extern "C" fn inroot_entering_begin(first: bool, entering: &mut Entering)
+    ensures { (again : Bool) → IsAt first again [] entering.new }
 {
-    *entering = enter_directory::begin();
+    *entering = enter_directory::begin(first);
 }
 
 /// Takes what the last call gave, and says what comes next: `enter_directory::next`.
 #[unsafe(no_mangle)]
 pub extern "C" fn inroot_entering_next(entering: &mut Entering, again: bool, answer: &Answer)
-    ensures goes { (history : List Exchange) → IsAt again history entering.old
+    ensures goes { (first : Bool) (history : List Exchange) → IsAt first again history entering.old
         → is_question entering.old.next ≡ true
-        → IsAt again (exchange entering.old answer.now ∷ history) entering.new }
+        → IsAt first again (exchange entering.old answer.now ∷ history) entering.new }
     ensures over { is_question entering.old.next ≡ false → entering.new ≡ entering.old }
 {
     *entering = enter_directory::next(*entering, again, answer);

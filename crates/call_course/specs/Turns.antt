@@ -84,8 +84,8 @@ noted a c = record c {
   owns_proc = c.owns_proc || a.owns_proc;
 }
 
--- Where the root is a directory that is held, no place is asked for by a text. In a jail the text is that of the thread's
--- own root.
+-- Where the root is a directory that is held, no place is asked for by a text. In a jail the text is that of the
+-- thread's own root.
 abbrev pub needs_no_check : Facts → Bool
 needs_no_check facts = facts.held || facts.jailed
 

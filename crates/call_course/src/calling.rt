@@ -105,8 +105,8 @@ pub struct Answer {
     /// How long a text is: of CONVERSE, and of PLACE.
     pub length: u64,
     /// 0, or the number of an error (errno(3)). Of AT_ONCE any number but 0 says that it opened nothing; the steps
-    /// decide then, unless it `fails`. Of SECOND any says that openat2(2) isn't there, and of FIND_PROC that there is no
-    /// /proc. Of LOOK_AT_PROC one says that the number is another file's by now.
+    /// decide then, unless it `fails`. Of SECOND any says that openat2(2) isn't there, and of FIND_PROC that no /proc
+    /// is. Of LOOK_AT_PROC one says that the number is another file's by now.
     pub error: u32,
     /// Of CONVERSE: 0, or the kernel's error for which a step wasn't made.
     pub unmade: u32,

@@ -80,9 +80,9 @@ pub fn the_roots_errors_come_first()
         → is_own_error (next_after facts history) ≡ true → RootHas (next_after facts history).error history }
 {}
 
-/// Right before a path is walked by steps, and before a place is asked for, the thread's own root is checked, and nothing
-/// is in the way; but not in a jail, nor where the root is held. It is checked only where openat2(2) isn't there and a
-/// /proc is. A call that has failed before makes that check, and nothing else of a try, and fails. The root's own error
+/// Right before a path is walked by steps, and before a place is asked for, the thread's own root is checked, and
+/// nothing is in the way; but not in a jail, nor where the root is held. It is checked only where openat2(2) isn't there
+/// and a /proc is. A call that has failed before makes that check, and nothing else of a try, and fails. The root's own error
 /// comes first, then that of the check, then the one by which it has failed before; but an error of the way home hides
 /// all of them.
 pub fn the_own_root_is_checked_first()

@@ -13,6 +13,6 @@ abbrev pub exchange : Entering → Answer → Exchange
 exchange entering a = record { asked = entering.next; error = a.error; same = a.same }
 
 -- the exchanges that there were are a history, and it is where that leads
-pub record IsAt (again : Bool) (exchanges : List Exchange) (entering : Entering) : Type 0 where
-  pub history : IsHistory again exchanges
-  pub due : due_of entering ≡ next_after again exchanges
+pub record IsAt (first again : Bool) (exchanges : List Exchange) (entering : Entering) : Type 0 where
+  pub history : IsHistory first again exchanges
+  pub due : due_of entering ≡ next_after first again exchanges

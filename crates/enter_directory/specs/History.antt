@@ -3,7 +3,7 @@
 use Rattle.std.specs.Prelude.{◌≡◌, ℕ, ◌+◌, List, [], ◌∷◌, ◌==◌, Bool, true, false, ◌&&◌, ◌||◌, if◌then◌else◌}
 use Rattle.system_calls.specs.Errors.{ENOENT, EINTR, EAGAIN, ENOTDIR, ELOOP, ESTALE}
 use Rattle.system_calls.specs.Tries.{is_due, pause_after}
-use Rattle.enter_directory.specs.declared.entering.TheConstants.{OPEN, FIND, COMPARE, OPEN_TO_READ, CLOSE_FOUND, CLOSE, FIND_ABOVE, COMPARE_ABOVE, CLOSE_ABOVE, ENTERS, FAILS, LOSES}
+use Rattle.enter_directory.specs.declared.entering.TheConstants.{OPEN, FIND, COMPARE, OPEN_TO_READ, CLOSE_FOUND, CLOSE, FIND_ABOVE, COMPARE_ABOVE, CLOSE_ABOVE, FIND_FIRST, READ_FIRST, CLOSE_FIRST, ENTERS, FAILS, LOSES, MISSES}
 
 -- What was asked for, and 0 or the error that this gave; of COMPARE and COMPARE_ABOVE, whether both are one directory.
 pub record Exchange : Type 0 where
@@ -15,7 +15,8 @@ abbrev pub is_question : ℕ → Bool
 is_question next =
     (next == OPEN)
     || ((next == FIND) || ((next == COMPARE) || ((next == OPEN_TO_READ) || ((next == CLOSE_FOUND) || ((next == CLOSE)
-    || ((next == FIND_ABOVE) || ((next == COMPARE_ABOVE) || (next == CLOSE_ABOVE))))))))
+    || ((next == FIND_ABOVE) || ((next == COMPARE_ABOVE) || ((next == CLOSE_ABOVE)
+    || ((next == FIND_FIRST) || ((next == READ_FIRST) || (next == CLOSE_FIRST)))))))))))
 
 -- ---- what comes next
 
@@ -72,6 +73,17 @@ after_compare_above tries same = asks tries CLOSE_ABOVE (if same then EAGAIN els
 abbrev pub after_close_above : ℕ → ℕ → Next
 after_close_above tries why = if why == ESTALE then asks tries LOSES EAGAIN else asks tries FAILS EAGAIN
 
+-- The directory with which a walk begins: a call finds it, and what that found is opened to be read.
+abbrev pub after_find_first : ℕ → ℕ → Next
+after_find_first tries error = if error == 0 then asks tries READ_FIRST 0 else asks tries MISSES error
+
+abbrev pub after_read_first : ℕ → ℕ → Next
+after_read_first tries error =
+    if error == EINTR then asks tries READ_FIRST 0 else asks tries CLOSE_FIRST error
+
+abbrev pub after_close_first : ℕ → ℕ → Next
+after_close_first tries why = if why == 0 then asks tries ENTERS 0 else asks tries FAILS why
+
 -- after this exchange, before which there were so many tries, and this one would have failed by this error
 abbrev pub after_exchange : Bool → Exchange → ℕ → ℕ → Next
 after_exchange again e tries why =
@@ -82,20 +94,26 @@ after_exchange again e tries why =
     else (if e.asked == CLOSE_FOUND then asks tries CLOSE why
     else (if e.asked == CLOSE then settles again tries why
     else (if e.asked == FIND_ABOVE then after_find_above tries e.error
-    else (if e.asked == COMPARE_ABOVE then after_compare_above tries e.same else after_close_above tries why)))))))
+    else (if e.asked == COMPARE_ABOVE then after_compare_above tries e.same
+    else (if e.asked == CLOSE_ABOVE then after_close_above tries why
+    else (if e.asked == FIND_FIRST then after_find_first tries e.error
+    else (if e.asked == READ_FIRST then after_read_first tries e.error else after_close_first tries why))))))))))
 
-abbrev pub next_after : Bool → List Exchange → Next
-next_after again [] = asks 1 OPEN 0
-next_after again (e ∷ older) =
-    after_exchange again e (next_after again older).tries (next_after again older).error
+-- FIRST: it is the directory with which a walk begins, and none has it. AGAIN: the caller lets it try again.
+abbrev pub begins : Bool → Next
+begins first = if first then asks 1 FIND_FIRST 0 else asks 1 OPEN 0
+
+abbrev pub next_after : Bool → Bool → List Exchange → Next
+next_after first again [] = begins first
+next_after first again (e ∷ older) =
+    after_exchange again e (next_after first again older).tries (next_after first again older).error
 
 -- ---- histories
 
-pub record IsNext (again : Bool) (older : List Exchange) (e : Exchange) : Type 0 where
-  pub due : e.asked ≡ (next_after again older).next
+pub record IsNext (first again : Bool) (older : List Exchange) (e : Exchange) : Type 0 where
+  pub due : e.asked ≡ (next_after first again older).next
   pub question : is_question e.asked ≡ true
 
--- AGAIN: the caller lets it try again
-abbrev pub IsHistory : Bool → List Exchange → Type 0
-IsHistory again [] = Unit {0}
-IsHistory again (e ∷ older) = IsNext again older e × IsHistory again older
+abbrev pub IsHistory : Bool → Bool → List Exchange → Type 0
+IsHistory first again [] = Unit {0}
+IsHistory first again (e ∷ older) = IsNext first again older e × IsHistory first again older

@@ -1,7 +1,7 @@
 //! How far a walk has come with a directory, and what comes next.
 ghost use Rattle.std.specs.Prelude.{◌≡◌, List, [], ◌∷◌, Bool, true, false};
 ghost use Rattle.enter_directory.specs.Entering.{due_of, exchange, IsAt};
-ghost use Rattle.enter_directory.specs.History.{after_close_above, after_compare, after_compare_above, after_find, after_find_above, after_open, after_open_to_read, asks, is_elsewhere, is_moved, is_question, settles, Exchange};
+ghost use Rattle.enter_directory.specs.History.{after_close_above, after_close_first, after_compare, after_compare_above, after_find, after_find_above, after_find_first, after_open, after_open_to_read, after_read_first, asks, begins, is_elsewhere, is_moved, is_question, settles, Exchange};
 
 use system_calls::errors::{EAGAIN, EINTR, ELOOP, ENOENT, ENOTDIR, ESTALE};
 use system_calls::next_try;
@@ -33,14 +33,26 @@ pub const COMPARE_ABOVE: u8 = 8;
 /// It is closed.
 pub const CLOSE_ABOVE: u8 = 9;
 
+/// A call opens what the path of the directory with which a walk begins means below the root.
+pub const FIND_FIRST: u8 = 10;
+
+/// `.` is opened in that: openat(2) as at OPEN_TO_READ.
+pub const READ_FIRST: u8 = 11;
+
+/// It is closed.
+pub const CLOSE_FIRST: u8 = 12;
+
 /// Nothing comes: the walk goes into what was opened to be read.
-pub const ENTERS: u8 = 10;
+pub const ENTERS: u8 = 13;
 
 /// Nothing comes: an error says why it doesn't.
-pub const FAILS: u8 = 11;
+pub const FAILS: u8 = 14;
 
 /// The same, and the directory above isn't where it was found: nothing more is gone into there.
-pub const LOSES: u8 = 12;
+pub const LOSES: u8 = 15;
+
+/// Nothing comes: the error is that of the call that looked for the first directory.
+pub const MISSES: u8 = 16;
 
 /// What a call gave.
 #[repr(C)]
@@ -56,7 +68,7 @@ pub struct Answer {
 #[repr(C)]
 #[derive(Clone, Copy, Debug, PartialEq, Eq)]
 pub struct Entering {
-    /// At FAILS and LOSES, the number of the error (errno(3)). Before, the one by which this try ends, or 0.
+    /// At FAILS, LOSES and MISSES, the number of the error (errno(3)). Before, the one by which this try ends, or 0.
     pub error: u32,
     /// So many tries there were, with this one.
     pub tries: u32,
@@ -181,11 +193,52 @@ fn after_close_above(tries: u32, why: u32) -> Entering
     }
 }
 
-/// Begins to go into a directory. Takes no memory.
-pub fn begin() -> Entering
-    ensures { (again : Bool) → IsAt again [] result }
+fn after_find_first(tries: u32, error: u32) -> Entering
+    ensures { due_of result ≡ after_find_first tries error }
 {
-    asks(1, OPEN, 0)
+    if error == 0 {
+        asks(tries, READ_FIRST, 0)
+    } else {
+        asks(tries, MISSES, error)
+    }
+}
+
+fn after_read_first(tries: u32, error: u32) -> Entering
+    ensures { due_of result ≡ after_read_first tries error }
+{
+    if error == EINTR {
+        asks(tries, READ_FIRST, 0)
+    } else {
+        asks(tries, CLOSE_FIRST, error)
+    }
+}
+
+fn after_close_first(tries: u32, why: u32) -> Entering
+    ensures { due_of result ≡ after_close_first tries why }
+{
+    if why == 0 {
+        asks(tries, ENTERS, 0)
+    } else {
+        asks(tries, FAILS, why)
+    }
+}
+
+fn begins(first: bool) -> Entering
+    ensures { due_of result ≡ begins first }
+{
+    if first {
+        asks(1, FIND_FIRST, 0)
+    } else {
+        asks(1, OPEN, 0)
+    }
+}
+
+/// Begins to go into a directory. It is the `first` one of a walk, or stands in one that is being listed. Takes no
+/// memory.
+pub fn begin(first: bool) -> Entering
+    ensures { (again : Bool) → IsAt first again [] result }
+{
+    begins(first)
 }
 
 /// Takes what the last call gave, and says what comes next. `again`: the caller lets it try again. The answer's error
@@ -196,12 +249,12 @@ pub fn begin() -> Entering
 /// what this call found is opened to be read. If the two differ, or nothing stands at the path (ENOENT, ENOTDIR,
 /// ELOOP), others moved a directory: it tries again, 32 times at most and with the pauses of `next_try`. After that,
 /// and after EAGAIN, it is asked whether the directory above is still at its own path. EINTR (4) of an openat(2) has it
-/// made again.
+/// made again. The first directory of a walk stands in none: what a call finds at its path is opened to be read.
 ///
 /// Errors: EAGAIN (11) if others moved a directory; any other error of the last call.
 pub fn next(entering: Entering, again: bool, answer: &Answer) -> Entering
-    ensures goes { (history : List Exchange) → IsAt again history entering → is_question entering.next ≡ true
-        → IsAt again (exchange entering answer.now ∷ history) result }
+    ensures goes { (first : Bool) (history : List Exchange) → IsAt first again history entering
+        → is_question entering.next ≡ true → IsAt first again (exchange entering answer.now ∷ history) result }
     ensures over { is_question entering.next ≡ false → result ≡ entering }
 {
     let tries = entering.tries;
@@ -215,6 +268,9 @@ pub fn next(entering: Entering, again: bool, answer: &Answer) -> Entering
         FIND_ABOVE => after_find_above(tries, answer.error),
         COMPARE_ABOVE => after_compare_above(tries, answer.same),
         CLOSE_ABOVE => after_close_above(tries, entering.error),
+        FIND_FIRST => after_find_first(tries, answer.error),
+        READ_FIRST => after_read_first(tries, answer.error),
+        CLOSE_FIRST => after_close_first(tries, entering.error),
         _ => entering,
     }
 }

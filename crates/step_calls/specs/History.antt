@@ -45,8 +45,8 @@ NOSYMFOLLOW = 8192
 abbrev pub is_known_there : Facts → Bool
 is_known_there f = f.known == FOLLOWED
 
--- Of a ReadLink: the place of the link was told, so the walk has come to what it was to find. Its text is what the caller
--- wants, unless that is walked afterwards.
+-- Of a ReadLink: the place of the link was told, so the walk has come to what it was to find. Its text is what the
+-- caller wants, unless that is walked afterwards.
 abbrev pub wants_own_text : Facts → Bool
 wants_own_text f = (f.known == PLACED) && not f.follows
 

@@ -1,5 +1,8 @@
-use Rattle.enter_directory.proofs.HistoryLemmas.{fails}
+use Rattle.enter_directory.proofs.HistoryLemmas.{missed, why_is}
 use Rattle.enter_directory.proofs.laws.why_it_fails.Goals as goal
 
-pub returns : goal.returns
-returns c = fails
+pub returns-clause-fails : goal.returns-clause-fails
+returns-clause-fails c = why_is
+
+pub returns-clause-misses : goal.returns-clause-misses
+returns-clause-misses c = missed
