@@ -129,13 +129,6 @@ static void identify_for_later(int fd, struct inroot_birth *who)
         who->seconds = who->nanoseconds = 0;
 }
 
-/* The library lets births differ on overlayfs. Here they may only where the first one says nothing. */
-static bool is_born_alike(const struct inroot_birth *before, const struct inroot_birth *now)
-{
-    const bool is_told = before->seconds != 0 || before->nanoseconds != 0;
-    return !is_told || (before->seconds == now->seconds && before->nanoseconds == now->nanoseconds);
-}
-
 /* Lets one go of the directories above that have a descriptor, if they are more than so many. Whether it did. */
 static bool let_one_go(struct inroot_driver *d, uint64_t handle, uint32_t most)
 {
@@ -184,9 +177,8 @@ static void come_back(struct inroot_driver *d, struct inroot_slot *slot, int32_t
         inroot_back_next(&back, &found);
     }
     drop_inner(d);
-    bool is_back = back.next == INROOT_BACK_IS_BACK && is_born_alike(&slot->who, &found.who);
-    slot->lost = back.next == INROOT_BACK_IS_BACK && !is_back ? EAGAIN : (int)back.error;
-    if (is_back)
+    slot->lost = (int)back.error;
+    if (back.next == INROOT_BACK_IS_BACK)
         slot->fd = up;
     else if (up >= 0)
         close(up);

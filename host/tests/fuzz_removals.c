@@ -107,6 +107,11 @@ static bool is_one_birth(const struct inroot_birth *one, const struct inroot_bir
     return one->seconds == other->seconds && one->nanoseconds == other->nanoseconds;
 }
 
+static bool is_unborn(const struct inroot_birth *who)
+{
+    return who->seconds == 0 && who->nanoseconds == 0;
+}
+
 static void comebacks(struct input *in)
 {
     static const uint32_t errors[] = {0, 0, EINTR, ENOENT, ENOTDIR, EACCES, EMFILE};
@@ -130,7 +135,7 @@ static void comebacks(struct input *in)
     }
     if (back.next == INROOT_BACK_IS_BACK)
         MUST(back.error == 0 && opened.error == 0 && is_one_number(&opened.who, &before) &&
-             (is_one_birth(&opened.who, &before) || found.file_system == OVERLAYFS));
+             (is_one_birth(&opened.who, &before) || (is_unborn(&before) && found.file_system == OVERLAYFS)));
     else
         MUST(back.error != 0 && back.error != ENOENT && back.error != ENOTDIR &&
              (back.error == EAGAIN || back.error == found.error));

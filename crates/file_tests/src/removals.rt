@@ -263,13 +263,32 @@ fn the_same_directory_is_back(rt: HostRuntime) -> Result<(), Fail> {
     Ok(())
 }
 
+// Of a directory that could not be copied up no birth is kept.
 #[test]
-fn on_overlayfs_the_birth_does_not_count(rt: HostRuntime) -> Result<(), Fail> {
-    let born_later = found(opened(0), birth(2, 7), 0, 0);
-    assert!(rt; born_later.next == FILE_SYSTEM);
-    assert!(rt; found(born_later, birth(2, 7), 0x794c_7630, 0).next == IS_BACK);
-    assert!(rt; is_lost(&found(born_later, birth(2, 7), 0x794c_7630, EACCES), EAGAIN));
-    assert!(rt; is_lost(&found(born_later, birth(2, 7), 0xef53, 0), EAGAIN));
+fn on_overlayfs_a_birth_may_be_missing(rt: HostRuntime) -> Result<(), Fail> {
+    assert!(rt; is_lost(&found(opened(0), birth(2, 7), 0x794c_7630, 0), EAGAIN));
+    let unborn = Birth {
+        nanoseconds: 0,
+        ..birth(2, 0)
+    };
+    let copied = found(
+        found(back_begin(&unborn, true), birth(0, 0), 0, 0),
+        birth(2, 7),
+        0,
+        0,
+    );
+    assert!(rt; copied.next == FILE_SYSTEM);
+    assert!(rt; found(copied, birth(2, 7), 0x794c_7630, 0).next == IS_BACK);
+    assert!(rt; is_lost(&found(copied, birth(2, 7), 0x794c_7630, EACCES), EAGAIN));
+    assert!(rt; is_lost(&found(copied, birth(2, 7), 0xef53, 0), EAGAIN));
+    // A birth is known by either part.
+    let half = found(
+        found(back_begin(&birth(2, 0), true), birth(0, 0), 0, 0),
+        birth(2, 7),
+        0,
+        0,
+    );
+    assert!(rt; is_lost(&half, EAGAIN));
     Ok(())
 }
 

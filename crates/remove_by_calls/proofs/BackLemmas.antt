@@ -5,7 +5,7 @@ use Rattle.std.proofs.lemmas.Bool.{and_parts, eqb-true, eqb-false, false≢true}
 use Rattle.system_calls.specs.Errors.{ENOENT, EINTR, EAGAIN, ENOTDIR}
 use Rattle.system_calls.specs.Objects.{has_birth, has_number}
 use Rattle.system_calls.specs.declared.objects.Birth.{Birth}
-use Rattle.remove_by_calls.specs.Back.{after_file_system, after_identify, after_open, after_step, asks, back_after, begun, due_of, is_question, loses, lost_by, AreSteps, IsBackAt, IsIdentified, IsLostBy, IsOpened, IsSame, Next, Step, OVERLAYFS_SUPER_MAGIC}
+use Rattle.remove_by_calls.specs.Back.{after_file_system, after_identify, after_open, after_step, asks, back_after, begun, due_of, has_no_birth, is_question, loses, lost_by, AreSteps, IsBackAt, IsIdentified, IsLostBy, IsOpened, IsSame, Next, Step, OVERLAYFS_SUPER_MAGIC}
 use Rattle.remove_by_calls.specs.declared.back.Back.{Back}
 use Rattle.remove_by_calls.specs.declared.back.Found.{Found}
 use Rattle.remove_by_calls.specs.declared.back.TheConstants.{OPEN, IDENTIFY, FILE_SYSTEM, IS_BACK, IS_LOST}
@@ -55,10 +55,11 @@ asked_is next h = asked_in (next == OPEN) (next == IDENTIFY) (next == FILE_SYSTE
 abbrev next_open : Bool → Bool → ℕ → Next
 next_open none interrupted error = if none then asks IDENTIFY else (if interrupted then asks OPEN else loses error)
 
-abbrev next_identify : Bool → Bool → Next
-next_identify number birth =
+abbrev next_identify : Bool → Bool → Bool → Next
+next_identify number birth none =
     if (if not number then 0 else (if birth then 1 else 2)) == 0 then loses EAGAIN
-    else (if (if not number then 0 else (if birth then 1 else 2)) == 1 then asks IS_BACK else asks FILE_SYSTEM)
+    else (if (if not number then 0 else (if birth then 1 else 2)) == 1 then asks IS_BACK
+    else (if none then asks FILE_SYSTEM else loses EAGAIN))
 
 open_identifies : (none interrupted : Bool) (error : ℕ) → (next_open none interrupted error).next ≡ IDENTIFY
     → none ≡ true
@@ -75,20 +76,25 @@ open_never false true error n h (inr is) = omega (arith, h, is)
 open_never false false error n h (inl is) = omega (arith, h, is)
 open_never false false error n h (inr is) = omega (arith, h, is)
 
-identify_never : (number birth : Bool) → (next_identify number birth).next ≡ IDENTIFY → ⊥
-identify_never true true h = omega (arith, h)
-identify_never true false h = omega (arith, h)
-identify_never false birth h = omega (arith, h)
+identify_never : (number birth none : Bool) → (next_identify number birth none).next ≡ IDENTIFY → ⊥
+identify_never true true none h = omega (arith, h)
+identify_never true false true h = omega (arith, h)
+identify_never true false false h = omega (arith, h)
+identify_never false birth none h = omega (arith, h)
 
-identify_back : (number birth : Bool) → (next_identify number birth).next ≡ IS_BACK
+identify_back : (number birth none : Bool) → (next_identify number birth none).next ≡ IS_BACK
     → (number ≡ true) × (birth ≡ true)
-identify_back true true h = (refl, refl)
-identify_back true false h = absurd (omega (arith, h))
-identify_back false birth h = absurd (omega (arith, h))
+identify_back true true none h = (refl, refl)
+identify_back true false true h = absurd (omega (arith, h))
+identify_back true false false h = absurd (omega (arith, h))
+identify_back false birth none h = absurd (omega (arith, h))
 
-identify_asks : (number birth : Bool) → (next_identify number birth).next ≡ FILE_SYSTEM → number ≡ true
-identify_asks true birth h = refl
-identify_asks false birth h = absurd (omega (arith, h))
+identify_asks : (number birth none : Bool) → (next_identify number birth none).next ≡ FILE_SYSTEM
+    → (number ≡ true) × (none ≡ true)
+identify_asks true true none h = absurd (omega (arith, h))
+identify_asks true false true h = (refl, refl)
+identify_asks true false false h = absurd (omega (arith, h))
+identify_asks false birth none h = absurd (omega (arith, h))
 
 system_never : (same : Bool) (n : ℕ) → (if same then asks IS_BACK else loses EAGAIN).next ≡ n
     → (n ≡ IDENTIFY) ⊎ (n ≡ FILE_SYSTEM) → ⊥
@@ -122,7 +128,7 @@ opened was can (s ∷ older) h is =
             (lost_by s.found.error)
             (subst (λ n. (after_step was n s.found).next ≡ IDENTIFY) at is)),
       )
-      | identify_it at ↦ absurd (identify_never (has_number s.found.who was) (has_birth s.found.who was)
+      | identify_it at ↦ absurd (identify_never (has_number s.found.who was) (has_birth s.found.who was) (has_no_birth was)
           (subst (λ n. (after_step was n s.found).next ≡ IDENTIFY) at is))
       | ask_file_system at ↦ absurd (system_never
           ((s.found.error == 0) && (s.found.file_system == OVERLAYFS_SUPER_MAGIC)) IDENTIFY
@@ -130,21 +136,17 @@ opened was can (s ∷ older) h is =
     ]
 
 identified : (was : Birth) (can : Bool) (history : List Step) → AreSteps was can history
-    → (back_after was can history).next ≡ FILE_SYSTEM → IsIdentified was history
+    → (back_after was can history).next ≡ FILE_SYSTEM → (has_no_birth was ≡ true) × IsIdentified was history
 identified was can [] h is = absurd (begun_never can FILE_SYSTEM is (inr (inl refl)))
 identified was can (s ∷ older) h is =
     elim (asked_is s.asked h.0.question) [
       | open_it at ↦ absurd (open_never (s.found.error == 0) (s.found.error == EINTR)
           (lost_by s.found.error) FILE_SYSTEM (subst (λ n. (after_step was n s.found).next ≡ FILE_SYSTEM) at is)
           (inl refl))
-      | identify_it at ↦ (
-        at,
-        (
-          identify_asks (has_number s.found.who was) (has_birth s.found.who was)
-              (subst (λ n. (after_step was n s.found).next ≡ FILE_SYSTEM) at is),
-          opened was can older h.1 (sym h.0.due ∙ at),
-        ),
-      )
+      | identify_it at ↦
+          let parts = identify_asks (has_number s.found.who was) (has_birth s.found.who was) (has_no_birth was)
+          (subst (λ n. (after_step was n s.found).next ≡ FILE_SYSTEM) at is) in
+          (parts.1, (at, (parts.0, opened was can older h.1 (sym h.0.due ∙ at))))
       | ask_file_system at ↦ absurd (system_never
           ((s.found.error == 0) && (s.found.file_system == OVERLAYFS_SUPER_MAGIC)) FILE_SYSTEM
           (subst (λ n. (after_step was n s.found).next ≡ FILE_SYSTEM) at is) (inr refl))
@@ -158,7 +160,7 @@ same_by was can (s ∷ older) h is =
       | open_it at ↦ absurd (open_never (s.found.error == 0) (s.found.error == EINTR)
           (lost_by s.found.error) IS_BACK (subst (λ n. (after_step was n s.found).next ≡ IS_BACK) at is) (inr refl))
       | identify_it at ↦
-          let parts = identify_back (has_number s.found.who was) (has_birth s.found.who was)
+          let parts = identify_back (has_number s.found.who was) (has_birth s.found.who was) (has_no_birth was)
           (subst (λ n. (after_step was n s.found).next ≡ IS_BACK) at is) in
           inl ((at, (parts.0, opened was can older h.1 (sym h.0.due ∙ at))), parts.1)
       | ask_file_system at ↦
@@ -218,11 +220,12 @@ lost_open false false false false s older error at n m k h =
       whose = inr (at, e);
     }
 
-lost_identify : (number birth : Bool) (history : List Step) (error : ℕ) → next_identify number birth ≡ loses error
-    → IsLostBy history error
-lost_identify true true history error h = absurd (next_not IS_BACK error (λ g. omega (arith, g)) h)
-lost_identify true false history error h = absurd (next_not FILE_SYSTEM error (λ g. omega (arith, g)) h)
-lost_identify false birth history error h = eagain history error (sym (error_of h))
+lost_identify : (number birth none : Bool) (history : List Step) (error : ℕ)
+    → next_identify number birth none ≡ loses error → IsLostBy history error
+lost_identify true true none history error h = absurd (next_not IS_BACK error (λ g. omega (arith, g)) h)
+lost_identify true false true history error h = absurd (next_not FILE_SYSTEM error (λ g. omega (arith, g)) h)
+lost_identify true false false history error h = eagain history error (sym (error_of h))
+lost_identify false birth none history error h = eagain history error (sym (error_of h))
 
 lost_system : (is : Bool) (history : List Step) (error : ℕ)
     → (if is then asks IS_BACK else loses EAGAIN) ≡ loses error → IsLostBy history error
@@ -241,8 +244,8 @@ lost was can (s ∷ older) error h is =
       | open_it at ↦ lost_open (s.found.error == 0) (s.found.error == EINTR) (s.found.error == ENOENT)
           (s.found.error == ENOTDIR) s older error at refl refl refl
           (subst (λ n. after_step was n s.found ≡ loses error) at is)
-      | identify_it at ↦ lost_identify (has_number s.found.who was) (has_birth s.found.who was) (s ∷ older) error
-          (subst (λ n. after_step was n s.found ≡ loses error) at is)
+      | identify_it at ↦ lost_identify (has_number s.found.who was) (has_birth s.found.who was) (has_no_birth was)
+          (s ∷ older) error (subst (λ n. after_step was n s.found ≡ loses error) at is)
       | ask_file_system at ↦ lost_system ((s.found.error == 0) && (s.found.file_system == OVERLAYFS_SUPER_MAGIC))
           (s ∷ older) error (subst (λ n. after_step was n s.found ≡ loses error) at is)
     ]

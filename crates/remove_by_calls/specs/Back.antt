@@ -39,11 +39,16 @@ abbrev pub after_open : ℕ → Next
 after_open error =
     if error == 0 then asks IDENTIFY else (if error == EINTR then asks OPEN else loses (lost_by error))
 
+-- the driver keeps no birth of it: where it could not have it copied up before
+abbrev pub has_no_birth : Birth → Bool
+has_no_birth who = (who.seconds == 0) && (who.nanoseconds == 0)
+
 -- `..` of a directory that somebody has moved leads elsewhere
 abbrev pub after_identify : Birth → Birth → Next
 after_identify now before =
     if same_directory now before == 0 then loses EAGAIN
-    else (if same_directory now before == 1 then asks IS_BACK else asks FILE_SYSTEM)
+    else (if same_directory now before == 1 then asks IS_BACK
+    else (if has_no_birth before then asks FILE_SYSTEM else loses EAGAIN))
 
 abbrev pub after_file_system : ℕ → ℕ → Next
 after_file_system error file_system =
@@ -94,13 +99,15 @@ IsIdentified before [] = ⊥
 IsIdentified before (s ∷ older) =
     (s.asked ≡ IDENTIFY) × ((has_number s.found.who before ≡ true) × IsOpened older)
 
--- And by its birth. Or it is on overlayfs (statfs(2)), which gives a directory another birth as it copies it up.
+-- And by its birth. Or it had none, and is on overlayfs (statfs(2)), which gives a directory another birth as it copies
+-- it up.
 abbrev pub IsSame : Birth → List Step → Type 0
 IsSame before [] = ⊥
 IsSame before (s ∷ older) =
     (IsIdentified before (s ∷ older) × (has_birth s.found.who before ≡ true))
     ⊎ ((s.asked ≡ FILE_SYSTEM) × ((s.found.error ≡ 0)
-    × ((s.found.file_system ≡ OVERLAYFS_SUPER_MAGIC) × IsIdentified before older)))
+    × ((s.found.file_system ≡ OVERLAYFS_SUPER_MAGIC)
+    × ((has_no_birth before ≡ true) × IsIdentified before older))))
 
 -- openat(2) has just failed by it
 abbrev pub IsErrorOf : List Step → ℕ → Type 0

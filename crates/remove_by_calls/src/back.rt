@@ -1,6 +1,6 @@
 //! Whether a directory whose descriptor was let go is back.
 ghost use Rattle.std.specs.Prelude.{◌≡◌, List, [], ◌∷◌, Bool, true, false};
-ghost use Rattle.remove_by_calls.specs.Back.{after_file_system, after_identify, after_open, due_of, is_question, lost_by, IsBackAt, Step};
+ghost use Rattle.remove_by_calls.specs.Back.{after_file_system, after_identify, after_open, due_of, is_question, lost_by, IsBackAt, Step, has_no_birth};
 
 use system_calls::errors::{EAGAIN, EINTR, ENOENT, ENOTDIR};
 use system_calls::{Birth, same_directory};
@@ -90,6 +90,12 @@ fn after_open(back: Back, error: u32) -> Back
     }
 }
 
+fn has_no_birth(who: &Birth) -> bool
+    ensures { result ≡ has_no_birth who.now }
+{
+    who.seconds == 0 && who.nanoseconds == 0
+}
+
 fn after_identify(back: Back, now: &Birth) -> Back
     ensures due { due_of result ≡ after_identify now.now back.before }
     ensures same { result.before ≡ back.before }
@@ -97,7 +103,13 @@ fn after_identify(back: Back, now: &Birth) -> Back
     match same_directory(now, &back.before) {
         0 => loses(back, EAGAIN),
         1 => asks(back, IS_BACK),
-        _ => asks(back, FILE_SYSTEM),
+        _ => {
+            if has_no_birth(&back.before) {
+                asks(back, FILE_SYSTEM)
+            } else {
+                loses(back, EAGAIN)
+            }
+        }
     }
 }
 
@@ -131,8 +143,8 @@ pub fn back_begin(before: &Birth, can_be_opened: bool) -> Back
 
 /// Takes what was found out, and says what comes next. Where nothing comes any more, nothing changes. Takes no memory.
 ///
-/// It is back if what `..` gave has the device and the inode of before, and the birth of before, too. On overlayfs
-/// alone the birth doesn't count, since a directory gets another one there as it is copied up.
+/// It is back if what `..` gave has the device and the inode of before, and the birth of before, too. If none was kept,
+/// and on overlayfs alone, the birth doesn't count, since a directory gets another one there as it is copied up.
 ///
 /// Errors: EAGAIN (11) if `..` leads to another directory, to none, or can't be followed; so ENOENT (2) and ENOTDIR
 /// (20) of openat(2) become EAGAIN, too. After EINTR (4) `..` is opened once more. Any other error is openat(2)'s

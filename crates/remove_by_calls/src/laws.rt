@@ -51,8 +51,8 @@ pub fn exchanges_are_few()
         → length history ≤ most_after history }
 {}
 
-/// A directory that is back is the one that was let go: what `..` gave has its device and inode, and its birth unless
-/// they are on overlayfs.
+/// A directory that is back is the one that was let go: what `..` gave has its device and inode, and its birth, unless
+/// none was kept of it and they are on overlayfs.
 pub fn what_is_back_is_the_same()
     ensures { (before : Birth) (can_be_opened : Bool) (history : List Step) → AreSteps before can_be_opened history
         → back_after before can_be_opened history ≡ asks IS_BACK → IsSame before history }
