@@ -25,12 +25,6 @@ struct work {
 
 /* ---- the proved call */
 
-/* A directory that a call on all parts of a path has made, another try finds. */
-static bool is_found_again(const struct inroot_driver *d, const struct inroot_told *step)
-{
-    return step->what == INROOT_STEP_MAKE_DIR && d->asked->op == INROOT_ASK_MKDIR_ALL;
-}
-
 /* Makes the step, or gives no answer where another one is due. */
 static struct inroot_result make(struct inroot_driver *d, struct inroot_told *step, char *room, char *text, size_t *length)
 {
@@ -43,7 +37,7 @@ static struct inroot_result make(struct inroot_driver *d, struct inroot_told *st
     if (d->from.dir >= 0 && inroot_from_begins(d, step, room, text, length, &result))
         return result;
     result = inroot_make(d, step, room, text, length);
-    d->changed |= result.what == INROOT_ANSWER_DONE && !is_found_again(d, step);
+    d->changed |= result.what == INROOT_ANSWER_DONE;
     return result;
 }
 
@@ -247,7 +241,8 @@ static ssize_t run(struct inroot_driver *d, int root, const struct inroot_reques
     w.root = jailed ? INROOT_JAILED : root;
     const struct inroot_calling_facts facts = {
         .error = error, .jailed = jailed, .from = w.dir >= 0, .places = asked->places, .held = asked->is_held,
-        .may_retry = may_retry, .gives = asked->makes == INROOT_MAKES_OPEN || asked->gives,
+        .may_retry = may_retry, .finds_again = asked->op == INROOT_ASK_MKDIR_ALL,
+        .gives = asked->makes == INROOT_MAKES_OPEN || asked->gives,
     };
     inroot_calling_begin(&facts, &w.course);
     while (w.course.next < INROOT_CALLING_ENDS)

@@ -478,11 +478,12 @@ void inroot_place_next(struct inroot_place_facts *facts, const struct inroot_pla
  * What is known of a call before its first try: 0, or the error by which it has failed, which comes behind those of its root, and of
  * OWN_ROOT; its root is the thread's own root directory; its paths begin at a directory below the root; it asks for the place of an
  * object, and walks nothing; its root is a directory that another call has come to, so that no place is asked for by a text; it gives
- * a descriptor of the entry that it makes; another try may be made.
+ * a descriptor of the entry that it makes; what it makes another try finds, since it makes all missing directories of a path; another
+ * try may be made.
  */
 struct inroot_calling_facts {
     uint32_t error;
-    bool jailed, from, places, held, gives, may_retry;
+    bool jailed, from, places, held, gives, finds_again, may_retry;
 };
 
 /*
@@ -503,12 +504,12 @@ enum inroot_calling_next {
 };
 
 /*
- * What a thing gave: 0, or an error. AT_ONCE may give any number if it opened nothing, SECOND if openat2(2) isn't there, FIND_PROC if
- * there is no /proc, and LOOK_AT_PROC if it is another file. The
- * VALUE is the descriptor that was opened or taken, a reply's count, or the root's kind. LENGTH is a text's. Of the proved call: its
- * reply, and whether the text is WHOLE; 0, or why a step wasn't made; 0, or why what it made could not be opened; and the
- * descriptor of that, its number and one, or 0. Of all things up to TAKE: a step was made; an entry was changed, so that another try
- * would not find it as this one did; the thread isn't at its root directory; a /proc is in use; it is the call's own.
+ * What a thing gave: 0, or an error. AT_ONCE may give any number if it opened nothing, SECOND if openat2(2) isn't there,
+ * FIND_PROC if there is no /proc, and LOOK_AT_PROC if it is another file. The VALUE is the descriptor that was opened or taken,
+ * a reply's count, or the root's kind. LENGTH is a text's. Of the proved call: its reply, and whether the text is WHOLE; 0, or
+ * why a step wasn't made; 0, or why what it made could not be opened; and the descriptor of that, its number and one, or 0. Of
+ * all things up to TAKE: a step was made; an entry was changed; the thread isn't at its root directory; a /proc is in use; it
+ * is the call's own.
  */
 struct inroot_calling_answer {
     uint64_t value, length;

@@ -133,7 +133,7 @@ struct inroot_driver {
     bool too_deep;                 /* a directory was not entered for its depth */
     bool proc_is_own;              /* `proc` is closed at the call's end */
     bool told_apart;               /* the driver saw that the thread's own root directory is a mount's */
-    bool changed;                  /* an entry was changed, so that another try would not find it as this one did */
+    bool changed;                  /* an entry was changed */
     int unopened;                  /* why the driver could not open the new entry, or zero; EAGAIN where its name has another or none */
     uint8_t step;                  /* the last one that the proved call asked for, but for Close, or none */
     int unmade;                    /* why a step wasn't made, where one wasn't: the call ends by this */

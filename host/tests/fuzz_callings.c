@@ -93,7 +93,7 @@ static void walk(struct seen *seen, const struct inroot_calling *now, const stru
         seen->opened++;
     }
     seen->owns_proc |= answer->owns_proc;
-    seen->changed |= answer->changed;
+    seen->changed |= answer->changed && !now->facts.finds_again;
     seen->stepped |= answer->stepped;
     seen->away = answer->moved;
 }
@@ -163,10 +163,11 @@ static void must_end(const struct inroot_calling *now, const struct seen *seen)
 int LLVMFuzzerTestOneInput(const uint8_t *data, size_t size)
 {
     struct input in = {data, size};
-    unsigned bits = byte(&in);
+    unsigned bits = byte(&in), more = byte(&in);
     const struct inroot_calling_facts facts = {
         .error = bits & 64 && bits & 128 ? some_error(&in) : 0, .jailed = bits & 1, .from = bits & 2, .places = (bits & 12) == 12,
         .held = (bits & 12) == 8 || (bits & 76) == 76, .gives = bits & 16, .may_retry = bits & 32,
+        .finds_again = more % 4 == 0,
     };
     struct seen seen = {0};
     struct inroot_calling now;

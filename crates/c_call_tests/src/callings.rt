@@ -48,6 +48,7 @@ fn plain() -> Facts {
         places: false,
         held: false,
         gives: false,
+        finds_again: false,
         may_retry: true,
     }
 }
@@ -258,6 +259,11 @@ fn another_try_follows_eagain_alone(rt: HostRuntime) -> Result<(), Fail> {
         ..faults(EAGAIN)
     };
     assert!(rt; is(&goes(goes(due(plain()), changed), fine()), FAILS, EAGAIN));
+    let all_parts = Facts {
+        finds_again: true,
+        ..plain()
+    };
+    assert!(rt; goes(goes(due(all_parts), changed), fine()).next == BEGIN);
     Ok(())
 }
 
@@ -426,7 +432,10 @@ fn the_own_root_is_checked_where_openat2_is_missing(rt: HostRuntime) -> Result<(
         places: true,
         ..plain()
     };
-    let without_proc = goes(goes(goes(begin(&places), fine()), fails(ENOSYS)), fails(EMFILE));
+    let without_proc = goes(
+        goes(goes(begin(&places), fine()), fails(ENOSYS)),
+        fails(EMFILE),
+    );
     assert!(rt; is(&without_proc, PLACE, 0));
     Ok(())
 }
@@ -437,7 +446,13 @@ fn the_own_root_is_not_checked_in_a_jail(rt: HostRuntime) -> Result<(), Fail> {
         jailed: true,
         ..plain()
     };
-    assert!(rt; is(&goes(goes(begin(&jailed), fine()), fails(NO_ANSWER)), CONVERSE, 0));
+    assert!(rt;
+        is(
+            &goes(goes(begin(&jailed), fine()), fails(NO_ANSWER)),
+            CONVERSE,
+            0
+        )
+    );
     let places = Facts {
         places: true,
         ..jailed

@@ -121,7 +121,7 @@ away_turn c a n was h0 w t =
 
 changed_turn : (c : Calling) (a : Answer) (n : Calling) (was : Bool) → changed_ok c ≡ true → was ≡ c.changed
     → Turn c a n
-    → (was || (is_walk (exchange c a).asked && (exchange c a).gave.changed)) ≡ n.changed
+    → (was || (is_walk c.next && (a.changed && not c.facts.finds_again))) ≡ n.changed
 changed_turn c a n was h0 w t =
     elim t [
       | t_begin p0 is ↦ grind (arith, p0, is)
@@ -409,10 +409,12 @@ changed_start : (facts : Facts) → false ≡ (start facts).changed
 changed_start facts = refl
 
 pub changed_is : (facts : Facts) (history : List Exchange) → IsHistory facts history
-    → changed_after history ≡ (next_after facts history).changed
+    → changed_after facts history ≡ (next_after facts history).changed
 changed_is facts =
-    always facts (λ h c. changed_after h ≡ c.changed) (changed_start facts)
-    (λ older c a n s same t w. changed_turn c a n (changed_after older) (sound_changed c s) w t)
+    always facts (λ h c. changed_after facts h ≡ c.changed) (changed_start facts)
+    (λ older c a n s same t w.
+    subst (λ (f : Facts). (changed_after facts older || (is_walk c.next && (a.changed && not f.finds_again))) ≡ n.changed) same
+    (changed_turn c a n (changed_after facts older) (sound_changed c s) w t))
 
 begun_start : (facts : Facts) → 0 ≡ (start facts).tries
 begun_start facts = refl

@@ -95,7 +95,7 @@ changed_none c h (inr at) = grind (arith, at, h)
 
 pub unchanged : (facts : Facts) (history : List Exchange) → IsHistory facts history
     → ((next_after facts history).next ≡ BEGIN) ⊎ ((next_after facts history).next ≡ ANOTHER_PROC)
-    → changed_after history ≡ false
+    → changed_after facts history ≡ false
 unchanged facts history h at =
     let s = is_sound facts history h in
     changed_is facts history h ∙ changed_none (next_after facts history) (sound_changed (next_after facts history) s) at

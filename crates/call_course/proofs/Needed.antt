@@ -125,9 +125,10 @@ needed_by c a n ok at = grind (arith, ok, at)
 late_step : (older : List Exchange) (c : Calling) (a : Answer) (n : Calling) → Turn c a n → Late older c
     → Late (exchange c a ∷ older) n
 late_step older c a n t w =
-    let ok = late_turn c a n t in
-    ((λ at. alone_by c a n ok at),
-    (λ at. let by = needed_by c a n ok at in (by.0, (by.1, w.0 by.0))))
+    let ok = late_turn c a n t in (
+      (λ at. alone_by c a n ok at),
+      (λ at. let by = needed_by c a n ok at in (by.0, (by.1, w.0 by.0))),
+    )
 
 pub own_needed : (facts : Facts) (history : List Exchange) → IsHistory facts history
     → (next_after facts history).next ≡ OWN_ROOT → IsNeeded history

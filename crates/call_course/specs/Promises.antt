@@ -45,10 +45,11 @@ owns_after (e ∷ older) = owns_by e (owns_after older)
 
 -- ---- what was done
 
--- an entry was changed, in whichever try
-abbrev pub changed_after : List Exchange → Bool
-changed_after [] = false
-changed_after (e ∷ older) = changed_after older || (is_walk e.asked && e.gave.changed)
+-- an entry was changed, in whichever try, and a try made once more would not find it as that one did
+abbrev pub changed_after : Facts → List Exchange → Bool
+changed_after facts [] = false
+changed_after facts (e ∷ older) =
+    changed_after facts older || (is_walk e.asked && (e.gave.changed && not facts.finds_again))
 
 -- so many tries have begun
 abbrev pub begun_after : List Exchange → ℕ

@@ -74,11 +74,11 @@ let_go c = if c.made == 0 then ended c else asks CLOSE (c.made - 1) (record c { 
 
 -- ---- a try
 
--- what is known of the try by now
+-- What is known of the try by now. A directory that a call on all parts of a path has made, another try finds.
 abbrev pub noted : Answer → Calling → Calling
 noted a c = record c {
   stepped = c.stepped || a.stepped;
-  changed = c.changed || a.changed;
+  changed = c.changed || (a.changed && not c.facts.finds_again);
   moved = a.moved;
   has_proc = a.has_proc;
   owns_proc = c.owns_proc || a.owns_proc;

@@ -91,6 +91,8 @@ pub struct Facts {
     pub held: bool,
     /// It makes an entry, and gives a descriptor of it.
     pub gives: bool,
+    /// What it makes, another try finds: it makes all missing directories of a path.
+    pub finds_again: bool,
     /// Where others are in its way, another try may be made.
     pub may_retry: bool,
 }
@@ -122,7 +124,7 @@ pub struct Answer {
     pub fails: bool,
     /// Of a try's things: a step was made.
     pub stepped: bool,
-    /// An entry was made, removed or renamed, and a try made once more would not find it as the first one did.
+    /// An entry was made, removed or renamed.
     pub changed: bool,
     /// The thread isn't at its root directory.
     pub moved: bool,
@@ -270,7 +272,7 @@ fn noted(c: Calling, a: &Answer) -> Calling
 {
     Calling {
         stepped: c.stepped || a.stepped,
-        changed: c.changed || a.changed,
+        changed: c.changed || (a.changed && !c.facts.finds_again),
         moved: a.moved,
         has_proc: a.has_proc,
         owns_proc: c.owns_proc || a.owns_proc,

@@ -33,11 +33,12 @@ pub fn its_own_proc_is_closed()
         ⊎ ((next_after facts history).next ≡ BEGIN)) → owns_after history ≡ false }
 {}
 
-/// A call that has changed an entry is never begun again: neither by another /proc, nor by another try.
+/// A call that has changed an entry is never begun again: neither by another /proc, nor by another try. One that makes
+/// all missing directories of a path is, since another try finds them.
 pub fn what_was_changed_is_not_begun_again()
     ensures { (facts : Facts) (history : List Exchange) → IsHistory facts history
         → ((next_after facts history).next ≡ BEGIN) ⊎ ((next_after facts history).next ≡ ANOTHER_PROC)
-        → changed_after history ≡ false }
+        → changed_after facts history ≡ false }
 {}
 
 /// Each try asks for another /proc once at most.
@@ -81,10 +82,10 @@ pub fn the_roots_errors_come_first()
 {}
 
 /// Right before a path is walked by steps, and before a place is asked for, the thread's own root is checked, and
-/// nothing is in the way; but not in a jail, nor where the root is held. It is checked only where openat2(2) isn't there
-/// and a /proc is. A call that has failed before makes that check, and nothing else of a try, and fails. The root's own error
-/// comes first, then that of the check, then the one by which it has failed before; but an error of the way home hides
-/// all of them.
+/// nothing is in the way; but not in a jail, nor where the root is held. It is checked only where openat2(2) isn't
+/// there and a /proc is. A call that has failed before makes that check, and nothing else of a try, and fails. The
+/// root's own error comes first, then that of the check, then the one by which it has failed before; but an error of
+/// the way home hides all of them.
 pub fn the_own_root_is_checked_first()
     ensures walks { (facts : Facts) (history : List Exchange) → IsHistory facts history → needs_no_check facts ≡ false
         → ((next_after facts history).next ≡ PLACE) ⊎ ((next_after facts history).next ≡ CONVERSE) → IsChecked history }

@@ -9,7 +9,8 @@ mod laws;
 
 pub use entering::{
     Answer, CLOSE, CLOSE_ABOVE, CLOSE_FIRST, CLOSE_FOUND, COMPARE, COMPARE_ABOVE, ENTERS, Entering,
-    FAILS, FIND, FIND_ABOVE, FIND_FIRST, LOSES, MISSES, OPEN, OPEN_TO_READ, READ_FIRST, begin, next,
+    FAILS, FIND, FIND_ABOVE, FIND_FIRST, LOSES, MISSES, OPEN, OPEN_TO_READ, READ_FIRST, begin,
+    next,
 };
 pub use laws::{
     calls_are_few, each_descriptor_is_closed_once, the_directory_above_is_lost_by_its_path,

@@ -1,7 +1,8 @@
 //! Which call comes next as a walk goes into a directory, by what those before gave.
 use enter_directory::{
     Answer, CLOSE, CLOSE_ABOVE, CLOSE_FIRST, CLOSE_FOUND, COMPARE, COMPARE_ABOVE, ENTERS, Entering,
-    FAILS, FIND, FIND_ABOVE, FIND_FIRST, LOSES, MISSES, OPEN, OPEN_TO_READ, READ_FIRST, begin, next,
+    FAILS, FIND, FIND_ABOVE, FIND_FIRST, LOSES, MISSES, OPEN, OPEN_TO_READ, READ_FIRST, begin,
+    next,
 };
 use std::test::Fail;
 
