@@ -247,18 +247,20 @@ void inroot_last_end(struct inroot_last_step *last, uint8_t how, uint64_t gave);
 enum { INROOT_IS_THERE = 0 };
 
 /*
- * What is known of a step before its first system call. WHAT it is (`enum inroot_what`), the MODE of a rename, the bytes of the TEXT
- * of a link that is made. An Open: a DIRECTORY is expected; NO_MAGIC link is opened. An Open, a Dup, a Parent: what is opened must be
- * on the root's MOUNT. A Parent: the names are known by which the call came to the child (NAMED), and are a SINGLE one; the call
- * GOES_ON from the directory above by a name; the root is the thread's own (JAILED); a tree is removed (CLEARS); each name is to be
- * looked up by itself (ONE_BY_ONE); openat2(2) is there (SECOND). A ReadLink: the call FOLLOWS the text afterwards; the object was
- * opened as a LINK. Both: what is KNOWN from the steps before (`enum inroot_shown`): of a Parent that the child had an entry; of a
- * ReadLink that it has come to the link which it was to find, or has its text. A change: an object that is there gets a SECOND_NAME.
+ * What is known of a step before its first system call. WHAT it is (`enum inroot_what`), the MODE of a rename, the bytes of the
+ * TEXT of a link that is made. An Open: a DIRECTORY is expected; NO_MAGIC link is followed; the name IS_LAST in the path; the
+ * path TAKES_LINK where it ends in one. An Open, a Dup, a Parent: what is opened must be on the root's MOUNT. A Parent: the
+ * names are known by which the call came to the child (NAMED), and are a SINGLE one; the call GOES_ON from the directory above
+ * by a name; the root is the thread's own (JAILED); a tree is removed (CLEARS); each name is to be looked up by itself
+ * (ONE_BY_ONE); openat2(2) is there (SECOND). An Open, a ReadLink: the call FOLLOWS the text that it reads. A ReadLink: the
+ * object was opened as a LINK. A Parent, a ReadLink: what is KNOWN from the steps before (`enum inroot_shown`): that the child
+ * had an entry; that the walk has come to the link which it was to find, or has its text. A change: an object that is there
+ * gets a SECOND_NAME.
  */
 struct inroot_step_facts {
     size_t text;
     uint8_t what, mode;
-    bool directory, mount, no_magic, named, single, goes_on, jailed, clears, one_by_one, second;
+    bool directory, mount, no_magic, is_last, takes_link, named, single, goes_on, jailed, clears, one_by_one, second;
     uint8_t known;
     bool follows, link, second_name;
 };

@@ -517,11 +517,6 @@ void inroot_give(struct inroot_driver *d, int dir, const char *name, const char 
 int inroot_give_file(struct inroot_driver *d, int dir, const char *name);
 
 /* magic.c */
-/*
- * Whether the call refuses a magic link at this name. It doesn't follow a link that it wants itself: IS_LAST says that the name is
- * the last part of the path.
- */
-bool inroot_magic_matters(const struct inroot_driver *d, bool is_last);
 /* Follows the link of this name in a directory, or INROOT_JAILED, if it is no magic one: 0 or an error's number. */
 int inroot_magic_follow(struct inroot_driver *d, int dir, const char *name);
 

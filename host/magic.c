@@ -22,9 +22,3 @@ int inroot_magic_follow(struct inroot_driver *d, int dir, const char *name)
     close(fd);
     return 0;
 }
-
-bool inroot_magic_matters(const struct inroot_driver *d, bool is_last)
-{
-    bool is_itself = is_last && inroot_takes_link(d->asked) && !d->asked->follows;
-    return d->asked->flags & INROOT_NO_MAGICLINKS && !is_itself;
-}

@@ -81,7 +81,10 @@ static int find(struct inroot_driver *d, uint64_t handle, const char *name, size
 static struct inroot_work work_on(const struct inroot_driver *d, unsigned what, uint64_t dir, const struct entry *entry)
 {
     return (struct inroot_work){
-        .facts = {.what = (uint8_t)what, .mount = d->asked->flags & INROOT_NO_XDEV},
+        .facts = {
+            .what = (uint8_t)what, .mount = d->asked->flags & INROOT_NO_XDEV, .no_magic = d->asked->flags & INROOT_NO_MAGICLINKS,
+            .takes_link = inroot_takes_link(d->asked), .known = d->known, .follows = d->asked->follows,
+        },
         .dir = dir,
         .at = entry->dir,
         .held = entry->held,
@@ -145,7 +148,7 @@ static struct inroot_result open_alone(struct inroot_driver *d, const struct inr
         return inroot_unmade(d, ENOMEM);
     struct inroot_work work = work_on(d, INROOT_STEP_OPEN, step->handle, &entry);
     work.facts.directory = is_expected;
-    work.facts.no_magic = inroot_magic_matters(d, is_last);
+    work.facts.is_last = is_last;
     return open_by(d, &work);
 }
 
@@ -273,7 +276,6 @@ static struct inroot_result open_parent(struct inroot_driver *d, uint64_t handle
     work.facts.clears = d->counts;
     work.facts.one_by_one = d->asked->flags & INROOT_ONE_BY_ONE;
     work.facts.second = inroot_has_openat2();
-    work.facts.known = d->known;
     struct inroot_result result = open_by(d, &work);
     if (result.what == INROOT_ANSWER_OPENED && work.handle == 0) {
         inroot_handles_slot(d, result.handle)->is_above = true;

@@ -35,6 +35,8 @@ static struct inroot_step_facts some_facts(struct input *in)
     facts.directory = more & 1;
     facts.mount = more & 2;
     facts.no_magic = more & 4;
+    facts.is_last = last & 32;
+    facts.takes_link = last & 64;
     facts.goes_on = more & 8;
     facts.known = (uint8_t)(more / 16 % 4);
     facts.follows = more & 64;
@@ -140,6 +142,12 @@ static bool holds_magic(uint64_t file_system)
     return file_system == PROC || file_system == SECURITYFS || file_system == AAFS;
 }
 
+/* A link that is followed may be no magic one, and one that the caller wants may. */
+static bool bars_magic(const struct inroot_step_facts *facts)
+{
+    return facts->no_magic && !(facts->is_last && facts->takes_link && !facts->follows);
+}
+
 /* openat2(2) with RESOLVE_NO_MAGICLINKS: by these alone the kernel has looked where the link leads. */
 static void follows(uint32_t error, struct seen *seen)
 {
@@ -165,7 +173,7 @@ static void others(const struct inroot_step_facts *facts, uint8_t next, const st
             seen->kind = answer->kind;
         break;
     case INROOT_CALL_MAY_HOLD_MAGIC: case INROOT_CALL_MAGIC:
-        MUST(seen->is_open && facts->no_magic && seen->kind == INROOT_KIND_LINK);
+        MUST(seen->is_open && bars_magic(facts) && seen->kind == INROOT_KIND_LINK);
         if (next == INROOT_CALL_MAY_HOLD_MAGIC)
             seen->is_magic = error != 0 || holds_magic(answer->number);
         else

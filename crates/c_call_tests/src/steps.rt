@@ -60,6 +60,8 @@ fn step(what: u8) -> Facts {
         directory: false,
         mount: false,
         no_magic: false,
+        is_last: false,
+        takes_link: false,
         named: false,
         single: false,
         goes_on: false,
@@ -154,6 +156,24 @@ fn mounts_and_magic_links(rt: HostRuntime) -> Result<(), Fail> {
     assert!(rt; holder.next == MAY_HOLD_MAGIC);
     let plain = says(&facts, holder, EXT4);
     assert!(rt; plain.next == OPENED && plain.kind == LINK);
+    // readlink(2) of a magic link follows none; a walk of its text would.
+    let meant = Facts {
+        is_last: true,
+        takes_link: true,
+        ..facts
+    };
+    let walked = Facts {
+        follows: true,
+        ..meant
+    };
+    let between = Facts {
+        is_last: false,
+        ..meant
+    };
+    assert!(rt; next(&meant, mount, &gave(1, 0, LINK)).next == KIND);
+    assert!(rt; next(&meant, works(&meant, mount), &gave(1, 0, LINK)).next == OPENED);
+    assert!(rt; next(&walked, works(&walked, mount), &gave(1, 0, LINK)).next == MAY_HOLD_MAGIC);
+    assert!(rt; next(&between, works(&between, mount), &gave(1, 0, LINK)).next == MAY_HOLD_MAGIC);
     let magic = says(&facts, holder, PROC);
     assert!(rt; magic.next == MAGIC && fails(&facts, magic, EINTR).next == MAGIC);
     let led_out = fails(&facts, magic, EXDEV);

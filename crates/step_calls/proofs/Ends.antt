@@ -3,7 +3,7 @@ use Rattle.std.proofs.Common.{◌≡◌, ℕ, true, false, if◌then◌else◌, 
 use Rattle.std.specs.Prelude.{◌==◌}
 use Rattle.system_calls.specs.Errors.{ENOENT, EINTR, ENFILE, EMFILE}
 use Rattle.step_calls.specs.Refusals.{is_refusal}
-use Rattle.step_calls.specs.History.{asks, came_to, ends_by, fails, first_above, gone, is_known_there, knows, may_look_above, not_opened, opened, stayed, there, unasked, waits, Next}
+use Rattle.step_calls.specs.History.{asks, bars_magic, came_to, ends_by, fails, first_above, gone, is_known_there, knows, may_look_above, not_opened, opened, stayed, there, unasked, waits, Next}
 use Rattle.step_calls.specs.declared.course.TheConstants.{OPEN_DIRECTORY, SPARE, MOUNT, KIND, MAY_HOLD_MAGIC, IS_ROOT, LOOK_ABOVE, LINKS, CLOSE, OPENED, DONE, REFUSED, UNMADE}
 use Rattle.step_calls.specs.declared.facts.Facts.{Facts}
 use Rattle.step_calls.specs.declared.facts.TheConstants.{PARENT, DIRECTORY, LINK}
@@ -18,9 +18,9 @@ pub came_all : (P : Next → Type 0) (f : Facts) (k : ℕ) → ((f.what == PAREN
     → P (knows MAY_HOLD_MAGIC k) → P (knows OPENED k) → P (came_to f k)
 came_all P f k links magic opened =
     if_elim P (f.what == PARENT) (if is_known_there f then knows OPENED k else asks LINKS)
-    (if f.no_magic && (k == LINK) then knows MAY_HOLD_MAGIC k else knows OPENED k)
+    (if bars_magic f && (k == LINK) then knows MAY_HOLD_MAGIC k else knows OPENED k)
     (λ b. if_elim P (is_known_there f) (knows OPENED k) (asks LINKS) (λ c. opened) (λ c. links b))
-    (λ b. if_elim P (f.no_magic && (k == LINK)) (knows MAY_HOLD_MAGIC k) (knows OPENED k) (λ c. magic) (λ c. opened))
+    (λ b. if_elim P (bars_magic f && (k == LINK)) (knows MAY_HOLD_MAGIC k) (knows OPENED k) (λ c. magic) (λ c. opened))
 
 pub stayed_all : (P : Next → Type 0) (f : Facts) (k : ℕ) → P (asks KIND) → ((f.what == PARENT) ≡ true → P (asks LINKS))
     → P (knows MAY_HOLD_MAGIC k) → P (knows OPENED k) → P (stayed f k)

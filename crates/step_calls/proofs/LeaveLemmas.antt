@@ -4,7 +4,7 @@ use Rattle.std.specs.Prelude.{◌==◌, MatchBool}
 use Rattle.std.specs.List.{list_any}
 use Rattle.std.proofs.lemmas.Bool.{false≢true}
 use Rattle.system_calls.specs.Errors.{ENOENT, EINTR, EEXIST, EXDEV, ENOTDIR, ELOOP}
-use Rattle.step_calls.specs.History.{after_exchange, asked, asks, came_to, ends_by, fails, first, gone, has_followed, has_magic, is_ordinary, keeps_links, knows, next_after, not_ordinary, not_read, opened, stayed, there, unasked, waits, opens_directory, opens_any, spares, asks_mount, asks_kind, asks_holder, asks_magic, asks_root, looks_above, compares_above, closes_above, asks_links, asks_layers, opens_to_read, reads, closes_read, asks_follow, reads_link, changes, closes, is_known_there, is_read_already, wants_own_text, Exchange, IsHistory, Next}
+use Rattle.step_calls.specs.History.{after_exchange, asked, asks, came_to, ends_by, fails, first, gone, has_followed, has_magic, is_ordinary, keeps_links, knows, next_after, not_ordinary, not_read, opened, stayed, there, unasked, waits, opens_directory, opens_any, spares, asks_mount, asks_kind, asks_holder, asks_magic, asks_root, looks_above, compares_above, closes_above, asks_links, asks_layers, opens_to_read, reads, closes_read, asks_follow, reads_link, changes, closes, is_known_there, is_read_already, wants_own_text, bars_magic, Exchange, IsHistory, Next}
 use Rattle.step_calls.specs.Leave.{says_followed, says_ordinary, NoMagicIsOpened, TextsAreFollowed}
 use Rattle.step_calls.specs.declared.course.TheConstants.{OPEN_DIRECTORY, OPEN_ANY, MOUNT, KIND, MAY_HOLD_MAGIC, MAGIC, COMPARE_ABOVE, CLOSE_ABOVE, LINKS, LAYERS, OPEN_TO_READ, READ, CLOSE_READ, READ_LINK, NO_FOLLOW, CLOSE, OPENED, TEXT, DONE, REFUSED, UNMADE}
 use Rattle.step_calls.specs.declared.facts.Facts.{Facts}
@@ -19,12 +19,12 @@ use Rattle.step_calls.proofs.MomentLemmas.{if_elim}
 abbrev Plain : Bool → Next → Type 0
 Plain said due = MatchBool (due.next == OPENED) ((due.kind == LINK) ≡ true → said ≡ true) (Unit {0})
 
-module _ (f : Facts) (above : (f.what == PARENT) ≡ false) (magic : f.no_magic ≡ true) (said : Bool) where
+module _ (f : Facts) (above : (f.what == PARENT) ≡ false) (magic : bars_magic f ≡ true) (said : Bool) where
   came : (k : ℕ) → Plain said (came_to f k)
   came k =
       if_elim (Plain said) (f.what == PARENT) (if is_known_there f then knows OPENED k else asks LINKS) _
       (λ b. absurd (false≢true (sym above ∙ b)))
-      (λ b. if_elim (Plain said) (f.no_magic && (k == LINK)) (knows MAY_HOLD_MAGIC k) (knows OPENED k) (λ c. tt)
+      (λ b. if_elim (Plain said) (bars_magic f && (k == LINK)) (knows MAY_HOLD_MAGIC k) (knows OPENED k) (λ c. tt)
       (λ c h. absurd (false≢true (sym c ∙ ap (λ t. t && (k == LINK)) magic ∙ h))))
 
   stays : (k : ℕ) → Plain said (stayed f k)
@@ -39,7 +39,7 @@ module _ (f : Facts) (above : (f.what == PARENT) ≡ false) (magic : f.no_magic 
   is_gone : Plain said (gone f)
   is_gone = gone_all (Plain said) f (λ b. tt) (λ b. tt)
 
-magic_step : (f : Facts) (e : Exchange) (due : Next) (said : Bool) → (f.what == PARENT) ≡ false → f.no_magic ≡ true
+magic_step : (f : Facts) (e : Exchange) (due : Next) (said : Bool) → (f.what == PARENT) ≡ false → bars_magic f ≡ true
     → Plain (says_ordinary e || said) (after_exchange f e due)
 magic_step f (opens_directory error) due said above magic =
     let P = Plain said in
@@ -125,7 +125,7 @@ magic_begins f at_open =
     subst (λ (n : ℕ). Plain false (first (record f { what = n }))) (sym at_open)
     (if_elim (Plain false) f.directory (asks OPEN_DIRECTORY) (asks OPEN_ANY) (λ b. tt) (λ b. tt))
 
-all_plain : (f : Facts) (history : List Exchange) → f.what ≡ OPEN → f.no_magic ≡ true
+all_plain : (f : Facts) (history : List Exchange) → f.what ≡ OPEN → bars_magic f ≡ true
     → Plain (list_any says_ordinary history) (next_after f history)
 all_plain f [] at_open magic = magic_begins f at_open
 all_plain f (e ∷ older) at_open magic =

@@ -11,7 +11,7 @@ use Rattle.tree_model.specs.declared.inode.Object.TheVariants as object
 use Rattle.tree_model.specs.declared.step.StepOf.TheVariants.{Open}
 use Rattle.tree_model.specs.State.{State, child, is_dir, object_at}
 use Rattle.tree_model.specs.Steps.{held, is_full, kind_of, outcome}
-use Rattle.step_calls.specs.History.{after_close, after_exchange, asks, came_to, ends_by, fails, first, has_magic, is_ordinary, knows, next_after, not_opened, not_ordinary, opened, stayed, waits, Exchange, opens_directory, opens_any, spares, asks_mount, asks_kind, asks_holder, asks_magic, asks_root, looks_above, compares_above, closes_above, asks_links, asks_layers, opens_to_read, reads, closes_read, asks_follow, reads_link, changes, closes, asked, IsHistory, Next}
+use Rattle.step_calls.specs.History.{after_close, after_exchange, asks, came_to, ends_by, fails, first, has_magic, is_ordinary, knows, next_after, not_opened, not_ordinary, opened, stayed, waits, opens_directory, opens_any, spares, asks_mount, asks_kind, asks_holder, asks_magic, asks_root, looks_above, compares_above, closes_above, asks_links, asks_layers, opens_to_read, reads, closes_read, asks_follow, reads_link, changes, closes, asked, bars_magic, Exchange, IsHistory, Next}
 use Rattle.step_calls.specs.Moments.{has_kind, moment, AreAnswers, HasNoEntry, IsWorld, OpenSays, OpensName, OpensStood, Stays, World}
 use Rattle.step_calls.specs.declared.course.TheConstants.{OPEN_DIRECTORY, OPEN_ANY, SPARE, MOUNT, KIND, MAY_HOLD_MAGIC, MAGIC, IS_ROOT, CHANGE, CLOSE, OPENED, REFUSED, UNMADE}
 use Rattle.step_calls.specs.declared.facts.Facts.{Facts}
@@ -106,7 +106,7 @@ came : (w : World) (f : Facts) (now k : ℕ) (what : Object) → f.what ≡ OPEN
     → Stood w now (came_to f k)
 came w f now k what at_open found kind =
     subst (λ (n : ℕ). Stood w now (came_to (record f { what = n }) k)) (sym at_open)
-    (if_elim (Stood w now) (f.no_magic && (k == 3)) (knows MAY_HOLD_MAGIC k) (knows OPENED k)
+    (if_elim (Stood w now) (bars_magic f && (k == 3)) (knows MAY_HOLD_MAGIC k) (knows OPENED k)
     (λ b. known w now MAY_HOLD_MAGIC k what found (λ s. kind) (λ s. kind) refl refl refl)
     (λ b. known w now OPENED k what found (λ s. kind) (λ s. kind) refl refl refl))
 

@@ -54,6 +54,12 @@ wants_own_text f = (f.known == PLACED) && not f.follows
 abbrev pub is_read_already : Facts → Bool
 is_read_already f = f.known == LINK_READ
 
+-- ---- magic links
+
+-- Of an Open under RESOLVE_NO_MAGICLINKS: it bars a link that is followed, and none that is what the caller wants.
+abbrev pub bars_magic : Facts → Bool
+bars_magic f = f.no_magic && not (f.is_last && (f.takes_link && not f.follows))
+
 -- ---- exchanges
 
 -- What was asked for: 0 or the error that it gave, and what it told.
@@ -153,7 +159,7 @@ ends_by f error = if is_refusal f.what f.mode f.text error then fails REFUSED er
 abbrev pub came_to : Facts → ℕ → Next
 came_to f kind =
     if f.what == PARENT then (if is_known_there f then knows OPENED kind else asks LINKS)
-    else (if f.no_magic && (kind == LINK) then knows MAY_HOLD_MAGIC kind else knows OPENED kind)
+    else (if bars_magic f && (kind == LINK) then knows MAY_HOLD_MAGIC kind else knows OPENED kind)
 
 abbrev pub stayed : Facts → ℕ → Next
 stayed f kind = if kind == 0 then asks KIND else came_to f kind

@@ -2,7 +2,7 @@
 -- links.
 use Rattle.std.specs.Prelude.{◌≡◌, List, ◌==◌, Bool, true, false, ◌&&◌, not}
 use Rattle.std.specs.List.{list_any}
-use Rattle.step_calls.specs.History.{has_followed, has_magic, is_ordinary, next_after, asks_holder, asks_magic, asks_follow, wants_own_text, Exchange, IsHistory}
+use Rattle.step_calls.specs.History.{has_followed, has_magic, is_ordinary, next_after, asks_holder, asks_magic, asks_follow, wants_own_text, bars_magic, Exchange, IsHistory}
 use Rattle.step_calls.specs.declared.course.TheConstants.{OPENED, TEXT}
 use Rattle.step_calls.specs.declared.facts.Facts.{Facts}
 use Rattle.step_calls.specs.declared.facts.TheConstants.{LINK, OPEN, READ_TEXT}
@@ -21,7 +21,7 @@ says_followed _ = false
 
 -- where no magic link may be opened, an opened link isn't one by an answer
 abbrev pub NoMagicIsOpened : Type 0
-NoMagicIsOpened = (f : Facts) (history : List Exchange) → f.what ≡ OPEN → f.no_magic ≡ true → IsHistory f history
+NoMagicIsOpened = (f : Facts) (history : List Exchange) → f.what ≡ OPEN → bars_magic f ≡ true → IsHistory f history
     → (next_after f history).next ≡ OPENED → (next_after f history).kind ≡ LINK → list_any says_ordinary history ≡ true
 
 -- a text that is to be followed stood on a mount that has links followed, by an answer

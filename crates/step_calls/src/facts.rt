@@ -40,8 +40,12 @@ pub struct Facts {
     pub directory: bool,
     /// OPEN, DUP, PARENT: what is opened must be on the root's mount.
     pub mount: bool,
-    /// OPEN: what is opened must be no magic link (proc(5)).
+    /// OPEN: no magic link (proc(5)) may be followed: RESOLVE_NO_MAGICLINKS of openat2(2).
     pub no_magic: bool,
+    /// OPEN: the name is the last part of the path.
+    pub is_last: bool,
+    /// OPEN: a link at the path's end is meant itself.
+    pub takes_link: bool,
     /// PARENT: the names are known by which the call came to the child, from the root on, one of them at least.
     pub named: bool,
     /// PARENT: they are one name: what is above the child is the root.
@@ -58,7 +62,7 @@ pub struct Facts {
     pub second: bool,
     /// What is known of the step from those before: NOTHING to FOLLOWED (`LastStep`).
     pub known: u8,
-    /// READ_TEXT: the text is walked afterwards.
+    /// OPEN, READ_TEXT: the text of a link that is read is walked afterwards.
     pub follows: bool,
     /// READ_TEXT: the object was opened as a link.
     pub link: bool,

@@ -1,7 +1,7 @@
 //! What comes after the system calls by which an object is opened, and looked at.
 ghost use Rattle.std.specs.Prelude.{◌≡◌};
 ghost use Rattle.step_calls.specs.Course.{due_of};
-ghost use Rattle.step_calls.specs.History.{after_any, after_compare_above, after_directory, after_holder, after_is_root, after_kind, after_look_above, after_magic, after_mount, after_spare, came_to, first_above, has_magic, is_ordinary, may_look_above, not_opened, not_ordinary, opened, stayed};
+ghost use Rattle.step_calls.specs.History.{after_any, after_compare_above, after_directory, after_holder, after_is_root, after_kind, after_look_above, after_magic, after_mount, after_spare, bars_magic, came_to, first_above, has_magic, is_ordinary, may_look_above, not_opened, not_ordinary, opened, stayed};
 
 use crate::course::{
     CLOSE, CLOSE_ABOVE, COMPARE_ABOVE, Course, IS_ROOT, KIND, LINKS, LOOK_ABOVE, MAGIC,
@@ -20,6 +20,13 @@ const SECURITYFS: u64 = 0x7363_6673;
 
 const AAFS: u64 = 0x5a3c_69f0;
 
+// The link itself isn't what the caller wants, and it is followed.
+fn bars_magic(facts: &Facts) -> bool
+    ensures { result ≡ bars_magic facts.now }
+{
+    facts.no_magic && !(facts.is_last && facts.takes_link && !facts.follows)
+}
+
 pub(crate) fn came_to(facts: &Facts, kind: u8) -> Course
     ensures { due_of result ≡ came_to facts.now kind }
 {
@@ -29,7 +36,7 @@ pub(crate) fn came_to(facts: &Facts, kind: u8) -> Course
         } else {
             asks(LINKS)
         }
-    } else if facts.no_magic && kind == LINK {
+    } else if bars_magic(facts) && kind == LINK {
         knows(MAY_HOLD_MAGIC, kind)
     } else {
         knows(OPENED, kind)
