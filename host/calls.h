@@ -241,6 +241,12 @@ uint8_t inroot_last_take(struct inroot_last_step *last, uint8_t what, uint64_t h
 /* That step told the object's place (PLACED); or read the link by its name, which has the handle that it GAVE (LINK_READ). */
 void inroot_last_end(struct inroot_last_step *last, uint8_t how, uint64_t gave);
 
+/*
+ * Why a step can't be begun, of which this is KNOWN: 0; ENAMETOOLONG where its texts aren't WHOLE; ENOMEM where it needs a
+ * descriptor that isn't there. PASSED: its directory or link has none; OTHER: the directory to which a rename goes has none.
+ */
+uint32_t inroot_step_lack(uint8_t what, uint8_t known, bool whole, bool passed, bool other);
+
 /* ---- which system call comes next, as one step is made. These take no memory. */
 
 /* Whether a directory is there still: a question in the place of a step. It isn't made where that can't be known. */

@@ -447,20 +447,11 @@ static struct inroot_result make_other(struct inroot_driver *d, const struct inr
     }
 }
 
-/* Whether a step needs a descriptor that isn't there. By its name another directory could be opened. */
-static bool is_only_passed(const struct inroot_driver *d, const struct inroot_told *step)
-{
-    bool is_link = d->known == INROOT_SHOWN_LINK_READ;
-    bool has_other = step->what == INROOT_STEP_RENAME && inroot_handles_is_passed(step->other);
-    return has_other || (inroot_handles_is_passed(step->handle) && !is_link);
-}
-
 struct inroot_result inroot_make(struct inroot_driver *d, struct inroot_told *step, char *room, char *text, size_t *length)
 {
-    /* Only a link's text can be too long for the room. */
-    if (!step->whole)
-        return inroot_unmade(d, ENAMETOOLONG);
-    if (is_only_passed(d, step))
-        return inroot_unmade(d, ENOMEM);
+    const bool is_passed = inroot_handles_is_passed(step->handle), has_passed = inroot_handles_is_passed(step->other);
+    const uint32_t error = inroot_step_lack(step->what, d->known, step->whole, is_passed, has_passed);
+    if (error)
+        return inroot_unmade(d, (int)error);
     return step->what == INROOT_STEP_OPEN ? open_next(d, step, room, text) : make_other(d, step, room, text, length);
 }

@@ -31,6 +31,7 @@ fn laws_of_single_steps() {
     step_calls::above_is_found_by_leave();
     step_calls::calls_are_few();
     step_calls::what_is_known_was_shown_last();
+    step_calls::a_step_has_its_descriptors();
 }
 
 #[test]

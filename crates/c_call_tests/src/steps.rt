@@ -6,7 +6,7 @@ use step_calls::{
     DONE, DUP, FOLLOWED, Facts, IS_ROOT, IS_THERE, KIND, LAYERS, LINK, LINK_READ, LINKS,
     LOOK_ABOVE, LastStep, MAGIC, MAY_HOLD_MAGIC, MOUNT, NAME_BELOW, NO_FOLLOW, NOTHING, OPEN,
     OPEN_ANY, OPEN_DIRECTORY, OPEN_TO_READ, OPENED, PARENT, PLACED, READ, READ_LINK, READ_TEXT,
-    REFUSED, SPARE, TEXT, UNMADE, begin, next, take_step, tell_end,
+    REFUSED, SPARE, TEXT, UNMADE, begin, lack_of, next, take_step, tell_end,
 };
 
 const ENOENT: u32 = 2;
@@ -14,6 +14,8 @@ const ENOENT: u32 = 2;
 const EINTR: u32 = 4;
 
 const EIO: u32 = 5;
+
+const ENOMEM: u32 = 12;
 
 const EACCES: u32 = 13;
 
@@ -29,9 +31,16 @@ const EMFILE: u32 = 24;
 
 const ENOSPC: u32 = 28;
 
+const ENAMETOOLONG: u32 = 36;
+
 const ELOOP: u32 = 40;
 
 const FILE: u8 = 2;
+
+// Steps, as c_protocol numbers them.
+const MAKE_LINK: u8 = 10;
+
+const RENAME: u8 = 13;
 
 // <linux/magic.h>
 const EXT4: u64 = 0xef53;
@@ -358,6 +367,21 @@ fn texts_are_read(rt: HostRuntime) -> Result<(), Fail> {
         ..facts
     };
     assert!(rt; works(&known, begin(&known)).next == TEXT);
+    Ok(())
+}
+
+// Behind one system call on several names nobody has a descriptor of those between.
+#[test]
+fn a_step_needs_its_descriptors(rt: HostRuntime) -> Result<(), Fail> {
+    assert!(rt; lack_of(OPEN, NOTHING, true, false, false) == 0);
+    assert!(rt; lack_of(OPEN, NOTHING, true, true, false) == ENOMEM);
+    assert!(rt; lack_of(READ_TEXT, LINK_READ, true, true, false) == 0);
+    assert!(rt; lack_of(READ_TEXT, PLACED, true, true, false) == ENOMEM);
+    assert!(rt; lack_of(RENAME, NOTHING, true, false, true) == ENOMEM);
+    assert!(rt; lack_of(RENAME, NOTHING, true, true, false) == ENOMEM);
+    assert!(rt; lack_of(RENAME, NOTHING, true, false, false) == 0);
+    assert!(rt; lack_of(OPEN, NOTHING, true, false, true) == 0);
+    assert!(rt; lack_of(MAKE_LINK, NOTHING, false, false, false) == ENAMETOOLONG);
     Ok(())
 }
 

@@ -3,6 +3,7 @@
 ghost use Rattle.std.specs.Prelude.{◌≡◌, ◌∷◌, [], List, true, false};
 ghost use Rattle.step_calls.specs.Course.{exchange_of, IsAt};
 ghost use Rattle.step_calls.specs.History.{is_question, Exchange};
+ghost use Rattle.step_calls.specs.Lacks.{lack_of};
 ghost use Rattle.step_calls.specs.LastStep.{ended, known_of, taken};
 ghost use Rattle.step_calls.specs.Refusals.{is_refusal};
 
@@ -24,6 +25,20 @@ pub extern "C" fn inroot_step_next(facts: &Facts, answer: &Answer, course: &mut 
     ensures over { is_question course.old.next ≡ false → course.new ≡ course.old }
 {
     *course = step_calls::next(facts, *course, answer);
+}
+
+/// Why a step can't be begun: `step_calls::lack_of`.
+#[unsafe(no_mangle)]
+pub extern "C" fn inroot_step_lack(
+    what: u8,
+    known: u8,
+    whole: bool,
+    passed: bool,
+    other: bool,
+) -> u32
+    ensures { result ≡ lack_of what known whole passed other }
+{
+    step_calls::lack_of(what, known, whole, passed, other)
 }
 
 /// Takes a step, and says what is known of it: `step_calls::take_step`.

@@ -1,5 +1,5 @@
 -- What a history says of a try is what is kept of it.
-use Rattle.std.proofs.Common.{◌≡◌, ℕ, suc, List, length, Bool, true, false, ◌&&◌, ◌||◌, refl, subst, arith}
+use Rattle.std.proofs.Common.{◌≡◌, ℕ, suc, List, length, Bool, true, false, not, ◌&&◌, ◌||◌, refl, subst, arith}
 use Rattle.std.specs.Prelude.{◌==◌, if◌then◌else◌}
 use Rattle.call_course.specs.Turns.{gains, lacks, noted, start}
 use Rattle.call_course.specs.History.{exchange, next_after, Exchange, IsHistory}

@@ -253,7 +253,7 @@ value_ends facts history h at = sym (value_is facts history h)
 
 -- ---- how many
 
-few_number : (count more most : ℕ) → count + more ≤ most → most ≤ 577 → count ≤ 577
+few_number : (count more most : ℕ) → count + more ≤ most → most ≤ 705 → count ≤ 705
 few_number count more most few h = omega (arith, few, h)
 
 tries_before : (c : Calling) → tries_ok c ≡ true → (c.next == BEGIN) ≡ true → c.tries < TRIES

@@ -3,7 +3,7 @@ use Rattle.std.proofs.Common.{◌≡◌, ◌-◌, ℕ, Bool, true, false, not, �
 use Rattle.std.specs.Prelude.{◌==◌, if◌then◌else◌}
 use Rattle.system_calls.specs.Errors.{EAGAIN, ENOMEM}
 use Rattle.system_calls.specs.Tries.{pause_after}
-use Rattle.call_course.specs.Turns.{after_answer, after_own_root, after_proc, asks, began, begun, checked, ended, first, found_proc, gains, has_second, homeward, is_again, is_unseen, judged, lacks, may_go_by_another, needs_no_check, noted, over, replied, reply_error, root_error, done, text_of, stuck, COUNT, DONE, OPENED, TEXT}
+use Rattle.call_course.specs.Turns.{after_answer, after_own_root, after_proc, asks, began, begun, checked, ended, first, gains, homeward, is_again, is_unseen, judged, lacks, may_go_by_another, needs_no_check, noted, over, replied, reply_error, root_error, done, text_of, stuck, COUNT, DONE, OPENED, TEXT}
 use Rattle.call_course.specs.declared.calling.Calling.{Calling}
 use Rattle.call_course.specs.declared.calling.Answer.{Answer}
 use Rattle.call_course.specs.declared.calling.Facts.{Facts}

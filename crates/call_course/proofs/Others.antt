@@ -1,7 +1,7 @@
 -- Where a history leads, by what was done.
 use Rattle.std.proofs.Common.{◌≡◌, ◌≤◌, ℕ, List, length, Bool, true, false, not, ◌&&◌, ◌||◌, refl, sym, subst, arith}
 use Rattle.std.specs.Prelude.{◌==◌, nat_le, if◌then◌else◌}
-use Rattle.call_course.specs.Turns.{gains, lacks, noted, start, may_go_by_another}
+use Rattle.call_course.specs.Turns.{begun, first, gains, lacks, noted, start, may_go_by_another}
 use Rattle.call_course.specs.History.{exchange, next_after, Exchange, IsHistory}
 use Rattle.call_course.specs.Promises.{others_after, others_by}
 use Rattle.call_course.specs.declared.calling.Calling.{Calling}
@@ -9,7 +9,7 @@ use Rattle.call_course.specs.declared.calling.Answer.{Answer}
 use Rattle.call_course.specs.declared.calling.Facts.{Facts}
 use Rattle.call_course.specs.declared.calling.TheConstants.{JOIN, ANOTHER_PROC}
 use Rattle.call_course.proofs.Leads.{Leads, Turn, to_proc, to_close, to_home, to_root, to_end, to_again, to_fail, t_begin, t_join, t_join_held, t_no_join, t_once, t_missing, t_not_once, t_not_once_held, t_there_place, t_there_walk, t_there_given, t_alone, t_proc, t_none_place, t_none_walk, t_none_given, t_own_place, t_own_walk, t_own_given, t_no_own, t_place, t_no_place, t_opened, t_text, t_cut, t_done, t_made, t_lost, t_unopened, t_count, t_fault, t_took, t_not_took, t_let_go, t_close_made, t_closed, t_closed_stuck, t_same_proc, t_lost_proc, t_another, t_no_other, t_proc_closed, t_home, t_stuck_holds, t_stuck, t_root, t_bad_root}
-use Rattle.call_course.proofs.Sound.{sound, within}
+use Rattle.call_course.proofs.Sound.{another_ok, sound, stuck_ok, within}
 use Rattle.call_course.proofs.Rule.{always, sound_another, sound_stuck}
 
 -- ---- another /proc
@@ -33,6 +33,13 @@ others_leads seen may c n others few none l =
           subst (λ m. others_ok others m ≡ true) (sym p5) (grind (arith, few, p0, p1, p2, p3, p4))
       | to_fail p0 p1 p2 p3 p4 ↦ subst (λ m. others_ok others m ≡ true) (sym p4) (grind (arith, few, p0, p1, p2, p3))
     ]
+
+-- whatever the try begins anew with
+others_anew : (c : Calling) (a : Answer) (k was : ℕ) → c.next ≡ ANOTHER_PROC → (a.error == 0) ≡ true
+    → others_ok was c ≡ true → stuck_ok c ≡ true → another_ok c ≡ true
+    → others_ok (others_by (exchange c a) was)
+    (record (begun c) { next = k; has_proc = true; owns_proc = a.owns_proc; by_another = true }) ≡ true
+others_anew c a k was p0 p1 w so sa = grind (arith, p0, p1, w, so, sa)
 
 others_turn : (c : Calling) (a : Answer) (n : Calling) (was : ℕ) → sound c ≡ true → others_ok was c ≡ true → Turn c a n
     → others_ok (others_by (exchange c a) was) n ≡ true
@@ -132,7 +139,7 @@ others_turn c a n was s w t =
       | t_lost_proc p0 p1 is ↦
           subst (λ m. others_ok (others_by (exchange c a) was) m ≡ true) (sym is) (grind (arith, p0, p1, w, so, sa))
       | t_another p0 p1 is ↦ subst (λ m. others_ok (others_by (exchange c a) was) m ≡ true) (sym is)
-          (grind (arith, p0, p1, w, so, sa))
+          (others_anew c a (first c.facts) was p0 p1 w so sa)
       | t_no_other p0 p1 l ↦ others_leads false false (lacks a.error c) n (others_by (exchange c a) was)
           (grind (arith, p0, p1, w)) (λ is can. absurd (grind (arith, is))) l
       | t_proc_closed p0 l ↦ others_leads false false (record c { owns_proc = false }) n (others_by (exchange c a) was)

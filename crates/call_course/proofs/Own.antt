@@ -3,7 +3,7 @@ use Rattle.std.proofs.Common.{◌≡◌, ◌≢◌, ℕ, List, ◌∷◌, length
 use Rattle.std.specs.Prelude.{◌==◌}
 use Rattle.call_course.specs.Turns.{began, begun, first, gains, lacks, needs_no_check, noted, start}
 use Rattle.call_course.specs.History.{exchange, next_after, Exchange, IsHistory}
-use Rattle.call_course.specs.Promises.{check_error_after, check_error_by, checked_after, checked_by, is_check, is_walk, last_error, passes, HomeFailed, IsAlone, IsChecked, IsNeeded}
+use Rattle.call_course.specs.Promises.{check_error_after, check_error_by, checked_after, checked_by, is_check, is_walk, last_error, HomeFailed, IsChecked}
 use Rattle.call_course.specs.declared.calling.Calling.{Calling}
 use Rattle.call_course.specs.declared.calling.Answer.{Answer}
 use Rattle.call_course.specs.declared.calling.Facts.{Facts}

@@ -2,12 +2,12 @@
 use Rattle.std.proofs.Common.{◌≡◌, ℕ, Bool, true, false, not, ◌&&◌, ◌||◌, refl, sym, subst, arith}
 use Rattle.std.specs.Prelude.{◌==◌, nat_le, nat_lt}
 use Rattle.system_calls.specs.Tries.{TRIES}
-use Rattle.call_course.specs.Turns.{began, begun, first, gains, lacks, noted, start}
+use Rattle.call_course.specs.Turns.{asks, began, begun, first, gains, lacks, noted, reply_error, start}
 use Rattle.call_course.specs.declared.calling.Calling.{Calling}
 use Rattle.call_course.specs.declared.calling.Answer.{Answer}
 use Rattle.call_course.specs.declared.calling.Facts.{Facts}
 use Rattle.call_course.specs.declared.calling.TheConstants.{BEGIN, JOIN, AT_ONCE, SECOND, FIND_PROC, OWN_ROOT, PLACE, CONVERSE, TAKE, LET_GO, CLOSE, LOOK_AT_PROC, ANOTHER_PROC, CLOSE_PROC, GO_HOME, LOOK_AT_ROOT, ENDS, FAILS}
-use Rattle.call_course.proofs.Leads.{First, f_given, f_check, f_check_place, f_place, f_join, f_once, first_is, Leads, Turn, to_proc, to_close, to_home, to_root, to_end, to_again, to_fail, t_begin, t_join, t_join_held, t_no_join, t_once, t_missing, t_not_once, t_not_once_held, t_there_place, t_there_walk, t_there_given, t_alone, t_proc, t_none_place, t_none_walk, t_none_given, t_own_place, t_own_walk, t_own_given, t_no_own, t_place, t_no_place, t_opened, t_text, t_cut, t_done, t_made, t_lost, t_unopened, t_count, t_fault, t_took, t_not_took, t_let_go, t_close_made, t_closed, t_closed_stuck, t_same_proc, t_lost_proc, t_another, t_no_other, t_proc_closed, t_home, t_stuck_holds, t_stuck, t_root, t_bad_root}
+use Rattle.call_course.proofs.Leads.{First, f_given, f_check, f_check_place, f_place, f_join, f_once, first_is, made_of, Leads, Turn, to_proc, to_close, to_home, to_root, to_end, to_again, to_fail, t_begin, t_join, t_join_held, t_no_join, t_once, t_missing, t_not_once, t_not_once_held, t_there_place, t_there_walk, t_there_given, t_alone, t_proc, t_none_place, t_none_walk, t_none_given, t_own_place, t_own_walk, t_own_given, t_no_own, t_place, t_no_place, t_opened, t_text, t_cut, t_done, t_made, t_lost, t_unopened, t_count, t_fault, t_took, t_not_took, t_let_go, t_close_made, t_closed, t_closed_stuck, t_same_proc, t_lost_proc, t_another, t_no_other, t_proc_closed, t_home, t_stuck_holds, t_stuck, t_root, t_bad_root}
 
 abbrev pub within : ℕ → ℕ → ℕ → Bool
 within low high n = nat_le low n && nat_le n high
@@ -115,6 +115,11 @@ sound_anew c a k g f =
       | f_once p0 at ↦ subst (λ j. sound (anew c a j) ≡ true) (sym at) (grind (arith, p0, g))
     ]
 
+-- whichever error it is
+sound_fault : (c : Calling) (a : Answer) (error : ℕ) → sound (record c { next = CONVERSE }) ≡ true
+    → sound (asks LET_GO 0 (lacks error (made_of a c))) ≡ true
+sound_fault c a error g = grind (arith, g)
+
 pub sound_turn : (c : Calling) (a : Answer) (n : Calling) → Turn c a n → sound c ≡ true → sound n ≡ true
 sound_turn c a n t =
     elim t [
@@ -185,7 +190,7 @@ sound_turn c a n t =
           (λ g. subst (λ m. sound m ≡ true) (sym is) (grind (arith, p1, p2, p3, p4, g)))
       | t_fault p0 p1 p2 p3 p4 is ↦
           via CONVERSE c (sound n ≡ true) p0
-          (λ g. subst (λ m. sound m ≡ true) (sym is) (grind (arith, p1, p2, p3, p4, g)))
+          (λ g. subst (λ m. sound m ≡ true) (sym is) (sound_fault c a (reply_error a) g))
       | t_took p0 p1 is ↦ via TAKE c (sound n ≡ true) p0
           (λ g. subst (λ m. sound m ≡ true) (sym is) (grind (arith, p1, g)))
       | t_not_took p0 p1 is ↦ via TAKE c (sound n ≡ true) p0

@@ -1,5 +1,5 @@
 -- What holds of every history.
-use Rattle.std.proofs.Common.{◌≡◌, ◌≢◌, ◌≤◌, ◌+◌, ◌*◌, ℕ, List, [], ◌∷◌, length, Bool, true, false, not, ◌&&◌, ◌||◌, ◌⊎◌, inl, inr, refl, ap, sym, ◌∙◌, arith}
+use Rattle.std.proofs.Common.{◌≡◌, ◌≢◌, ◌≤◌, ◌+◌, ◌*◌, ℕ, List, [], ◌∷◌, length, Bool, true, false, not, ◌&&◌, ◌||◌, ◌⊎◌, inl, inr, refl, ap, sym, subst, ◌∙◌, arith}
 use Rattle.std.specs.Prelude.{◌==◌, if◌then◌else◌}
 use Rattle.std.proofs.lemmas.Bool.{eqb-true, false≢true}
 use Rattle.system_calls.specs.Errors.{EAGAIN, ESTALE}
@@ -449,8 +449,28 @@ keeps_is first again (e ∷ older) h =
     keeps_step again e (next_after first again older).tries why (why_after older)
     (ap (λ n. keeps (due_parts n why) (why_after older)) h.0.due ∙ keeps_is first again older h.1) h.0.question
 
+end_in : (a b c : Bool) (next : ℕ) → (next == FAILS) ≡ a → (next == LOSES) ≡ b → (next == MISSES) ≡ c
+    → (a || (b || c)) ≡ true → (next ≡ FAILS) ⊎ ((next ≡ LOSES) ⊎ (next ≡ MISSES))
+end_in true b c next x y z h = inl (eqb-true next FAILS x)
+end_in false true c next x y z h = inr (inl (eqb-true next LOSES y))
+end_in false false true next x y z h = inr (inr (eqb-true next MISSES z))
+end_in false false false next x y z h = absurd (false≢true h)
+
+kept_is : (error why : ℕ) → (not (error == 0) && (error == why)) ≡ true → (error ≢ 0) × (error ≡ why)
+kept_is error why h = grind (arith, h)
+
+kept_at : (n : Next) (why k : ℕ) → n.next ≡ k → keeps n why ≡ true → keeps (record n { next = k }) why ≡ true
+kept_at n why k at is = subst (λ j. keeps (record n { next = j }) why ≡ true) at is
+
 keeps_end : (n : Next) (why : ℕ) → keeps n why ≡ true → fails n.next ≡ true → (n.error ≢ 0) × (n.error ≡ why)
-keeps_end n why is at = grind (arith, at, is)
+keeps_end n why is ends =
+    elim (end_in (n.next == FAILS) (n.next == LOSES) (n.next == MISSES) n.next refl refl refl ends) [
+      | inl at ↦ kept_is n.error why (kept_at n why FAILS at is)
+      | inr other ↦ elim other [
+        | inl at ↦ kept_is n.error why (kept_at n why LOSES at is)
+        | inr at ↦ kept_is n.error why (kept_at n why MISSES at is)
+      ]
+    ]
 
 pub why_is : (first again : Bool) (history : List Exchange) → IsHistory first again history
     → fails (next_after first again history).next ≡ true

@@ -3,6 +3,7 @@ pub mod Ends
 pub mod ErrorLemmas
 pub mod FewLemmas
 pub mod HistoryLemmas
+pub mod LackLemmas
 pub mod LastStepLemmas
 pub mod LeaveLemmas
 pub mod LinkLemmas

@@ -19,7 +19,7 @@ abbrev pub says_followed : Exchange → Bool
 says_followed (asks_follow error flags) = (error == 0) && has_followed flags
 says_followed _ = false
 
--- where no magic link may be opened, an opened link isn't one by an answer
+-- where a magic link is barred, an opened link isn't one by an answer
 abbrev pub NoMagicIsOpened : Type 0
 NoMagicIsOpened = (f : Facts) (history : List Exchange) → f.what ≡ OPEN → bars_magic f ≡ true → IsHistory f history
     → (next_after f history).next ≡ OPENED → (next_after f history).kind ≡ LINK → list_any says_ordinary history ≡ true

@@ -1,6 +1,7 @@
 pub mod Course
 pub mod History
 pub mod LastStep
+pub mod Lacks
 pub mod Leave
 pub mod Moments
 pub mod Changes

@@ -3,6 +3,7 @@ ghost use Rattle.std.specs.Prelude.{◌≡◌, ◌≤◌, ◌+◌, ◌⊎◌, Li
 ghost use Rattle.std.specs.List.{AllByRecursion};
 ghost use Rattle.step_calls.specs.Changes.{MakesStood, RemovalsStood};
 ghost use Rattle.step_calls.specs.History.{next_after, Exchange, IsHistory};
+ghost use Rattle.step_calls.specs.Lacks.{DescriptorsAreThere};
 ghost use Rattle.step_calls.specs.LastStep.{KnownByTheLast};
 ghost use Rattle.step_calls.specs.Leave.{NoMagicIsOpened, TextsAreFollowed};
 ghost use Rattle.step_calls.specs.Moments.{LinksWereRead, OpensStood, ParentsStood, ThereStood};
@@ -72,7 +73,7 @@ pub fn no_error_is_passed_over()
         → AllByRecursion (NoError f) history }
 {}
 
-/// Where no magic link may be opened, a link is opened only if an answer says that it's none: its file system has none
+/// Where a magic link is barred, a link is opened only if an answer says that it's none: its file system has none
 /// (statfs(2)), or the kernel looked where it leads (openat2(2), RESOLVE_NO_MAGICLINKS). And a text that is to be
 /// followed is given only if an answer says that its mount has links followed (statfs(2); mount(8), nosymfollow). No
 /// other error passes for such an answer.
@@ -104,6 +105,12 @@ pub fn above_is_found_by_leave()
 /// one for each of the others, and thirteen, at most.
 pub fn calls_are_few()
     ensures { (f : Facts) (history : List Exchange) → IsHistory f history → length history ≤ costs history + 13 }
+{}
+
+/// A step is begun without a descriptor of its own only if it reads the text of a link that the step before has read by
+/// its name, whatever the steps before were; and a rename only by both.
+pub fn a_step_has_its_descriptors()
+    ensures { DescriptorsAreThere }
 {}
 
 /// Of all steps, in whatever order: what `take_step` says of one was shown by the last step before it, but for Closes

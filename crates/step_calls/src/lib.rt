@@ -6,6 +6,7 @@
 
 mod course;
 mod facts;
+mod lacks;
 mod last_step;
 mod laws;
 mod looks;
@@ -22,10 +23,11 @@ pub use facts::{
     Answer, CLOSE_HANDLE, DIRECTORY, DUP, Facts, IS_THERE, LINK, NAME_BELOW, OPEN, PARENT,
     READ_TEXT,
 };
+pub use lacks::lack_of;
 pub use last_step::{FOLLOWED, LINK_READ, LastStep, NOTHING, PLACED, take_step, tell_end};
 pub use laws::{
-    a_change_is_made_once, above_is_found_by_leave, calls_are_few, changes_stood,
-    each_descriptor_is_closed_once, links_are_followed_by_leave, links_were_read,
+    a_change_is_made_once, a_step_has_its_descriptors, above_is_found_by_leave, calls_are_few,
+    changes_stood, each_descriptor_is_closed_once, links_are_followed_by_leave, links_were_read,
     no_error_is_passed_over, opens_stood, parents_stood, refusals_are_the_steps_own, renames_stood,
     there_stood, what_is_known_was_shown_last,
 };
