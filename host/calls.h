@@ -906,9 +906,9 @@ void inroot_way_next(const struct inroot_way_facts *facts, const struct inroot_w
 /* ---- which call comes next, as a path is opened through links that are known. These take no memory. */
 
 /*
- * A call BEGINS so on this path (inroot_begins_through). What comes next on it: AHEAD. The names before a link are looked up in the
- * directory that is held, through no link, and what they lead to is held: ENTER. The link is READ by its name there: readlinkat(2). Its
- * mount's flags, by which it FOLLOWS links or not: fstatfs(2) of that directory. The call GOES on with the text (inroot_goes_through); if
+ * A call BEGINS so on this path (inroot_begins_through). What comes next on it: AHEAD. The name before a link is opened in the
+ * directory that is held, through no link, and is held then: ENTER, by openat(2). So are several: ENTER_NAMES, by openat2(2), as each
+ * look-up of names below, with these RESOLVE bits. The link is READ by its name there: readlinkat(2). Its mount's flags, by which it FOLLOWS links or not: fstatfs(2) of that directory. The call GOES on with the text (inroot_goes_through); if
  * that begins with a slash, the root is held: TO_ROOT. `..` of what is held IS_ROOT, by statx(2) of both: then the root is held, TO_TOP,
  * whose place is a slash alone. Else the directory ABOVE: openat2(2) of the names passed less the last one, from the root with
  * RESOLVE_BENEATH; it is held if `..` is the same (statx(2)). Or the PARENT: openat(2) of `..`. Its place: PLACE_ABOVE. The call RISES
@@ -921,12 +921,12 @@ void inroot_way_next(const struct inroot_way_facts *facts, const struct inroot_w
  * held is closed. Then it OPENS what the call gives; or the STEPS decide.
  */
 enum inroot_through_turn {
-    INROOT_THROUGH_BEGINS = 1, INROOT_THROUGH_AHEAD, INROOT_THROUGH_ENTER, INROOT_THROUGH_READ, INROOT_THROUGH_FOLLOWS,
-    INROOT_THROUGH_GOES, INROOT_THROUGH_TO_ROOT, INROOT_THROUGH_IS_ROOT, INROOT_THROUGH_TO_TOP, INROOT_THROUGH_ABOVE,
-    INROOT_THROUGH_PARENT, INROOT_THROUGH_PLACE_ABOVE, INROOT_THROUGH_RISES, INROOT_THROUGH_FROM_TOP, INROOT_THROUGH_FROM_ROOT,
-    INROOT_THROUGH_COMPARE, INROOT_THROUGH_FROM_HERE, INROOT_THROUGH_KIND, INROOT_THROUGH_KIND_HERE, INROOT_THROUGH_WITNESS,
-    INROOT_THROUGH_PLACE, INROOT_THROUGH_ENDS, INROOT_THROUGH_SHUT, INROOT_THROUGH_LET_GO, INROOT_THROUGH_OPENS,
-    INROOT_THROUGH_STEPS,
+    INROOT_THROUGH_BEGINS = 1, INROOT_THROUGH_AHEAD, INROOT_THROUGH_ENTER, INROOT_THROUGH_ENTER_NAMES, INROOT_THROUGH_READ,
+    INROOT_THROUGH_FOLLOWS, INROOT_THROUGH_GOES, INROOT_THROUGH_TO_ROOT, INROOT_THROUGH_IS_ROOT, INROOT_THROUGH_TO_TOP,
+    INROOT_THROUGH_ABOVE, INROOT_THROUGH_PARENT, INROOT_THROUGH_PLACE_ABOVE, INROOT_THROUGH_RISES, INROOT_THROUGH_FROM_TOP,
+    INROOT_THROUGH_FROM_ROOT, INROOT_THROUGH_COMPARE, INROOT_THROUGH_FROM_HERE, INROOT_THROUGH_KIND, INROOT_THROUGH_KIND_HERE,
+    INROOT_THROUGH_WITNESS, INROOT_THROUGH_PLACE, INROOT_THROUGH_ENDS, INROOT_THROUGH_SHUT, INROOT_THROUGH_LET_GO,
+    INROOT_THROUGH_OPENS, INROOT_THROUGH_STEPS,
 };
 
 /* Names alone to the path's end; a name that was a link last, behind names or none; `..`; or what is left to the steps. */
@@ -950,8 +950,9 @@ struct inroot_through_answer {
     bool absolute;
 };
 
-/* A driver reads how many links were followed, and what comes NEXT. It leaves both alone. */
+/* A driver reads the RESOLVE bits of a look-up of names, how many links were followed, and what comes NEXT. It leaves all alone. */
 struct inroot_passage {
+    uint64_t resolve;
     uint32_t links;
     uint8_t next;
 };

@@ -47,14 +47,10 @@ static uint32_t held(struct walk *w, int fd)
 }
 
 /* Goes down to the directory that has the link. */
-static uint32_t enter(struct walk *w)
+static uint32_t enter_names(struct walk *w)
 {
-    const char *names = w->path + w->at + 1;
-    const size_t length = w->link - w->at - 1;
-    if (w->seen.ahead == 1)
-        return held(w, inroot_followed_enter(w->dir, names, length));
     w->path[w->link] = 0;
-    int fd = inroot_look_up(w->d, w->dir, names, O_DIRECTORY, 0);
+    int fd = inroot_look_through(w->d, w->dir, w->path + w->at + 1, O_DIRECTORY, w->course.resolve);
     w->path[w->link] = '/';
     return held(w, fd);
 }
@@ -162,12 +158,12 @@ static uint32_t rises(struct walk *w)
 
 /* ---- the end */
 
-static uint32_t open_object(struct walk *w, int dir, const char *names, uint64_t resolve)
+static uint32_t open_object(struct walk *w, int dir, const char *names)
 {
     const bool directory = w->d->asked->directory;
     w->slot.kind = directory ? INROOT_KIND_DIR : INROOT_KIND_FILE;
-    w->slot.way = resolve & RESOLVE_BENEATH ? INROOT_SEEN_BELOW : INROOT_BY_NAME;
-    w->slot.fd = inroot_look_up(w->d, dir, names, directory ? O_DIRECTORY : 0, resolve);
+    w->slot.way = w->course.resolve & RESOLVE_BENEATH ? INROOT_SEEN_BELOW : INROOT_BY_NAME;
+    w->slot.fd = inroot_look_through(w->d, dir, names, directory ? O_DIRECTORY : 0, w->course.resolve);
     return w->slot.fd < 0;
 }
 
@@ -213,7 +209,8 @@ static uint32_t turn(struct walk *w, struct inroot_through_answer *answer)
     switch (w->course.next) {
     case INROOT_THROUGH_BEGINS: return !begins(w);
     case INROOT_THROUGH_AHEAD: return look_ahead(w, answer);
-    case INROOT_THROUGH_ENTER: return enter(w);
+    case INROOT_THROUGH_ENTER: return held(w, inroot_followed_enter(w->dir, w->path + w->at + 1, w->link - w->at - 1));
+    case INROOT_THROUGH_ENTER_NAMES: return enter_names(w);
     case INROOT_THROUGH_READ: return read_link(w, answer);
     case INROOT_THROUGH_FOLLOWS: return inroot_followed_mount(w->dir, &answer->number);
     case INROOT_THROUGH_GOES: return goes(w, answer);
@@ -225,10 +222,10 @@ static uint32_t turn(struct walk *w, struct inroot_through_answer *answer)
     case INROOT_THROUGH_PARENT: return open_above(w, inroot_parent_of(w->d, w->dir), INROOT_BY_PARENT);
     case INROOT_THROUGH_PLACE_ABOVE: return !find_above(w);
     case INROOT_THROUGH_RISES: return rises(w);
-    case INROOT_THROUGH_FROM_TOP: return open_object(w, w->dir, w->path + 1, RESOLVE_BENEATH);
-    case INROOT_THROUGH_FROM_ROOT: return open_object(w, w->root, w->path + 1, RESOLVE_BENEATH);
+    case INROOT_THROUGH_FROM_TOP: return open_object(w, w->dir, w->path + 1);
+    case INROOT_THROUGH_FROM_ROOT: return open_object(w, w->root, w->path + 1);
     case INROOT_THROUGH_COMPARE: return !compare(w);
-    case INROOT_THROUGH_FROM_HERE: return open_object(w, w->dir, w->path + w->at + 1, 0);
+    case INROOT_THROUGH_FROM_HERE: return open_object(w, w->dir, w->path + w->at + 1);
     case INROOT_THROUGH_KIND: case INROOT_THROUGH_KIND_HERE: return find_kind(w, answer);
     case INROOT_THROUGH_WITNESS: return !inroot_look_first(w->d, w->root, &w->slot, w->path);
     case INROOT_THROUGH_PLACE: return !find_place(w, &w->slot);

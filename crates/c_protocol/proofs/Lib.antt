@@ -4,9 +4,9 @@ mod Spelling
 mod Conversing
 mod Outright
 mod Passing
-mod PassingNames
 mod AtOnce
-mod StepsSeen
+mod PiecesSeen
+mod FitPieces
 mod ThroughLaid
 mod ThroughTexts
 mod ThroughUps

@@ -11,13 +11,13 @@ use Rattle.path_text.specs.Print.{after_slashes, names_read}
 use Rattle.path_text.specs.Text.{between_slashes}
 use Rattle.path_text.proofs.TextLemmas.{and_true}
 use Rattle.c_protocol.specs.AtOnce.{has_names}
-use Rattle.c_protocol.specs.Through.{comes_up, is_behind, Stand}
+use Rattle.c_protocol.specs.Through.{comes_up, is_behind, is_way, Stand}
 use Rattle.open_through_links.specs.declared.passage.TheConstants.{END, LINK, UP}
 use Rattle.c_protocol.specs.ThroughAhead.{are_ups_and_names, count_in, has_last, is_hinted, leads_on, look_ahead}
 use Rattle.c_protocol.specs.ThroughAhead.{nothing_ahead, pieces_of}
 use Rattle.c_protocol.specs.declared.through_ahead.PathAhead.{PathAhead}
 use Rattle.c_protocol.proofs.AtOnce.{reprinted, same_text}
-use Rattle.c_protocol.proofs.ThroughTexts.{piece_split}
+use Rattle.c_protocol.proofs.ThroughTexts.{names_are_steps, piece_split}
 
 abbrev here : List ℕ → Stand
 here text = record { path = text; at = 0 }
@@ -155,3 +155,21 @@ up_seen s link upper left leads comes =
     let up = is_up (left || nat_lt (length s.path) s.at) (comes_up s) (has_last (take s.at s.path))
     (is_hinted s link) _ _ _ refl refl comes in
     (up, some_passed s leads up)
+
+-- ---- from the beginning
+
+first_names : (up rest names : Bool) → (if up then false && rest else names) ≡ true → names ≡ true
+first_names true rest names h = cc (h)
+first_names false rest names h = h
+
+names_from : (ps : List (List ℕ)) → are_ups_and_names 0 ps ≡ true → list_all is_name ps ≡ true
+names_from [] h = refl
+names_from (p ∷ ps) h =
+    first_names (same_bytes p (codes "..")) (are_ups_and_names (0 - 1) ps) (list_all is_name (p ∷ ps)) h
+
+-- what leads on where no name was passed has steps alone
+pub leads_on_by_steps : (whole : List ℕ) → leads_on (record { path = whole; at = 0 }) ≡ true → is_way whole ≡ true
+leads_on_by_steps [] h = cc (h)
+leads_on_by_steps (b ∷ text) h =
+    let each = and_true (b == SLASH) (are_ups_and_names 0 (between_slashes text)) h in
+    rw (each.0) (names_are_steps (between_slashes text) (names_from (between_slashes text) each.1))

@@ -1,8 +1,9 @@
 -- A call that opens by names alone, all of which are passed at once: as by one openat2(2) with RESOLVE_NO_SYMLINKS,
 -- and then one question where the object stands. What it replies is known then without its single turns.
-use Rattle.std.specs.Prelude.{◌≡◌, ℕ, List, [], ◌∷◌, ◌++◌, ◌==◌, ◌&&◌, ◌||◌, Bool, true, false, not, map, is_none, Option, Some, None}
+use Rattle.std.specs.Prelude.{◌≡◌, ℕ, List, [], ◌∷◌, ◌++◌, ◌==◌, ◌&&◌, ◌||◌, Bool, true, false, not, map, is_none, codes, length, nat_lt, Option, Some, None}
 use Rattle.path_text.specs.declared.errno.Errno.TheVariants.{NotFound}
 use Rattle.path_text.specs.Name.{same_bytes}
+use Rattle.path_text.specs.declared.name.TheConstants.{NAME_MAX}
 use Rattle.path_text.specs.Print.{names_read}
 use Rattle.path_text.specs.Text.{text_fault, begins_with_slash}
 use Rattle.tree_model.specs.declared.answer.Answer.TheVariants.{Opened, Names, Done, Refused}
@@ -31,6 +32,12 @@ use Rattle.c_protocol.specs.declared.numbers.Asked.{Asked}
 abbrev pub opens_kind : ℕ → Kind → Bool
 opens_kind op kind =
     (op == 2) || (((op == 1) && not (is_followed true kind)) || ((op == 10) && is_dir_kind kind))
+
+-- a name, where it has no slash and no NUL (POSIX.1, Filename); or `..`, where that counts
+abbrev pub fits_piece : Bool → List ℕ → Bool
+fits_piece ups piece =
+    not (same_bytes piece []) && (not (same_bytes piece (codes "."))
+    && ((ups || not (same_bytes piece (codes ".."))) && not (nat_lt NAME_MAX (length piece))))
 
 abbrev pub has_names : Option (List (List ℕ)) → Bool
 has_names None = false

@@ -1,25 +1,56 @@
 //! A call that opens by names which were passed at once.
-ghost use Rattle.std.specs.Prelude.{◌≡◌};
-ghost use Rattle.std.specs.List.{list_all};
-ghost use Rattle.path_text.specs.Name.{is_name};
+ghost use Rattle.std.specs.Prelude.{◌≡◌, ◌==◌};
+ghost use Rattle.std.specs.List.{list_all, list_any};
+ghost use Rattle.path_text.specs.Name.{NUL, is_name};
 ghost use Rattle.path_text.specs.Print.{names_read};
 ghost use Rattle.path_text.specs.Text.{between_slashes};
-ghost use Rattle.c_protocol.specs.AtOnce.{has_names, misses_at_once, opens_at_once, opens_kind, spells_place};
+ghost use Rattle.c_protocol.specs.AtOnce.{fits_piece, has_names, misses_at_once, opens_at_once, opens_kind, spells_place};
 ghost use Rattle.c_protocol.specs.Numbers.{kind_of};
+ghost use Rattle.c_protocol.specs.Through.{is_step};
 
 use crate::numbers::Asked;
-use path_text::{Name, Path, SLASH};
+use path_text::{NAME_MAX, Path, SLASH};
 
-// Whether each piece between the slashes is a name.
-fn are_names(text: &[u8]) -> bool
-    ensures { result ≡ list_all is_name (between_slashes text.now) }
+// Whether a piece is neither empty nor `.`, isn't too long for a name, and is `..` only where that counts.
+fn fits_piece(ups: bool, piece: &[u8]) -> bool
+    ensures { result ≡ fits_piece ups piece.now }
+{
+    !piece.is_empty()
+        && piece != b".".as_slice()
+        && (ups || piece != b"..".as_slice())
+        && !(piece.len() > NAME_MAX)
+}
+
+// Whether each piece between the slashes is so.
+fn are_pieces(ups: bool, text: &[u8]) -> bool
+    ensures { result ≡ list_all (fits_piece ups) (between_slashes text.now) }
 {
     for piece in text.split(|byte| *byte == SLASH) {
-        if Name::fault_of(piece).is_some() {
+        if !fits_piece(ups, piece) {
             return false;
         }
     }
     true
+}
+
+fn has_nul(text: &[u8]) -> bool
+    ensures { result ≡ list_any (λ b. b == NUL) text.now }
+{
+    text.contains(&0)
+}
+
+// Whether each piece between the slashes is a name. No piece has a slash, and one with NUL is in a text with NUL.
+fn are_names(text: &[u8]) -> bool
+    ensures { result ≡ list_all is_name (between_slashes text.now) }
+{
+    !has_nul(text) && are_pieces(false, text)
+}
+
+// Whether each is a name or `..`.
+pub(crate) fn are_steps(text: &[u8]) -> bool
+    ensures { result ≡ list_all is_step (between_slashes text.now) }
+{
+    !has_nul(text) && are_pieces(true, text)
 }
 
 // Whether it is a slash before each of one or more names.

@@ -1,16 +1,15 @@
 //! A call that opens by names and links which were passed at once: how its path goes on.
-ghost use Rattle.std.specs.Prelude.{◌≡◌, ◌≤◌, ◌+◌, ◌∷◌, ◌++◌, ◌&&◌, length, take, IsTrue};
-ghost use Rattle.std.specs.List.{list_all};
-ghost use Rattle.path_text.specs.Text.{begins_with_slash, between_slashes};
+ghost use Rattle.std.specs.Prelude.{◌≡◌, ◌≤◌, ◌+◌, ◌∷◌, ◌++◌, ◌&&◌, length, take, true, IsTrue};
+ghost use Rattle.path_text.specs.Text.{begins_with_slash};
 ghost use Rattle.c_protocol.specs.Through.{are_names_or_none, at_text, before_text, begins_through, comes_up};
 ghost use Rattle.c_protocol.specs.Through.{ends_through, from_place, goes_through, inner_text, is_behind, is_child};
-ghost use Rattle.c_protocol.specs.Through.{is_entry, is_place, is_step, is_way, may_follow, passes_to, place_text};
+ghost use Rattle.c_protocol.specs.Through.{is_entry, is_place, may_follow, passes_to, place_text};
 ghost use Rattle.c_protocol.specs.Through.{rises_through, with_text};
 ghost use Rattle.c_protocol.specs.ThroughAhead.{laid_if, leads_on, next_above, next_behind, next_if, no_next, size_if};
 ghost use Rattle.c_protocol.specs.Turns.{laid};
 ghost use Rattle.path_text.specs.declared.name.TheConstants.{SLASH};
 
-use crate::at_once::{has_names, opens_kind, spells_place};
+use crate::at_once::{are_steps, has_names, opens_kind, spells_place};
 use crate::numbers::Asked;
 use crate::through_ahead::leads_on;
 use crate::told::lay_at;
@@ -32,33 +31,6 @@ pub struct NextPath {
 }
 
 // ---- texts
-
-fn is_step(piece: &[u8]) -> bool
-    ensures { result ≡ is_step piece.now }
-{
-    piece == b"..".as_slice() || Name::fault_of(piece).is_none()
-}
-
-// Whether each piece between the slashes is a name or `..`.
-fn are_steps(text: &[u8]) -> bool
-    ensures { result ≡ list_all is_step (between_slashes text.now) }
-{
-    for piece in text.split(|byte| *byte == SLASH) {
-        if !is_step(piece) {
-            return false;
-        }
-    }
-    true
-}
-
-fn is_way(text: &[u8]) -> bool
-    ensures { result ≡ is_way text.now }
-{
-    match text.split_first() {
-        Some((&SLASH, steps)) => are_steps(steps),
-        _ => false,
-    }
-}
 
 fn are_names_or_none(text: &[u8]) -> bool
     ensures { result ≡ are_names_or_none text.now }
@@ -148,17 +120,19 @@ fn no_next() -> NextPath
 pub fn begins_through(asked: &Asked, path: &[u8], whole: &[u8]) -> bool
     ensures { result ≡ begins_through asked.now path.now whole.now && leads_on (record { path = whole.now; at = 0 }) }
 {
-    may_begin(asked, path, whole) && leads_on(whole, 0)
+    leads_on(whole, 0) && may_begin(asked, path, whole)
 }
 
+// What leads on from its beginning has names alone, and each of them is a step.
+#[tactic(auto, using(crate::proofs::ThroughUps::leads_on_by_steps))]
 fn may_begin(asked: &Asked, path: &[u8], whole: &[u8]) -> bool
+    requires { leads_on (record { path = whole.now; at = 0 }) ≡ true }
     ensures { result ≡ begins_through asked.now path.now whole.now }
 {
     asked.op == 1
         && !asked.no_links
         && !(asked.beneath && path.first() == Some(&SLASH))
         && Path::fault_of(path).is_none()
-        && is_way(whole)
         && spells_place(path, whole)
 }
 

@@ -1,9 +1,9 @@
 //! Paths that are opened through known links, by what each call gave.
 use open_through_links::{
-    ABOVE, AHEAD, Answer, BEGINS, COMPARE, DIRECTORY, END, ENDS, ENTER, FOLLOWS, FROM_HERE,
-    FROM_ROOT, FROM_TOP, Facts, GOES, IS_ROOT, KIND, KIND_HERE, LEFT, LET_GO, LINK, OPENS, PARENT,
-    PLACE, PLACE_ABOVE, Passage, READ, RISES, SHUT, STEPS, TO_ROOT, TO_TOP, UP, WITNESS, begin,
-    next,
+    ABOVE, AHEAD, Answer, BEGINS, COMPARE, DIRECTORY, END, ENDS, ENTER, ENTER_NAMES, FOLLOWS,
+    FROM_HERE, FROM_ROOT, FROM_TOP, Facts, GOES, IS_ROOT, KIND, KIND_HERE, LEFT, LET_GO, LINK,
+    OPENS, PARENT, PLACE, PLACE_ABOVE, Passage, READ, RISES, SHUT, STEPS, TO_ROOT, TO_TOP, UP,
+    WITNESS, begin, next,
 };
 use std::test::Fail;
 
@@ -50,16 +50,33 @@ fn after(facts: &Facts, passage: Passage, answers: &[Answer]) -> Passage {
     now
 }
 
+// Behind so many links. The bits are RESOLVE_NO_MAGICLINKS, RESOLVE_NO_SYMLINKS and RESOLVE_BENEATH of openat2(2).
+fn behind(links: u32, next: u8) -> Passage {
+    let resolve = match next {
+        FROM_TOP | FROM_ROOT => 2 + 4 + 8,
+        ENTER_NAMES | FROM_HERE => 2 + 4,
+        _ => 0,
+    };
+    Passage {
+        resolve,
+        links,
+        next,
+    }
+}
+
 fn at(next: u8) -> Passage {
-    Passage { links: 0, next }
+    behind(0, next)
 }
 
 #[test]
 fn a_link_is_read_and_its_text_takes_its_place(rt: HostRuntime) -> Result<(), Fail> {
     assert!(rt; begin() == at(BEGINS) && next(&PLAIN, begin(), &YES) == at(AHEAD));
-    // a/b/link/c: two names before the link.
+    // a/b/link/c: two names before the link. a/link: one.
     let enter = next(&PLAIN, at(AHEAD), &comes(LINK, 0, 2));
-    assert!(rt; enter == at(ENTER) && next(&PLAIN, enter, &YES) == at(READ));
+    assert!(rt; enter == at(ENTER_NAMES) && next(&PLAIN, enter, &YES) == at(READ));
+    let single = next(&PLAIN, at(AHEAD), &comes(LINK, 0, 1));
+    assert!(rt; single == at(ENTER) && next(&PLAIN, single, &YES) == at(READ));
+    assert!(rt; next(&PLAIN, single, &NO) == at(SHUT) && next(&PLAIN, enter, &NO) == at(SHUT));
     assert!(rt; next(&PLAIN, at(AHEAD), &comes(LINK, 2, 0)) == at(READ));
     let text = Answer { number: 5, ..YES };
     assert!(rt;
@@ -72,42 +89,16 @@ fn a_link_is_read_and_its_text_takes_its_place(rt: HostRuntime) -> Result<(), Fa
     assert!(rt;
         next(&PLAIN, at(FOLLOWS), &YES) == at(GOES) && next(&PLAIN, at(FOLLOWS), &kept) == at(SHUT)
     );
-    assert!(rt;
-        next(&PLAIN, at(GOES), &YES)
-            == Passage {
-                links: 1,
-                next: AHEAD
-            }
-    );
+    assert!(rt; next(&PLAIN, at(GOES), &YES) == behind(1, AHEAD));
     let absolute = Answer {
         absolute: true,
         ..YES
     };
     let root = next(&PLAIN, at(GOES), &absolute);
-    assert!(rt;
-        root == Passage {
-            links: 1,
-            next: TO_ROOT
-        } && next(&PLAIN, root, &YES).next == AHEAD
-    );
+    assert!(rt; root == behind(1, TO_ROOT) && next(&PLAIN, root, &YES).next == AHEAD);
     // The 41st link is left to the steps.
-    let most = Passage {
-        links: 39,
-        next: GOES,
-    };
-    assert!(rt; next(&PLAIN, most, &YES).links == 40);
-    assert!(rt;
-        next(
-            &PLAIN,
-            Passage {
-                links: 40,
-                next: GOES
-            },
-            &YES
-        )
-        .next
-            == SHUT
-    );
+    assert!(rt; next(&PLAIN, behind(39, GOES), &YES).links == 40);
+    assert!(rt; next(&PLAIN, behind(40, GOES), &YES).next == SHUT);
     assert!(rt; next(&PLAIN, at(AHEAD), &comes(LEFT, 1, 1)) == at(SHUT));
     Ok(())
 }

@@ -1,10 +1,10 @@
 -- What holds of every history, turn by turn.
 use Rattle.std.proofs.Common.{◌≡◌, ◌≤◌, ◌+◌, ◌*◌, ℕ, List, [], ◌∷◌, length, Bool, true, false, not, ◌&&◌, ◌||◌, refl, ap, sym, ◌∙◌, arith}
 use Rattle.std.specs.Prelude.{◌==◌, if◌then◌else◌}
-use Rattle.open_through_links.specs.History.{after_exchange, asked, next_after, Exchange, begins, looks_ahead, enters, reads, asks_follow, goes, to_root, asks_root, to_top, looks_above, opens_parent, asks_above, rises, looks_from_top, looks_from_root, compares, looks_from_here, asks_kind, asks_kind_here, sees, asks_place, ends, shuts, lets_go, IsHistory}
+use Rattle.open_through_links.specs.History.{after_exchange, asked, next_after, Exchange, begins, looks_ahead, enters, enters_names, reads, asks_follow, goes, to_root, asks_root, to_top, looks_above, opens_parent, asks_above, rises, looks_from_top, looks_from_root, compares, looks_from_here, asks_kind, asks_kind_here, sees, asks_place, ends, shuts, lets_go, IsHistory}
 use Rattle.open_through_links.specs.Promises.{all_yes, held_by, is_held, is_known, is_open, is_placed, is_said, is_seen, is_yes, known_by, looks_up, may_be_followed, needs_open, open_by, placed_by, reads_text, rise_of, rises_in, said_by, says_followed, seen_by, was_read}
 use Rattle.open_through_links.specs.declared.passage.Facts.{Facts}
-use Rattle.open_through_links.specs.declared.passage.TheConstants.{BEGINS, AHEAD, ENTER, READ, FOLLOWS, GOES, TO_ROOT, IS_ROOT, TO_TOP, ABOVE, PARENT, PLACE_ABOVE, RISES, FROM_TOP, FROM_ROOT, COMPARE, FROM_HERE, KIND, KIND_HERE, WITNESS, PLACE, ENDS, SHUT, LET_GO, OPENS, STEPS}
+use Rattle.open_through_links.specs.declared.passage.TheConstants.{BEGINS, AHEAD, ENTER, ENTER_NAMES, READ, FOLLOWS, GOES, TO_ROOT, IS_ROOT, TO_TOP, ABOVE, PARENT, PLACE_ABOVE, RISES, FROM_TOP, FROM_ROOT, COMPARE, FROM_HERE, KIND, KIND_HERE, WITNESS, PLACE, ENDS, SHUT, LET_GO, OPENS, STEPS}
 
 -- ---- answers
 
@@ -17,6 +17,7 @@ yes_step : (f : Facts) (e : Exchange) (links : ℕ) (was : Bool) → (is_given_u
 yes_step f (begins error) links was is = grind (arith, is)
 yes_step f (looks_ahead comes passed ahead) links was is = grind (arith, is)
 yes_step f (enters error) links was is = grind (arith, is)
+yes_step f (enters_names error) links was is = grind (arith, is)
 yes_step f (reads error bytes) links was is = grind (arith, is)
 yes_step f (asks_follow error flags) links was is = grind (arith, is)
 yes_step f (goes error absolute) links was is = grind (arith, is)
@@ -68,6 +69,7 @@ now_step : (f : Facts) (e : Exchange) (links : ℕ) (seen placed said : Bool) �
 now_step f (begins error) links seen placed said is = grind (arith, is)
 now_step f (looks_ahead comes passed ahead) links seen placed said is = grind (arith, is)
 now_step f (enters error) links seen placed said is = grind (arith, is)
+now_step f (enters_names error) links seen placed said is = grind (arith, is)
 now_step f (reads error bytes) links seen placed said is = grind (arith, is)
 now_step f (asks_follow error flags) links seen placed said is = grind (arith, is)
 now_step f (goes error absolute) links seen placed said is = grind (arith, is)
@@ -124,6 +126,7 @@ known_step : (f : Facts) (e : Exchange) (links : ℕ) (was : Bool) → (may_be_u
 known_step f (begins error) links was is = grind (arith, is)
 known_step f (looks_ahead comes passed ahead) links was is = grind (arith, is)
 known_step f (enters error) links was is = grind (arith, is)
+known_step f (enters_names error) links was is = grind (arith, is)
 known_step f (reads error bytes) links was is = grind (arith, is)
 known_step f (asks_follow error flags) links was is = grind (arith, is)
 known_step f (goes error absolute) links was is = grind (arith, is)
@@ -166,6 +169,7 @@ follow_step : (f : Facts) (e : Exchange) (links : ℕ) → (after_exchange f e l
 follow_step f (begins error) links at = grind (arith, at)
 follow_step f (looks_ahead comes passed ahead) links at = grind (arith, at)
 follow_step f (enters error) links at = grind (arith, at)
+follow_step f (enters_names error) links at = grind (arith, at)
 follow_step f (reads error bytes) links at = grind (arith, at)
 follow_step f (asks_follow error flags) links at = grind (arith, at)
 follow_step f (goes error absolute) links at = grind (arith, at)
@@ -192,6 +196,7 @@ goes_step : (f : Facts) (e : Exchange) (links : ℕ) → (after_exchange f e lin
 goes_step f (begins error) links at = grind (arith, at)
 goes_step f (looks_ahead comes passed ahead) links at = grind (arith, at)
 goes_step f (enters error) links at = grind (arith, at)
+goes_step f (enters_names error) links at = grind (arith, at)
 goes_step f (reads error bytes) links at = grind (arith, at)
 goes_step f (asks_follow error flags) links at = grind (arith, at)
 goes_step f (goes error absolute) links at = grind (arith, at)
@@ -218,6 +223,7 @@ goes_asked : (f : Facts) (e : Exchange) → says_followed e ≡ true → asked e
 goes_asked f (begins error) says = grind (arith, says)
 goes_asked f (looks_ahead comes passed ahead) says = grind (arith, says)
 goes_asked f (enters error) says = grind (arith, says)
+goes_asked f (enters_names error) says = grind (arith, says)
 goes_asked f (reads error bytes) says = grind (arith, says)
 goes_asked f (asks_follow error flags) says = grind (arith, says)
 goes_asked f (goes error absolute) says = grind (arith, says)
@@ -262,6 +268,7 @@ open_step : (f : Facts) (e : Exchange) (links : ℕ) (was : Bool) → is_right (
 open_step f (begins error) links was is = grind (arith, is)
 open_step f (looks_ahead comes passed ahead) links was is = grind (arith, is)
 open_step f (enters error) links was is = grind (arith, is)
+open_step f (enters_names error) links was is = grind (arith, is)
 open_step f (reads error bytes) links was is = grind (arith, is)
 open_step f (asks_follow error flags) links was is = grind (arith, is)
 open_step f (goes error absolute) links was is = grind (arith, is)
@@ -301,6 +308,7 @@ shut_open : (f : Facts) (e : Exchange) (links : ℕ) (was : Bool) → (after_exc
 shut_open f (begins error) links was at = grind (arith, at)
 shut_open f (looks_ahead comes passed ahead) links was at = grind (arith, at)
 shut_open f (enters error) links was at = grind (arith, at)
+shut_open f (enters_names error) links was at = grind (arith, at)
 shut_open f (reads error bytes) links was at = grind (arith, at)
 shut_open f (asks_follow error flags) links was at = grind (arith, at)
 shut_open f (goes error absolute) links was at = grind (arith, at)
@@ -327,6 +335,7 @@ shut_held : (f : Facts) (e : Exchange) (links : ℕ) (was : Bool) → (after_exc
 shut_held f (begins error) links was at = grind (arith, at)
 shut_held f (looks_ahead comes passed ahead) links was at = grind (arith, at)
 shut_held f (enters error) links was at = grind (arith, at)
+shut_held f (enters_names error) links was at = grind (arith, at)
 shut_held f (reads error bytes) links was at = grind (arith, at)
 shut_held f (asks_follow error flags) links was at = grind (arith, at)
 shut_held f (goes error absolute) links was at = grind (arith, at)
@@ -353,6 +362,7 @@ given_held : (f : Facts) (e : Exchange) (links : ℕ) (was : Bool) → (after_ex
 given_held f (begins error) links was at = grind (arith, at)
 given_held f (looks_ahead comes passed ahead) links was at = grind (arith, at)
 given_held f (enters error) links was at = grind (arith, at)
+given_held f (enters_names error) links was at = grind (arith, at)
 given_held f (reads error bytes) links was at = grind (arith, at)
 given_held f (asks_follow error flags) links was at = grind (arith, at)
 given_held f (goes error absolute) links was at = grind (arith, at)
@@ -394,7 +404,7 @@ abbrev rank : ℕ → ℕ
 rank next =
     if (next == BEGINS) || (next == TO_ROOT) then 0
     else (if next == AHEAD then 1
-    else (if (next == ENTER) || ((next == IS_ROOT) || ((next == FROM_TOP) || ((next == FROM_ROOT) || (next == FROM_HERE)))) then 2
+    else (if (next == ENTER) || ((next == ENTER_NAMES) || ((next == IS_ROOT) || ((next == FROM_TOP) || ((next == FROM_ROOT) || (next == FROM_HERE))))) then 2
     else (if (next == READ) || ((next == TO_TOP) || ((next == ABOVE) || ((next == PARENT) || ((next == COMPARE) || ((next == KIND) || (next == KIND_HERE)))))) then 3
     else (if (next == FOLLOWS) || ((next == PLACE_ABOVE) || (next == WITNESS)) then 4
     else (if (next == GOES) || ((next == RISES) || (next == PLACE)) then 5
@@ -406,6 +416,7 @@ rank_step : (f : Facts) (e : Exchange) (links : ℕ)
 rank_step f (begins error) links = grind (arith)
 rank_step f (looks_ahead comes passed ahead) links = grind (arith)
 rank_step f (enters error) links = grind (arith)
+rank_step f (enters_names error) links = grind (arith)
 rank_step f (reads error bytes) links = grind (arith)
 rank_step f (asks_follow error flags) links = grind (arith)
 rank_step f (goes error absolute) links = grind (arith)
@@ -432,6 +443,7 @@ links_step : (f : Facts) (e : Exchange) (links : ℕ) → links ≤ 40 → (afte
 links_step f (begins error) links few = grind (arith, few)
 links_step f (looks_ahead comes passed ahead) links few = grind (arith, few)
 links_step f (enters error) links few = grind (arith, few)
+links_step f (enters_names error) links few = grind (arith, few)
 links_step f (reads error bytes) links few = grind (arith, few)
 links_step f (asks_follow error flags) links few = grind (arith, few)
 links_step f (goes error absolute) links few = grind (arith, few)

@@ -1,2 +1,3 @@
+pub mod BitLemmas
 pub mod HistoryLemmas
 pub mod SaidLemmas

@@ -3,14 +3,14 @@ use Rattle.std.proofs.Common.{◌≡◌, ℕ, List, [], ◌∷◌, Bool, true, f
 use Rattle.std.specs.Prelude.{◌==◌}
 use Rattle.std.proofs.lemmas.Bool.{eqb-true}
 use Rattle.open_through_links.specs.History.{after_exchange, asked, next_after, Exchange, IsHistory}
-use Rattle.open_through_links.specs.History.{begins, looks_ahead, enters, reads, asks_follow, goes, to_root, asks_root}
+use Rattle.open_through_links.specs.History.{begins, looks_ahead, enters, enters_names, reads, asks_follow, goes, to_root, asks_root}
 use Rattle.open_through_links.specs.History.{to_top, looks_above, opens_parent, asks_above, rises, looks_from_top}
 use Rattle.open_through_links.specs.History.{looks_from_root, compares, looks_from_here, asks_kind, asks_kind_here, sees}
 use Rattle.open_through_links.specs.History.{asks_place, ends, shuts, lets_go}
 use Rattle.open_through_links.specs.Promises.{looks_up, waits, waits_by}
 use Rattle.open_through_links.specs.declared.passage.Facts.{Facts}
 use Rattle.open_through_links.specs.declared.passage.TheConstants.{BEGINS, FOLLOWS, GOES, PLACE_ABOVE, RISES, SHUT}
-use Rattle.open_through_links.specs.declared.passage.TheConstants.{STEPS, OPENS, ENTER, READ, FROM_TOP, FROM_ROOT, FROM_HERE}
+use Rattle.open_through_links.specs.declared.passage.TheConstants.{STEPS, OPENS, ENTER, ENTER_NAMES, READ, FROM_TOP, FROM_ROOT, FROM_HERE}
 
 -- the library is still to be asked, or the steps decide
 abbrev may_wait : ℕ → Bool
@@ -24,6 +24,7 @@ waits_step : (f : Facts) (e : Exchange) (links : ℕ) (was : Bool) → (may_wait
 waits_step f (begins error) links was is = grind (arith, is)
 waits_step f (looks_ahead comes passed ahead) links was is = grind (arith, is)
 waits_step f (enters error) links was is = grind (arith, is)
+waits_step f (enters_names error) links was is = grind (arith, is)
 waits_step f (reads error bytes) links was is = grind (arith, is)
 waits_step f (asks_follow error flags) links was is = grind (arith, is)
 waits_step f (goes error absolute) links was is = grind (arith, is)
@@ -65,11 +66,12 @@ off_or n k rest false e off h later = later h
 
 looked_off : (next : ℕ) → looks_up next ≡ true → may_wait next ≡ false
 looked_off next looks =
-    off_or next ENTER _ (next == ENTER) refl refl looks (λ a.
+    off_or next ENTER _ (next == ENTER) refl refl looks (λ o.
+    off_or next ENTER_NAMES _ (next == ENTER_NAMES) refl refl o (λ a.
     off_or next READ _ (next == READ) refl refl a (λ b.
     off_or next FROM_TOP _ (next == FROM_TOP) refl refl b (λ d.
     off_or next FROM_ROOT (next == FROM_HERE) (next == FROM_ROOT) refl refl d (λ e.
-    ap may_wait (eqb-true next FROM_HERE e)))))
+    ap may_wait (eqb-true next FROM_HERE e))))))
 
 pub said-before : (f : Facts) (history : List Exchange) → IsHistory f history
     → looks_up (next_after f history).next ≡ true → waits history ≡ false

@@ -2,7 +2,7 @@
 -- history has the last exchange first.
 use Rattle.std.specs.Prelude.{◌≡◌, ℕ, ◌+◌, List, [], ◌∷◌, ◌==◌, Bool, ◌&&◌, ◌||◌, not, if◌then◌else◌, nat_lt, bit_and}
 use Rattle.open_through_links.specs.declared.passage.Facts.{Facts}
-use Rattle.open_through_links.specs.declared.passage.TheConstants.{BEGINS, AHEAD, ENTER, READ, FOLLOWS, GOES, TO_ROOT, IS_ROOT, TO_TOP, ABOVE, PARENT, PLACE_ABOVE, RISES, FROM_TOP, FROM_ROOT, COMPARE, FROM_HERE, KIND, KIND_HERE, WITNESS, PLACE, ENDS, SHUT, LET_GO, OPENS, STEPS, END, LINK, UP, DIRECTORY}
+use Rattle.open_through_links.specs.declared.passage.TheConstants.{BEGINS, AHEAD, ENTER, ENTER_NAMES, READ, FOLLOWS, GOES, TO_ROOT, IS_ROOT, TO_TOP, ABOVE, PARENT, PLACE_ABOVE, RISES, FROM_TOP, FROM_ROOT, COMPARE, FROM_HERE, KIND, KIND_HERE, WITNESS, PLACE, ENDS, SHUT, LET_GO, OPENS, STEPS, END, LINK, UP, DIRECTORY}
 
 -- ST_NOSYMFOLLOW of statfs(2)
 abbrev pub NOSYMFOLLOW : ℕ
@@ -12,6 +12,16 @@ NOSYMFOLLOW = 8192
 abbrev pub MOST_LINKS : ℕ
 MOST_LINKS = 40
 
+-- bits of openat2(2)
+abbrev pub RESOLVE_NO_MAGICLINKS : ℕ
+RESOLVE_NO_MAGICLINKS = 2
+
+abbrev pub RESOLVE_NO_SYMLINKS : ℕ
+RESOLVE_NO_SYMLINKS = 4
+
+abbrev pub RESOLVE_BENEATH : ℕ
+RESOLVE_BENEATH = 8
+
 -- ---- exchanges
 
 -- What was asked for. The first number is 0 where it worked, or the answer was yes.
@@ -20,8 +30,9 @@ pub data Exchange : Type 0 where
   begins : ℕ → Exchange
   -- what comes next on the path; how many names were passed, and how many are before that
   looks_ahead : ℕ → ℕ → ℕ → Exchange
-  -- openat(2) or openat2(2) of the names before a link, in the directory that is held
+  -- openat(2) of the name before a link, in the directory that is held; or openat2(2) of several
   enters : ℕ → Exchange
+  enters_names : ℕ → Exchange
   -- readlinkat(2) of the link's name there, and how long the text is
   reads : ℕ → ℕ → Exchange
   -- fstatfs(2): the flags of that directory's mount
@@ -64,6 +75,7 @@ abbrev pub asked : Exchange → ℕ
 asked (begins error) = BEGINS
 asked (looks_ahead comes passed ahead) = AHEAD
 asked (enters error) = ENTER
+asked (enters_names error) = ENTER_NAMES
 asked (reads error bytes) = READ
 asked (asks_follow error flags) = FOLLOWS
 asked (goes error absolute) = GOES
@@ -89,6 +101,12 @@ asked lets_go = LET_GO
 abbrev pub is_question : ℕ → Bool
 is_question next = not (next == 0) && nat_lt next OPENS
 
+-- No look-up of names follows a link, and what names from the root lead to, the kernel sees below it.
+abbrev pub resolve_of : ℕ → ℕ
+resolve_of next =
+    if (next == FROM_TOP) || (next == FROM_ROOT) then RESOLVE_NO_MAGICLINKS + RESOLVE_NO_SYMLINKS + RESOLVE_BENEATH
+    else (if (next == ENTER_NAMES) || (next == FROM_HERE) then RESOLVE_NO_MAGICLINKS + RESOLVE_NO_SYMLINKS else 0)
+
 -- ---- what comes next
 
 -- what is asked for, and how many links were followed
@@ -106,6 +124,11 @@ or_shut error next links = if error == 0 then asks next links else asks SHUT lin
 abbrev pub up : Facts → ℕ → Next
 up f links = if f.jailed then asks PARENT links else asks ABOVE links
 
+-- to the link's directory, by a single name or several
+abbrev pub to_link : ℕ → ℕ → Next
+to_link ahead links =
+    if ahead == 0 then asks READ links else (if ahead == 1 then asks ENTER links else asks ENTER_NAMES links)
+
 -- From the root, if no names were passed. A single name may be looked up from there, too, and compared.
 abbrev pub to_end : ℕ → ℕ → ℕ → Next
 to_end passed ahead links =
@@ -113,7 +136,7 @@ to_end passed ahead links =
 
 abbrev pub after_ahead : Facts → ℕ → ℕ → ℕ → ℕ → Next
 after_ahead f comes passed ahead links =
-    if comes == LINK then asks (if ahead == 0 then READ else ENTER) links
+    if comes == LINK then to_link ahead links
     else (if comes == UP then (if passed == 1 then asks IS_ROOT links else up f links)
     else (if comes == END then to_end passed ahead links else asks SHUT links))
 
@@ -165,6 +188,7 @@ abbrev pub after_exchange : Facts → Exchange → ℕ → Next
 after_exchange f (begins error) links = or_shut error AHEAD links
 after_exchange f (looks_ahead comes passed ahead) links = after_ahead f comes passed ahead links
 after_exchange f (enters error) links = or_shut error READ links
+after_exchange f (enters_names error) links = or_shut error READ links
 after_exchange f (reads error bytes) links = after_read error bytes links
 after_exchange f (asks_follow error flags) links = after_follow error flags links
 after_exchange f (goes error absolute) links = after_goes error absolute links

@@ -1,8 +1,8 @@
 -- What holds of every history.
-use Rattle.std.specs.Prelude.{ℕ, ◌+◌, List, [], ◌∷◌, ◌==◌, Bool, true, false, ◌&&◌, ◌||◌, not, if◌then◌else◌}
-use Rattle.open_through_links.specs.History.{has_followed, Exchange, begins, looks_ahead, enters, reads, asks_follow, goes, to_root, asks_root, to_top, looks_above, opens_parent, asks_above, rises, looks_from_top, looks_from_root, compares, looks_from_here, asks_kind, asks_kind_here, sees, asks_place, ends, shuts, lets_go}
+use Rattle.std.specs.Prelude.{ℕ, ◌+◌, List, [], ◌∷◌, ◌==◌, Bool, true, false, ◌&&◌, ◌||◌, not, if◌then◌else◌, bit_and}
+use Rattle.open_through_links.specs.History.{has_followed, Exchange, begins, looks_ahead, enters, enters_names, reads, asks_follow, goes, to_root, asks_root, to_top, looks_above, opens_parent, asks_above, rises, looks_from_top, looks_from_root, compares, looks_from_here, asks_kind, asks_kind_here, sees, asks_place, ends, shuts, lets_go}
 use Rattle.open_through_links.specs.declared.passage.Facts.{Facts}
-use Rattle.open_through_links.specs.declared.passage.TheConstants.{DIRECTORY, ENTER, READ, FROM_TOP, FROM_ROOT, FROM_HERE, COMPARE, KIND, KIND_HERE, WITNESS, PLACE, ENDS, LET_GO, OPENS}
+use Rattle.open_through_links.specs.declared.passage.TheConstants.{DIRECTORY, ENTER, ENTER_NAMES, READ, FROM_TOP, FROM_ROOT, FROM_HERE, COMPARE, KIND, KIND_HERE, WITNESS, PLACE, ENDS, LET_GO, OPENS}
 
 -- ---- answers
 
@@ -11,6 +11,7 @@ abbrev pub is_yes : Exchange → Bool
 is_yes (begins error) = error == 0
 is_yes (looks_ahead comes passed ahead) = true
 is_yes (enters error) = error == 0
+is_yes (enters_names error) = error == 0
 is_yes (reads error bytes) = (error == 0) && not (bytes == 0)
 is_yes (asks_follow error flags) = (error == 0) && has_followed flags
 is_yes (goes error absolute) = error == 0
@@ -114,7 +115,22 @@ waits (e ∷ older) = waits_by e (waits older)
 abbrev pub looks_up : ℕ → Bool
 looks_up next =
     (next == ENTER)
-    || ((next == READ) || ((next == FROM_TOP) || ((next == FROM_ROOT) || (next == FROM_HERE))))
+    || ((next == ENTER_NAMES)
+    || ((next == READ) || ((next == FROM_TOP) || ((next == FROM_ROOT) || (next == FROM_HERE)))))
+
+-- ---- look-ups
+
+-- from the root on
+abbrev pub from_root : ℕ → Bool
+from_root next = (next == FROM_TOP) || (next == FROM_ROOT)
+
+-- names are looked up by one openat2(2)
+abbrev pub looks_up_names : ℕ → Bool
+looks_up_names next = from_root next || ((next == ENTER_NAMES) || (next == FROM_HERE))
+
+-- the bits of openat2(2) have this one
+abbrev pub has_bit : ℕ → ℕ → Bool
+has_bit bits bit = bit_and bits bit == bit
 
 -- ---- links
 
@@ -158,6 +174,7 @@ needs_open next =
 -- whether another directory than the root is held
 abbrev pub held_by : Exchange → Bool → Bool
 held_by (enters error) was = was || (error == 0)
+held_by (enters_names error) was = was || (error == 0)
 held_by to_root was = false
 held_by to_top was = false
 held_by (looks_above error) was = was || (error == 0)

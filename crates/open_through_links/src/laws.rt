@@ -1,10 +1,14 @@
 //! What holds of every history, as laws over its exchanges: each function's contract is one, and its body is empty.
 ghost use Rattle.std.specs.Prelude.{◌≡◌, ◌≤◌, ◌+◌, ◌*◌, true, false, List, length};
 ghost use Rattle.open_through_links.specs.History.{next_after, Exchange, IsHistory};
-ghost use Rattle.open_through_links.specs.Promises.{all_yes, is_held, is_known, is_open, is_placed, is_said, is_seen};
+ghost use Rattle.open_through_links.specs.History.{RESOLVE_BENEATH, RESOLVE_NO_MAGICLINKS, RESOLVE_NO_SYMLINKS};
+ghost use Rattle.open_through_links.specs.Passage.{IsAt};
+ghost use Rattle.open_through_links.specs.Promises.{all_yes, from_root, has_bit, looks_up_names};
+ghost use Rattle.open_through_links.specs.Promises.{is_held, is_known, is_open, is_placed, is_said, is_seen};
 ghost use Rattle.open_through_links.specs.Promises.{looks_up, may_be_followed, needs_open, rises_in, waits};
 ghost use Rattle.open_through_links.specs.declared.passage.Facts.{Facts};
 ghost use Rattle.open_through_links.specs.declared.passage.TheConstants.{GOES, OPENS, PLACE, STEPS};
+ghost use Rattle.open_through_links.specs.declared.passage.Passage.{Passage};
 
 /// Where the object is given, every call that was made worked, and every question that was asked was answered by yes.
 /// Only of `..` it may be said that it isn't the root.
@@ -44,6 +48,17 @@ pub fn nothing_is_opened_above_before_its_place()
 pub fn links_are_followed_by_leave()
     ensures { (f : Facts) (history : List Exchange) → IsHistory f history → (next_after f history).next ≡ GOES
         → may_be_followed history ≡ true }
+{}
+
+/// No openat2(2) that looks names up follows a link on its way. What names from the root lead to, the kernel sees below
+/// the root (RESOLVE_BENEATH).
+pub fn no_look_up_follows_a_link()
+    ensures symlinks { (f : Facts) (history : List Exchange) (passage : Passage) → IsAt f history passage
+        → looks_up_names passage.next ≡ true → has_bit passage.resolve RESOLVE_NO_SYMLINKS ≡ true }
+    ensures magic { (f : Facts) (history : List Exchange) (passage : Passage) → IsAt f history passage
+        → looks_up_names passage.next ≡ true → has_bit passage.resolve RESOLVE_NO_MAGICLINKS ≡ true }
+    ensures beneath { (f : Facts) (history : List Exchange) (passage : Passage) → IsAt f history passage
+        → from_root passage.next ≡ true → has_bit passage.resolve RESOLVE_BENEATH ≡ true }
 {}
 
 /// The object is open where it is asked about, and where it is given. Where the steps decide, it was closed, if it was

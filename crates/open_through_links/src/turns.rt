@@ -1,12 +1,13 @@
 //! What comes next.
 ghost use Rattle.std.specs.Prelude.{◌≡◌, List, [], ◌∷◌, true, false};
-ghost use Rattle.open_through_links.specs.History.{after_ahead, after_exchange, after_follow, after_goes, after_here, after_kind_here, after_read, after_root, after_top, asks, has_followed, is_question, or_shut, to_end, up, Exchange};
+ghost use Rattle.open_through_links.specs.History.{after_ahead, after_exchange, after_follow, after_goes, after_here, after_kind_here, after_read, after_root, after_top, asks, has_followed, is_question, or_shut, resolve_of, to_end, to_link, up, Exchange};
 ghost use Rattle.open_through_links.specs.Passage.{due_of, exchange_of, IsAt};
 
 use crate::passage::{
-    ABOVE, AHEAD, Answer, BEGINS, COMPARE, DIRECTORY, END, ENDS, ENTER, FOLLOWS, FROM_HERE,
-    FROM_ROOT, FROM_TOP, Facts, GOES, IS_ROOT, KIND, KIND_HERE, LET_GO, LINK, OPENS, PARENT, PLACE,
-    PLACE_ABOVE, Passage, READ, RISES, SHUT, STEPS, TO_ROOT, TO_TOP, UP, WITNESS, asks,
+    ABOVE, AHEAD, Answer, BEGINS, COMPARE, DIRECTORY, END, ENDS, ENTER, ENTER_NAMES, FOLLOWS,
+    FROM_HERE, FROM_ROOT, FROM_TOP, Facts, GOES, IS_ROOT, KIND, KIND_HERE, LET_GO, LINK, OPENS,
+    PARENT, PLACE, PLACE_ABOVE, Passage, READ, RISES, SHUT, STEPS, TO_ROOT, TO_TOP, UP, WITNESS,
+    asks, resolve_of,
 };
 
 const NOSYMFOLLOW: u64 = 0x2000;
@@ -33,6 +34,16 @@ fn up(facts: &Facts, links: u32) -> Passage
     }
 }
 
+fn to_link(ahead: usize, links: u32) -> Passage
+    ensures { due_of result ≡ to_link ahead links }
+{
+    match ahead {
+        0 => asks(READ, links),
+        1 => asks(ENTER, links),
+        _ => asks(ENTER_NAMES, links),
+    }
+}
+
 fn to_end(passed: usize, ahead: usize, links: u32) -> Passage
     ensures { due_of result ≡ to_end passed ahead links }
 {
@@ -49,7 +60,7 @@ fn after_ahead(facts: &Facts, answer: &Answer, links: u32) -> Passage
     ensures { due_of result ≡ after_ahead facts.now answer.now.comes answer.now.passed answer.now.ahead links }
 {
     match answer.comes {
-        LINK => asks(if answer.ahead == 0 { READ } else { ENTER }, links),
+        LINK => to_link(answer.ahead, links),
         UP => {
             if answer.passed == 1 {
                 asks(IS_ROOT, links)
@@ -156,7 +167,7 @@ fn after(facts: &Facts, passage: Passage, answer: &Answer) -> Passage
     match passage.next {
         BEGINS => or_shut(error, AHEAD, links),
         AHEAD => after_ahead(facts, answer, links),
-        ENTER => or_shut(error, READ, links),
+        ENTER | ENTER_NAMES => or_shut(error, READ, links),
         READ => after_read(error, answer.number, links),
         FOLLOWS => after_follow(error, answer.number, links),
         GOES => after_goes(error, answer.absolute, links),
@@ -183,7 +194,11 @@ pub fn begin() -> Passage
     ensures zero { result.links ≡ 0 }
     ensures at { (f : Facts) → IsAt f [] result }
 {
-    asks(BEGINS, 0)
+    Passage {
+        resolve: 0,
+        links: 0,
+        next: BEGINS,
+    }
 }
 
 /// Takes what the last call or question gave, and says what comes next. `facts` are those of the beginning. Where
@@ -201,7 +216,11 @@ pub fn next(facts: &Facts, passage: Passage, answer: &Answer) -> Passage
     ensures over { is_question passage.next ≡ false → result ≡ passage }
 {
     if passage.next != 0 && passage.next < OPENS {
-        after(facts, passage, answer)
+        let due = after(facts, passage, answer);
+        Passage {
+            resolve: resolve_of(due.next),
+            ..due
+        }
     } else {
         passage
     }
