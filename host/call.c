@@ -217,7 +217,7 @@ static void turn(struct work *w)
         note(w);
         break;
     case INROOT_CALLING_CLOSE_PROC: inroot_proc_end(w->d); break;
-    case INROOT_CALLING_GO_HOME: tell(w, inroot_jail_home() != 0 ? -errno : 0); break;
+    case INROOT_CALLING_GO_HOME: tell(w, chdir("/") != 0 ? -errno : 0); break;
     case INROOT_CALLING_LOOK_AT_ROOT: look_at_root(w); break;
     default: walk(w);
     }

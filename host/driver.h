@@ -402,8 +402,6 @@ bool inroot_jail_enter(struct inroot_driver *d, int fd);
  * directory, which is made that root. Whether it could.
  */
 bool inroot_jail_start(struct inroot_driver *d, int *dir);
-/* Makes the thread's root its current directory. Gives 0, or -1 with errno. */
-int inroot_jail_home(void);
 
 /* call.c */
 /*

@@ -63,13 +63,6 @@ bool inroot_jail_start(struct inroot_driver *d, int *dir)
     return true;
 }
 
-/* By the descriptor that the thread keeps of its root, if it does: that is faster than by its path. */
-int inroot_jail_home(void)
-{
-    int kept = inroot_trust_root();
-    return kept >= 0 && fchdir(kept) == 0 ? 0 : chdir("/");
-}
-
 /* ---- how it comes there */
 
 /* Asks before anything changes. */
