@@ -76,13 +76,12 @@ static void ask_hints(struct at_once *a, struct inroot_way_answer *answer)
     answer->linked = a->link != INROOT_NO_HINT;
 }
 
-/* How many slashes stand before this place. */
-static size_t names_before(const char *text, size_t end)
+/* How many names come before this place, as the library counts them. */
+static size_t names_before(const struct inroot_coming *path, size_t end)
 {
-    size_t names = 0;
-    for (const char *at = text; at != NULL && at < text + end; at = memchr(at + 1, '/', (size_t)(text + end - at - 1)))
-        names++;
-    return names;
+    struct inroot_path_ahead seen;
+    inroot_look_ahead((const unsigned char *)path->text, path->ahead.used, 0, end, false, &seen);
+    return seen.ahead;
 }
 
 /* Whether the call replies that it opened an object of this kind, which stands there. */
@@ -100,8 +99,8 @@ static bool is_reply(const struct at_once *a, enum inroot_kind kind, const char 
 static bool are_names(const struct at_once *a)
 {
     struct inroot_coming *path = a->path;
-    path->ahead.names = names_before(path->text, path->ahead.used);
-    const size_t linked = a->link == INROOT_NO_HINT ? a->link : names_before(path->text, a->link);
+    path->ahead.names = names_before(path, path->ahead.used);
+    const size_t linked = a->link == INROOT_NO_HINT ? a->link : names_before(path, a->link);
     return inroot_run_is_whole(a->d, path, linked) && is_reply(a, INROOT_KIND_DIR, path->text, path->ahead.used);
 }
 
