@@ -224,7 +224,7 @@ bool inroot_is_refusal(uint8_t what, uint8_t mode, size_t text, uint32_t error);
 /* ---- what is known of a step from the steps before. These take no memory. */
 
 /*
- * What the step before has shown: an object's place was told; a link was read by its name as it was opened; a directory had such a
+ * What the step before has shown: an object's place was found; a link was read by its name as it was opened; a directory had such a
  * link as an entry, whose text was then asked for.
  */
 enum inroot_shown { INROOT_SHOWN_NOTHING, INROOT_SHOWN_PLACED, INROOT_SHOWN_LINK_READ, INROOT_SHOWN_FOLLOWED };
@@ -238,7 +238,7 @@ struct inroot_last_step {
 /* Takes a step, before it is made, and says what the one before has shown of the same object, if that is of use to this one. */
 uint8_t inroot_last_take(struct inroot_last_step *last, uint8_t what, uint64_t handle);
 
-/* That step told the object's place (PLACED); or read the link by its name, which has the handle that it GAVE (LINK_READ). */
+/* That step found the object's place (PLACED); or read the link by its name, which has the handle that it GAVE (LINK_READ). */
 void inroot_last_end(struct inroot_last_step *last, uint8_t how, uint64_t gave);
 
 /*
@@ -328,13 +328,13 @@ void inroot_sort_names(const unsigned char *text, size_t text_length, unsigned c
 
 /*
  * FDINFO of a descriptor of the root directory is read, and mountinfo opened: openat(2). The bytes of mountinfo that come next
- * are read: read(2). It is closed. Or nothing comes: a mount stands there; or none does, or nobody can tell.
+ * are read: read(2). It is closed. Or nothing comes: a mount stands there; or none does, or nothing says.
  */
 enum inroot_own_root_next {
     INROOT_OWN_OPEN = 1, INROOT_OWN_READ, INROOT_OWN_CLOSE, INROOT_OWN_YES, INROOT_OWN_NO,
 };
 
-/* What statx(2) said of the root directory: the attributes, and the MASK of those that can be told; or an error. */
+/* What statx(2) said of the root directory: the attributes, and the MASK of those that it knows; or an error. */
 struct inroot_own_look {
     uint64_t mask, attributes;
     uint32_t error;

@@ -40,7 +40,7 @@ static struct inroot_own_look look_at_root(void)
     return (struct inroot_own_look){.error = ENOSYS};
 }
 
-/* What statx(2) doesn't tell, the mounts do that the thread sees (proc(5)). The library says which answer counts. */
+/* What statx(2) doesn't say, the mounts do that the thread sees (proc(5)). The library says which answer counts. */
 static bool is_mount_root(int proc)
 {
     unsigned char about[256], part[1024];

@@ -170,7 +170,7 @@ int inroot_proc_open(bool surely, bool *is_callers)
     struct inroot_own own;
     int fd = at_hand(surely);
     *is_callers = false;
-    /* The kernel may have failed to tell just then, and there is no other one. */
+    /* The kernel may have failed to say just then, and there is no other one. */
     if (fd < 0 && atomic_load(&is_handed_in))
         fd = at_hand(true);
     if (fd >= 0)

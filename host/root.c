@@ -22,7 +22,7 @@ struct inroot_root {
     struct inroot_own table;
     /* A page that begins with 1, and with 0 in a child of fork(2): what is kept isn't the child's. */
     unsigned char *mark;
-    /* Which directory it is. A file system may not tell. */
+    /* Which directory it is. A file system may not say. */
     uint64_t device, inode;
     bool is_known;
     struct inroot_kept_root kept;

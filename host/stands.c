@@ -90,7 +90,7 @@ static int open_place(const struct asking *a)
 
 /*
  * Whether the names lead from the root to the object: 0 or an error's number. If an object was opened in another mount namespace,
- * or the root is mounted nowhere, a text tells nothing of the one below the other. The slot goes on with what was found: so no step
+ * or the root is mounted nowhere, a text says nothing of the one below the other. The slot goes on with what was found: so no step
  * leads up another tree.
  */
 static uint32_t look_for(struct asking *a)
@@ -106,7 +106,7 @@ static uint32_t look_for(struct asking *a)
     return same ? 0 : EAGAIN;
 }
 
-/* Without openat2(2) a text alone has told the place. Then the slot gets what its names lead to, where there are names. */
+/* Without openat2(2) a text alone has given the place. Then the slot gets what its names lead to, where there are names. */
 static uint32_t find(struct asking *a)
 {
     struct inroot_result result = inroot_find_place(a->d, a->root, a->slot, a->text, &a->answer.length);

@@ -52,8 +52,8 @@ func kindOf(bits C.mode_t) fs.FileMode {
 // WalkInRoot calls what for each entry below the directory unsafePath: for a directory before what is in it, and else
 // in no order. With levels above 0 it goes so deep: 1 gives the directory's own entries alone. An entry whose kind can't
 // be asked comes with an error, and so do a directory that isn't gone into and one the rest of whose entries isn't given;
-// the last has no directory above to be opened in. If what returns fs.SkipDir for a directory, the walk leaves out what is below it; any other error
-// ends the walk, and is returned. What is promised while others rename is in inroot_walk_open(3).
+// the last has no directory above to be opened in. If what returns fs.SkipDir for a directory, the walk leaves out what
+// is below it; any other error ends the walk, and is returned. What is promised while others rename is in inroot_walk_open(3).
 func WalkInRoot(root *os.File, unsafePath string, levels int, what func(*WalkEntry, error) error, flags ...Flags) error {
 	// A walk in a thread's jail would have to stay there; a descriptor's may go on in any thread.
 	var walk *C.struct_inroot_walk
@@ -71,7 +71,10 @@ func WalkInRoot(root *os.File, unsafePath string, levels int, what func(*WalkEnt
 		if found == 0 {
 			return nil
 		}
-		entry := WalkEntry{Path: C.GoString(told.path), Type: kindOf(told.kind), Depth: int(told.depth), root: root.Name(), entry: &told}
+		entry := WalkEntry{
+			Path: C.GoString(told.path), Type: kindOf(told.kind), Depth: int(told.depth),
+			root: root.Name(), entry: &told,
+		}
 		switch err := what(&entry, wrongIn(&entry, found, told.error)); {
 		case err == fs.SkipDir:
 			C.inroot_walk_skip(walk)
