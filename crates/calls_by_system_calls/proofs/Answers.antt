@@ -11,7 +11,6 @@ use Rattle.tree_model.specs.declared.inode.Object.TheVariants as object
 use Rattle.tree_model.specs.declared.step.StepOf.TheVariants.{Open, Dup, Parent, ReadLink, NameBelow, List as ListNames, Close, MakeLink}
 use Rattle.tree_model.specs.Entries.{makes, makes_link, refuse_by, refuse_if, with_some}
 use Rattle.tree_model.specs.declared.step.Kind.{Kind}
-use Rattle.tree_model.specs.StepLaws.{only_tells}
 use Rattle.tree_model.specs.State.{State, object_at, child, parent, is_dir, names_below, names_in, sorted_names}
 use Rattle.tree_model.specs.Steps.{Outcome, refused, answered, changes, held, is_full, kind_of, with_handle, opens, reads, shows, outcome}
 

@@ -11,8 +11,8 @@ use crate::meets::{
     CREATE, ENDS, FAILS, FIND, MAKE, MAKE_ABOVE, Met, PARTIAL, READ_END, READ_LINK, SPLIT, Seen,
     meets,
 };
-use crate::paths::{joined_length, lay, lay_before, name_length, rest_at};
-use path_text::TEXT_MAX;
+use crate::paths::{joined_length, lay, lay_before, rest_at};
+use path_text::{TEXT_MAX, name_length};
 use system_calls::errors::{EAGAIN, EISDIR, ELOOP, ENAMETOOLONG, ENOENT};
 use system_calls::{NextTry, next_try};
 

@@ -1,7 +1,7 @@
 -- The bits of openat2(2) by which names are looked up.
 use Rattle.std.proofs.Common.{◌≡◌, ℕ, List, Bool, true, false, ◌||◌, cond, refl, ap, ◌∙◌}
 use Rattle.std.specs.Prelude.{◌==◌}
-use Rattle.open_through_links.specs.History.{resolve_of, Exchange, RESOLVE_BENEATH, RESOLVE_NO_MAGICLINKS, RESOLVE_NO_SYMLINKS}
+use Rattle.open_through_links.specs.History.{Exchange, RESOLVE_BENEATH, RESOLVE_NO_MAGICLINKS, RESOLVE_NO_SYMLINKS}
 use Rattle.open_through_links.specs.Passage.{IsAt}
 use Rattle.open_through_links.specs.Promises.{from_root, has_bit, looks_up_names}
 use Rattle.open_through_links.specs.declared.passage.Facts.{Facts}

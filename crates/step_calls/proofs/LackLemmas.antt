@@ -1,13 +1,11 @@
 -- A step that is begun has its descriptors.
-use Rattle.std.proofs.Common.{◌≡◌, ℕ, Bool, true, false, if◌then◌else◌, not, ◌&&◌, ◌||◌, refl, sym, arith}
+use Rattle.std.proofs.Common.{◌≡◌, ℕ, Bool, true, false, if◌then◌else◌, not, ◌&&◌, ◌||◌, refl, arith}
 use Rattle.std.specs.Prelude.{◌==◌}
-use Rattle.std.proofs.lemmas.Bool.{eqb-true, false≢true}
 use Rattle.system_calls.specs.Errors.{ENOMEM, ENAMETOOLONG}
-use Rattle.step_calls.specs.Lacks.{lack_of, lacks_descriptor, DescriptorsAreThere, RENAME}
+use Rattle.step_calls.specs.Lacks.{lacks_descriptor, DescriptorsAreThere, RENAME}
 use Rattle.step_calls.specs.LastStep.{known_of, serves}
-use Rattle.step_calls.specs.declared.facts.TheConstants.{PARENT, READ_TEXT, NAME_BELOW}
-use Rattle.step_calls.specs.declared.last_step.LastStep.{LastStep}
-use Rattle.step_calls.specs.declared.last_step.TheConstants.{NOTHING, PLACED, LINK_READ, FOLLOWED}
+use Rattle.step_calls.specs.declared.facts.TheConstants.{READ_TEXT}
+use Rattle.step_calls.specs.declared.last_step.TheConstants.{NOTHING, LINK_READ}
 
 -- nothing is lacking
 none_lacks : (whole lacks : Bool) → (if not whole then ENAMETOOLONG else (if lacks then ENOMEM else 0)) ≡ 0 → lacks ≡ false
