@@ -25,7 +25,7 @@ static const char *kind_of(mode_t mode)
     }
 }
 
-/* Writes the root's path, as the kernel tells it, and behind it the object's below the root: how long both are, or -errno. */
+/* Writes the root's path, as the kernel gives it, and behind it the object's below the root: how long both are, or -errno. */
 static ssize_t find_place(const struct fs_call *call, int object, char place[2 * PATH_MAX])
 {
     char link[32], below[PATH_MAX];

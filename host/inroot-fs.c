@@ -299,7 +299,7 @@ static enum fs_status run_line(int count, char **words)
     return run(count, words);
 }
 
-/* The number of a standard file that is closed is no other file's: what is told would be written there. */
+/* The number of a standard file that is closed is no other file's: an error message would be written there. */
 static bool hold_standard_files(void)
 {
     for (int fd = 0; fd <= STDERR_FILENO; fd++)

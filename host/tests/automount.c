@@ -44,7 +44,7 @@ static void answer_each(int questions)
     }
 }
 
-/* What the daemon's own process group does is asked of nobody. It tells by a byte that it serves, or ends before. */
+/* What the daemon's own process group does is asked of nobody. It writes a byte once it serves, or ends before. */
 static void serve(int ready)
 {
     int questions[2];
