@@ -27,9 +27,11 @@ use Rattle.step_calls.proofs.RefusalLemmas.{refusals-are-own}
 use Rattle.root_ops.specs.Renumbered.{Numbering, step_by, answer_by}
 use Rattle.c_protocol.specs.Numbers.{errno_of}
 use Rattle.calls_by_system_calls.specs.Linux.{Linux, state_at}
-use Rattle.calls_by_system_calls.specs.Lines.{Descriptors, HasRoom, OpenIsMade, ParentIsMade, TextIsRead, DupIsMade, NameIsPassed, NamesAreListed, PlaceIsTold, TextIsRefused, UpIsPassed, LookIsMade, after_step, with_opened, with_closed, world}
+use Rattle.calls_by_system_calls.specs.Lines.{Descriptors, HasRoom, OpenIsMade, ParentIsMade, TextIsRead, DupIsMade, NameIsPassed, NamesAreListed, TextIsRefused, UpIsPassed, LookIsMade, after_step, with_opened, with_closed, world}
+use Rattle.calls_by_system_calls.specs.Places.{PlaceIsTold}
 use Rattle.calls_by_system_calls.proofs.Answers.{at_number, at_opened, at_refused, same_open, same_parent, same_text, same_place, same_list, bad_text, same_close, same_dup, missing_name, passed_name, passed_up}
 use Rattle.calls_by_system_calls.proofs.Moments.{directory_later, is_world, object_later}
+use Rattle.calls_by_system_calls.proofs.Places.{place_stood}
 
 abbrev pub numbering : (ℕ → ℕ) → (ℕ → ℕ) → Numbering
 numbering f nodes = record { handle = f; node = nodes }
@@ -411,7 +413,9 @@ module _ (x : Linux) (nodes : ℕ → ℕ) (m calls : ℕ) (table : Descriptors)
   made_at_moment within (steps.Parent h) answer made =
       ⊎_elim (at_parent h made.1 answer made.0 made.2) (at_up h made.1 answer made.0 made.2) made.3
   made_at_moment within (steps.ReadLink h) answer made = at_text h made.0 answer (within h made.0 made.1) made.1 made.2
-  made_at_moment within (steps.NameBelow r h) answer made = at_place r h made.0 made.1 answer made.2 made.3 made.4
+  made_at_moment within (steps.NameBelow r h) answer made =
+      at_place r h made.0 made.1 answer made.2 made.3
+      (place_stood x m calls made.0 made.1 answer (within h made.1 made.3) made.4)
   made_at_moment within (steps.Close h) answer made = at_close h made.0 answer made.1 made.2
   made_at_moment within (steps.List h) answer made = at_list h made.0 answer made.1 made.2
   made_at_moment within (steps.MakeDir h n) answer made = absurd made

@@ -23,18 +23,18 @@ use Rattle.calls_by_system_calls.proofs.LinesJoined.{joined, root_held, root_is}
 
 -- ---- by other numbers
 
-abbrev passed_by : Numbering → Passed → Passed
+abbrev pub passed_by : Numbering → Passed → Passed
 passed_by f p = record { name = p.name; number = f.handle p.number; node = f.node p.node }
 
-abbrev all_by : Numbering → List Passed → List Passed
+abbrev pub all_by : Numbering → List Passed → List Passed
 all_by f ps = map (passed_by f) ps
 
 module _ (f : Numbering) where
-  lines_append : (xs ys : List Line) → lines_by f (xs ++ ys) ≡ lines_by f xs ++ lines_by f ys
+  pub lines_append : (xs ys : List Line) → lines_by f (xs ++ ys) ≡ lines_by f xs ++ lines_by f ys
   lines_append [] ys = refl
   lines_append (line ∷ xs) ys = ap (λ (zs : List Line). line_by f line ∷ zs) (lines_append xs ys)
 
-  closes_by : (hs : List ℕ) → lines_by f (closes hs) ≡ closes (numbers_by f hs)
+  pub closes_by : (hs : List ℕ) → lines_by f (closes hs) ≡ closes (numbers_by f hs)
   closes_by [] = refl
   closes_by (h ∷ hs) = ap (λ (zs : List Line). answered (Close (f.handle h)) Done ∷ zs) (closes_by hs)
 
@@ -57,7 +57,7 @@ module _ (f : Numbering) where
       ∙ ap (λ (zs : List Line). closes (numbers_by f held) ++ zs)
       (from_by root p.number (p.number ∷ []) ps last kind names))
 
-  names_passed_by : (ps : List Passed) (last : Passed) → names_passed (all_by f ps) (passed_by f last)
+  pub names_passed_by : (ps : List Passed) (last : Passed) → names_passed (all_by f ps) (passed_by f last)
       ≡ names_passed ps last
   names_passed_by ps last = ap (λ ns. ns ++ last.name ∷ []) (names_by ps)
 

@@ -10,6 +10,7 @@ mod JoiningLines
 mod LinesJoined
 mod BySystemCalls
 mod AtOnce
+mod SeenBelow
 mod Places
 mod WorkedRace
 mod WorkedChange

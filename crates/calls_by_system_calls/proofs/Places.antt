@@ -1,14 +1,18 @@
--- A place for which Linux was asked was so at the moment of an answer.
-use Rattle.std.proofs.Common.{◌≡◌, ⊎_elim, ℕ, suc, ◌+◌, ◌<◌, Bool, true, List, length, Option, Some, None, reverse, sym, ap, ◌∙◌, subst, arith}
-use Rattle.std.proofs.lemmas.Bool.{false≢true}
+-- A place that was found was so at a moment.
+use Rattle.std.proofs.Common.{◌≡◌, ⊎_elim, ℕ, zero, suc, ◌+◌, ◌<◌, Bool, true, if◌then◌else◌, List, [], ◌∷◌, length, Option, Some, None, reverse, refl, sym, ap, ◌∙◌, subst, arith}
+use Rattle.std.proofs.lemmas.Bool.{eq-eqb, false≢true}
+use Rattle.std.specs.Option.{option_and_then, option_map}
 use Rattle.path_text.specs.Print.{names_read}
+use Rattle.tree_model.specs.declared.answer.Answer.{Answer}
 use Rattle.tree_model.specs.declared.answer.Answer.TheVariants.{Names}
-use Rattle.tree_model.specs.State.{State, is_gone, names_below}
+use Rattle.tree_model.specs.declared.inode.Inode.{Inode}
+use Rattle.tree_model.specs.State.{State, is_gone, names_below, names_within, place_at}
 use Rattle.tree_model.specs.Steps.{shows}
 use Rattle.step_resolver.proofs.Underway.AfterParent.{names_same}
 use Rattle.place_protocol.specs.Moments.{PlacesStood, StaysGone}
+use Rattle.place_protocol.proofs.MomentLemmas.{places-stood}
 use Rattle.calls_by_system_calls.specs.Linux.{Linux, state_at}
-use Rattle.calls_by_system_calls.specs.Places.{are_names, AskedPlacesStood, place_world}
+use Rattle.calls_by_system_calls.specs.Places.{are_names, AskedPlacesStood, IsTheRoot, place_world, PlaceIsAsked, PlaceIsFound, PlaceIsTold}
 use Rattle.calls_by_system_calls.proofs.Moments.{gone_next, longer_later}
 
 shown : (s : State) (o told : Option (List (List ℕ))) (names : List (List ℕ)) → told ≡ Some names → are_names o told ≡ true
@@ -27,8 +31,9 @@ stays_gone x m top node passed root object within n gone =
     subst (λ (i : ℕ). is_gone (state_at x i).nodes node ≡ true) same
     (gone_next x (m + suc n) node (longer_later x m (suc n) node within) gone)
 
-pub asked_places_stood : PlacesStood → AskedPlacesStood
-asked_places_stood stood x m calls top node answer linux within asked =
+pub asked_place_stood : PlacesStood → (x : Linux) (m calls top node : ℕ) (answer : Answer) → node < length (state_at x m).nodes
+    → PlaceIsAsked x m calls top node answer → PlaceIsTold x m calls top node answer
+asked_place_stood stood x m calls top node answer within asked =
     let w = place_world x m top node asked.passed asked.root asked.object in
     let found = stood w asked.facts asked.kept asked.exchanges asked.place asked.is_root
     (stays_gone x m top node asked.passed asked.root asked.object within) asked.says asked.texts asked.is in
@@ -41,3 +46,33 @@ asked_places_stood stood x m calls top node answer linux within asked =
           (λ is. shown s (names_below s.nodes top node) (names_read asked.place) asked.names asked.reads is)
           (λ gone. absurd (false≢true (sym (asked.seen gone.0 found.0 before) ∙ gone.2))) found.2);
     }
+
+pub asked_places_stood : PlacesStood → AskedPlacesStood
+asked_places_stood stood x m calls top node answer linux within asked =
+    asked_place_stood stood x m calls top node answer within asked
+
+-- ---- the root's own place
+
+below_itself : (parents : ℕ) (nodes : List Inode) (r : ℕ) → names_within parents nodes r r ≡ Some []
+below_itself zero nodes r = ap (λ (b : Bool). if b then Some [] else None) (eq-eqb r r refl)
+below_itself (suc parents) nodes r =
+    ap (λ (b : Bool). if b then Some []
+    else option_and_then (λ place. option_map (λ names. place.name ∷ names) (names_within parents nodes r place.parent))
+    (place_at nodes r)) (eq-eqb r r refl)
+
+root_stood : (x : Linux) (m calls top node : ℕ) (answer : Answer) → IsTheRoot top node answer
+    → PlaceIsTold x m calls top node answer
+root_stood x m calls top node answer is = record {
+  n = 0;
+  by = omega arith;
+  stood =
+      let s = state_at x (m + 0) in
+      is.1 ∙ sym (ap (λ y. (shows s (names_below s.nodes top y)).answer) is.0
+      ∙ ap (λ o. (shows s o).answer) (below_itself (length s.nodes) s.nodes top));
+}
+
+pub place_stood : (x : Linux) (m calls top node : ℕ) (answer : Answer) → node < length (state_at x m).nodes
+    → PlaceIsFound x m calls top node answer → PlaceIsTold x m calls top node answer
+place_stood x m calls top node answer within found =
+    ⊎_elim (root_stood x m calls top node answer)
+    (λ other. ⊎_elim (asked_place_stood places-stood x m calls top node answer within) (λ told. told) other) found

@@ -120,7 +120,7 @@ race_is_made = record {
           (
             inl ((λ n by. refl), (3, refl, refl)),
             (
-              inl ((λ n by. refl), (1, 9, refl, refl, record { n = 0; by = omega arith; stood = refl })),
+              inl ((λ n by. refl), (1, 9, refl, refl, inr (inr (record { n = 0; by = omega arith; stood = refl })))),
               (inl ((λ n by. refl), (9, refl, refl)), tt),
             ),
           ),

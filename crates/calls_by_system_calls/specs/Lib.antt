@@ -5,6 +5,7 @@ pub mod Window
 pub mod Joined
 pub mod Runs
 pub mod AtOnce
+pub mod SeenBelow
 pub mod Places
 pub mod WorkedRace
 pub mod WorkedChange

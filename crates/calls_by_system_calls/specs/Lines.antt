@@ -12,8 +12,8 @@ use Rattle.tree_model.specs.declared.inode.Object.{Object}
 use Rattle.tree_model.specs.declared.inode.Object.TheVariants as object
 use Rattle.tree_model.specs.declared.step.Kind.TheVariants as kind
 use Rattle.tree_model.specs.declared.step.StepOf.TheVariants as steps
-use Rattle.tree_model.specs.State.{child, is_dir, names_below, names_in, object_at, parent, sorted_names}
-use Rattle.tree_model.specs.Steps.{kind_of, shows}
+use Rattle.tree_model.specs.State.{child, is_dir, names_in, object_at, parent, sorted_names}
+use Rattle.tree_model.specs.Steps.{kind_of}
 use Rattle.tree_model.specs.StepWith.{StepWith}
 use Rattle.step_calls.specs.History.{is_known_there, is_read_already, next_after, Exchange, IsHistory, Next}
 use Rattle.step_calls.specs.Moments.{moment, number_of_kind, AreAnswers, CouldNotAsk, IsNoLink, IsThere, LinkSays, OpenSays, ParentSays, World}
@@ -23,6 +23,7 @@ use Rattle.step_calls.specs.declared.facts.TheConstants.{OPEN, PARENT, READ_TEXT
 use Rattle.step_resolver.specs.Order.{Line, answered, no_room, not_made}
 use Rattle.calls_by_system_calls.specs.Changes.{DirectoryIsRemoved, FileIsRemoved, LinkIsMade, MakeIsMade, RenameIsMade}
 use Rattle.calls_by_system_calls.specs.Linux.{Linux, state_at, ChangeNothing}
+use Rattle.calls_by_system_calls.specs.Places.{PlaceIsFound}
 
 -- ---- descriptors
 
@@ -146,12 +147,6 @@ DupIsMade x nodes m dir (answers.Opened h y k) =
     (object_at (state_at x m).nodes dir ≡ Some object.Dir) × (k ≡ kind.Dir) × (nodes y ≡ dir)
 DupIsMade x nodes m dir answer = ⊥
 
--- NameBelow, for which Linux has no one system call: its answer is what stood at one of the moments (a premise)
-pub record PlaceIsTold (x : Linux) (m calls top node : ℕ) (answer : Answer) : Type 0 where
-  pub n : ℕ
-  pub by : n ≤ calls
-  pub stood : answer ≡ (shows (state_at x (m + n)) (names_below (state_at x (m + n)).nodes top node)).answer
-
 -- List, which the kernel answers in several calls: its answer was the whole directory at one of the moments (a
 -- premise). A driver that reads a whole directory so meets it if nobody changes that one's entries meanwhile.
 pub record NamesAreListed (x : Linux) (m calls dir : ℕ) (answer : Answer) : Type 0 where
@@ -180,7 +175,7 @@ LookIsMade x nodes m table calls (steps.Parent h) answer =
 LookIsMade x nodes m table calls (steps.ReadLink h) answer =
     (link : ℕ) × (table.on h ≡ Some link) × TextIsRead x m calls link answer
 LookIsMade x nodes m table calls (steps.NameBelow r h) answer =
-    (top node : ℕ) × (table.on r ≡ Some top) × (table.on h ≡ Some node) × PlaceIsTold x m calls top node answer
+    (top node : ℕ) × (table.on r ≡ Some top) × (table.on h ≡ Some node) × PlaceIsFound x m calls top node answer
 LookIsMade x nodes m table calls (steps.List h) answer =
     (dir : ℕ) × (table.on h ≡ Some dir) × NamesAreListed x m calls dir answer
 LookIsMade x nodes m table calls (steps.Close h) answer =

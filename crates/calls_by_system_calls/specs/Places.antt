@@ -1,16 +1,27 @@
--- NameBelow by a conversation of place_protocol: each answer of Linux says of the place at its moment what the manual
--- pages say. So its answer was so at one of these moments.
-use Rattle.std.specs.Prelude.{◌≡◌, ◌<◌, ℕ, suc, ◌+◌, List, Bool, true, false, length, Option, Some, reverse}
+-- NameBelow, for which Linux has no one system call. By a conversation of place_protocol, each answer of Linux says of
+-- the place at its moment what the manual pages say. So its answer was so at one of these moments.
+use Rattle.std.specs.Prelude.{◌≡◌, ◌⊎◌, ◌≤◌, ◌<◌, ℕ, suc, ◌+◌, List, [], Bool, true, false, length, Option, Some, reverse}
 use Rattle.path_text.specs.Names.{same_names}
 use Rattle.path_text.specs.Print.{names_read}
 use Rattle.tree_model.specs.declared.answer.Answer.{Answer}
 use Rattle.tree_model.specs.declared.answer.Answer.TheVariants.{Names}
 use Rattle.tree_model.specs.State.{State, is_gone, names_below}
+use Rattle.tree_model.specs.Steps.{shows}
 use Rattle.place_protocol.specs.Conversation.{Conversation, Exchange, StandsAt}
 use Rattle.place_protocol.specs.Moments.{AreAnswers, ReadsLink, TextsTell, World}
 use Rattle.place_protocol.specs.declared.questions.Facts.{Facts}
 use Rattle.calls_by_system_calls.specs.Linux.{Linux, IsLinux, state_at}
-use Rattle.calls_by_system_calls.specs.Lines.{PlaceIsTold}
+
+-- The answer is what stood at one of the moments. This is a premise of an answer that is neither the root's own nor a
+-- place in which a conversation ended.
+pub record PlaceIsTold (x : Linux) (m calls top node : ℕ) (answer : Answer) : Type 0 where
+  pub n : ℕ
+  pub by : n ≤ calls
+  pub stood : answer ≡ (shows (state_at x (m + n)) (names_below (state_at x (m + n)).nodes top node)).answer
+
+-- a second descriptor of the root: the root is below itself at no names
+abbrev pub IsTheRoot : ℕ → ℕ → Answer → Type 0
+IsTheRoot top node answer = (node ≡ top) × (answer ≡ Names [])
 
 -- the place is a text of the names, the innermost first, at which the object stands
 abbrev pub are_names : Option (List (List ℕ)) → Option (List (List ℕ)) → Bool
@@ -52,7 +63,12 @@ pub record PlaceIsAsked (x : Linux) (m calls top node : ℕ) (answer : Answer) :
   pub reads : names_read place ≡ Some names
   pub tells : answer ≡ Names names
 
--- So it is told as the lines of a call want it.
+-- the answer to a NameBelow, in one of three ways
+abbrev pub PlaceIsFound : Linux → ℕ → ℕ → ℕ → ℕ → Answer → Type 0
+PlaceIsFound x m calls top node answer =
+    IsTheRoot top node answer ⊎ (PlaceIsAsked x m calls top node answer ⊎ PlaceIsTold x m calls top node answer)
+
+-- By a conversation it was so at one of the moments.
 abbrev pub AskedPlacesStood : Type 0
 AskedPlacesStood = (x : Linux) (m calls top node : ℕ) (answer : Answer) → IsLinux x 0
     → node < length (state_at x m).nodes

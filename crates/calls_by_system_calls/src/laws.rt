@@ -3,12 +3,13 @@ ghost use Rattle.calls_by_system_calls.specs.AtOnce.{FailsAtOnceBySystemCalls, O
 ghost use Rattle.calls_by_system_calls.specs.Joined.{CallsTellBySystemCalls};
 ghost use Rattle.calls_by_system_calls.specs.Places.{AskedPlacesStood};
 ghost use Rattle.calls_by_system_calls.specs.Runs.{CallsWithRunsTellBySystemCalls};
+ghost use Rattle.calls_by_system_calls.specs.SeenBelow.{PlainSeenBelowBySystemCalls, ResolvesSeenBelowBySystemCalls};
 ghost use Rattle.calls_by_system_calls.specs.WorkedChange.{MkdirIsMade};
 ghost use Rattle.calls_by_system_calls.specs.WorkedRace.{RaceIsMade};
 
 use c_protocol::{
     conversations_tell, conversations_with_runs_tell, fails_at_once_tell, opens_at_once_tell,
-    opens_through_tell,
+    opens_through_tell, seen_below_tell,
 };
 use place_protocol::places_stood;
 
@@ -16,8 +17,9 @@ use place_protocol::places_stood;
 /// `step_calls`, and each change of an entry one system call, while others change the tree between any two of these.
 /// What each answer of Linux says of the tree at its moment is a premise (openat(2), fstat(2), readlink(2), rmdir(2),
 /// statfs(2), getdents(2), mkdir(2), mknod(2), symlink(2), unlink(2), renameat2(2); `specs/Lines.antt`,
-/// `specs/Changes.antt`). So is it that a Dup and a Close do what they say, and that the answer to a NameBelow or to a
-/// List was so at one of its moments. Then there is a history that begins with the tree as the call did: what others
+/// `specs/Changes.antt`). So is it that a Dup and a Close do what they say. The answer to a NameBelow is a place in
+/// which a conversation of `place_protocol` ended, or the root's own; that any other, and that to a List, was so at
+/// one of its moments is a premise. Then there is a history that begins with the tree as the call did: what others
 /// did, with the call's steps among it, each at a moment of its own system calls. In this history the call tells what
 /// `conversations_tell` says.
 pub fn calls_tell_by_system_calls()
@@ -35,8 +37,9 @@ pub fn calls_with_runs_tell_by_system_calls()
     conversations_with_runs_tell();
 }
 
-/// The same of a resolve, or of the making of all directories, that replies without its turns: its path is names alone,
-/// which one system call passed (openat2(2), RESOLVE_NO_SYMLINKS), or single ones, and then it was asked for the place.
+/// The same of a resolve, or of the making of all directories, that replies without its turns: its path is names
+/// alone, which one system call passed (openat2(2), RESOLVE_NO_SYMLINKS), or single ones, and then it was asked for
+/// the place.
 pub fn opens_at_once_by_system_calls()
     ensures { OpensAtOnceBySystemCalls }
 {
@@ -52,12 +55,24 @@ pub fn fails_at_once_by_system_calls()
     fails_at_once_tell();
 }
 
-/// The same of a resolve through links and `..` that replies so, each link of which was read (readlinkat(2)), and after
-/// each `..` it was asked for the place.
+/// The same of a resolve through links and `..` that replies so, each link of which was read (readlinkat(2)), and
+/// after each `..` it was asked for the place.
 pub fn opens_through_by_system_calls()
     ensures { OpensThroughBySystemCalls }
 {
     opens_through_tell();
+}
+
+/// The same of a resolve with INROOT_BELOW, whose last check is the kernel's (openat2(2), RESOLVE_BENEATH): at a
+/// moment of that call the object stood below the root, at whatever names. In the history the walk has opened the
+/// object, which was reached by the path's parts and stood below the root at the last check (`seen_below_tell`). So it
+/// is of a path of plain names that one system call passes; and of each resolve whose lines lead to the object. Where
+/// one system call walks a path as a whole, through links and `..`, that its steps were such lines is a premise.
+pub fn seen_below_by_system_calls()
+    ensures resolves { ResolvesSeenBelowBySystemCalls }
+    ensures plain { PlainSeenBelowBySystemCalls }
+{
+    seen_below_tell();
 }
 
 /// Where a conversation of `place_protocol` told a place, and its names are the answer to a NameBelow, this answer was
@@ -69,14 +84,14 @@ pub fn asked_places_stood()
     places_stood();
 }
 
-/// What is supposed can be met: a walk along `a/b/..`, whose directory another moves out of the root meanwhile, is made
-/// by ten system calls.
+/// What is supposed can be met: a walk along `a/b/..`, whose directory another moves out of the root meanwhile, is
+/// made by ten system calls.
 pub fn worked_race_is_made()
     ensures { RaceIsMade }
 {}
 
-/// The same of a call that changes something: a directory is made in one that another moves out of the root between two
-/// of the call's system calls.
+/// The same of a call that changes something: a directory is made in one that another moves out of the root between
+/// two of the call's system calls.
 pub fn worked_change_is_made()
     ensures { MkdirIsMade }
 {}

@@ -1,0 +1,128 @@
+-- A resolve whose last check is the kernel's, by system calls, is one in a history.
+use Rattle.std.proofs.Common.{◌≡◌, ℕ, true, List, [], ◌∷◌, ◌++◌, Some, reverse, refl, sym, ap, ◌∙◌, subst}
+use Rattle.tree_model.specs.declared.step.Kind.{Kind}
+use Rattle.tree_model.specs.declared.step.Kind.TheVariants.{Dir}
+use Rattle.walk_plan.specs.declared.goal.Goal.{Goal}
+use Rattle.step_resolver.specs.Order.{Line, Handle}
+use Rattle.root_ops.specs.declared.op.Op.{Op}
+use Rattle.root_ops.specs.declared.op.Op.TheVariants as ops
+use Rattle.root_ops.specs.CallHistory.{IsCallInHistory}
+use Rattle.root_ops.specs.Order.{opened, starts, ends, CallTurn, LeadsTo}
+use Rattle.root_ops.specs.Renumbered.{Numbering, handle_by, lines_by, numbers_by, op_by}
+use Rattle.root_ops.proofs.Blind.Calls.{calls_begin_blindly}
+use Rattle.root_ops.proofs.Blind.Lines.{lines_lead_blindly}
+use Rattle.c_protocol.specs.AtOnce.{closes, names_passed, opens, Passed}
+use Rattle.c_protocol.specs.Numbers.{below_asked, kind_of}
+use Rattle.c_protocol.specs.Outright.{call_in}
+use Rattle.c_protocol.specs.SeenBelow.{asks, handle_of, opens_from, walk_in, IsResolve, IsSeenBelow, PlainSeenBelow, ResolvesSeenBelow, SeenBelow}
+use Rattle.c_protocol.specs.declared.numbers.Asked.{Asked}
+use Rattle.calls_by_system_calls.specs.AtOnce.{in_history, LinesAreMade}
+use Rattle.calls_by_system_calls.specs.Linux.{Linux}
+use Rattle.calls_by_system_calls.specs.SeenBelow.{and_asks, asked_by, LinesAreSeenBelow, PlainSeenBelowBySystemCalls, ResolvesSeenBelowBySystemCalls}
+use Rattle.calls_by_system_calls.proofs.AtMoment.{numbering}
+use Rattle.calls_by_system_calls.proofs.AtOnce.{all_by, closes_by, lines_append, names_passed_by, passed_by}
+use Rattle.calls_by_system_calls.proofs.LinesJoined.{joined, root_held, root_is}
+
+module _ (x : Linux) (asked : Asked) (op : Op) (goal : Goal) (path : List ℕ) (nodes : ℕ → ℕ) (root node : ℕ)
+    (lines : List Line) (handle : Handle) (others names : List (List ℕ)) (counts : List ℕ)
+    (made : LinesAreMade x asked nodes root node (and_asks asked lines handle others) counts) where
+  abbrev numbers : Numbering
+  numbers = numbering (joined x asked nodes root node (and_asks asked lines handle others) counts made).g nodes
+
+  asks_by : lines_by numbers (and_asks asked lines handle others)
+      ≡ and_asks (asked_by numbers asked) (lines_by numbers lines) (handle_by numbers handle) others
+  asks_by = lines_append numbers lines (asks asked.root handle.number others ∷ [])
+
+  seen_below : IsSeenBelow (asked_by numbers asked) op goal path (lines_by numbers lines) (handle_by numbers handle) names
+      → LinesAreSeenBelow x asked op goal path nodes root node (and_asks asked lines handle others) counts handle names
+  seen_below seen =
+      let all = joined x asked nodes root node (and_asks asked lines handle others) counts made in
+      let is_call : IsCallInHistory (in_history x asked op (and_asks asked lines handle others) node numbers all.window) = record {
+        tree = made.linux.tree;
+        legal_before = tt;
+        legal = all.legal;
+        own = all.own;
+        root = root_held x asked nodes root node (and_asks asked lines handle others) counts made;
+        root_is_dir = made.directory;
+      } in
+      record {
+        f = numbers;
+        by_nodes = refl;
+        by_root = root_is x asked nodes root node (and_asks asked lines handle others) counts made;
+        window = all.window;
+        is_window = all.is_window;
+        is_call = is_call;
+        seen =
+            subst (λ (ls : List Line). SeenBelow
+            (walk_in (asked_by numbers asked) op goal path ls x.opening [] all.window node) (handle_by numbers handle) names)
+            (sym asks_by)
+            (seen x.opening [] all.window node others
+            (subst (λ (ls : List Line). IsCallInHistory (call_in (asked_by numbers asked) op true ls x.opening [] all.window node))
+            asks_by is_call));
+      }
+
+-- ---- a path of plain names
+
+from_by : (f : Numbering) (dir : ℕ) (held : List ℕ) (ps : List Passed) (last : Passed) (kind : Kind)
+    → lines_by f (opens_from dir held ps last kind)
+    ≡ opens_from (f.handle dir) (numbers_by f held) (all_by f ps) (passed_by f last) kind
+from_by f dir held [] last kind =
+    ap (λ (zs : List Line). opens (f.handle dir) (passed_by f last) kind ∷ zs) (closes_by f held)
+from_by f dir held (p ∷ ps) last kind =
+    ap (λ (zs : List Line). opens (f.handle dir) (passed_by f p) Dir ∷ zs)
+    (lines_append f (closes held) (opens_from p.number (p.number ∷ []) ps last kind)
+    ∙ ap (λ (zs : List Line). zs ++ lines_by f (opens_from p.number (p.number ∷ []) ps last kind)) (closes_by f held)
+    ∙ ap (λ (zs : List Line). closes (numbers_by f held) ++ zs) (from_by f p.number (p.number ∷ []) ps last kind))
+
+pub plain_seen_below : PlainSeenBelow → PlainSeenBelowBySystemCalls
+plain_seen_below tell asked path second place kind op goal ps last others e1 resolves e2 e3 x nodes root node counts made =
+    let k = kind_of kind in
+    let lines = opens_from asked.root [] ps last k in
+    let f = numbers x asked op goal path nodes root node lines (handle_of last k) others (reverse (names_passed ps last)) counts made in
+    seen_below x asked op goal path nodes root node lines (handle_of last k) others (reverse (names_passed ps last)) counts made
+    (subst (λ (ls : List Line). IsSeenBelow (asked_by f asked) op goal path ls (handle_by f (handle_of last k))
+    (reverse (names_passed ps last))) (sym (from_by f asked.root [] ps last k))
+    (subst (λ (ns : List (List ℕ)). IsSeenBelow (asked_by f asked) op goal path
+    (opens_from (f.handle asked.root) [] (all_by f ps) (passed_by f last) k) (handle_by f (handle_of last k)) (reverse ns))
+    (names_passed_by f ps last)
+    (tell (asked_by f asked) path second place kind op goal (all_by f ps) (passed_by f last) e1 resolves e2
+    (e3 ∙ ap Some (sym (names_passed_by f ps last))))))
+
+-- ---- any resolve
+
+same_op : (f : Numbering) (op : Op) (goal : Goal) (path : List ℕ) → IsResolve op goal path → op_by f op ≡ op
+same_op f (ops.Resolve text) goal path is = refl
+same_op f (ops.ResolveNoFollow text) goal path is = refl
+same_op f (ops.ReadLink text) goal path is = absurd is
+same_op f (ops.CreateFile text) goal path is = absurd is
+same_op f (ops.CreateDir text) goal path is = absurd is
+same_op f (ops.CreateLink text to) goal path is = absurd is
+same_op f (ops.RemoveFile text) goal path is = absurd is
+same_op f (ops.RemoveDir text) goal path is = absurd is
+same_op f (ops.Rename old new mode) goal path is = absurd is
+same_op f (ops.MkdirAll text) goal path is = absurd is
+same_op f (ops.RemoveAll text) goal path is = absurd is
+same_op f (ops.Single step) goal path is = absurd is
+same_op f (ops.Release standing) goal path is = absurd is
+
+leads_by : (f : Numbering) (asked : Asked) (op : Op) (goal : Goal) (path : List ℕ) (lines : List Line) (handle : Handle)
+    (told names : List (List ℕ)) → IsResolve op goal path
+    → LeadsTo (below_asked asked) (starts (below_asked asked) true op) (and_asks asked lines handle told) (ends (opened handle names))
+    → LeadsTo (below_asked (asked_by f asked)) (starts (below_asked (asked_by f asked)) true op)
+    (and_asks (asked_by f asked) (lines_by f lines) (handle_by f handle) told) (ends (opened (handle_by f handle) names))
+leads_by f asked op goal path lines handle told names resolves leads =
+    subst (λ (ls : List Line). LeadsTo (below_asked (asked_by f asked)) (starts (below_asked (asked_by f asked)) true op) ls
+    (ends (opened (handle_by f handle) names))) (lines_append f lines (asks asked.root handle.number told ∷ []))
+    (subst (λ (turn : CallTurn). LeadsTo (below_asked (asked_by f asked)) turn (lines_by f (and_asks asked lines handle told))
+    (ends (opened (handle_by f handle) names)))
+    (calls_begin_blindly f (below_asked asked) true op
+    ∙ ap (starts (below_asked (asked_by f asked)) true) (same_op f op goal path resolves))
+    (lines_lead_blindly f (below_asked asked) (starts (below_asked asked) true op) (and_asks asked lines handle told)
+    (ends (opened handle names)) leads))
+
+pub resolves_seen_below : ResolvesSeenBelow → ResolvesSeenBelowBySystemCalls
+resolves_seen_below tell asked op goal path lines handle told others names resolves leads x nodes root node counts made =
+    let f = numbers x asked op goal path nodes root node lines handle others names counts made in
+    seen_below x asked op goal path nodes root node lines handle others names counts made
+    (tell (asked_by f asked) op goal path (lines_by f lines) (handle_by f handle) told names resolves
+    (leads_by f asked op goal path lines handle told names resolves leads))
