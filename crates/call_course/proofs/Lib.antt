@@ -1,6 +1,8 @@
 pub mod Asked
 pub mod Ends
 pub mod Fields
+pub mod Given
+pub mod GivenOrder
 pub mod LawLemmas
 pub mod Leads
 pub mod Needed

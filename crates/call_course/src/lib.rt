@@ -5,7 +5,9 @@
 #![tactic(auto)]
 
 mod calling;
+mod ending;
 mod laws;
+mod turns;
 
 pub use calling::{
     ANOTHER_PROC, AT_ONCE, Answer, BEGIN, CLOSE, CLOSE_PROC, CONVERSE, Calling, ENDS, FAILS,

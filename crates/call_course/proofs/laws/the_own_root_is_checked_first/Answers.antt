@@ -1,4 +1,5 @@
-use Rattle.call_course.proofs.Own.{own_alone, own_asked, own_no_end, own_order, own_spared, own_walks}
+use Rattle.call_course.proofs.GivenOrder.{own_order}
+use Rattle.call_course.proofs.Own.{own_alone, own_asked, own_no_end, own_spared, own_walks}
 use Rattle.call_course.proofs.Needed.{own_needed}
 use Rattle.call_course.proofs.laws.the_own_root_is_checked_first.Goals as goal
 

@@ -1,0 +1,334 @@
+//! What a thing gave, and what it leads to.
+ghost use Rattle.std.specs.Prelude.{◌≡◌};
+ghost use Rattle.call_course.specs.Turns.{after_close, after_own_root, answered, at_once, began, begun, checked, conversed, directory_error, done, first, looked_at_proc, looked_at_root, noted, placed, replied, reply_error, stuck, took, went_by_another, went_home, found_proc, has_second, needs_no_check};
+
+use crate::calling::{
+    ANOTHER_PROC, AT_ONCE, Answer, CLOSE, CONVERSE, Calling, FAILS, FIND_PROC, Facts, JOIN, LET_GO,
+    OWN_ROOT, PLACE, SECOND, TAKE,
+};
+use crate::ending::{after_proc, asks, ended, gains, judged, lacks, over};
+use system_calls::errors::{EAGAIN, EIO, ENOMEM, ENOTDIR};
+
+// What the proved call's reply is, by its number (c_protocol).
+const OPENED: u8 = 32;
+
+const TEXT: u8 = 33;
+
+const DONE: u8 = 34;
+
+const COUNT: u8 = 35;
+
+const DIRECTORY: u64 = 1;
+
+// A call makes so many tries (system_calls).
+const TRIES: u32 = 32;
+
+// What a try's thing says of the try.
+fn noted(c: Calling, a: &Answer) -> Calling
+    ensures { result ≡ noted a.now c }
+{
+    Calling {
+        stepped: c.stepped || a.stepped,
+        changed: c.changed || (a.changed && !c.facts.finds_again),
+        moved: a.moved,
+        has_proc: a.has_proc,
+        owns_proc: c.owns_proc || a.owns_proc,
+        ..c
+    }
+}
+
+// No place is asked for by a text, or it is that of the thread's own root.
+fn needs_no_check(facts: Facts) -> bool
+    ensures { result ≡ needs_no_check facts }
+{
+    facts.held || facts.jailed
+}
+
+// Else the thread's own root is checked before.
+pub(crate) fn checked(facts: Facts, next: u8) -> u8
+    ensures { result ≡ checked next facts }
+{
+    if needs_no_check(facts) { next } else { SECOND }
+}
+
+pub(crate) fn after_own_root(facts: Facts) -> u8
+    ensures { result ≡ after_own_root facts }
+{
+    if facts.error != 0 {
+        LET_GO
+    } else if facts.places {
+        PLACE
+    } else {
+        CONVERSE
+    }
+}
+
+// A call that has failed before only makes that check.
+fn first(facts: Facts) -> u8
+    ensures { result ≡ first facts }
+{
+    if facts.error != 0 || facts.places {
+        checked(facts, after_own_root(facts))
+    } else if facts.from {
+        JOIN
+    } else {
+        AT_ONCE
+    }
+}
+
+// Nothing is known of the try but where the thread is, and the error that was there before.
+fn begun(c: Calling) -> Calling
+    ensures { result ≡ begun c }
+{
+    Calling {
+        value: 0,
+        about: 0,
+        error: c.facts.error,
+        made: 0,
+        next: first(c.facts),
+        holds: false,
+        stepped: false,
+        changed: false,
+        has_proc: false,
+        owns_proc: false,
+        by_another: false,
+        ..c
+    }
+}
+
+pub(crate) fn began(c: Calling) -> Calling
+    ensures { result ≡ began c }
+{
+    Calling {
+        tries: if c.tries < TRIES {
+            c.tries + 1
+        } else {
+            c.tries
+        },
+        moved: false,
+        ..begun(c)
+    }
+}
+
+// After a thing of a try that has no reply of its own: an error ends the try.
+pub(crate) fn answered(c: Calling, a: &Answer, next: u8) -> Calling
+    ensures { result ≡ answered a.now next c }
+{
+    if a.error == 0 {
+        asks(noted(c, a), next, 0)
+    } else {
+        asks(lacks(noted(c, a), a.error), LET_GO, 0)
+    }
+}
+
+pub(crate) fn at_once(c: Calling, a: &Answer) -> Calling
+    ensures { result ≡ at_once a.now c }
+{
+    if a.error == 0 {
+        ended(gains(noted(c, a), a.value, true))
+    } else if a.fails {
+        ended(lacks(noted(c, a), a.error))
+    } else {
+        asks(noted(c, a), checked(c.facts, CONVERSE), 0)
+    }
+}
+
+// A second witness says what is below the root.
+pub(crate) fn has_second(c: Calling, a: &Answer) -> Calling
+    ensures { result ≡ has_second a.now c }
+{
+    asks(
+        noted(c, a),
+        if a.error == 0 {
+            after_own_root(c.facts)
+        } else {
+            FIND_PROC
+        },
+        0,
+    )
+}
+
+// Without a /proc the first question for a place says why there is none.
+pub(crate) fn found_proc(c: Calling, a: &Answer) -> Calling
+    ensures { result ≡ found_proc a.now c }
+{
+    asks(
+        noted(c, a),
+        if a.error == 0 {
+            OWN_ROOT
+        } else {
+            after_own_root(c.facts)
+        },
+        0,
+    )
+}
+
+pub(crate) fn placed(c: Calling, a: &Answer) -> Calling
+    ensures { result ≡ placed a.now c }
+{
+    if a.error == 0 {
+        ended(gains(noted(c, a), a.length, false))
+    } else {
+        ended(lacks(noted(c, a), a.error))
+    }
+}
+
+// After a step that wasn't made the call fails for want of memory, and for no other reason: then by the kernel's error.
+fn reply_error(a: &Answer) -> u32
+    ensures { result ≡ reply_error a.now }
+{
+    if a.error == 0 {
+        EIO
+    } else if a.error == ENOMEM && a.unmade != 0 {
+        a.unmade
+    } else {
+        a.error
+    }
+}
+
+// A call that changed an entry gives what it made, where that is asked for.
+fn done(c: Calling, a: &Answer) -> Calling
+    ensures { result ≡ done a.now c }
+{
+    if !c.facts.gives {
+        gains(c, 0, false)
+    } else if c.made != 0 {
+        gains(Calling { made: 0, ..c }, u64::from(c.made - 1), true)
+    } else if a.unopened == 0 {
+        lacks(c, EAGAIN)
+    } else {
+        lacks(c, a.unopened)
+    }
+}
+
+fn replied(c: Calling, a: &Answer) -> Calling
+    ensures { result ≡ replied a.now c }
+{
+    match a.reply {
+        OPENED => asks(c, TAKE, 0),
+        TEXT => asks(
+            if a.whole {
+                gains(c, a.length, false)
+            } else {
+                lacks(c, ENOMEM)
+            },
+            LET_GO,
+            0,
+        ),
+        DONE => asks(done(c, a), LET_GO, 0),
+        COUNT => asks(gains(c, a.value, false), LET_GO, 0),
+        _ => asks(lacks(c, reply_error(a)), LET_GO, 0),
+    }
+}
+
+pub(crate) fn conversed(c: Calling, a: &Answer) -> Calling
+    ensures { result ≡ conversed a.now c }
+{
+    replied(
+        Calling {
+            made: a.made,
+            ..noted(c, a)
+        },
+        a,
+    )
+}
+
+pub(crate) fn took(c: Calling, a: &Answer) -> Calling
+    ensures { result ≡ took a.now c }
+{
+    if a.error == 0 {
+        asks(gains(noted(c, a), a.value, true), LET_GO, 0)
+    } else {
+        asks(lacks(noted(c, a), a.error), LET_GO, 0)
+    }
+}
+
+pub(crate) fn after_close(c: Calling) -> Calling
+    ensures { result ≡ after_close c }
+{
+    if c.stuck { asks(c, FAILS, 0) } else { ended(c) }
+}
+
+pub(crate) fn looked_at_proc(c: Calling, a: &Answer) -> Calling
+    ensures { result ≡ looked_at_proc a.now c }
+{
+    if a.error == 0 {
+        after_proc(c)
+    } else {
+        asks(c, ANOTHER_PROC, 0)
+    }
+}
+
+pub(crate) fn went_by_another(c: Calling, a: &Answer) -> Calling
+    ensures { result ≡ went_by_another a.now c }
+{
+    if a.error == 0 {
+        Calling {
+            has_proc: true,
+            owns_proc: a.owns_proc,
+            by_another: true,
+            ..begun(c)
+        }
+    } else {
+        after_proc(lacks(c, a.error))
+    }
+}
+
+// The thread isn't where it was: nothing is handed out.
+fn stuck(c: Calling, error: u32) -> Calling
+    ensures { result ≡ stuck error c }
+{
+    let away = Calling {
+        error,
+        holds: false,
+        stuck: true,
+        ..c
+    };
+    if c.holds {
+        asks(away, CLOSE, c.value)
+    } else {
+        asks(away, FAILS, 0)
+    }
+}
+
+pub(crate) fn went_home(c: Calling, a: &Answer) -> Calling
+    ensures { result ≡ went_home a.now c }
+{
+    if a.error == 0 {
+        judged(Calling { moved: false, ..c })
+    } else {
+        stuck(c, a.error)
+    }
+}
+
+// What is wrong with a directory, as fstat(2) says it.
+fn directory_error(error: u32, kind: u64) -> u32
+    ensures { result ≡ directory_error error kind }
+{
+    if error != 0 {
+        error
+    } else if kind == DIRECTORY {
+        0
+    } else {
+        ENOTDIR
+    }
+}
+
+pub(crate) fn looked_at_root(c: Calling, a: &Answer) -> Calling
+    ensures { result ≡ looked_at_root a.now c }
+{
+    let error = directory_error(a.error, a.value);
+    if error == 0 {
+        over(c)
+    } else {
+        asks(
+            Calling {
+                error,
+                is_root: true,
+                ..c
+            },
+            FAILS,
+            0,
+        )
+    }
+}
