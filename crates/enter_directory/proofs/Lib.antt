@@ -1,1 +1,5 @@
-pub mod HistoryLemmas
+pub mod Asked
+pub mod CountLemmas
+pub mod EnteredLemmas
+pub mod ErrorLemmas
+pub mod OpenLemmas

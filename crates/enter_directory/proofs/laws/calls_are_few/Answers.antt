@@ -1,4 +1,4 @@
-use Rattle.enter_directory.proofs.HistoryLemmas.{few}
+use Rattle.enter_directory.proofs.CountLemmas.{few}
 use Rattle.enter_directory.proofs.laws.calls_are_few.Goals as goal
 
 pub returns : goal.returns

@@ -1,4 +1,4 @@
-use Rattle.enter_directory.proofs.HistoryLemmas.{found_is, opened_is, read_is}
+use Rattle.enter_directory.proofs.OpenLemmas.{found_is, opened_is, read_is}
 use Rattle.enter_directory.proofs.laws.each_descriptor_is_closed_once.Goals as goal
 
 pub returns-clause-opened : goal.returns-clause-opened

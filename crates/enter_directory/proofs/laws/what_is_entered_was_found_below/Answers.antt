@@ -1,4 +1,4 @@
-use Rattle.enter_directory.proofs.HistoryLemmas.{entered, entered_first}
+use Rattle.enter_directory.proofs.EnteredLemmas.{entered, entered_first}
 use Rattle.enter_directory.proofs.laws.what_is_entered_was_found_below.Goals as goal
 
 pub returns-clause-below : goal.returns-clause-below

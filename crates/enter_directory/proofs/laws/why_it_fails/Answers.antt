@@ -1,4 +1,4 @@
-use Rattle.enter_directory.proofs.HistoryLemmas.{missed, why_is}
+use Rattle.enter_directory.proofs.ErrorLemmas.{missed, why_is}
 use Rattle.enter_directory.proofs.laws.why_it_fails.Goals as goal
 
 pub returns-clause-fails : goal.returns-clause-fails
