@@ -446,7 +446,7 @@ const struct inroot_kept_root *inroot_root_kept(int root);
 
 /* place.c */
 /*
- * Which object it is, while it is open; by which mount, where the kernel tells that; how many names it has; and which
+ * Which object it is, while it is open; by which mount, where the kernel says that; how many names it has; and which
  * device it is.
  */
 struct inroot_which {
@@ -525,7 +525,7 @@ int inroot_magic_follow(struct inroot_driver *d, int dir, const char *name);
 int inroot_partial(int root, int from, char *text, int flags, bool follows, size_t *rest);
 
 /* mount.c */
-/* The number of the mount that a descriptor is on, which no other mount ever gets (Linux 6.8); or 0 where the kernel doesn't tell. */
+/* The number of the mount that a descriptor is on, which no other mount ever gets (Linux 6.8); or 0 where the kernel doesn't say. */
 uint64_t inroot_mount_unique(int fd);
 /* Whether an object is on the mount of the root, as far as the kernel shows it. */
 bool inroot_mount_has(struct inroot_driver *d, int fd);
