@@ -1,5 +1,5 @@
 //! Which call comes next as a walk goes into a directory, and as it gives the entries of one.
-ghost use Rattle.std.specs.Prelude.{◌≡◌, ◌<◌, ◌+◌, ◌-◌, ◌^◌, ◌∷◌, [], ℕ, List, Bool, true, false, length};
+ghost use Rattle.std.specs.Prelude.{◌≡◌, ◌≤◌, ◌<◌, ◌+◌, ◌-◌, ◌^◌, ◌∷◌, [], ℕ, List, Bool, true, false, length};
 ghost use Rattle.enter_directory.specs.Entering.{exchange, IsAt};
 ghost use Rattle.enter_directory.specs.History.{is_question, Exchange};
 ghost use Rattle.walk_directory.specs.History.{is_question as is_level_question, next_after, Exchange as LevelExchange, Facts};
@@ -44,8 +44,10 @@ pub extern "C" fn inroot_level_below(above: &Level, level: &mut Level)
     ensures begins { (records path : List ℕ) → IsLevelAt (facts_of level.new (length path)) [] level.new records path }
     ensures levels { level.new.levels ≡ above.now.levels }
     ensures depth { above.now.depth < 2 ^ 32 - 1 → level.new.depth ≡ above.now.depth + 1 }
+    ensures deepest { above.now.depth ≡ 2 ^ 32 - 1 → level.new.depth ≡ 2 ^ 32 - 1 }
     ensures path { above.now.length + (above.now.name + 1) < 2 ^ 64
         → level.new.length ≡ above.now.length + (above.now.name + 1) }
+    ensures longest { 2 ^ 64 ≤ above.now.length + (above.now.name + 1) → level.new.length ≡ 2 ^ 64 - 1 }
 {
     *level = walk_directory::below(above);
 }

@@ -127,6 +127,35 @@ fn directories_are_gone_into_to_a_depth(rt: HostRuntime) -> Result<(), Fail> {
 }
 
 #[test]
+fn levels_and_lengths_end_at_the_greatest(rt: HostRuntime) -> Result<(), Fail> {
+    let held = records_of(rt.alloc(), &[("abc", 4)])?;
+    let records = held.as_slice();
+    let mut path = *b"top-------------";
+    let first = Level {
+        depth: 4294967294,
+        ..gives(begin(0, 3), 0, records, &mut path)
+    };
+    let second = below(&first);
+    assert!(rt; second.depth == 4294967295 && below(&second).depth == 4294967295);
+    assert!(rt; gives(second, 0, records, &mut path).next == ENTER);
+    let limited = Level {
+        levels: 4294967295,
+        ..second
+    };
+    assert!(rt; gives(limited, 0, records, &mut path).next == GIVE);
+    let longest = Level {
+        length: 18446744073709551611,
+        ..first
+    };
+    assert!(rt; below(&longest).length == 18446744073709551615);
+    let longer = below(&Level { name: 4, ..longest });
+    assert!(rt; longer.length == 18446744073709551615);
+    let none = gives(longer, 0, records, &mut path);
+    assert!(rt; none.next == BREAKS_OFF && none.error == ENAMETOOLONG);
+    Ok(())
+}
+
+#[test]
 fn what_is_lost_is_left(rt: HostRuntime) -> Result<(), Fail> {
     let held = records_of(rt.alloc(), &[("a", 4), ("b", 8)])?;
     let records = held.as_slice();

@@ -235,13 +235,17 @@ pub fn begin(levels: u32, path_length: usize) -> Level
 }
 
 /// Begins with the directory that was opened at ENTER, below the one that has it: its path is the entry's, and its
-/// entries are on the next level. Takes no memory.
+/// entries are on the next level. Below the deepest one, level 2^32 - 1, that stays the level; so a directory that
+/// stands on it is opened only where all levels are given. A length that doesn't fit is the greatest one: `next` then
+/// breaks off, for want of room. Takes no memory.
 pub fn below(above: &Level) -> Level
     ensures begins { (records path : List ℕ) → IsAt (facts_of result (length path)) [] result records path }
     ensures levels { result.levels ≡ above.now.levels }
     ensures depth { above.now.depth < 2 ^ 32 - 1 → result.depth ≡ above.now.depth + 1 }
+    ensures deepest { above.now.depth ≡ 2 ^ 32 - 1 → result.depth ≡ 2 ^ 32 - 1 }
     ensures path { above.now.length + (above.now.name + 1) < 2 ^ 64
         → result.length ≡ above.now.length + (above.now.name + 1) }
+    ensures longest { 2 ^ 64 ≤ above.now.length + (above.now.name + 1) → result.length ≡ 2 ^ 64 - 1 }
 {
     Level {
         depth: above.depth.saturating_add(1),
