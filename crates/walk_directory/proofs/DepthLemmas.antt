@@ -1,7 +1,7 @@
 -- Which directories are gone into.
-use Rattle.std.proofs.Common.{◌≡◌, ℕ, List, [], ◌∷◌, Bool, true, false, ◌&&◌, refl, ap, sym, ◌∙◌}
+use Rattle.std.proofs.Common.{◌≡◌, ℕ, List, [], ◌∷◌, true, false, ◌&&◌, refl, ap, sym, ◌∙◌}
 use Rattle.std.specs.Prelude.{◌==◌}
-use Rattle.std.proofs.lemmas.Bool.{eqb-true, false≢true}
+use Rattle.std.proofs.lemmas.Bool.{eqb-true, false≢true, and_parts}
 use Rattle.system_calls.specs.Objects.{S_IFDIR}
 use Rattle.kernel_text.specs.Entries.{told_in, Told}
 use Rattle.walk_directory.specs.History.{after_exchange, comes, is_question, known, may_enter, next_after, Exchange, Facts, IsHistory, State}
@@ -70,17 +70,13 @@ right_step facts e s question =
       goes_on = λ at kept. right_comes facts _ s.left;
     })
 
-two : (a b : Bool) → (a && b) ≡ true → (a ≡ true) × (b ≡ true)
-two true b h = (refl, h)
-two false b h = absurd (false≢true h)
-
 pub only_inner : (facts : Facts) (history : List Exchange) → IsHistory facts history
     → (next_after facts history).next ≡ ENTER
     → ((next_after facts history).kind ≡ S_IFDIR) × (may_enter facts.levels facts.depth ≡ true)
 only_inner facts [] h is = absurd (false≢true (ap (λ n. n == ENTER) is))
 only_inner facts (e ∷ older) h is =
     let t = next_after facts (e ∷ older) in
-    let both = two (t.kind == S_IFDIR) (may_enter facts.levels facts.depth)
+    let both = and_parts (t.kind == S_IFDIR) (may_enter facts.levels facts.depth)
     ((right_step facts e (next_after facts older) h.0.question).only is) in
     (eqb-true t.kind S_IFDIR both.0, both.1)
 

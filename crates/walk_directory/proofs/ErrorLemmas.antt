@@ -2,7 +2,7 @@
 use Rattle.std.proofs.Common.{◌≡◌, ◌≢◌, eq-eqb, ℕ, List, [], ◌∷◌, Bool, true, false, not, ◌&&◌, ◌||◌, ◌⊎◌, inl, inr, refl, ap, sym, ◌∙◌}
 use Rattle.std.specs.Prelude.{◌==◌, if◌then◌else◌}
 use Rattle.std.specs.List.{AllByRecursion}
-use Rattle.std.proofs.lemmas.Bool.{false≢true}
+use Rattle.std.proofs.lemmas.Bool.{false≢true, or_left, or_right}
 use Rattle.system_calls.specs.Errors.{ENOENT, EINTR, EIO, EAGAIN, ENAMETOOLONG}
 use Rattle.system_calls.specs.Objects.{format}
 use Rattle.kernel_text.specs.Entries.{told_in, Told}
@@ -229,13 +229,6 @@ none_passed facts history h is =
     })
 
 -- ---- why it breaks off
-
-or_left : (a b : Bool) → a ≡ true → (a || b) ≡ true
-or_left a b is = ap (λ t. t || b) is
-
-or_right : (a b : Bool) → b ≡ true → (a || b) ≡ true
-or_right true b is = refl
-or_right false b is = is
 
 record Reasons (facts : Facts) (why : ℕ → Bool) (s : State) : Type 0 where
   lost : s.lost ≡ true → why EAGAIN ≡ true

@@ -1,7 +1,7 @@
 -- Which entries are given.
-use Rattle.std.proofs.Common.{◌≡◌, ◌≤◌, ◌+◌, ◌*◌, ℕ, List, [], ◌∷◌, ◌++◌, length, Bool, true, false, ◌&&◌, ◌||◌, refl, ap, sym, ◌∙◌, arith, append-nil, append_assoc, length-append}
+use Rattle.std.proofs.Common.{◌≡◌, ◌≤◌, ◌+◌, ◌*◌, ℕ, List, [], ◌∷◌, ◌++◌, length, Bool, true, false, ◌||◌, refl, ap, sym, ◌∙◌, arith, append-nil, append_assoc, length-append}
 use Rattle.std.specs.Prelude.{◌==◌, if◌then◌else◌}
-use Rattle.std.proofs.lemmas.Bool.{false≢true}
+use Rattle.std.proofs.lemmas.Bool.{false≢true, and_parts}
 use Rattle.system_calls.specs.Objects.{format}
 use Rattle.kernel_text.specs.Listing.{is_entry}
 use Rattle.kernel_text.specs.Entries.{is_told_name, told_in, Told}
@@ -19,14 +19,6 @@ pub record Good (s : State) : Type 0 where
   pub entries : are_entries s.left ≡ true
   pub one : is_about s.next ≡ true → is_one s.name ≡ true
 
-first_one : (a b : Bool) → (a && b) ≡ true → a ≡ true
-first_one true b h = refl
-first_one false b h = absurd (false≢true h)
-
-others : (a b : Bool) → (a && b) ≡ true → b ≡ true
-others true b h = h
-others false b h = absurd (false≢true h)
-
 comes_good : (facts : Facts) (left : List Told) → are_entries left ≡ true → Good (comes facts left)
 comes_good facts left all =
     by_comes Good facts left (record {
@@ -43,18 +35,18 @@ comes_good facts left all =
       };
       looks = λ name type more is room. record {
         idle = λ h. absurd (false≢true h);
-        entries = others (is_one name) (are_entries more) (ap are_entries (sym is) ∙ all);
-        one = λ h. first_one (is_one name) (are_entries more) (ap are_entries (sym is) ∙ all);
+        entries = (and_parts (is_one name) (are_entries more) (ap are_entries (sym is) ∙ all)).1;
+        one = λ h. (and_parts (is_one name) (are_entries more) (ap are_entries (sym is) ∙ all)).0;
       };
       enters = λ name type kind more is room inner. record {
         idle = λ h. absurd (false≢true h);
-        entries = others (is_one name) (are_entries more) (ap are_entries (sym is) ∙ all);
-        one = λ h. first_one (is_one name) (are_entries more) (ap are_entries (sym is) ∙ all);
+        entries = (and_parts (is_one name) (are_entries more) (ap are_entries (sym is) ∙ all)).1;
+        one = λ h. (and_parts (is_one name) (are_entries more) (ap are_entries (sym is) ∙ all)).0;
       };
       gives = λ name type kind more is room inner. record {
         idle = λ h. absurd (false≢true h);
-        entries = others (is_one name) (are_entries more) (ap are_entries (sym is) ∙ all);
-        one = λ h. first_one (is_one name) (are_entries more) (ap are_entries (sym is) ∙ all);
+        entries = (and_parts (is_one name) (are_entries more) (ap are_entries (sym is) ∙ all)).1;
+        one = λ h. (and_parts (is_one name) (are_entries more) (ap are_entries (sym is) ∙ all)).0;
       };
     })
 
@@ -110,7 +102,7 @@ pub given_is : (facts : Facts) (history : List Exchange) → IsHistory facts his
 given_is facts history h is =
     let name = (next_after facts history).name in
     let one = (all_good facts history h).one (ap is_about is) in
-    (first_one (is_entry name) (is_told_name name) one, others (is_entry name) (is_told_name name) one)
+    and_parts (is_entry name) (is_told_name name) one
 
 -- ---- the names that are left
 
