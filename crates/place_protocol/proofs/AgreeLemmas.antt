@@ -1,7 +1,7 @@
 -- Agreeing answers tell the place.
-use Rattle.std.proofs.Common.{◌≡◌, ◌==◌, ◌||◌, ◌≤◌, ℕ, Bool, true, false, not, List, [], ◌∷◌, length, nat_lt, Option, Some, None, refl, sym, ap, subst, ◌∙◌}
+use Rattle.std.proofs.Common.{◌≡◌, ◌==◌, ◌||◌, ◌≤◌, ℕ, true, false, not, List, [], ◌∷◌, length, nat_lt, Option, Some, None, refl, sym, ap, subst, ◌∙◌}
 use Rattle.std.specs.Cmp.Derive.{both_true}
-use Rattle.std.proofs.lemmas.Bool.{cond-true, cond-false, cond_both, eq-eqb, le-ltb, ltb-false}
+use Rattle.std.proofs.lemmas.Bool.{cond-true, cond-false, cond_both, eq-eqb, le-ltb, ltb-false, or_from, or_parts, or_right}
 use Rattle.path_text.specs.Name.{same_bytes}
 use Rattle.path_text.specs.declared.name.TheConstants.{SLASH}
 use Rattle.path_text.specs.declared.path.TheConstants.{TEXT_MAX}
@@ -19,7 +19,7 @@ use Rattle.place_protocol.specs.declared.questions.Question.TheVariants.{Enter, 
 use Rattle.place_protocol.specs.declared.turns.Turn.{Turn}
 use Rattle.place_protocol.specs.declared.turns.Turn.TheVariants.{Ask, Look, Stands, Unmade}
 use Rattle.place_protocol.proofs.GoesLemmas.{answered}
-use Rattle.place_protocol.proofs.TextLemmas.{or_none, or_second, part_size, place_alone, place_with_second, told_before}
+use Rattle.place_protocol.proofs.TextLemmas.{part_size, place_alone, place_with_second, told_before}
 
 -- ---- which turn follows
 
@@ -32,14 +32,10 @@ found_there text (Some p) (Some at) place h e =
     let same : p ≡ place = cc in
     (at, refl, subst (λ (q : List ℕ). IsPart text q at.start at.length) same h.0, h.1 ∙ ap ends_as_gone same)
 
-first_false : (x y : Bool) → (x || y) ≡ false → x ≡ false
-first_false true y e = e
-first_false false y e = refl
-
 short : (before path after place : List ℕ) → place_between before path after ≡ Some place → length path ≤ TEXT_MAX
 short before path after place =
     cond_both (nat_lt TEXT_MAX (length path) || not (same_bytes before after)) None (place_below before path)
-    (λ o. o ≡ Some place → length path ≤ TEXT_MAX) (λ _ e. absurd cc) (λ none _. ltb-false TEXT_MAX (length path) (first_false _ _ none))
+    (λ o. o ≡ Some place → length path ≤ TEXT_MAX) (λ _ e. absurd cc) (λ none _. ltb-false TEXT_MAX (length path) (or_parts _ _ none).0)
 
 link_fine : (error : ℕ) (text : List ℕ) → error ≡ 0 → length text ≤ TEXT_MAX → link_error error text ≡ 0
 link_fine error text none size =
@@ -53,7 +49,7 @@ object_turn : (facts : Facts) (error : ℕ) (at : Place) → error ≡ 0 → fac
     → after_object facts error (Some at) ≡ Look at
 object_turn facts error at none second seen =
     cond-false (not (error == 0)) (Unmade error) _ (zero_error error none)
-    ∙ (cond-true (facts.jailed || facts.second) (confirm_place facts at) (Ask OwnRoot) (or_second facts.jailed facts.second second)
+    ∙ (cond-true (facts.jailed || facts.second) (confirm_place facts at) (Ask OwnRoot) (or_right facts.jailed facts.second second)
     ∙ (cond-false (not facts.second) (confirm_alone facts at) _ (ap not second)
     ∙ cond-true (not facts.seen || is_root at) (Look at) _ (ap (λ s. not s || is_root at) seen)))
 
@@ -276,7 +272,7 @@ object_alone_tells facts place t next object own again last jailed second read q
     let fine = link_fine object.answer.error object.text read.1 (short t.root object.text again.text place told) in
     let e : a.0 ≡ Ask OwnRoot =
     a.1.2 ∙ (cond-false (not (error == 0)) (Unmade error) _ (zero_error error fine)
-    ∙ cond-false (facts.jailed || facts.second) (confirm facts a.1.0) (Ask OwnRoot) (or_none facts.jailed facts.second jailed second)) in
+    ∙ cond-false (facts.jailed || facts.second) (confirm facts a.1.0) (Ask OwnRoot) (or_from facts.jailed facts.second jailed second)) in
     own_tells facts place (keep ObjectLink object.text t) a.0 own again last jailed second q own_yes worked size told tells e a.2
 
 alone_tells : (facts : Facts) (kept place : List ℕ) (root object own again last : Exchange)

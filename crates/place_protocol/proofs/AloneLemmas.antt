@@ -1,6 +1,6 @@
 -- Where the text is the one witness.
 use Rattle.std.proofs.Common.{◌≡◌, ◌==◌, ◌&&◌, ◌||◌, ℕ, Bool, true, false, not, List, [], ◌∷◌, Option, Some, None, refl, sym, ap, subst, ◌∙◌, inl, inr}
-use Rattle.std.proofs.lemmas.Bool.{eqb-true, not-true, or_left, true≢false, false≢true}
+use Rattle.std.proofs.lemmas.Bool.{eqb-true, not-true, or_left, true≢false, false≢true, and_parts, or_from}
 use Rattle.path_text.specs.declared.name.TheConstants.{SLASH}
 use Rattle.system_calls.specs.Errors.{EAGAIN, EOPNOTSUPP}
 use Rattle.kernel_text.specs.Place.{ends_as_gone, is_named, place_between, IsPart}
@@ -13,8 +13,8 @@ use Rattle.place_protocol.specs.Witness.{FindsRoot, IsAlive, IsThere, NamedAgain
 use Rattle.place_protocol.specs.declared.questions.Facts.{Facts}
 use Rattle.place_protocol.specs.declared.questions.Question.TheVariants.{RootLink, ObjectLink, OwnRoot, RootAgain, LinkAgain, Dead, IsRoot}
 use Rattle.place_protocol.specs.declared.turns.Turn.TheVariants.{Ask, Stands, Unmade}
-use Rattle.place_protocol.proofs.GoesLemmas.{Ends, asked, both, either, if_not, if_so, link_worked, no_error, not_so, so, stood, turned, unmade}
-use Rattle.place_protocol.proofs.TextLemmas.{found_part, is_found, or_none, part_size, some_found, told_alone, told_before, told_in_jail}
+use Rattle.place_protocol.proofs.GoesLemmas.{Ends, asked, either, if_not, if_so, link_worked, no_error, not_so, so, stood, turned, unmade}
+use Rattle.place_protocol.proofs.TextLemmas.{found_part, is_found, part_size, some_found, told_alone, told_before, told_in_jail}
 
 -- ---- whether the directory is dead
 
@@ -99,7 +99,7 @@ itself_of place r facts t e es None q finds h = absurd (unmade place r facts t (
 itself_of place r facts t e es (Some found) q finds h =
     let same = is_same_object e.answer.held e.answer.found true in
     let n = if_so place r facts t ((e.answer.error == 0) && same) (Stands found (is_root found)) (look_up_error e.answer.error) es h in
-    let b = both (e.answer.error == 0) same n.0 in
+    let b = and_parts (e.answer.error == 0) same n.0 in
     let s = some_found t.text (place_of facts t) found place finds (stood place r facts t found (is_root found) es n.1) in
     (inl ((q, eqb-true e.answer.error 0 b.0), b.1), s.0)
 
@@ -246,7 +246,7 @@ object_of place r facts t e es found second jailed q h =
     let t' = keep ObjectLink e.text t in
     let n = if_not place r facts t' (not (link_error e.answer.error e.text == 0)) _ (link_error e.answer.error e.text) es h in
     let worked = link_worked e.answer.error e.text (no_error (link_error e.answer.error e.text) n.0) in
-    let c = not_so place r facts t' (facts.jailed || facts.second) (confirm facts found) (Ask OwnRoot) es (or_none facts.jailed facts.second jailed second) n.1 in
+    let c = not_so place r facts t' (facts.jailed || facts.second) (confirm facts found) (Ask OwnRoot) es (or_from facts.jailed facts.second jailed second) n.1 in
     inl ((q, worked), own place r facts t' es second jailed c)
 
 object : (place : List ℕ) (r : Bool) (facts : Facts) (t : Texts) (es : List Exchange) → facts.second ≡ false

@@ -1,6 +1,6 @@
 -- Where the thread has openat2(2).
 use Rattle.std.proofs.Common.{◌≡◌, ◌==◌, ◌||◌, ℕ, Bool, true, false, not, cond, List, [], ◌∷◌, length, Option, Some, None, refl, sym, ap, subst, ◌∙◌, ◌⊎◌, inl, inr}
-use Rattle.std.proofs.lemmas.Bool.{cond-false, eqb-true, not-false, true≢false}
+use Rattle.std.proofs.lemmas.Bool.{cond-false, eqb-true, not-false, and_parts, or_parts, or_right}
 use Rattle.path_text.specs.declared.name.TheConstants.{SLASH}
 use Rattle.system_calls.specs.Errors.{EAGAIN}
 use Rattle.kernel_text.specs.Place.{place_between, IsPart}
@@ -16,8 +16,8 @@ use Rattle.place_protocol.specs.declared.questions.Question.TheVariants.{RootLin
 use Rattle.place_protocol.specs.declared.turns.Turn.{Turn}
 use Rattle.place_protocol.specs.declared.turns.Turn.TheVariants.{Ask, Look, Stands, Unmade}
 use Rattle.place_protocol.proofs.AloneLemmas.{Confirmed, alive, jail_alone, root_stayed, there, top_of}
-use Rattle.place_protocol.proofs.GoesLemmas.{Ends, answered, asked, both, either, if_not, if_so, link_worked, no_error, not_so, so, stood, turned, unmade}
-use Rattle.place_protocol.proofs.TextLemmas.{found_part, is_found, or_second, part_size, some_found, told_with_second}
+use Rattle.place_protocol.proofs.GoesLemmas.{Ends, answered, asked, either, if_not, if_so, link_worked, no_error, not_so, so, stood, turned, unmade}
+use Rattle.place_protocol.proofs.TextLemmas.{found_part, is_found, part_size, some_found, told_with_second}
 
 -- the text tells the place below the root's path that was read last
 abbrev pub Told : Facts → Texts → List ℕ → Type 0
@@ -65,7 +65,7 @@ found_of : (place : List ℕ) (r : Bool) (facts : Facts) (t : Texts) (e : Exchan
     → Ends place r facts t (after_found facts e.answer found) es → Seen facts t place e es
 found_of place r facts t e es found second q finds h =
     let n = if_not place r facts t (not (has_found e.answer found)) _ (look_up_error e.answer.error) es h in
-    let b = both (e.answer.error == 0) (is_same_object e.answer.held e.answer.found (is_root found)) (not-false (has_found e.answer found) n.0) in
+    let b = and_parts (e.answer.error == 0) (is_same_object e.answer.held e.answer.found (is_root found)) (not-false (has_found e.answer found) n.0) in
     let worked = eqb-true e.answer.error 0 b.0 in
     elim (either place r facts t (is_root found) (Stands found true) (ask_there facts found) es n.1) [
       | inl c ↦
@@ -87,10 +87,6 @@ found_of place r facts t e es found second q finds h =
             told = told_with_second facts t place second a.1;
           }
     ]
-
-neither : (x y : Bool) → (x || y) ≡ false → (x ≡ false) × (y ≡ false)
-neither true y e = absurd (true≢false e)
-neither false y e = (refl, e)
 
 -- ---- to what a conversation comes
 
@@ -160,7 +156,7 @@ by_place place r facts t es found second finds h =
           look place r facts t es found p.0 second (told_with_second facts t p.0 second p.1) p.2 c.1
       | inr c ↦
           let s = by_seen_place place r facts t es found found.gone refl finds c.1 in
-          let b = neither (not facts.seen) (is_root found) c.0 in
+          let b = or_parts (not facts.seen) (is_root found) c.0 in
           let part = found_part t.text (place_of facts t) found place finds s.1 in
           let top = top_of t.text place found part.0 ∙ b.1 in
           reached_seen (not-false facts.seen b.0) top (told_with_second facts t place second s.1, s.0)
@@ -192,7 +188,7 @@ object_of : (place : List ℕ) (r : Bool) (facts : Facts) (t : Texts) (e : Excha
 object_of place r facts t e es found second q same finds h =
     let n = if_not place r facts t (not (link_error e.answer.error e.text == 0)) _ (link_error e.answer.error e.text) es h in
     let worked = link_worked e.answer.error e.text (no_error (link_error e.answer.error e.text) n.0) in
-    let c = so place r facts t (facts.jailed || facts.second) (confirm facts found) (Ask OwnRoot) es (or_second facts.jailed facts.second second) n.1 in
+    let c = so place r facts t (facts.jailed || facts.second) (confirm facts found) (Ask OwnRoot) es (or_right facts.jailed facts.second second) n.1 in
     told_by ObjectLink place facts t e es (q, worked) same (by_found place r facts t es found second finds c)
 
 pub object : (place : List ℕ) (r : Bool) (facts : Facts) (t : Texts) (es : List Exchange) → facts.second ≡ true

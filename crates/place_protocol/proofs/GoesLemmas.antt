@@ -63,10 +63,6 @@ pub not_so : (place : List ℕ) (r : Bool) (facts : Facts) (t : Texts) (b : Bool
 not_so place r facts t true x y es e h = absurd (true≢false e)
 not_so place r facts t false x y es e h = h
 
-pub both : (x y : Bool) → (x && y) ≡ true → (x ≡ true) × (y ≡ true)
-both true y e = (refl, e)
-both false y e = absurd (false≢true e)
-
 -- what follows the answer to this question
 abbrev pub After : Question → Facts → Texts → Exchange → List Exchange → (Texts → Turn → Type 0) → Type 0
 After q facts t e es End =

@@ -1,6 +1,6 @@
 -- What answers say of the file system.
 use Rattle.std.proofs.Common.{◌≡◌, ◌+◌, ◌<◌, ◌≤◌, ◌==◌, ◌&&◌, ◌||◌, ℕ, Bool, true, false, not, zero, suc, ◌-◌, List, [], ◌∷◌, length, take, drop, nat_lt, Some, None, refl, sym, ap, subst, ◌∙◌, ◌⊎◌, inl, inr, arith}
-use Rattle.std.proofs.lemmas.Bool.{both_ways, cond_both, eqb-true, false_from_ne_true, false≢true, not-false}
+use Rattle.std.proofs.lemmas.Bool.{both_ways, cond_both, eqb-true, false_from_ne_true, false≢true, not-false, and_parts}
 use Rattle.std.specs.Cmp.Derive.{both_true}
 use Rattle.path_text.specs.declared.name.TheConstants.{SLASH}
 use Rattle.path_text.specs.Name.{same_bytes}
@@ -14,7 +14,6 @@ use Rattle.place_protocol.specs.Witness.{DirectoryTells, FindsObject, FindsRoot,
 use Rattle.place_protocol.specs.declared.questions.Facts.{Facts}
 use Rattle.place_protocol.specs.declared.questions.Question.{Question}
 use Rattle.place_protocol.specs.declared.questions.Question.TheVariants.{CwdAgain, KeptLink, RootLink, ObjectLink, LookUp}
-use Rattle.place_protocol.proofs.GoesLemmas.{both}
 use Rattle.place_protocol.proofs.TextLemmas.{named_there, not_called}
 use Rattle.place_protocol.proofs.WitnessLemmas.{places-are-witnessed}
 
@@ -252,7 +251,7 @@ below_slash_alone root path place e top =
     cond_both (not (begins_with_slash root && begins_with_slash path)) None _ (λ o. o ≡ Some place → place ≡ SLASH ∷ [])
     (λ _ f. absurd cc)
     (λ begin. cond_both (same_bytes root (SLASH ∷ [])) (Some path) _ (λ o. o ≡ Some place → place ≡ SLASH ∷ [])
-    (λ _ f. some_slash place path (both (begins_with_slash root) (begins_with_slash path) (not-false _ begin)).1 f top)
+    (λ _ f. some_slash place path (and_parts (begins_with_slash root) (begins_with_slash path) (not-false _ begin)).1 f top)
     (λ _. cond_both (same_bytes (take (length root) path) root) (behind (drop (length root) path)) None
     (λ o. o ≡ Some place → place ≡ SLASH ∷ []) (λ _ f. behind_slash (drop (length root) path) place f top) (λ _ f. absurd cc))) e
 

@@ -4,7 +4,7 @@ use Rattle.std.specs.List.{ends_with, list_any}
 use Rattle.std.specs.Prelude.{codes}
 use Rattle.std.specs.Cmp.Derive.{both_true}
 use Rattle.std.specs.Cmp.Lexicographic.{same_text}
-use Rattle.std.proofs.lemmas.Bool.{both_ways, cond-true, cond-false, cond_both, eq-eqb, eqb-true, false_from_ne_true, false≢true, ltb-false, ltb-true, true≢false, or_left}
+use Rattle.std.proofs.lemmas.Bool.{both_ways, cond-true, cond-false, cond_both, eq-eqb, eqb-true, false_from_ne_true, false≢true, ltb-false, ltb-true, true≢false, or_left, or_from, or_parts, or_right}
 use Rattle.std.proofs.lemmas.List.{drop-take, length-drop, length-take-le, take-take}
 use Rattle.path_text.specs.Name.{NUL, same_bytes}
 use Rattle.path_text.specs.Text.{begins_with_slash}
@@ -148,27 +148,19 @@ part_size text place start size part =
 
 -- ---- the root's path
 
-pub or_second : (x y : Bool) → y ≡ true → (x || y) ≡ true
-or_second true y e = refl
-or_second false y e = e
-
-pub or_none : (x y : Bool) → x ≡ false → y ≡ false → (x || y) ≡ false
-or_none true y e f = absurd (true≢false e)
-or_none false y e f = f
-
 -- with the second witness it is read once
 pub told_with_second : (facts : Facts) (t : Texts) (place : List ℕ) → facts.second ≡ true → place_of facts t ≡ Some place
     → place_between (path_of_root facts t.root) t.text (path_of_root facts t.root) ≡ Some place
 told_with_second facts t place second told =
     sym (ap (λ p. place_between (path_of_root facts t.root) t.text p)
-    (cond-true (facts.jailed || facts.second) (path_of_root facts t.root) t.again (or_second facts.jailed facts.second second)))
+    (cond-true (facts.jailed || facts.second) (path_of_root facts t.root) t.again (or_right facts.jailed facts.second second)))
     ∙ told
 
 pub place_with_second : (facts : Facts) (t : Texts) (place : List ℕ) → facts.second ≡ true
     → place_between (path_of_root facts t.root) t.text (path_of_root facts t.root) ≡ Some place → place_of facts t ≡ Some place
 place_with_second facts t place second told =
     ap (λ p. place_between (path_of_root facts t.root) t.text p)
-    (cond-true (facts.jailed || facts.second) (path_of_root facts t.root) t.again (or_second facts.jailed facts.second second))
+    (cond-true (facts.jailed || facts.second) (path_of_root facts t.root) t.again (or_right facts.jailed facts.second second))
     ∙ told
 
 -- in a jail it is a slash
@@ -185,7 +177,7 @@ pub place_alone : (facts : Facts) (t : Texts) (place : List ℕ) → facts.jaile
 place_alone facts t place jailed second told =
     let root : path_of_root facts t.root ≡ t.root = cond-false facts.jailed (SLASH ∷ []) t.root jailed in
     let after : path_after facts t.root t.again ≡ t.again =
-    cond-false (facts.jailed || facts.second) (path_of_root facts t.root) t.again (or_none facts.jailed facts.second jailed second) in
+    cond-false (facts.jailed || facts.second) (path_of_root facts t.root) t.again (or_from facts.jailed facts.second jailed second) in
     ap (λ p. place_between p t.text (path_after facts t.root t.again)) root ∙ (ap (λ p. place_between t.root t.text p) after ∙ told)
 
 -- out of one, without the second witness, it is read twice
@@ -194,7 +186,7 @@ pub told_alone : (facts : Facts) (t : Texts) (place : List ℕ) → facts.jailed
 told_alone facts t place jailed second told =
     let root : path_of_root facts t.root ≡ t.root = cond-false facts.jailed (SLASH ∷ []) t.root jailed in
     let after : path_after facts t.root t.again ≡ t.again =
-    cond-false (facts.jailed || facts.second) (path_of_root facts t.root) t.again (or_none facts.jailed facts.second jailed second) in
+    cond-false (facts.jailed || facts.second) (path_of_root facts t.root) t.again (or_from facts.jailed facts.second jailed second) in
     sym (ap (λ p. place_between p t.text (path_after facts t.root t.again)) root ∙ ap (λ p. place_between t.root t.text p) after) ∙ told
 
 -- ---- the root's text, once
@@ -203,10 +195,6 @@ same_self : (xs : List ℕ) → same_bytes xs xs ≡ true
 same_self [] = refl
 same_self (x ∷ xs) = both_true (eq-eqb x x refl) (same_self xs)
 
-or_first : (x y : Bool) → (x || y) ≡ false → x ≡ false
-or_first true y e = e
-or_first false y e = refl
-
 between_once : (before path after place : List ℕ) → place_between before path after ≡ Some place
     → place_between before path before ≡ Some place
 between_once before path after place =
@@ -214,7 +202,7 @@ between_once before path after place =
     (λ o. o ≡ Some place → place_between before path before ≡ Some place) (λ _ e. absurd cc)
     (λ none e.
     cond-false (nat_lt TEXT_MAX (length path) || not (same_bytes before before)) None (place_below before path)
-    (or_none (nat_lt TEXT_MAX (length path)) (not (same_bytes before before)) (or_first _ _ none) (ap not (same_self before)))
+    (or_from (nat_lt TEXT_MAX (length path)) (not (same_bytes before before)) (or_parts _ _ none).0 (ap not (same_self before)))
     ∙ e)
 
 once : (x y : Bool) (slash root : List ℕ) → cond (x || y) (cond x slash root) root ≡ cond x slash root
@@ -275,7 +263,7 @@ any_behind : (n : ℕ) (text : List ℕ) → list_any (λ b. b == SLASH) (drop n
     → list_any (λ b. b == SLASH) text ≡ true
 any_behind zero text some = some
 any_behind (suc n) [] some = some
-any_behind (suc n) (b ∷ bs) some = or_second (b == SLASH) _ (any_behind n bs some)
+any_behind (suc n) (b ∷ bs) some = or_right (b == SLASH) _ (any_behind n bs some)
 
 part_behind : (n : ℕ) (text : List ℕ) → list_any (λ b. b == SLASH) (drop n text) ≡ true
     → last_part (drop n text) ≡ last_part text

@@ -1,6 +1,6 @@
 -- Each place is witnessed.
 use Rattle.std.proofs.Common.{◌≡◌, ◌==◌, ◌&&◌, ℕ, Bool, true, false, not, cond, List, [], ◌∷◌, Option, Some, None, refl, ap, subst, ◌∙◌, inl, inr}
-use Rattle.std.proofs.lemmas.Bool.{cond-true, cond-false, eqb-true}
+use Rattle.std.proofs.lemmas.Bool.{cond-true, cond-false, eqb-true, and_parts}
 use Rattle.path_text.specs.declared.name.TheConstants.{SLASH}
 use Rattle.system_calls.specs.Errors.{ENOENT, EACCES}
 use Rattle.kernel_text.specs.Place.{place_of_cwd}
@@ -14,7 +14,7 @@ use Rattle.place_protocol.specs.declared.questions.Question.TheVariants.{Enter, 
 use Rattle.place_protocol.specs.declared.turns.Turn.TheVariants.{Ask, Unmade}
 use Rattle.place_protocol.proofs.AloneLemmas.{Confirmed, jail_alone, root_stayed}
 use Rattle.place_protocol.proofs.BothLemmas.{Lost, Reached, reached_both, reached_seen, reached_lost, by_place, object, root, told_by}
-use Rattle.place_protocol.proofs.GoesLemmas.{Ends, asked, both, either, if_here, if_not, no_error, nowhere, stood, turned, unmade}
+use Rattle.place_protocol.proofs.GoesLemmas.{Ends, asked, either, if_here, if_not, no_error, nowhere, stood, turned, unmade}
 use Rattle.place_protocol.proofs.TextLemmas.{some_found}
 
 -- ---- getcwd(2)
@@ -188,14 +188,14 @@ from_link : (place : List ℕ) (r : Bool) (facts : Facts) (t : Texts) (es : List
     → Ends place r facts t (Ask (cond jailed ObjectLink (cond keeps KeptLink RootLink))) es → IsWitnessed facts t.root es place
 from_link place r facts t es true keeps j k h = object_in_jail place r facts t.root t es facts.second j refl h
 from_link place r facts t es false true j k h =
-    let b = both facts.second facts.kept k in by_kept place r facts t es j b.0 b.1 h
+    let b = and_parts facts.second facts.kept k in by_kept place r facts t es j b.0 b.1 h
 from_link place r facts t es false false j k h = by_root place r facts t.root t es facts.second j refl h
 
 from_first : (place : List ℕ) (r : Bool) (facts : Facts) (t : Texts) (es : List Exchange) (inside : Bool)
     → (facts.jailed && facts.directory) ≡ inside → Ends place r facts t (Ask (cond inside Enter (first_link facts))) es
     → IsWitnessed facts t.root es place
 from_first place r facts t es true i h =
-    let b = both facts.jailed facts.directory i in enter place r facts t.root t es b.0 b.1 h
+    let b = and_parts facts.jailed facts.directory i in enter place r facts t.root t es b.0 b.1 h
 from_first place r facts t es false i h = from_link place r facts t es facts.jailed (facts.second && facts.kept) refl refl h
 
 pub places-are-witnessed : PlacesAreWitnessed
