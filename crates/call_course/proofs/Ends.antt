@@ -238,7 +238,7 @@ again_is facts =
 
 -- ---- the root's own error
 
-not_both : (b : Bool) → b ≡ false → b ≡ true → ⊥
+pub not_both : (b : Bool) → b ≡ false → b ≡ true → ⊥
 not_both true x y = false≢true (sym x)
 not_both false x y = false≢true y
 

@@ -10,6 +10,7 @@ use Rattle.call_course.specs.declared.calling.Facts.{Facts}
 use Rattle.call_course.specs.declared.calling.TheConstants.{BEGIN, PLACE, CONVERSE, ENDS, FAILS}
 use Rattle.std.proofs.lemmas.Bool.{false≢true}
 use Rattle.call_course.proofs.Leads.{First, f_given, f_check, f_check_place, f_place, f_join, f_once, first_is, Leads, Turn, to_proc, to_close, to_home, to_root, to_end, to_again, to_fail, t_begin, t_join, t_join_held, t_no_join, t_once, t_missing, t_not_once, t_not_once_held, t_there_place, t_there_walk, t_there_given, t_alone, t_proc, t_none_place, t_none_walk, t_none_given, t_own_place, t_own_walk, t_own_given, t_no_own, t_place, t_no_place, t_opened, t_text, t_cut, t_done, t_made, t_lost, t_unopened, t_count, t_fault, t_took, t_not_took, t_let_go, t_close_made, t_closed, t_closed_stuck, t_same_proc, t_lost_proc, t_another, t_no_other, t_proc_closed, t_home, t_stuck_holds, t_stuck, t_root, t_bad_root}
+use Rattle.call_course.proofs.Ends.{not_both}
 use Rattle.call_course.proofs.Rule.{always, has_facts}
 use Rattle.call_course.proofs.Given.{anew, begins, given_is, given_ok, given_start, given_turn}
 
@@ -188,10 +189,6 @@ steps_no_leads seen may c n l =
       | to_again p0 p1 p2 p3 p4 is ↦ subst (λ m. steps m.next ≡ false) (sym is) (grind (arith, p0, p1, p2, p3, p4))
       | to_fail p0 p1 p2 p3 is ↦ subst (λ m. steps m.next ≡ false) (sym is) (grind (arith, p0, p1, p2, p3))
     ]
-
-not_both : (b : Bool) → b ≡ false → b ≡ true → ⊥
-not_both true x y = false≢true (sym x)
-not_both false x y = false≢true y
 
 steps_first : (facts : Facts) (k : ℕ) → needs_no_check facts ≡ false → First facts k → steps k ≡ false
 steps_first facts k own f =

@@ -1,6 +1,7 @@
 -- How many exchanges and pauses there are.
 use Rattle.std.proofs.Common.{◌≡◌, ◌+◌, ◌-◌, ◌*◌, ◌≤◌, ℕ, zero, suc, List, length, Bool, true, false, ◌||◌, refl, ap, sym, subst, ◌∙◌, arith}
 use Rattle.std.specs.Prelude.{◌==◌, if◌then◌else◌}
+use Rattle.std.proofs.Math.Nat.{add-suc, add-zero}
 use Rattle.system_calls.specs.Tries.{pause_after, pauses_after}
 use Rattle.call_course.specs.Turns.{gains, lacks, noted, start, may_go_by_another}
 use Rattle.call_course.specs.History.{exchange, next_after, Exchange, IsHistory}
@@ -31,21 +32,18 @@ pauses_step : (tries : ℕ) → pauses_after (tries - 1) + pause_after tries ≡
 pauses_step zero = refl
 pauses_step (suc tries) = ap (λ n. pauses_after n + pause_after (suc tries)) (less_one tries)
 
-add_none : (n : ℕ) → n + 0 ≡ n
-add_none n = omega arith
-
 pauses_leads : (seen may : Bool) (c n : Calling) (pauses : ℕ) → pauses ≡ pauses_after (c.tries - 1) → Leads seen may c n
     → pauses_ok pauses n
 pauses_leads seen may c n pauses w l =
     elim l [
-      | to_proc p0 p1 p2 ↦ subst (λ m. pauses_ok pauses m) (sym p2) (add_none pauses ∙ w)
-      | to_close p0 p1 ↦ subst (λ m. pauses_ok pauses m) (sym p1) (add_none pauses ∙ w)
-      | to_home p0 p1 p2 ↦ subst (λ m. pauses_ok pauses m) (sym p2) (add_none pauses ∙ w)
-      | to_root p0 p1 p2 p3 p4 ↦ subst (λ m. pauses_ok pauses m) (sym p4) (add_none pauses ∙ w)
-      | to_end p0 p1 p2 p3 ↦ subst (λ m. pauses_ok pauses m) (sym p3) (add_none pauses ∙ w)
+      | to_proc p0 p1 p2 ↦ subst (λ m. pauses_ok pauses m) (sym p2) (add-zero pauses ∙ w)
+      | to_close p0 p1 ↦ subst (λ m. pauses_ok pauses m) (sym p1) (add-zero pauses ∙ w)
+      | to_home p0 p1 p2 ↦ subst (λ m. pauses_ok pauses m) (sym p2) (add-zero pauses ∙ w)
+      | to_root p0 p1 p2 p3 p4 ↦ subst (λ m. pauses_ok pauses m) (sym p4) (add-zero pauses ∙ w)
+      | to_end p0 p1 p2 p3 ↦ subst (λ m. pauses_ok pauses m) (sym p3) (add-zero pauses ∙ w)
       | to_again p0 p1 p2 p3 p4 p5 ↦
           subst (λ m. pauses_ok pauses m) (sym p5) (ap (λ p. p + pause_after c.tries) w ∙ pauses_step c.tries)
-      | to_fail p0 p1 p2 p3 p4 ↦ subst (λ m. pauses_ok pauses m) (sym p4) (add_none pauses ∙ w)
+      | to_fail p0 p1 p2 p3 p4 ↦ subst (λ m. pauses_ok pauses m) (sym p4) (add-zero pauses ∙ w)
     ]
 
 pauses_turn : (c : Calling) (a : Answer) (n : Calling) (was : ℕ) → sound c ≡ true → pauses_ok was c → Turn c a n
@@ -194,14 +192,11 @@ pauses_are facts =
     always facts (λ h c. pauses_ok (pauses_of h) c) (pauses_start facts)
     (λ older c a n s same t w. pauses_turn c a n (pauses_of older) s w t)
 
-add_suc : (n m : ℕ) → n + suc m ≡ suc (n + m)
-add_suc n m = omega arith
-
 pauses_grow : (few more : ℕ) → pauses_after few ≤ pauses_after (few + more)
-pauses_grow few zero = grind (arith, add_none few)
+pauses_grow few zero = grind (arith, add-zero few)
 pauses_grow few (suc more) =
     let before = pauses_grow few more in
-    subst (λ n. pauses_after few ≤ pauses_after n) (sym (add_suc few more)) (omega (arith, before))
+    subst (λ n. pauses_after few ≤ pauses_after n) (sym (add-suc few more)) (omega (arith, before))
 
 there : (few most : ℕ) → few ≤ most → few + (most - few) ≡ most
 there few most h = omega (arith, h)
