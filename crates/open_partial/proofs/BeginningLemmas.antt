@@ -4,6 +4,7 @@ use Rattle.std.specs.Prelude.{◌==◌, MatchBool}
 use Rattle.std.specs.List.{list_any}
 use Rattle.std.proofs.Math.Seq.{take-suc}
 use Rattle.std.proofs.lemmas.Bool.{eqb-true, eqb-false}
+use Rattle.std.proofs.Math.Bool.{or-true}
 use Rattle.path_text.specs.Parts.{IsSeparated}
 use Rattle.path_text.specs.Text.{ends_with_slash, is_empty, pieces}
 use Rattle.path_text.specs.declared.name.TheConstants.{SLASH}
@@ -28,12 +29,8 @@ ends_in [] b = refl
 ends_in (x ∷ []) b = refl
 ends_in (x ∷ y ∷ xs) b = ends_in (y ∷ xs) b
 
-or_true : (b : Bool) → (b || true) ≡ true
-or_true true = refl
-or_true false = refl
-
 ends_or_none : (xs : List ℕ) → ends_with_slash xs ≡ true → IsSeparated xs
-ends_or_none xs is = ap (λ e. is_empty xs || e) is ∙ or_true (is_empty xs)
+ends_or_none xs is = ap (λ e. is_empty xs || e) is ∙ or-true (is_empty xs)
 
 pub after_slash : (xs : List ℕ) (b : ℕ) → b ≡ SLASH
     → IsSeparated (xs ++ (b ∷ [])) × (pieces (xs ++ (b ∷ [])) ≡ pieces xs)
