@@ -716,12 +716,11 @@ void inroot_looks_next(struct inroot_looks *looks, const struct inroot_coming_na
 
 /*
  * The object is looked at: statx(2). The descriptor is copied. The names are found out at which the object stands, as
- * above. What they lead to is looked at, in the thread's own root directory: statx(2). It is asked whether the
- * directory was removed. The copy is closed. If it ENDS, the object stands at the names that were found. If it FAILS,
- * there is an error.
+ * above. It is found out whether they LEAD to it, as below. It is asked whether the directory was removed. The copy is
+ * closed. If it ENDS, the object stands at the names that were found. If it FAILS, there is an error.
  */
 enum inroot_asking_next {
-    INROOT_ASKING_LOOK = 1, INROOT_ASKING_COPY, INROOT_ASKING_FIND, INROOT_ASKING_LOOK_UP, INROOT_ASKING_DEAD,
+    INROOT_ASKING_LOOK = 1, INROOT_ASKING_COPY, INROOT_ASKING_FIND, INROOT_ASKING_LEAD, INROOT_ASKING_DEAD,
     INROOT_ASKING_CLOSE, INROOT_ASKING_ENDS, INROOT_ASKING_FAILS,
 };
 
@@ -731,12 +730,10 @@ struct inroot_asking_facts {
 };
 
 /*
- * What a demand gave: 0, or an error. Of what was looked at: which object it is, and how many names it has. How long
- * the names are that were found, or 0. YES: what was looked at is a directory; it was removed; or, of the names, that
- * the thread is in a jail without openat2(2).
+ * What a demand gave: 0, or an error. How many names has what was looked at. How long the names are that were found, or
+ * 0. YES: what was looked at is a directory; it was removed; or, of the names, that the thread has no openat2(2).
  */
 struct inroot_asking_answer {
-    struct inroot_object object;
     uint64_t links;
     size_t length;
     uint32_t error;
@@ -748,7 +745,6 @@ struct inroot_asking_answer {
  * two turns.
  */
 struct inroot_asking {
-    struct inroot_object object;
     uint32_t error;
     uint8_t next;
     bool directory, nameless;
@@ -757,6 +753,22 @@ struct inroot_asking {
 void inroot_asking_begin(const struct inroot_asking_facts *facts, struct inroot_asking *asking);
 void inroot_asking_next(struct inroot_asking *asking, const struct inroot_asking_facts *facts,
                         const struct inroot_asking_answer *answer);
+
+/*
+ * The name of the place from START to END is opened in what is held, which is the root first, and is held then: openat(2) with O_PATH,
+ * O_NOFOLLOW and O_CLOEXEC. What is held is COMPARED with the object. The names LEAD to it; or they don't, by an ERROR.
+ */
+enum inroot_leading_next { INROOT_LEADING_OPEN = 1, INROOT_LEADING_COMPARE, INROOT_LEADING_LEADS, INROOT_LEADING_MISLEADS };
+
+struct inroot_leading {
+    size_t start, end;
+    uint32_t error;
+    uint8_t next;
+};
+
+void inroot_leading_begin(const unsigned char *names, size_t length, struct inroot_leading *leading);
+/* Takes the error of openat(2), or 0; or whether both are the SAME. */
+void inroot_leading_next(const unsigned char *names, size_t length, uint32_t error, bool same, struct inroot_leading *leading);
 
 /* Another question for a place is due; or it is the end, by an error or 0. */
 struct inroot_question {

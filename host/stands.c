@@ -1,6 +1,6 @@
 /*
- * stands.c: an object's path below the root, by both witnesses. Which question comes next, and how often one is
- * asked, the proved library says (crates/ask_place).
+ * stands.c: an object's path below the root, by both witnesses. Which question comes next, how often one is asked, and
+ * which name is opened next, the proved library says (crates/ask_place).
  */
 #define _GNU_SOURCE
 #include "driver.h"
@@ -13,24 +13,24 @@
 
 /*
  * A descriptor whose object's place is asked for: by a copy in the slot, since a look-up may put its own in that
- * one's place.
+ * one's place. Of the names that lead there: what is held, which is the root before the first.
  */
 struct asking {
     struct inroot_driver *d;
-    int root, fd, copied;
+    int root, fd, copied, held;
     char *text;
+    size_t length;
     struct inroot_slot *slot;
     struct inroot_asking course;
     struct inroot_asking_answer answer;
 };
 
-static uint32_t look(struct asking *a, int fd)
+static uint32_t look(struct asking *a)
 {
     struct inroot_which which;
-    if (!inroot_find_which(fd, "", &which))
+    if (!inroot_find_which(a->fd, "", &which))
         return (uint32_t)errno;
     a->slot->kind = inroot_kind_of(which.mode);
-    a->answer.object = which.object;
     a->answer.links = which.links;
     a->answer.yes = a->slot->kind == INROOT_KIND_DIR;
     return 0;
@@ -42,93 +42,74 @@ static uint32_t copy(struct asking *a)
     return a->slot->fd < 0 ? (uint32_t)errno : 0;
 }
 
-static int open_name(int dir, const char *name)
-{
-    int fd;
-    do
-        fd = openat(dir, name, O_PATH | O_NOFOLLOW | O_CLOEXEC);
-    while (fd < 0 && errno == EINTR);
-    return fd;
-}
-
-/* Opens what these names lead to, each in the one before it and through no link: a descriptor or -1. */
-static int open_names(int root, char *names)
-{
-    int dir = root, error = 0;
-    while (dir >= 0 && *names != 0) {
-        char *end = names + strcspn(names, "/");
-        const char behind = *end;
-        *end = 0;
-        int fd = open_name(dir, names);
-        error = errno;
-        *end = behind;
-        if (dir != root)
-            close(dir);
-        dir = fd;
-        names = end + (behind != 0);
-    }
-    errno = error;
-    return dir;
-}
-
-/*
- * The same of the place's names. In a jail they begin at the thread's own root: a path from there could lead out of it by a link
- * of proc(5).
- */
-static int open_place(const struct asking *a)
-{
-    if (a->root != INROOT_JAILED)
-        return open_names(a->root, a->text + 1);
-    int top = open("/", O_PATH | O_DIRECTORY | O_CLOEXEC);
-    int found = top < 0 ? top : open_names(top, a->text + 1);
-    int error = errno;
-    if (top >= 0 && found != top)
-        close(top);
-    errno = error;
-    return found;
-}
-
-/*
- * Whether the names lead from the root to the object: 0 or an error's number. If an object was opened in another mount namespace,
- * or the root is mounted nowhere, a text says nothing of the one below the other. The slot goes on with what was found: so no step
- * leads up another tree.
- */
-static uint32_t look_for(struct asking *a)
-{
-    enum inroot_kind kind;
-    int found = open_place(a);
-    if (found < 0)
-        return errno == ENOENT || errno == ENOTDIR ? EAGAIN : (uint32_t)errno;
-    bool same = inroot_is_entry(found, "", a->slot->fd, &kind);
-    close(same ? a->slot->fd : found);
-    if (same)
-        a->slot->fd = found;
-    return same ? 0 : EAGAIN;
-}
-
-/* Without openat2(2) a text alone has given the place. Then the slot gets what its names lead to, where there are names. */
 static uint32_t find(struct asking *a)
 {
-    struct inroot_result result = inroot_find_place(a->d, a->root, a->slot, a->text, &a->answer.length);
-    const bool alone = !inroot_has_openat2(), jailed = a->root == INROOT_JAILED;
+    struct inroot_result result = inroot_find_place(a->d, a->root, a->slot, a->text, &a->length);
     uint32_t error = result.what == INROOT_ANSWER_NAMES ? 0 : (uint32_t)a->d->unmade;
-    if (error == 0 && alone && a->answer.length > 1)
-        error = look_for(a);
-    /* A look-up was made while the copy was open, so it has another number. */
-    a->slot->is_shared = a->slot->fd == a->copied;
-    a->answer.yes = jailed && alone;
+    a->answer.length = a->length;
+    a->answer.yes = !inroot_has_openat2();
     a->d->unmade = 0;
     return error;
+}
+
+static void hold(struct asking *a, int fd)
+{
+    if (a->held != a->root)
+        close(a->held);
+    a->held = fd;
+}
+
+static uint32_t open_name(struct asking *a, const struct inroot_leading *now)
+{
+    char *end = a->text + now->end;
+    const char behind = *end;
+    *end = 0;
+    int fd = openat(a->held, a->text + now->start, O_PATH | O_NOFOLLOW | O_CLOEXEC);
+    const uint32_t error = fd < 0 ? (uint32_t)errno : 0;
+    *end = behind;
+    if (fd >= 0)
+        hold(a, fd);
+    return error;
+}
+
+/* Whether what is held is the object. The slot goes on with it then: so no step leads up another tree. */
+static bool takes_held(struct asking *a)
+{
+    enum inroot_kind kind;
+    if (!inroot_is_entry(a->held, "", a->slot->fd, &kind))
+        return false;
+    close(a->slot->fd);
+    a->slot->fd = a->held;
+    a->held = a->root;
+    return true;
+}
+
+/* In a jail the names begin at the thread's own root: a path from there could lead out of it by a link of proc(5). */
+static uint32_t lead(struct asking *a)
+{
+    const unsigned char *names = (const unsigned char *)a->text;
+    struct inroot_leading now;
+    a->held = a->root == INROOT_JAILED ? open("/", O_PATH | O_DIRECTORY | O_CLOEXEC) : a->root;
+    if (a->held < 0)
+        return (uint32_t)errno;
+    inroot_leading_begin(names, a->length, &now);
+    while (now.next < INROOT_LEADING_LEADS) {
+        const bool opens = now.next == INROOT_LEADING_OPEN;
+        const uint32_t error = opens ? open_name(a, &now) : 0;
+        inroot_leading_next(names, a->length, error, !opens && takes_held(a), &now);
+    }
+    hold(a, a->root);
+    return now.error;
 }
 
 /* Asks what comes next. Gives 0 or an error's number. */
 static uint32_t turn(struct asking *a)
 {
     switch (a->course.next) {
-    case INROOT_ASKING_LOOK: return look(a, a->fd);
+    case INROOT_ASKING_LOOK: return look(a);
     case INROOT_ASKING_COPY: return copy(a);
     case INROOT_ASKING_FIND: return find(a);
-    case INROOT_ASKING_LOOK_UP: return look(a, a->slot->fd);
+    case INROOT_ASKING_LEAD: return lead(a);
     case INROOT_ASKING_DEAD: a->answer.yes = inroot_is_dead(a->slot->fd); return 0;
     default: return close(a->slot->fd) < 0 ? (uint32_t)errno : 0;
     }
@@ -138,17 +119,16 @@ ssize_t inroot_ask_place(struct inroot_driver *d, int root, int fd, const struct
                          struct inroot_slot *slot)
 {
     struct asking a = {.d = d, .root = root, .fd = fd, .text = text, .slot = slot};
-    size_t length = 0;
     *slot = (struct inroot_slot){.kind = INROOT_KIND_DIR, .way = INROOT_BY_NAME, .above = -1};
     inroot_asking_begin(facts, &a.course);
     while (a.course.next < INROOT_ASKING_ENDS) {
         a.answer = (struct inroot_asking_answer){.length = 0};
         a.answer.error = turn(&a);
-        if (a.course.next == INROOT_ASKING_FIND)
-            length = a.answer.length;
         inroot_asking_next(&a.course, facts, &a.answer);
     }
-    return a.course.next == INROOT_ASKING_ENDS ? (ssize_t)length : -(ssize_t)a.course.error;
+    /* A look-up was made while the copy was open, so it has another number. */
+    slot->is_shared = slot->fd == a.copied;
+    return a.course.next == INROOT_ASKING_ENDS ? (ssize_t)a.length : -(ssize_t)a.course.error;
 }
 
 ssize_t inroot_stands(struct inroot_driver *d, int root, char *room)

@@ -1,11 +1,11 @@
 /*
  * fuzz_objects: the proved library's functions that say which system call comes next as an entry is given that was
- * made, as a place is asked for, and as much of a path is opened as is there; with any answers. What a program is
+ * made, as a place is asked for, as names are opened in one another, and as much of a path as is there; with any answers. What a program is
  * asked for can be done: what is looked at is open, and what is closed. In the end nothing is open but what is given.
  * What is given was seen to be it. An error is a system call's own, or has its reason. There are no more exchanges
  * than there may be.
  *
- * For libFuzzer, or with fuzz_main.c for stored cases. A case is bytes: which of the three, what is known, and the
+ * For libFuzzer, or with fuzz_main.c for stored cases. A case is bytes: which of the four, what is known, and the
  * answers.
  */
 #define _GNU_SOURCE
@@ -124,7 +124,6 @@ static void give(struct input *in)
 struct placed {
     struct inroot_asking_facts facts;
     struct inroot_asking_answer answer;
-    struct inroot_object object;
     bool is_open, directory, nameless, found, alone, led;
     uint32_t error;                /* for which nothing more is asked, or 0 */
     unsigned exchanges;
@@ -134,13 +133,12 @@ struct placed {
 static uint32_t answer_asking(struct input *in, const struct inroot_asking *now, struct placed *p)
 {
     const uint32_t error = some_error(in), lost = p->directory ? 0 : p->nameless ? ENOENT : EAGAIN;
-    p->answer = (struct inroot_asking_answer){.object = some_object(in), .error = error, .yes = byte(in) & 1};
+    p->answer = (struct inroot_asking_answer){.error = error, .yes = byte(in) & 1};
     p->exchanges++;
     MUST(p->is_open == (now->next > INROOT_ASKING_COPY));
     switch (now->next) {
     case INROOT_ASKING_LOOK:
         MUST(!p->facts.directory);
-        p->object = p->answer.object;
         p->directory = p->answer.yes;
         p->answer.links = byte(in) % 3;
         p->nameless = p->answer.links == 0;
@@ -151,12 +149,12 @@ static uint32_t answer_asking(struct input *in, const struct inroot_asking *now,
     case INROOT_ASKING_FIND:
         p->answer.length = byte(in) % 4;
         p->found = error == 0 && p->answer.length > 0;
-        p->alone = p->answer.yes;
+        p->alone = p->answer.yes && !(p->directory && p->answer.length == 1);
         return p->found ? 0 : error == 0 || error == EAGAIN ? lost : error;
-    case INROOT_ASKING_LOOK_UP:
-        MUST(p->found && p->alone && !p->directory);
-        p->led = error == 0 && is_same(&p->object, &p->answer.object);
-        return p->led ? 0 : lost;
+    case INROOT_ASKING_LEAD:
+        MUST(p->found && p->alone);
+        p->led = error == 0;
+        return error == EAGAIN ? lost : error;
     case INROOT_ASKING_DEAD:
         MUST(p->directory);
         return p->answer.yes || p->nameless ? ENOENT : EAGAIN;
@@ -181,7 +179,7 @@ static void place(struct input *in)
     }
     const bool ends = now.next == INROOT_ASKING_ENDS;
     MUST(p.exchanges <= 6 && now.error == p.error && ends == (p.error == 0));
-    MUST(p.is_open == (ends && p.facts.keeps) && (!ends || (p.found && (!p.alone || p.directory || p.led))));
+    MUST(p.is_open == (ends && p.facts.keeps) && (!ends || (p.found && (!p.alone || p.led))));
     struct inroot_question question;
     uint32_t asked = byte(in) % 10;
     size_t length = byte(in), size = byte(in);
@@ -190,9 +188,41 @@ static void place(struct input *in)
     MUST(question.again || (question.error == 0) == (p.error == 0 && length < size));
 }
 
+/* ---- names, each opened in the one before it */
+
+enum { LONG = 200 };
+
+/* All of the text is opened, a slash before each name and none in it. */
+static void lead(struct input *in)
+{
+    unsigned char text[LONG];
+    const size_t length = byte(in) % LONG;
+    struct inroot_leading now;
+    size_t opened = 0;
+    uint32_t error = EAGAIN;
+    bool same = false;
+    for (size_t at = 0; at < length; at++)
+        text[at] = byte(in) % 3 == 0 ? '/' : 'a';
+    inroot_leading_begin(text, length, &now);
+    while (now.next < INROOT_LEADING_LEADS) {
+        const uint32_t gave = some_error(in);
+        same = byte(in) & 1;
+        if (now.next == INROOT_LEADING_OPEN) {
+            MUST(now.start == opened + 1 && now.end <= length && text[opened] == '/');
+            MUST(now.start <= now.end && memchr(text + now.start, '/', now.end - now.start) == NULL);
+            opened = gave == 0 ? now.end : opened;
+        } else {
+            MUST(now.next == INROOT_LEADING_COMPARE && opened == length);
+        }
+        error = now.next == INROOT_LEADING_COMPARE || gave == ENOENT || gave == ENOTDIR ? EAGAIN : gave;
+        inroot_leading_next(text, length, gave, same, &now);
+    }
+    MUST(now.next == INROOT_LEADING_LEADS ? same && opened == length && length > 1 : now.error == error && error != 0);
+}
+
 /* ---- as much of a path as is there */
 
-enum { LONG = 200, NOT_TRIED = 0, THERE, MISSING };
+enum { NOT_TRIED = 0, THERE, MISSING };
 
 struct path {
     unsigned char text[LONG];
@@ -278,10 +308,11 @@ static void search(struct input *in)
 int LLVMFuzzerTestOneInput(const uint8_t *data, size_t size)
 {
     struct input in = {data, size};
-    switch (byte(&in) % 3) {
+    switch (byte(&in) % 4) {
     case 0: give(&in); break;
     case 1: place(&in); break;
-    default: search(&in);
+    case 2: search(&in); break;
+    default: lead(&in);
     }
     return 0;
 }

@@ -2,12 +2,10 @@
 use Rattle.std.proofs.Common.{◌≡◌, ◌≢◌, ◌≤◌, ◌+◌, ℕ, List, [], ◌∷◌, length, Bool, true, false, not, ◌&&◌, ◌||◌, refl, ap, sym, subst, ◌∙◌, arith}
 use Rattle.std.specs.Prelude.{◌==◌, if◌then◌else◌}
 use Rattle.std.proofs.lemmas.Bool.{eqb-true, false≢true}
-use Rattle.system_calls.specs.Objects.{is_same_object}
-use Rattle.system_calls.specs.declared.objects.Object.{Object}
-use Rattle.ask_place.specs.History.{after_copy, after_exchange, after_find, after_look, after_look_up, asks, is_directory_after, is_nameless_after, is_question, lost, next_after, object_after, over, Exchange, IsHistory, Next}
-use Rattle.ask_place.specs.Promises.{error_of, find_error, gone_error, is_alone_after, is_found_after, is_led_after, is_open_after, is_over, latest, missing_error, needs_open, open_by, why_after, IsFound}
+use Rattle.ask_place.specs.History.{after_exchange, asks, is_directory_after, is_nameless_after, is_question, next_after, Exchange, IsHistory, Next}
+use Rattle.ask_place.specs.Promises.{error_of, is_alone_after, is_found_after, is_led_after, is_open_after, is_over, latest, needs_open, open_by, why_after, IsFound}
 use Rattle.ask_place.specs.declared.asking.Facts.{Facts}
-use Rattle.ask_place.specs.declared.asking.TheConstants.{LOOK, COPY, FIND, LOOK_UP, DEAD, CLOSE, ENDS, FAILS}
+use Rattle.ask_place.specs.declared.asking.TheConstants.{LOOK, COPY, FIND, LEAD, DEAD, CLOSE, ENDS, FAILS}
 
 -- ---- what was asked for
 
@@ -15,23 +13,23 @@ pub data Asked (next : ℕ) : Type 0 where
   look_at_it : next ≡ LOOK → Asked next
   copy_it : next ≡ COPY → Asked next
   find_it : next ≡ FIND → Asked next
-  look_up : next ≡ LOOK_UP → Asked next
+  lead_it : next ≡ LEAD → Asked next
   ask_dead : next ≡ DEAD → Asked next
   close_it : next ≡ CLOSE → Asked next
 
-asked_in : (looks copies finds leads deads closes : Bool) (next : ℕ) → (next == LOOK) ≡ looks → (next == COPY) ≡ copies → (next == FIND) ≡ finds → (next == LOOK_UP) ≡ leads → (next == DEAD) ≡ deads → (next == CLOSE) ≡ closes
+asked_in : (looks copies finds leads deads closes : Bool) (next : ℕ) → (next == LOOK) ≡ looks → (next == COPY) ≡ copies → (next == FIND) ≡ finds → (next == LEAD) ≡ leads → (next == DEAD) ≡ deads → (next == CLOSE) ≡ closes
     → (looks || (copies || (finds || (leads || (deads || (closes)))))) ≡ true → Asked next
 asked_in true copies finds leads deads closes next a b c d g i h = look_at_it (eqb-true next LOOK a)
 asked_in false true finds leads deads closes next a b c d g i h = copy_it (eqb-true next COPY b)
 asked_in false false true leads deads closes next a b c d g i h = find_it (eqb-true next FIND c)
-asked_in false false false true deads closes next a b c d g i h = look_up (eqb-true next LOOK_UP d)
+asked_in false false false true deads closes next a b c d g i h = lead_it (eqb-true next LEAD d)
 asked_in false false false false true closes next a b c d g i h = ask_dead (eqb-true next DEAD g)
 asked_in false false false false false true next a b c d g i h = close_it (eqb-true next CLOSE i)
 asked_in false false false false false false next a b c d g i h = absurd (false≢true h)
 
 pub asked_is : (next : ℕ) → is_question next ≡ true → Asked next
 asked_is next h =
-    asked_in (next == LOOK) (next == COPY) (next == FIND) (next == LOOK_UP) (next == DEAD) (next == CLOSE) next
+    asked_in (next == LOOK) (next == COPY) (next == FIND) (next == LEAD) (next == DEAD) (next == CLOSE) next
     refl refl refl refl refl refl h
 
 -- what comes next, by its parts
@@ -45,16 +43,16 @@ same_next f e older h = ap (λ n. asks n (next_after f older).error) (sym h.0.du
 abbrev is_kept_late : Facts → Next → Bool
 is_kept_late f n = not (n.next == CLOSE) || (not f.keeps || not (n.error == 0))
 
-open_step : (f : Facts) (e : Exchange) (object : Object) (directory nameless : Bool) (why : ℕ) (was : Bool)
+open_step : (f : Facts) (e : Exchange) (directory nameless : Bool) (why : ℕ) (was : Bool)
     → was ≡ needs_open f (asks e.asked why) → is_kept_late f (asks e.asked why) ≡ true → is_question e.asked ≡ true
-    → (open_by e was ≡ needs_open f (after_exchange f e object directory nameless why))
-    × (is_kept_late f (after_exchange f e object directory nameless why) ≡ true)
-open_step f e object directory nameless why was is late question =
+    → (open_by e was ≡ needs_open f (after_exchange f e directory nameless why))
+    × (is_kept_late f (after_exchange f e directory nameless why) ≡ true)
+open_step f e directory nameless why was is late question =
     elim (asked_is e.asked question) [
       | look_at_it at ↦ grind (arith, at)
       | copy_it at ↦ grind (arith, at)
       | find_it at ↦ grind (arith, at)
-      | look_up at ↦ grind (arith, at)
+      | lead_it at ↦ grind (arith, at)
       | ask_dead at ↦ grind (arith, at)
       | close_it at ↦ grind (arith, at)
     ]
@@ -65,7 +63,7 @@ both_open f [] h = (grind arith, grind arith)
 both_open f (e ∷ older) h =
     let before = both_open f older h.1 in
     let same = same_next f e older h in
-    open_step f e (object_after older) (is_directory_after f older) (is_nameless_after older) (next_after f older).error
+    open_step f e (is_directory_after f older) (is_nameless_after older) (next_after f older).error
     (is_open_after older) (before.0 ∙ ap (needs_open f) same) (subst (λ n. is_kept_late f n ≡ true) same before.1) h.0.question
 
 pub open_is : (f : Facts) (history : List Exchange) → IsHistory f history
@@ -81,79 +79,66 @@ is_told n = (n.next == ENDS) || ((n.next == CLOSE) && (n.error == 0))
 abbrev found_by : Exchange → Bool → Bool
 found_by e was = if e.asked == FIND then (e.gave.error == 0) && not (e.gave.length == 0) else was
 
-found_step : (f : Facts) (e : Exchange) (object : Object) (directory nameless : Bool) (why : ℕ) (was : Bool)
-    → ((is_told (asks e.asked why) || (e.asked == LOOK_UP)) ≡ true → was ≡ true) → is_question e.asked ≡ true
-    → (is_told (after_exchange f e object directory nameless why)
-    || ((after_exchange f e object directory nameless why).next == LOOK_UP)) ≡ true
+found_step : (f : Facts) (e : Exchange) (directory nameless : Bool) (why : ℕ) (was : Bool)
+    → ((is_told (asks e.asked why) || (e.asked == LEAD)) ≡ true → was ≡ true) → is_question e.asked ≡ true
+    → (is_told (after_exchange f e directory nameless why)
+    || ((after_exchange f e directory nameless why).next == LEAD)) ≡ true
     → found_by e was ≡ true
-found_step f e object directory nameless why was before question now =
+found_step f e directory nameless why was before question now =
     elim (asked_is e.asked question) [
       | look_at_it at ↦ grind (arith, at, before)
       | copy_it at ↦ grind (arith, at, before)
       | find_it at ↦ grind (arith, at, before)
-      | look_up at ↦ grind (arith, at, before)
+      | lead_it at ↦ grind (arith, at, before)
       | ask_dead at ↦ grind (arith, at, before)
       | close_it at ↦ grind (arith, at, before)
     ]
 
 found_is : (f : Facts) (history : List Exchange) → IsHistory f history
-    → (is_told (next_after f history) || ((next_after f history).next == LOOK_UP)) ≡ true → is_found_after history ≡ true
+    → (is_told (next_after f history) || ((next_after f history).next == LEAD)) ≡ true → is_found_after history ≡ true
 found_is f [] h now = absurd (grind (arith, now))
 found_is f (e ∷ older) h now =
     let same = same_next f e older h in
-    found_step f e (object_after older) (is_directory_after f older) (is_nameless_after older) (next_after f older).error
+    found_step f e (is_directory_after f older) (is_nameless_after older) (next_after f older).error
     (is_found_after older)
-    (λ p. found_is f older h.1 (subst (λ n. (is_told n || (n.next == LOOK_UP)) ≡ true) (sym same) p)) h.0.question now
+    (λ p. found_is f older h.1 (subst (λ n. (is_told n || (n.next == LEAD)) ≡ true) (sym same) p)) h.0.question now
 
-abbrev alone_by : Exchange → Bool → Bool
-alone_by e was = if e.asked == FIND then e.gave.yes else was
+abbrev alone_by : Exchange → Bool → Bool → Bool
+alone_by e directory was =
+    if e.asked == FIND then e.gave.yes && not (directory && (e.gave.length == 1)) else was
 
-abbrev led_by : Exchange → Object → Bool → Bool
-led_by e object was =
-    if e.asked == FIND then false
-    else (if e.asked == LOOK_UP then (e.gave.error == 0) && is_same_object object e.gave.object false else was)
+abbrev led_by : Exchange → Bool → Bool
+led_by e was =
+    if e.asked == FIND then false else (if e.asked == LEAD then e.gave.error == 0 else was)
 
-led_step : (f : Facts) (e : Exchange) (object : Object) (directory nameless : Bool) (why : ℕ) (alone led : Bool)
-    → (is_told (asks e.asked why) ≡ true → alone ≡ true → directory ≡ false → led ≡ true) → is_question e.asked ≡ true
-    → not (e.asked == LOOK) ≡ true → is_told (after_exchange f e object directory nameless why) ≡ true
-    → alone_by e alone ≡ true → directory ≡ false → led_by e object led ≡ true
-led_step f e object directory nameless why alone led before question later now by_text other =
+led_step : (f : Facts) (e : Exchange) (directory nameless : Bool) (why : ℕ) (alone led : Bool)
+    → (is_told (asks e.asked why) ≡ true → alone ≡ true → led ≡ true) → is_question e.asked ≡ true
+    → is_told (after_exchange f e directory nameless why) ≡ true → alone_by e directory alone ≡ true
+    → led_by e led ≡ true
+led_step f e directory nameless why alone led before question now by_text =
     elim (asked_is e.asked question) [
       | look_at_it at ↦ grind (arith, at, before)
       | copy_it at ↦ grind (arith, at, before)
       | find_it at ↦ grind (arith, at, before)
-      | look_up at ↦ grind (arith, at, before)
+      | lead_it at ↦ grind (arith, at, before)
       | ask_dead at ↦ grind (arith, at, before)
       | close_it at ↦ grind (arith, at, before)
     ]
 
-looks_first : (e : Exchange) (f : Facts) (object : Object) (directory nameless : Bool) (why : ℕ) (b : Bool) → (e.asked == LOOK) ≡ b
-    → is_told (after_exchange f e object directory nameless why) ≡ true → not (e.asked == LOOK) ≡ true
-looks_first e f object directory nameless why true is now = absurd (let at = eqb-true e.asked LOOK is in grind (arith, at, now))
-looks_first e f object directory nameless why false is now = ap not is
-
-same_directory : (f : Facts) (e : Exchange) (older : List Exchange) (b : Bool) → (e.asked == LOOK) ≡ b → not b ≡ true
-    → is_directory_after f (e ∷ older) ≡ is_directory_after f older
-same_directory f e older true is later = absurd (false≢true later)
-same_directory f e older false is later = ap (λ c. if c then e.gave.yes else is_directory_after f older) is
-
 led_is : (f : Facts) (history : List Exchange) → IsHistory f history → is_told (next_after f history) ≡ true
-    → is_alone_after history ≡ true → is_directory_after f history ≡ false → is_led_after history ≡ true
-led_is f [] h now alone other = absurd (grind (arith, now))
-led_is f (e ∷ older) h now alone other =
+    → is_alone_after f history ≡ true → is_led_after history ≡ true
+led_is f [] h now alone = absurd (grind (arith, now))
+led_is f (e ∷ older) h now alone =
     let same = same_next f e older h in
-    let later = looks_first e f (object_after older) (is_directory_after f older) (is_nameless_after older)
-    (next_after f older).error (e.asked == LOOK) refl now in
-    led_step f e (object_after older) (is_directory_after f older) (is_nameless_after older) (next_after f older).error
-    (is_alone_after older) (is_led_after older)
-    (λ p. led_is f older h.1 (subst (λ n. is_told n ≡ true) (sym same) p)) h.0.question later now alone
-    (sym (same_directory f e older (e.asked == LOOK) refl later) ∙ other)
+    led_step f e (is_directory_after f older) (is_nameless_after older) (next_after f older).error
+    (is_alone_after f older) (is_led_after older)
+    (λ p. led_is f older h.1 (subst (λ n. is_told n ≡ true) (sym same) p)) h.0.question now alone
 
 pub found : (f : Facts) (history : List Exchange) → IsHistory f history → (next_after f history).next ≡ ENDS → IsFound f history
 found f history h ends =
     record {
       found = found_is f history h (grind (arith, ends));
-      led = λ alone other. led_is f history h (grind (arith, ends)) alone other;
+      led = λ alone. led_is f history h (grind (arith, ends)) alone;
     }
 
 -- ---- errors
@@ -166,46 +151,30 @@ is_ended n = (not (n.next == ENDS) || (n.error == 0)) && (not (n.next == FAILS) 
 abbrev Keeps : Next → ℕ → Type 0
 Keeps n error = (n.error ≡ error) × (is_ended n ≡ true)
 
--- the same, where it is known whether two objects are one
-abbrev to_next : Facts → Exchange → Bool → Bool → Bool → ℕ → Next
-to_next f e same directory nameless why =
-    if e.asked == LOOK then after_look e.gave.error
-    else (if e.asked == COPY then after_copy e.gave.error
-    else (if e.asked == FIND then after_find f e.gave.error e.gave.length e.gave.yes directory nameless
-    else (if e.asked == LOOK_UP then after_look_up f e.gave.error same directory nameless
-    else (if e.asked == DEAD then lost (e.gave.yes || nameless) else over why))))
-
-abbrev to_error : Exchange → Bool → Bool → Bool → ℕ
-to_error e same directory nameless =
-    if (e.asked == LOOK) || (e.asked == COPY) then e.gave.error
-    else (if e.asked == FIND then find_error e.gave.error e.gave.length directory nameless
-    else (if e.asked == LOOK_UP then (if (e.gave.error == 0) && same then 0 else missing_error directory nameless)
-    else (if e.asked == DEAD then gone_error (e.gave.yes || nameless) else 0)))
-
-keeps_by : (f : Facts) (e : Exchange) (same directory nameless : Bool) (why : ℕ) → ((e.asked == CLOSE) ≡ false → why ≡ 0)
+keeps_by : (f : Facts) (e : Exchange) (directory nameless : Bool) (why : ℕ) → ((e.asked == CLOSE) ≡ false → why ≡ 0)
     → is_question e.asked ≡ true
-    → Keeps (to_next f e same directory nameless why) (latest (to_error e same directory nameless) why)
-keeps_by f e same directory nameless why none question =
+    → Keeps (after_exchange f e directory nameless why) (latest (error_of e directory nameless) why)
+keeps_by f e directory nameless why none question =
     elim (asked_is e.asked question) [
       | look_at_it at ↦ grind (arith, at, none)
       | copy_it at ↦ grind (arith, at, none)
       | find_it at ↦ grind (arith, at, none)
-      | look_up at ↦ grind (arith, at, none)
+      | lead_it at ↦ grind (arith, at, none)
       | ask_dead at ↦ grind (arith, at, none)
       | close_it at ↦ grind (arith, at, none)
     ]
 
 -- before all but the last nothing has failed
-fresh_step : (f : Facts) (e : Exchange) (same directory nameless : Bool) (why : ℕ) → is_question e.asked ≡ true
-    → is_question (to_next f e same directory nameless why).next ≡ true
-    → ((to_next f e same directory nameless why).next == CLOSE) ≡ false
-    → (to_next f e same directory nameless why).error ≡ 0
-fresh_step f e same directory nameless why question more early =
+fresh_step : (f : Facts) (e : Exchange) (directory nameless : Bool) (why : ℕ) → is_question e.asked ≡ true
+    → is_question (after_exchange f e directory nameless why).next ≡ true
+    → ((after_exchange f e directory nameless why).next == CLOSE) ≡ false
+    → (after_exchange f e directory nameless why).error ≡ 0
+fresh_step f e directory nameless why question more early =
     elim (asked_is e.asked question) [
       | look_at_it at ↦ grind (arith, at)
       | copy_it at ↦ grind (arith, at)
       | find_it at ↦ grind (arith, at)
-      | look_up at ↦ grind (arith, at)
+      | lead_it at ↦ grind (arith, at)
       | ask_dead at ↦ grind (arith, at)
       | close_it at ↦ grind (arith, at)
     ]
@@ -214,18 +183,18 @@ fresh_is : (f : Facts) (history : List Exchange) → IsHistory f history → is_
     → ((next_after f history).next == CLOSE) ≡ false → (next_after f history).error ≡ 0
 fresh_is f [] h more early = refl
 fresh_is f (e ∷ older) h more early =
-    fresh_step f e (is_same_object (object_after older) e.gave.object false) (is_directory_after f older)
+    fresh_step f e (is_directory_after f older)
     (is_nameless_after older) (next_after f older).error h.0.question more early
 
 pub keeps_is : (f : Facts) (history : List Exchange) → IsHistory f history → Keeps (next_after f history) (why_after f history)
 keeps_is f [] h = (refl, grind arith)
 keeps_is f (e ∷ older) h =
-    let step = keeps_by f e (is_same_object (object_after older) e.gave.object false) (is_directory_after f older)
+    let step = keeps_by f e (is_directory_after f older)
     (is_nameless_after older) (next_after f older).error
     (λ early. fresh_is f older h.1 (subst (λ n. is_question n ≡ true) h.0.due h.0.question)
     (ap (λ n. n == CLOSE) (sym h.0.due) ∙ early)) h.0.question in (
       step.0
-          ∙ ap (λ w. latest (error_of e (object_after older) (is_directory_after f older) (is_nameless_after older)) w)
+          ∙ ap (λ w. latest (error_of e (is_directory_after f older) (is_nameless_after older)) w)
           (keeps_is f older h.1).0,
       step.1,
     )
@@ -253,16 +222,16 @@ rank next =
     if next == LOOK then 0
     else (if next == COPY then 1
     else (if next == FIND then 2
-    else (if next == LOOK_UP then 3 else (if next == DEAD then 4 else (if next == CLOSE then 5 else 6)))))
+    else (if next == LEAD then 3 else (if next == DEAD then 4 else (if next == CLOSE then 5 else 6)))))
 
-rank_step : (f : Facts) (e : Exchange) (same directory nameless : Bool) (why : ℕ) → is_question e.asked ≡ true
-    → rank e.asked + 1 ≤ rank (to_next f e same directory nameless why).next
-rank_step f e same directory nameless why question =
+rank_step : (f : Facts) (e : Exchange) (directory nameless : Bool) (why : ℕ) → is_question e.asked ≡ true
+    → rank e.asked + 1 ≤ rank (after_exchange f e directory nameless why).next
+rank_step f e directory nameless why question =
     elim (asked_is e.asked question) [
       | look_at_it at ↦ grind (arith, at)
       | copy_it at ↦ grind (arith, at)
       | find_it at ↦ grind (arith, at)
-      | look_up at ↦ grind (arith, at)
+      | lead_it at ↦ grind (arith, at)
       | ask_dead at ↦ grind (arith, at)
       | close_it at ↦ grind (arith, at)
     ]
@@ -274,7 +243,7 @@ ranked : (f : Facts) (history : List Exchange) → IsHistory f history → lengt
 ranked f [] h = omega arith
 ranked f (e ∷ older) h =
     let ih = ranked f older h.1 in
-    let step = rank_step f e (is_same_object (object_after older) e.gave.object false) (is_directory_after f older)
+    let step = rank_step f e (is_directory_after f older)
     (is_nameless_after older) (next_after f older).error h.0.question in
     let same = ap rank h.0.due in
     omega (arith, ih, step, same)

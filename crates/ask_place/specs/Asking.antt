@@ -1,6 +1,6 @@
 -- What C keeps says where it stands after the exchanges that there were.
 use Rattle.std.specs.Prelude.{◌≡◌, List}
-use Rattle.ask_place.specs.History.{is_directory_after, is_nameless_after, next_after, object_after, Exchange, IsHistory, Next}
+use Rattle.ask_place.specs.History.{is_directory_after, is_nameless_after, next_after, Exchange, IsHistory, Next}
 use Rattle.ask_place.specs.declared.asking.Answer.{Answer}
 use Rattle.ask_place.specs.declared.asking.Asking.{Asking}
 use Rattle.ask_place.specs.declared.asking.Facts.{Facts}
@@ -20,6 +20,5 @@ exchange asking a = record { asked = asking.next; gave = a }
 pub record IsAt (f : Facts) (exchanges : List Exchange) (asking : Asking) : Type 0 where
   pub history : IsHistory f exchanges
   pub due : due_of asking ≡ next_after f exchanges
-  pub object : asking.object ≡ object_after exchanges
   pub directory : asking.directory ≡ is_directory_after f exchanges
   pub nameless : asking.nameless ≡ is_nameless_after exchanges

@@ -2,11 +2,9 @@
 -- last exchange first.
 use Rattle.std.specs.Prelude.{◌≡◌, ℕ, List, [], ◌∷◌, ◌==◌, Bool, true, false, not, ◌&&◌, ◌||◌, if◌then◌else◌}
 use Rattle.system_calls.specs.Errors.{ENOENT, EAGAIN}
-use Rattle.system_calls.specs.Objects.{is_same_object}
-use Rattle.system_calls.specs.declared.objects.Object.{Object}
 use Rattle.ask_place.specs.declared.asking.Answer.{Answer}
 use Rattle.ask_place.specs.declared.asking.Facts.{Facts}
-use Rattle.ask_place.specs.declared.asking.TheConstants.{LOOK, COPY, FIND, LOOK_UP, DEAD, CLOSE, ENDS, FAILS}
+use Rattle.ask_place.specs.declared.asking.TheConstants.{LOOK, COPY, FIND, LEAD, DEAD, CLOSE, ENDS, FAILS}
 
 -- what was asked for, and what that gave
 pub record Exchange : Type 0 where
@@ -16,13 +14,9 @@ pub record Exchange : Type 0 where
 abbrev pub is_question : ℕ → Bool
 is_question next =
     (next == LOOK)
-    || ((next == COPY) || ((next == FIND) || ((next == LOOK_UP) || ((next == DEAD) || (next == CLOSE)))))
+    || ((next == COPY) || ((next == FIND) || ((next == LEAD) || ((next == DEAD) || (next == CLOSE)))))
 
 -- ---- what was seen of the object
-
-abbrev pub object_after : List Exchange → Object
-object_after [] = record { device = 0; inode = 0; mount = 0 }
-object_after (e ∷ older) = if e.asked == LOOK then e.gave.object else object_after older
 
 abbrev pub is_directory_after : Facts → List Exchange → Bool
 is_directory_after f [] = f.directory
@@ -62,34 +56,31 @@ after_look error = if error == 0 then asks COPY 0 else asks FAILS error
 abbrev pub after_copy : ℕ → Next
 after_copy error = if error == 0 then asks FIND 0 else asks FAILS error
 
--- The witnesses didn't agree (EAGAIN), or it doesn't stand below the root. In a jail without openat2(2) a text from
--- the top may be that of what is outside; of a directory getcwd(2) has told it.
+-- The witnesses didn't agree (EAGAIN), or it doesn't stand below the root. A text alone may be that of an object of
+-- another tree, or outside of a jail, but for the root itself.
 abbrev pub after_find : Facts → ℕ → ℕ → Bool → Bool → Bool → Next
 after_find f error length alone directory nameless =
     if not (error == 0) && not (error == EAGAIN) then asks CLOSE error
     else (if not (error == 0) || (length == 0) then missing directory nameless
-    else (if alone && not directory then asks LOOK_UP 0 else told f))
+    else (if alone && not (directory && (length == 1)) then asks LEAD 0 else told f))
 
--- no look-up in that thread leads out of its root (chroot(2))
-abbrev pub after_look_up : Facts → ℕ → Bool → Bool → Bool → Next
-after_look_up f error same directory nameless =
-    if (error == 0) && same then told f else missing directory nameless
+abbrev pub after_lead : Facts → ℕ → Bool → Bool → Next
+after_lead f error directory nameless =
+    if error == 0 then told f else (if error == EAGAIN then missing directory nameless else asks CLOSE error)
 
 -- after this exchange, before which that was seen, and it would have failed by this error
-abbrev pub after_exchange : Facts → Exchange → Object → Bool → Bool → ℕ → Next
-after_exchange f e object directory nameless why =
+abbrev pub after_exchange : Facts → Exchange → Bool → Bool → ℕ → Next
+after_exchange f e directory nameless why =
     if e.asked == LOOK then after_look e.gave.error
     else (if e.asked == COPY then after_copy e.gave.error
     else (if e.asked == FIND then after_find f e.gave.error e.gave.length e.gave.yes directory nameless
-    else (if e.asked == LOOK_UP
-    then after_look_up f e.gave.error (is_same_object object e.gave.object false) directory nameless
+    else (if e.asked == LEAD then after_lead f e.gave.error directory nameless
     else (if e.asked == DEAD then lost (e.gave.yes || nameless) else over why))))
 
 abbrev pub next_after : Facts → List Exchange → Next
 next_after f [] = asks (if f.directory then COPY else LOOK) 0
 next_after f (e ∷ older) =
-    after_exchange f e (object_after older) (is_directory_after f older) (is_nameless_after older)
-    (next_after f older).error
+    after_exchange f e (is_directory_after f older) (is_nameless_after older) (next_after f older).error
 
 -- ---- histories
 

@@ -1,4 +1,5 @@
 pub mod Asking
 pub mod History
+pub mod Leading
 pub mod Promises
 pub mod Questions

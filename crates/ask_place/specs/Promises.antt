@@ -1,11 +1,9 @@
 -- What holds of every history.
 use Rattle.std.specs.Prelude.{◌≡◌, ℕ, List, [], ◌∷◌, ◌==◌, Bool, true, false, not, ◌&&◌, ◌||◌, if◌then◌else◌}
 use Rattle.system_calls.specs.Errors.{ENOENT, EAGAIN}
-use Rattle.system_calls.specs.Objects.{is_same_object}
-use Rattle.system_calls.specs.declared.objects.Object.{Object}
-use Rattle.ask_place.specs.History.{is_directory_after, is_nameless_after, object_after, Exchange, Next}
+use Rattle.ask_place.specs.History.{is_directory_after, is_nameless_after, Exchange, Next}
 use Rattle.ask_place.specs.declared.asking.Facts.{Facts}
-use Rattle.ask_place.specs.declared.asking.TheConstants.{LOOK, COPY, FIND, LOOK_UP, DEAD, CLOSE, ENDS, FAILS}
+use Rattle.ask_place.specs.declared.asking.TheConstants.{LOOK, COPY, FIND, LEAD, DEAD, CLOSE, ENDS, FAILS}
 
 -- ---- descriptors
 
@@ -19,7 +17,7 @@ is_open_after (e ∷ older) = open_by e (is_open_after older)
 
 abbrev pub needs_open : Facts → Next → Bool
 needs_open f n =
-    ((n.next == FIND) || ((n.next == LOOK_UP) || ((n.next == DEAD) || (n.next == CLOSE))))
+    ((n.next == FIND) || ((n.next == LEAD) || ((n.next == DEAD) || (n.next == CLOSE))))
     || ((n.next == ENDS) && f.keeps)
 
 abbrev pub is_over : ℕ → Bool
@@ -33,22 +31,22 @@ is_found_after [] = false
 is_found_after (e ∷ older) =
     if e.asked == FIND then (e.gave.error == 0) && not (e.gave.length == 0) else is_found_after older
 
--- a text alone may have told them
-abbrev pub is_alone_after : List Exchange → Bool
-is_alone_after [] = false
-is_alone_after (e ∷ older) = if e.asked == FIND then e.gave.yes else is_alone_after older
+-- a text alone has told them, of what isn't the root itself: that is a directory, at a slash alone
+abbrev pub is_alone_after : Facts → List Exchange → Bool
+is_alone_after f [] = false
+is_alone_after f (e ∷ older) =
+    if e.asked == FIND then e.gave.yes && not (is_directory_after f older && (e.gave.length == 1))
+    else is_alone_after f older
 
 -- they led to the object
 abbrev pub is_led_after : List Exchange → Bool
 is_led_after [] = false
 is_led_after (e ∷ older) =
-    if e.asked == FIND then false
-    else (if e.asked == LOOK_UP then (e.gave.error == 0) && is_same_object (object_after older) e.gave.object false
-    else is_led_after older)
+    if e.asked == FIND then false else (if e.asked == LEAD then e.gave.error == 0 else is_led_after older)
 
 pub record IsFound (f : Facts) (history : List Exchange) : Type 0 where
   pub found : is_found_after history ≡ true
-  pub led : is_alone_after history ≡ true → is_directory_after f history ≡ false → is_led_after history ≡ true
+  pub led : is_alone_after f history ≡ true → is_led_after history ≡ true
 
 -- ---- errors
 
@@ -64,13 +62,15 @@ find_error error length directory nameless =
     if not (error == 0) && not (error == EAGAIN) then error
     else (if not (error == 0) || (length == 0) then missing_error directory nameless else 0)
 
-abbrev pub error_of : Exchange → Object → Bool → Bool → ℕ
-error_of e object directory nameless =
+-- of names that don't lead to it
+abbrev pub lead_error : ℕ → Bool → Bool → ℕ
+lead_error error directory nameless = if error == EAGAIN then missing_error directory nameless else error
+
+abbrev pub error_of : Exchange → Bool → Bool → ℕ
+error_of e directory nameless =
     if (e.asked == LOOK) || (e.asked == COPY) then e.gave.error
     else (if e.asked == FIND then find_error e.gave.error e.gave.length directory nameless
-    else (if e.asked == LOOK_UP
-    then (if (e.gave.error == 0) && is_same_object object e.gave.object false then 0
-    else missing_error directory nameless)
+    else (if e.asked == LEAD then lead_error e.gave.error directory nameless
     else (if e.asked == DEAD then gone_error (e.gave.yes || nameless) else 0)))
 
 abbrev pub latest : ℕ → ℕ → ℕ
@@ -80,4 +80,4 @@ latest error before = if error == 0 then before else error
 abbrev pub why_after : Facts → List Exchange → ℕ
 why_after f [] = 0
 why_after f (e ∷ older) =
-    latest (error_of e (object_after older) (is_directory_after f older) (is_nameless_after older)) (why_after f older)
+    latest (error_of e (is_directory_after f older) (is_nameless_after older)) (why_after f older)

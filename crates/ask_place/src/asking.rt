@@ -1,10 +1,9 @@
 //! How far a question for an object's place has come, and what comes next.
 ghost use Rattle.std.specs.Prelude.{◌≡◌, List, [], ◌∷◌, ◌==◌, true, false};
-ghost use Rattle.ask_place.specs.History.{after_copy, after_find, after_look, after_look_up, is_question, lost, missing, over, told, Exchange};
+ghost use Rattle.ask_place.specs.History.{after_copy, after_find, after_lead, after_look, is_question, lost, missing, over, told, Exchange};
 ghost use Rattle.ask_place.specs.Asking.{due_of, exchange, IsAt, Same};
 
 use system_calls::errors::{EAGAIN, ENOENT};
-use system_calls::{Object, is_same_object};
 
 /// The object is looked at: statx(2), or fstat(2).
 pub const LOOK: u8 = 1;
@@ -15,8 +14,9 @@ pub const COPY: u8 = 2;
 /// It is found out at which names below the root the object stands (`place_protocol`).
 pub const FIND: u8 = 3;
 
-/// It is looked at what these names lead to, in the thread's own root directory: statx(2), or fstatat(2).
-pub const LOOK_UP: u8 = 4;
+/// It is found out whether these names lead to the object, each opened in the one before it (`lead`). The driver goes
+/// on with what they led to.
+pub const LEAD: u8 = 4;
 
 /// It is asked whether the directory was removed.
 pub const DEAD: u8 = 5;
@@ -44,16 +44,14 @@ pub struct Facts {
 #[repr(C)]
 #[derive(Clone, Copy, Debug, PartialEq, Eq)]
 pub struct Answer {
-    /// At LOOK and LOOK_UP: which object it is.
-    pub object: Object,
     /// At LOOK: how many names it has.
     pub links: u64,
     /// At FIND: how long the names are, a slash before each; 0 if it doesn't stand below the root.
     pub length: usize,
     /// 0, or the number of an error (errno(3)).
     pub error: u32,
-    /// At LOOK: it is a directory. At DEAD: it was removed. At FIND: the thread is in a jail, and has no openat2(2),
-    /// so that a text alone may have told the names.
+    /// At LOOK: it is a directory. At DEAD: it was removed. At FIND: the thread has no openat2(2), so that a text alone
+    /// has told the names.
     pub yes: bool,
 }
 
@@ -61,8 +59,6 @@ pub struct Answer {
 #[repr(C)]
 #[derive(Clone, Copy, Debug, PartialEq, Eq)]
 pub struct Asking {
-    /// The object that was looked at.
-    pub object: Object,
     /// If it is FAILS, the number of the error (errno(3)). At CLOSE, the one by which it fails then, or 0.
     pub error: u32,
     /// What comes next: one of the numbers above.
@@ -125,10 +121,8 @@ fn after_look(asking: Asking, answer: &Answer) -> Asking
     ensures due { due_of result ≡ after_look answer.now.error }
     ensures directory { result.directory ≡ answer.now.yes }
     ensures nameless { result.nameless ≡ (answer.now.links == 0) }
-    ensures object { result.object ≡ answer.now.object }
 {
     let looked = Asking {
-        object: answer.object,
         directory: answer.yes,
         nameless: answer.links == 0,
         ..asking
@@ -160,21 +154,23 @@ fn after_find(asking: Asking, facts: &Facts, answer: &Answer) -> Asking
         asks(asking, CLOSE, answer.error)
     } else if answer.error != 0 || answer.length == 0 {
         missing(asking)
-    } else if answer.yes && !asking.directory {
-        asks(asking, LOOK_UP, 0)
+    } else if answer.yes && !(asking.directory && answer.length == 1) {
+        asks(asking, LEAD, 0)
     } else {
         told(asking, facts)
     }
 }
 
-fn after_look_up(asking: Asking, facts: &Facts, error: u32, same: bool) -> Asking
-    ensures due { due_of result ≡ after_look_up facts.now error same asking.directory asking.nameless }
+fn after_lead(asking: Asking, facts: &Facts, error: u32) -> Asking
+    ensures due { due_of result ≡ after_lead facts.now error asking.directory asking.nameless }
     ensures same { Same asking result }
 {
-    if error == 0 && same {
+    if error == 0 {
         told(asking, facts)
-    } else {
+    } else if error == EAGAIN {
         missing(asking)
+    } else {
+        asks(asking, CLOSE, error)
     }
 }
 
@@ -183,11 +179,6 @@ pub fn begin(facts: &Facts) -> Asking
     ensures { IsAt facts.now [] result }
 {
     Asking {
-        object: Object {
-            device: 0,
-            inode: 0,
-            mount: 0,
-        },
         error: 0,
         next: if facts.directory { COPY } else { LOOK },
         directory: facts.directory,
@@ -196,11 +187,11 @@ pub fn begin(facts: &Facts) -> Asking
 }
 
 /// Takes what the last demand gave, and says what comes next. The answer's error is 0, or the system call's
-/// (errno(3)); of FIND, 0 or the error for which the place could not be found out; of CLOSE it isn't looked at. Where
-/// nothing comes any more, nothing changes. Takes no memory.
+/// (errno(3)); of FIND and LEAD, 0 or the error for which the place could not be found out; of CLOSE it isn't looked
+/// at. Where nothing comes any more, nothing changes. Takes no memory.
 ///
 /// It looks at the object, unless that is known to be a directory, copies the descriptor, and asks for the names. If
-/// a text alone may have told them, and the object is no directory, they must lead to this object.
+/// a text alone has told them, they must lead to this object, but for a directory that is the root itself.
 ///
 /// Errors: ENOENT (2) of what has no place and was removed; EAGAIN (11) of anything else that has none; any other one
 /// of the last demand.
@@ -213,12 +204,7 @@ pub fn next(asking: Asking, facts: &Facts, answer: &Answer) -> Asking
         LOOK => after_look(asking, answer),
         COPY => after_copy(asking, answer.error),
         FIND => after_find(asking, facts, answer),
-        LOOK_UP => after_look_up(
-            asking,
-            facts,
-            answer.error,
-            is_same_object(&asking.object, &answer.object, false),
-        ),
+        LEAD => after_lead(asking, facts, answer.error),
         DEAD => lost(asking, answer.yes || asking.nameless),
         CLOSE => over(asking, asking.error),
         _ => asking,

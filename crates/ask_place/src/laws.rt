@@ -1,14 +1,16 @@
 //! What holds of every history, as laws over its exchanges: each function's contract is one, and its body is empty.
-ghost use Rattle.std.specs.Prelude.{◌≡◌, ◌≢◌, ◌<◌, ◌≤◌, ℕ, true, List, length};
+ghost use Rattle.std.specs.Prelude.{◌≡◌, ◌≢◌, ◌<◌, ◌≤◌, ◌+◌, ℕ, true, List, length};
 ghost use Rattle.system_calls.specs.Errors.{EAGAIN};
 ghost use Rattle.ask_place.specs.History.{next_after, Exchange, IsHistory};
+ghost use Rattle.ask_place.specs.Leading.{answered_after, leading_after, misled_after, AreTurns, IsLed, Turn};
 ghost use Rattle.ask_place.specs.Promises.{is_open_after, is_over, needs_open, why_after, IsFound};
 ghost use Rattle.ask_place.specs.Questions.{next_question};
 ghost use Rattle.ask_place.specs.declared.asking.Facts.{Facts};
 ghost use Rattle.ask_place.specs.declared.asking.TheConstants.{ENDS, FAILS};
+ghost use Rattle.ask_place.specs.declared.leading.TheConstants.{LEADS, MISLEADS, OPEN};
 
-/// Where a place is told, it was found out. If a text alone may have told it, of what is no directory, then its names
-/// led to the very object that was looked at before, by the same mount.
+/// Where a place is told, it was found out. If a text alone has told it, then its names led to the very object, but of
+/// a directory that is the root itself.
 pub fn what_is_told_was_found()
     ensures { (f : Facts) (history : List Exchange) → IsHistory f history → (next_after f history).next ≡ ENDS
         → IsFound f history }
@@ -21,8 +23,8 @@ pub fn the_copy_is_closed_once_or_kept()
         → is_open_after history ≡ needs_open f (next_after f history) }
 {}
 
-/// It fails by the last error that it met. That is a demand's own, but for EAGAIN of the place: then, and where there
-/// is no place, it is ENOENT of what was removed, or has no name left, and EAGAIN of anything else.
+/// It fails by the last error that it met. That is a demand's own, but for EAGAIN of the place, or of its names: then,
+/// and where there is no place, it is ENOENT of what was removed, or has no name left, and EAGAIN of anything else.
 pub fn why_it_fails()
     ensures { (f : Facts) (history : List Exchange) → IsHistory f history → (next_after f history).next ≡ FAILS
         → ((next_after f history).error ≢ 0) × ((next_after f history).error ≡ why_after f history) }
@@ -37,6 +39,35 @@ pub fn what_is_there_is_told()
 /// There are six exchanges at most.
 pub fn calls_are_few()
     ensures { (f : Facts) (history : List Exchange) → IsHistory f history → length history ≤ 6 }
+{}
+
+/// Names lead to an object only if all of them were opened, each in what the one before it had led to, by an openat(2)
+/// that walks no further than one name; and if what they led to was the same in the end.
+pub fn each_name_was_opened_by_itself()
+    ensures { (names : List ℕ) (turns : List Turn) → AreTurns names turns → (leading_after names turns).next ≡ LEADS
+        → IsLed names turns }
+{}
+
+/// The name that is to be opened lies in the text.
+pub fn names_lie_in_the_text()
+    ensures { (names : List ℕ) (turns : List Turn) → AreTurns names turns → (leading_after names turns).next ≡ OPEN
+        → ((leading_after names turns).start ≤ (leading_after names turns).end)
+        × ((leading_after names turns).end ≤ length names) }
+{}
+
+/// Names that lead nowhere fail by EAGAIN where one isn't there any more, or another object is; and else by the error
+/// of the last openat(2).
+pub fn why_names_mislead()
+    ensures { (names : List ℕ) (turns : List Turn) → AreTurns names turns
+        → (leading_after names turns).next ≡ MISLEADS
+        → ((leading_after names turns).error ≢ 0) × ((leading_after names turns).error ≡ misled_after names turns) }
+{}
+
+/// Names are opened at most once for each byte of the text, but for those that a signal interrupts; and it is asked
+/// once more.
+pub fn names_are_few()
+    ensures { (names : List ℕ) (turns : List Turn) → AreTurns names turns
+        → answered_after names turns ≤ length names + 1 }
 {}
 
 /// A place is asked for again only after EAGAIN, and eight times at most. EAGAIN is never the answer.

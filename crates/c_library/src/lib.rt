@@ -37,6 +37,7 @@ mod askings;
 mod below;
 mod calls;
 mod entries;
+mod leadings;
 mod listings;
 mod looks;
 mod mounts;

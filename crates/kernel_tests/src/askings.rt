@@ -1,12 +1,16 @@
 //! Which system call comes next as a place is asked for, by answers that the kernel gives; and how often it is.
 use ask_place::{
-    Answer, Asking, CLOSE, COPY, DEAD, ENDS, FAILS, FIND, Facts, LOOK, LOOK_UP, Question, begin,
-    directory_error, next, next_question,
+    Answer, Asking, CLOSE, COMPARE, COPY, DEAD, ENDS, FAILS, FIND, Facts, LEAD, LEADS, LOOK,
+    Leading, MISLEADS, OPEN, Question, begin, calls_are_few, directory_error,
+    each_name_was_opened_by_itself, lead, lead_on, names_are_few, names_lie_in_the_text, next,
+    next_question, questions_are_few, the_copy_is_closed_once_or_kept, what_is_there_is_told,
+    what_is_told_was_found, why_it_fails, why_names_mislead,
 };
 use std::test::Fail;
-use system_calls::Object;
 
 const ENOENT: u32 = 2;
+
+const EINTR: u32 = 4;
 
 const EIO: u32 = 5;
 
@@ -35,11 +39,6 @@ const HELD: Facts = Facts {
 
 fn gave(error: u32) -> Answer {
     Answer {
-        object: Object {
-            device: 0,
-            inode: 0,
-            mount: 0,
-        },
         links: 0,
         length: 0,
         error,
@@ -58,13 +57,8 @@ fn found(length: usize, alone: bool) -> Answer {
     }
 }
 
-fn seen(inode: u64, mount: u64, links: u64, directory: bool) -> Answer {
+fn seen(links: u64, directory: bool) -> Answer {
     Answer {
-        object: Object {
-            device: 7,
-            inode,
-            mount,
-        },
         links,
         ..says(directory)
     }
@@ -87,7 +81,7 @@ fn is(asking: &Asking, next: u8, error: u32) -> bool {
 fn a_place_that_is_found_is_told(rt: HostRuntime) -> Result<(), Fail> {
     let begun = begin(&ANY);
     assert!(rt; is(&begun, LOOK, 0));
-    let looked = then(begun, &seen(5, 9, 1, false));
+    let looked = then(begun, &seen(1, false));
     assert!(rt; is(&looked, COPY, 0));
     let asked = then(looked, &gave(0));
     assert!(rt; is(&asked, FIND, 0));
@@ -116,47 +110,69 @@ fn a_held_directory_is_kept(rt: HostRuntime) -> Result<(), Fail> {
 
 #[test]
 fn a_text_alone_must_lead_to_the_object(rt: HostRuntime) -> Result<(), Fail> {
-    let asked = copied(&seen(5, 9, 1, false));
-    let alone = then(asked, &found(4, true));
-    assert!(rt; is(&alone, LOOK_UP, 0));
-    assert!(rt; is(&then(alone, &seen(5, 9, 1, false)), CLOSE, 0));
-    assert!(rt; is(&then(alone, &seen(6, 9, 1, false)), CLOSE, EAGAIN));
-    assert!(rt; is(&then(alone, &seen(5, 8, 1, false)), CLOSE, EAGAIN));
-    assert!(rt; is(&then(alone, &gave(ENOENT)), CLOSE, EAGAIN));
-    assert!(rt;
-        is(
-            &then(copied(&seen(5, 9, 2, true)), &found(4, true)),
-            CLOSE,
-            0
-        )
-    );
+    let file = then(copied(&seen(1, false)), &found(4, true));
+    assert!(rt; is(&file, LEAD, 0));
+    assert!(rt; is(&then(file, &gave(0)), CLOSE, 0));
+    assert!(rt; is(&then(file, &gave(EAGAIN)), CLOSE, EAGAIN));
+    assert!(rt; is(&then(file, &gave(EMFILE)), CLOSE, EMFILE));
+    let directory = then(copied(&seen(2, true)), &found(4, true));
+    assert!(rt; is(&directory, LEAD, 0) && is(&then(directory, &gave(EAGAIN)), DEAD, 0));
+    // No names lead to the root, which is a directory.
+    assert!(rt; is(&then(copied(&seen(2, true)), &found(1, true)), CLOSE, 0));
+    assert!(rt; is(&then(copied(&seen(1, false)), &found(1, true)), LEAD, 0));
+    Ok(())
+}
+
+fn opens(leading: &Leading, start: usize, end: usize) -> bool {
+    leading.next == OPEN && leading.start == start && leading.end == end
+}
+
+fn ends(leading: &Leading, next: u8, error: u32) -> bool {
+    leading.next == next && leading.error == error
+}
+
+#[test]
+fn names_are_opened_one_in_another(rt: HostRuntime) -> Result<(), Fail> {
+    let names = b"/etc/conf.d/x";
+    let first = lead(names);
+    assert!(rt; opens(&first, 1, 4));
+    assert!(rt; lead_on(first, names, EINTR, true) == first);
+    let second = lead_on(first, names, 0, false);
+    assert!(rt; opens(&second, 5, 11));
+    let third = lead_on(second, names, 0, false);
+    assert!(rt; opens(&third, 12, 13));
+    let all = lead_on(third, names, 0, false);
+    assert!(rt; ends(&all, COMPARE, 0));
+    let end = lead_on(all, names, 0, true);
+    assert!(rt; ends(&end, LEADS, 0) && lead_on(end, names, EIO, false) == end);
+    assert!(rt; ends(&lead_on(all, names, 0, false), MISLEADS, EAGAIN));
+    Ok(())
+}
+
+#[test]
+fn names_that_lead_nowhere_have_their_errors(rt: HostRuntime) -> Result<(), Fail> {
+    let names = b"/a/b";
+    let first = lead(names);
+    assert!(rt; ends(&lead_on(first, names, ENOENT, true), MISLEADS, EAGAIN));
+    assert!(rt; ends(&lead_on(first, names, ENOTDIR, true), MISLEADS, EAGAIN));
+    assert!(rt; ends(&lead_on(first, names, EMFILE, true), MISLEADS, EMFILE));
+    assert!(rt; ends(&lead(b"/"), MISLEADS, EAGAIN) && ends(&lead(b""), MISLEADS, EAGAIN));
+    assert!(rt; ends(&lead(b"a/b"), MISLEADS, EAGAIN));
     Ok(())
 }
 
 #[test]
 fn what_has_no_place_was_removed_or_moved(rt: HostRuntime) -> Result<(), Fail> {
+    assert!(rt; is(&then(copied(&seen(1, false)), &gave(EAGAIN)), CLOSE, EAGAIN));
+    assert!(rt; is(&then(copied(&seen(0, false)), &gave(EAGAIN)), CLOSE, ENOENT));
     assert!(rt;
         is(
-            &then(copied(&seen(5, 9, 1, false)), &gave(EAGAIN)),
-            CLOSE,
-            EAGAIN
-        )
-    );
-    assert!(rt;
-        is(
-            &then(copied(&seen(5, 9, 0, false)), &gave(EAGAIN)),
+            &then(copied(&seen(0, false)), &found(0, false)),
             CLOSE,
             ENOENT
         )
     );
-    assert!(rt;
-        is(
-            &then(copied(&seen(5, 9, 0, false)), &found(0, false)),
-            CLOSE,
-            ENOENT
-        )
-    );
-    let directory = then(copied(&seen(5, 9, 0, true)), &gave(EAGAIN));
+    let directory = then(copied(&seen(0, true)), &gave(EAGAIN));
     assert!(rt; is(&directory, DEAD, 0));
     assert!(rt; is(&then(directory, &says(false)), CLOSE, ENOENT));
     Ok(())
@@ -166,7 +182,7 @@ fn what_has_no_place_was_removed_or_moved(rt: HostRuntime) -> Result<(), Fail> {
 fn each_other_error_is_told_as_it_is(rt: HostRuntime) -> Result<(), Fail> {
     assert!(rt; is(&then(begin(&ANY), &gave(EBADF)), FAILS, EBADF));
     assert!(rt; is(&copied(&gave(EIO)), FAILS, EIO));
-    assert!(rt; is(&then(copied(&seen(5, 9, 0, true)), &gave(EIO)), CLOSE, EIO));
+    assert!(rt; is(&then(copied(&seen(0, true)), &gave(EIO)), CLOSE, EIO));
     Ok(())
 }
 
@@ -216,4 +232,19 @@ fn only_a_directory_is_one(rt: HostRuntime) -> Result<(), Fail> {
     assert!(rt; directory_error(0, 0o100644) == ENOTDIR && directory_error(0, 0o120777) == ENOTDIR);
     assert!(rt; directory_error(EBADF, 0o040000) == EBADF);
     Ok(())
+}
+
+// The laws are called as a caller has them at hand. They do nothing.
+#[test]
+fn laws_of_a_place_are_at_hand() {
+    calls_are_few();
+    each_name_was_opened_by_itself();
+    names_are_few();
+    names_lie_in_the_text();
+    questions_are_few();
+    the_copy_is_closed_once_or_kept();
+    what_is_there_is_told();
+    what_is_told_was_found();
+    why_it_fails();
+    why_names_mislead();
 }
