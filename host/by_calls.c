@@ -27,12 +27,11 @@ static uint32_t open_entry(struct inroot_work *w, int flags)
     return error_of(w->fd);
 }
 
-/* The proved call's own handle on the root is the first. */
 static uint32_t take_root(struct inroot_driver *d, struct inroot_work *w)
 {
-    if (!inroot_above_is_root(d->root, w->at))
+    if (w->facts.what == INROOT_STEP_PARENT && !inroot_above_is_root(d->root, w->at))
         return ESTALE;
-    w->handle = inroot_handles_share(d, UINT64_C(1) << 32);
+    w->handle = inroot_handles_share(d, INROOT_ROOT_HANDLE);
     return 0;
 }
 

@@ -255,9 +255,9 @@ enum { INROOT_IS_THERE = 0 };
 /*
  * What is known of a step before its first system call. WHAT it is (`enum inroot_what`), the MODE of a rename, the bytes of the
  * TEXT of a link that is made. An Open: a DIRECTORY is expected; NO_MAGIC link is followed; the name IS_LAST in the path; the
- * path TAKES_LINK where it ends in one. An Open, a Dup, a Parent: what is opened must be on the root's MOUNT. A Parent: the
- * names are known by which the call came to the child (NAMED), and are a SINGLE one; the call GOES_ON from the directory above
- * by a name; the root is the thread's own (JAILED); a tree is removed (CLEARS); each name is to be looked up by itself
+ * path TAKES_LINK where it ends in one. An Open, a Dup, a Parent: what is opened must be on the root's MOUNT. A Dup, a Parent: the
+ * call GOES_ON from what is opened by a name. A Parent: the names are known by which the call came to the child (NAMED), and are a
+ * SINGLE one; the root is the thread's own (JAILED); a tree is removed (CLEARS); each name is to be looked up by itself
  * (ONE_BY_ONE); openat2(2) is there (SECOND). An Open, a ReadLink: the call FOLLOWS the text that it reads. A ReadLink: the
  * object was opened as a LINK. A Parent, a ReadLink: what is KNOWN from the steps before (`enum inroot_shown`): that the child
  * had an entry; that the walk has come to the link which it was to find, or has its text. A change: an object that is there
@@ -274,11 +274,11 @@ struct inroot_step_facts {
 /*
  * By O_PATH, O_NOFOLLOW and O_CLOEXEC the name is opened, or `.` of a Dup, or `..` of a Parent: with O_DIRECTORY, or without. A
  * descriptor of a directory above is let go. Of what was opened: whether it is on the root's mount; its kind; its file system; openat2(2)
- * of its name with RESOLVE_NO_MAGICLINKS. Of a Parent, first: whether `..` is the root, which then is what was opened; or the names
- * passed, without the last, are looked up from the root with RESOLVE_BENEATH; whether `..` is what that found; if not, that is
- * closed. Of the directory that must be there still: its links; its file system; it is opened to be read, read by getdents64(2),
- * and closed. Of a link: the flags of its mount; its text. The one system call of a change. What was opened is closed. Or the step
- * ENDS: with what was opened; with a text; done; refused by an error of the step table; or not made.
+ * of its name with RESOLVE_NO_MAGICLINKS. Of a Parent, first: whether `..` is the root, as it is of a Dup; then the root is what was
+ * opened; or the names passed, without the last, are looked up from the root with RESOLVE_BENEATH; whether `..` is what that found; if
+ * not, that is closed. Of the directory that must be there still: its links; its file system; it is opened to be read, read by
+ * getdents64(2), and closed. Of a link: the flags of its mount; its text. The one system call of a change. What was opened is closed.
+ * Or the step ENDS: with what was opened; with a text; done; refused by an error of the step table; or not made.
  */
 enum inroot_step_next {
     INROOT_CALL_OPEN_DIRECTORY = 1, INROOT_CALL_OPEN_ANY, INROOT_CALL_SPARE, INROOT_CALL_MOUNT, INROOT_CALL_KIND,

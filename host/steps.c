@@ -231,30 +231,21 @@ int inroot_open_anew(struct inroot_driver *d, uint64_t handle)
     return error ? -error : open_itself(d, handle, &itself);
 }
 
-/*
- * Where the walk goes on from the root, by the caller's own descriptor. Else by one that shares nothing with it but the
- * directory, as the call's end gives one that is handed out.
- */
+/* The root's own second handle: by the caller's descriptor, or by one that shares nothing with it but the directory. */
 static struct inroot_result open_root(struct inroot_driver *d, uint64_t root)
 {
-    int unused;
-    int error = inroot_handles_fd(d, root, &unused);
+    struct entry itself;
+    int error = find(d, root, ".", 1, &itself);
     if (error)
         return inroot_unmade(d, error);
     if (!inroot_handles_reserve(d))
         return inroot_unmade(d, ENOMEM);
-    if (goes_on(d)) {
-        uint64_t handle = inroot_handles_share(d, root);
-        /* No system call has seen whether the root is one. */
-        d->steps--;
-        return inroot_opened(handle, INROOT_KIND_DIR);
-    }
-    struct entry itself;
-    error = find(d, root, ".", 1, &itself);
-    if (error)
-        return inroot_unmade(d, error);
     struct inroot_work work = work_on(d, INROOT_STEP_DUP, root, &itself);
-    return open_by(d, &work);
+    work.facts.goes_on = goes_on(d);
+    struct inroot_result result = open_by(d, &work);
+    /* No system call has seen whether the root is one. */
+    d->steps -= work.handle != 0;
+    return result;
 }
 
 /* Makes the step by the names passed, if they are known; else by the child's `..`, of which they say nothing. */

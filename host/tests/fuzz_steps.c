@@ -87,11 +87,12 @@ static void opens(const struct inroot_step_facts *facts, uint8_t next, uint32_t 
 /* The directory above, by the names passed. */
 static void finds_above(const struct inroot_step_facts *facts, uint8_t next, uint32_t error, struct seen *seen)
 {
-    MUST(facts->what == INROOT_STEP_PARENT && seen->why == 0);
-    MUST(facts->named && facts->second && !facts->clears && !facts->one_by_one && !facts->mount);
+    const bool is_dup = facts->what == INROOT_STEP_DUP;
+    MUST((facts->what == INROOT_STEP_PARENT || (is_dup && next == INROOT_CALL_IS_ROOT)) && seen->why == 0);
+    MUST(is_dup || (facts->named && facts->second && !facts->clears && !facts->one_by_one && !facts->mount));
     switch (next) {
     case INROOT_CALL_IS_ROOT:
-        MUST(!seen->is_open && facts->single && facts->goes_on && seen->exchanges == 1);
+        MUST(!seen->is_open && (is_dup || facts->single) && facts->goes_on && seen->exchanges == 1);
         seen->is_open = error == 0;
         break;
     case INROOT_CALL_LOOK_ABOVE:

@@ -303,6 +303,20 @@ fn the_root_is_above_one_name(rt: HostRuntime) -> Result<(), Fail> {
     Ok(())
 }
 
+// A Dup of the root is the caller's own descriptor, if the call goes on by a name; and else one of its own.
+#[test]
+fn the_root_is_shared_on_the_way(rt: HostRuntime) -> Result<(), Fail> {
+    let facts = Facts {
+        goes_on: true,
+        mount: true,
+        ..step(DUP)
+    };
+    let root = begin(&facts);
+    assert!(rt; root.next == IS_ROOT && works(&facts, root).next == OPENED);
+    assert!(rt; begin(&step(DUP)).next == OPEN_DIRECTORY);
+    Ok(())
+}
+
 // Where it can't be known, `..` of it is opened, and the question alone isn't answered.
 #[test]
 fn what_may_be_removed_is_no_answer(rt: HostRuntime) -> Result<(), Fail> {

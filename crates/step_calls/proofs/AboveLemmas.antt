@@ -1,5 +1,5 @@
 -- The directory above is looked up by the names passed only by leave.
-use Rattle.std.proofs.Common.{◌≡◌, ℕ, List, [], ◌∷◌, Bool, true, false, if◌then◌else◌, ◌&&◌, not, refl, subst}
+use Rattle.std.proofs.Common.{◌≡◌, ℕ, List, [], ◌∷◌, Bool, true, false, if◌then◌else◌, ◌&&◌, not, ◌⊎◌, inl, inr, refl, subst}
 use Rattle.std.specs.Prelude.{◌==◌, MatchBool}
 use Rattle.std.proofs.lemmas.Bool.{eqb-true, false≢true}
 use Rattle.step_calls.specs.History.{after_exchange, asks, first, first_above, may_look_above, next_after, wants_own_text, Exchange, Next}
@@ -35,20 +35,21 @@ by_names f parents may =
 abbrev Says : Facts → ℕ → Type 0
 Says f next =
     MatchBool (next == LOOK_ABOVE) (IsByNames f × (f.single ≡ false) × (f.jailed ≡ false))
-    (MatchBool (next == IS_ROOT) (IsByNames f × (f.single ≡ true) × (f.goes_on ≡ true)) (Unit {0}))
+    (MatchBool (next == IS_ROOT) (((f.what ≡ DUP) ⊎ (IsByNames f × (f.single ≡ true))) × (f.goes_on ≡ true)) (Unit {0}))
 
 begins : (f : Facts) → Says f (first f).next
 begins f =
     let P = λ (n : Next). Says f n.next in
     if_elim P (f.what == OPEN) (if f.directory then asks OPEN_DIRECTORY else asks OPEN_ANY) _
     (λ b. if_elim P f.directory (asks OPEN_DIRECTORY) (asks OPEN_ANY) (λ c. tt) (λ c. tt))
-    (λ b. if_elim P (f.what == DUP) (asks OPEN_DIRECTORY) _ (λ c. tt)
+    (λ b. if_elim P (f.what == DUP) (if f.goes_on then asks IS_ROOT else asks OPEN_DIRECTORY) _
+    (λ c. if_elim P f.goes_on (asks IS_ROOT) (asks OPEN_DIRECTORY) (λ g. (inl (eqb-true f.what DUP c), g)) (λ g. tt))
     (λ c. if_elim P (f.what == PARENT) (first_above f) _
     (λ d. if_elim P (may_look_above f) (if f.single then (if f.goes_on then asks IS_ROOT else asks OPEN_DIRECTORY)
     else (if f.jailed then asks OPEN_DIRECTORY else asks LOOK_ABOVE)) (asks OPEN_DIRECTORY)
     (λ m. if_elim P f.single (if f.goes_on then asks IS_ROOT else asks OPEN_DIRECTORY)
     (if f.jailed then asks OPEN_DIRECTORY else asks LOOK_ABOVE)
-    (λ s. if_elim P f.goes_on (asks IS_ROOT) (asks OPEN_DIRECTORY) (λ g. (by_names f d m, s, g)) (λ g. tt))
+    (λ s. if_elim P f.goes_on (asks IS_ROOT) (asks OPEN_DIRECTORY) (λ g. (inr (by_names f d m, s), g)) (λ g. tt))
     (λ s. if_elim P f.jailed (asks OPEN_DIRECTORY) (asks LOOK_ABOVE) (λ j. tt) (λ j. (by_names f d m, s, j))))
     (λ m. tt))
     (λ d. if_elim P (f.what == READ_TEXT) (if wants_own_text f then asks READ_LINK else asks NO_FOLLOW) _

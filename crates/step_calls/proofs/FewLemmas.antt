@@ -140,7 +140,8 @@ rank_first f =
     let P = λ (n : Next). rank n.next ≤ 13 in
     if_elim P (f.what == OPEN) (if f.directory then asks OPEN_DIRECTORY else asks OPEN_ANY) _
     (λ b. if_elim P f.directory (asks OPEN_DIRECTORY) (asks OPEN_ANY) (λ c. omega arith) (λ c. omega arith))
-    (λ b. if_elim P (f.what == DUP) (asks OPEN_DIRECTORY) _ (λ c. omega arith)
+    (λ b. if_elim P (f.what == DUP) (if f.goes_on then asks IS_ROOT else asks OPEN_DIRECTORY) _
+    (λ c. if_elim P f.goes_on (asks IS_ROOT) (asks OPEN_DIRECTORY) (λ g. omega arith) (λ g. omega arith))
     (λ c. if_elim P (f.what == PARENT) (first_above f) _
     (λ d. first_above_all P f (omega arith) (omega arith) (omega arith))
     (λ d. if_elim P (f.what == READ_TEXT) (if wants_own_text f then asks READ_LINK else asks NO_FOLLOW) _

@@ -6,7 +6,7 @@ use Rattle.system_calls.specs.Errors.{ENOENT, EINTR, EEXIST, EXDEV, ENOTDIR, ENF
 use Rattle.step_calls.specs.History.{after_exchange, asked, asks, came_to, ends_by, fails, first, first_above, gone, has_followed, has_magic, is_ordinary, keeps_links, knows, next_after, not_opened, not_ordinary, not_read, opened, stayed, there, unasked, waits, opens_directory, opens_any, spares, asks_mount, asks_kind, asks_holder, asks_magic, asks_root, looks_above, compares_above, closes_above, asks_links, asks_layers, opens_to_read, reads, closes_read, asks_follow, reads_link, changes, closes, is_known_there, is_read_already, wants_own_text, bars_magic, Exchange, IsHistory, Next}
 use Rattle.step_calls.specs.Promises.{is_about_child, RefusalsAreOwn}
 use Rattle.step_calls.specs.Refusals.{is_refusal}
-use Rattle.step_calls.specs.declared.course.TheConstants.{OPEN_DIRECTORY, OPEN_ANY, SPARE, MOUNT, KIND, MAY_HOLD_MAGIC, MAGIC, COMPARE_ABOVE, CLOSE_ABOVE, LINKS, LAYERS, OPEN_TO_READ, READ, CLOSE_READ, READ_LINK, NO_FOLLOW, CHANGE, CLOSE, OPENED, TEXT, DONE, REFUSED, UNMADE}
+use Rattle.step_calls.specs.declared.course.TheConstants.{OPEN_DIRECTORY, OPEN_ANY, IS_ROOT, SPARE, MOUNT, KIND, MAY_HOLD_MAGIC, MAGIC, COMPARE_ABOVE, CLOSE_ABOVE, LINKS, LAYERS, OPEN_TO_READ, READ, CLOSE_READ, READ_LINK, NO_FOLLOW, CHANGE, CLOSE, OPENED, TEXT, DONE, REFUSED, UNMADE}
 use Rattle.step_calls.specs.declared.facts.Facts.{Facts}
 use Rattle.step_calls.specs.declared.facts.TheConstants.{DIRECTORY, DUP, IS_THERE, LINK, OPEN, PARENT, READ_TEXT}
 use Rattle.step_calls.proofs.Ends.{first_above_all, there_all}
@@ -127,7 +127,8 @@ module _ (f : Facts) where
   begins is_step =
       if_elim (Stood f) (f.what == OPEN) (if f.directory then asks OPEN_DIRECTORY else asks OPEN_ANY) _
       (λ b. if_elim (Stood f) f.directory (asks OPEN_DIRECTORY) (asks OPEN_ANY) (λ c. tt) (λ c. tt))
-      (λ b. if_elim (Stood f) (f.what == DUP) (asks OPEN_DIRECTORY) _ (λ c. tt)
+      (λ b. if_elim (Stood f) (f.what == DUP) (if f.goes_on then asks IS_ROOT else asks OPEN_DIRECTORY) _
+      (λ c. if_elim (Stood f) f.goes_on (asks IS_ROOT) (asks OPEN_DIRECTORY) (λ g. tt) (λ g. tt))
       (λ c. if_elim (Stood f) (f.what == PARENT) (first_above f) _ (λ d. first_above_all (Stood f) f tt tt tt)
       (λ d. if_elim (Stood f) (f.what == READ_TEXT) (if wants_own_text f then asks READ_LINK else asks NO_FOLLOW) _
       (λ e. if_elim (Stood f) (wants_own_text f) (asks READ_LINK) (asks NO_FOLLOW) (λ g. tt) (λ g. tt))

@@ -345,7 +345,7 @@ after_exchange f closes due = after_close due
 abbrev pub first : Facts → Next
 first f =
     if f.what == OPEN then (if f.directory then asks OPEN_DIRECTORY else asks OPEN_ANY)
-    else (if f.what == DUP then asks OPEN_DIRECTORY
+    else (if f.what == DUP then (if f.goes_on then asks IS_ROOT else asks OPEN_DIRECTORY)
     else (if f.what == PARENT then first_above f
     else (if f.what == READ_TEXT then (if wants_own_text f then asks READ_LINK else asks NO_FOLLOW)
     else (if f.what == IS_THERE then asks LINKS else asks CHANGE))))

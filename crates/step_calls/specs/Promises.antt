@@ -1,11 +1,11 @@
 -- What holds of every history.
-use Rattle.std.specs.Prelude.{◌≡◌, ◌≢◌, ℕ, ◌+◌, List, [], ◌∷◌, ◌==◌, Bool, true, false, ◌&&◌, ◌||◌, not, if◌then◌else◌}
+use Rattle.std.specs.Prelude.{◌≡◌, ◌≢◌, ℕ, ◌+◌, List, [], ◌∷◌, ◌==◌, Bool, true, false, ◌&&◌, ◌||◌, not, if◌then◌else◌, ◌⊎◌}
 use Rattle.system_calls.specs.Errors.{ENOENT, EINTR, ENOTDIR, ENFILE, EMFILE}
 use Rattle.step_calls.specs.History.{has_followed, is_ordinary, next_after, Exchange, opens_directory, opens_any, spares, asks_mount, asks_kind, asks_holder, asks_magic, asks_root, looks_above, compares_above, closes_above, asks_links, asks_layers, opens_to_read, reads, closes_read, asks_follow, reads_link, changes, closes, IsHistory}
 use Rattle.step_calls.specs.Refusals.{is_refusal}
 use Rattle.step_calls.specs.declared.course.TheConstants.{MOUNT, KIND, MAY_HOLD_MAGIC, MAGIC, IS_ROOT, LOOK_ABOVE, COMPARE_ABOVE, CLOSE_ABOVE, LINKS, LAYERS, OPEN_TO_READ, READ, CLOSE_READ, CLOSE, OPENED, REFUSED}
 use Rattle.step_calls.specs.declared.facts.Facts.{Facts}
-use Rattle.step_calls.specs.declared.facts.TheConstants.{IS_THERE, OPEN, PARENT}
+use Rattle.step_calls.specs.declared.facts.TheConstants.{DUP, IS_THERE, OPEN, PARENT}
 
 -- ---- descriptors
 
@@ -104,11 +104,13 @@ pub record IsByNames (f : Facts) : Type 0 where
   pub one_by_one : f.one_by_one ≡ false
   pub mount : f.mount ≡ false
 
--- In a jail none is; and the root's own descriptor serves only behind one name, for a call that goes on by a name.
+-- In a jail none is; and the root's own descriptor serves only a call that goes on by a name: for its Dup, or for a
+-- Parent behind one name.
 abbrev pub AboveIsFoundByLeave : Type 0
 AboveIsFoundByLeave = (f : Facts) (history : List Exchange) → IsHistory f history
     → ((next_after f history).next ≡ LOOK_ABOVE → IsByNames f × (f.single ≡ false) × (f.jailed ≡ false))
-    × ((next_after f history).next ≡ IS_ROOT → IsByNames f × (f.single ≡ true) × (f.goes_on ≡ true))
+    × ((next_after f history).next ≡ IS_ROOT
+    → ((f.what ≡ DUP) ⊎ (IsByNames f × (f.single ≡ true))) × (f.goes_on ≡ true))
 
 -- ---- the end
 

@@ -27,7 +27,8 @@ pub const MAY_HOLD_MAGIC: u8 = 6;
 /// openat2(2) of the name with O_PATH, RESOLVE_BENEATH and RESOLVE_NO_MAGICLINKS; what it opens is closed.
 pub const MAGIC: u8 = 7;
 
-/// PARENT: whether `..` of the directory is the root: statx(2) of both. If it is, the root is what was opened.
+/// PARENT: whether `..` of the directory is the root: statx(2) of both. DUP: it is, and nothing is asked. If so, the
+/// root is what was opened, by the caller's own descriptor.
 pub const IS_ROOT: u8 = 8;
 
 /// PARENT: the names passed, less the last one, are looked up from the root: openat2(2) with RESOLVE_BENEATH.

@@ -50,7 +50,7 @@ pub struct Facts {
     pub named: bool,
     /// PARENT: they are one name: what is above the child is the root.
     pub single: bool,
-    /// PARENT: the call goes on from there by a name. So the caller's own descriptor of the root will do.
+    /// DUP, PARENT: the call goes on from there by a name. So the caller's own descriptor of the root will do.
     pub goes_on: bool,
     /// PARENT: the root is the calling thread's own root directory.
     pub jailed: bool,

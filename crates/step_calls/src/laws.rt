@@ -96,7 +96,7 @@ pub fn a_change_is_made_once()
 
 /// The directory above is looked up by the names passed only where these are known, there is openat2(2), and the call
 /// neither removes a tree nor takes each name by itself or on the root's mount alone; and not in a jail. The root's own
-/// descriptor is it only for a call that goes on from there by a name, since no caller gets it back.
+/// descriptor serves a Dup or a Parent only in a call that goes on from there by a name, since no caller gets it back.
 pub fn above_is_found_by_leave()
     ensures { AboveIsFoundByLeave }
 {}

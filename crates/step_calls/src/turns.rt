@@ -30,7 +30,13 @@ fn first(facts: &Facts) -> Course
                 asks(OPEN_ANY)
             }
         }
-        DUP => asks(OPEN_DIRECTORY),
+        DUP => {
+            if facts.goes_on {
+                asks(IS_ROOT)
+            } else {
+                asks(OPEN_DIRECTORY)
+            }
+        }
         PARENT => first_above(facts),
         READ_TEXT => {
             if wants_own_text(facts) {
