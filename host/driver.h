@@ -127,7 +127,7 @@ enum { INROOT_FEW = 8 };
 
 /* A call under way. */
 struct inroot_driver {
-    uint64_t steps, removed;
+    uint64_t steps, removed;       /* the first are those that have made a system call, but for Close */
     bool alone, moved;             /* the thread's current directory is its own; and isn't its root */
     bool counts, begun;            /* a tree is removed; and its first entry's turn has come */
     bool too_deep;                 /* a directory was not entered for its depth */
@@ -343,7 +343,7 @@ const char *inroot_step_name(unsigned step);
 enum { INROOT_PROC_NAME = 48 };
 /*
  * A directory of a proc(5) that the library keeps open, and which one it is: none where the descriptor is INROOT_NONE. Of a top
- * also the number of its file system, by which another proc(5) is known. Of one that was handed in also that of its mount, or 0.
+ * also the numbers of its file system and of its mount, or 0, by which another proc(5) and another mount are known.
  */
 struct inroot_own {
     int fd;
@@ -525,8 +525,11 @@ int inroot_magic_follow(struct inroot_driver *d, int dir, const char *name);
 int inroot_partial(int root, int from, char *text, int flags, bool follows, size_t *rest);
 
 /* mount.c */
-/* The number of the mount that a descriptor is on, which no other mount ever gets (Linux 6.8); or 0 where the kernel doesn't say. */
-uint64_t inroot_mount_unique(int fd);
+/*
+ * The number of the mount that a descriptor is on, or 0 where the kernel doesn't say; and the device of its file system. From Linux
+ * 6.8 on no other mount ever gets that number, and from 5.8 on none as long as this mount is there.
+ */
+uint64_t inroot_mount_number(int fd, uint64_t *device);
 /* Whether an object is on the mount of the root, as far as the kernel shows it. */
 bool inroot_mount_has(struct inroot_driver *d, int fd);
 /* Returns the descriptor if it is on the mount of the root. Else closes it, and returns -1 with EXDEV. */

@@ -9,15 +9,17 @@
 #include <fcntl.h>
 #include <sys/stat.h>
 #include <sys/syscall.h>
+#include <sys/sysmacros.h>
 #include <unistd.h>
 
-/* Two fields of statx(2) that the headers of the C library may lack: which fields it has filled, and the mount. */
+/* Fields of statx(2) that the headers of the C library may lack: which fields it has filled, the device, and the mount. */
 struct told {
-    uint32_t mask, others[35];
+    uint32_t mask, others[33], major, minor;
     uint64_t mount, more[13];
 };
 
-_Static_assert(sizeof(struct told) == 256 && offsetof(struct told, mount) == 144, "statx(2) tells so");
+_Static_assert(sizeof(struct told) == 256 && offsetof(struct told, major) == 136 && offsetof(struct told, mount) == 144,
+               "statx(2) tells so");
 
 enum { TELLS_MOUNT = 0x1000, TELLS_UNIQUE = 0x4000, DONT_SYNC = 0x4000 };
 
@@ -39,12 +41,19 @@ static struct inroot_mount ask(int dir, const char *path)
     return (struct inroot_mount){.is_known = is_known, .number = is_known ? about.st_dev : 0};
 }
 
-uint64_t inroot_mount_unique(int fd)
+uint64_t inroot_mount_number(int fd, uint64_t *device)
 {
 #ifdef SYS_statx
     struct told told;
-    if (syscall(SYS_statx, fd, "", AT_EMPTY_PATH | DONT_SYNC, TELLS_UNIQUE, &told) == 0 && told.mask & TELLS_UNIQUE)
+    long failed;
+    const unsigned asked = TELLS_MOUNT | TELLS_UNIQUE;
+    do
+        failed = syscall(SYS_statx, fd, "", AT_EMPTY_PATH | DONT_SYNC, asked, &told);
+    while (failed != 0 && errno == EINTR);
+    if (failed == 0 && told.mask & asked) {
+        *device = makedev(told.major, told.minor);
         return told.mount;
+    }
 #endif
     return 0;
 }

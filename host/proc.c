@@ -2,8 +2,9 @@
  * proc.c: the /proc of this program, in which the kernel gives the path of a descriptor. The library opens it once for
  * the program. Before each use it checks that this is still that proc(5): the program may have closed the number, or it
  * may be another file's in a thread's own table of descriptors. Another file of that proc(5) lacks the names that the
- * library looks for: then the library checks whether it is the one that it opened, and does without. A program that hands
- * one in may know that /proc is covered: so the library never goes by /proc in its place, nor by another mount of the same one.
+ * library looks for: then the library checks whether it is the one that it opened, and does without. Another mount of that
+ * proc(5), as a container's, may be covered: the library doesn't go by it. A program that hands one in may know that /proc is
+ * covered: so the library never goes by /proc in its place.
  */
 #define _GNU_SOURCE
 #include "driver.h"
@@ -41,20 +42,35 @@ enum { FOLLOWS_NONE = 0x2000 };
 static bool find_system(int fd, uint64_t *system)
 {
     struct statfs about;
+    int failed;
     _Static_assert(sizeof about.f_fsid == sizeof *system, "the number of a file system");
-    if (fd < 0 || fstatfs(fd, &about) != 0 || about.f_type != PROC_SUPER_MAGIC)
+    do
+        failed = fstatfs(fd, &about);
+    while (failed != 0 && errno == EINTR);
+    if (failed != 0 || about.f_type != PROC_SUPER_MAGIC)
         return false;
     memcpy(system, &about.f_fsid, sizeof *system);
     return !((uint64_t)about.f_flags & FOLLOWS_NONE);
 }
 
-/* Whether it is a file on that mount, or where that isn't known, of that file system. */
-static bool is_in(int fd, uint64_t mount, uint64_t system)
+/* Whether the number is that of a file on the mount of this one: 1 or 0, or -1 where the kernel doesn't say. */
+static int is_on_mount(const struct inroot_own *own)
 {
-    uint64_t found = mount != 0 && fd >= 0 ? inroot_mount_unique(fd) : 0;
-    if (found != 0)
-        return found == mount;
-    return find_system(fd, &found) && found == system;
+    uint64_t device, found = 0;
+    errno = 0;
+    if (own->mount != 0)
+        found = inroot_mount_number(own->fd, &device);
+    if (found == 0)
+        return errno == EBADF ? 0 : -1;
+    return found == own->mount && device == own->device;
+}
+
+/* The same, and where that isn't known, whether it is one of that file system. */
+static bool is_in(const struct inroot_own *own)
+{
+    uint64_t system;
+    int known = own->fd < 0 ? 0 : is_on_mount(own);
+    return known >= 0 ? known : find_system(own->fd, &system) && system == own->system;
 }
 
 bool inroot_proc_is(int fd)
@@ -86,8 +102,8 @@ int inroot_proc_own(int fd, struct inroot_own *own)
 static bool is_own(const struct inroot_own *own)
 {
     struct stat about;
-    const uint64_t mount = own->mount != 0 ? inroot_mount_unique(own->fd) : 0;
-    const bool is_there = mount != 0 ? mount == own->mount : inroot_proc_is(own->fd);
+    int known = own->fd < 0 ? 0 : is_on_mount(own);
+    const bool is_there = known >= 0 ? known : inroot_proc_is(own->fd);
     return is_there && fstat(own->fd, &about) == 0 && about.st_dev == own->device && about.st_ino == own->inode;
 }
 
@@ -126,21 +142,24 @@ static int open_proc(struct inroot_own *own)
 static bool keep(const struct inroot_own *own)
 {
     int none = INROOT_NONE;
+    uint64_t unused;
     if (!atomic_compare_exchange_strong(&kept, &none, CLAIMED))
         return false;
     kept_device = own->device;
     kept_inode = own->inode;
-    kept_mount = own->mount;
+    kept_mount = inroot_mount_number(own->fd, &unused);
     kept_system = own->system;
     atomic_store(&kept, own->fd);
     return true;
 }
 
-/* Whether it is the program's, and the number is still that of the directory that was opened. */
-static bool is_kept(int fd)
+/* The program's, or none. */
+static struct inroot_own of_program(void)
 {
-    const struct inroot_own own = {.fd = fd, .device = kept_device, .inode = kept_inode, .mount = kept_mount};
-    return is_own(&own);
+    const int fd = atomic_load(&kept);
+    return (struct inroot_own){
+        .fd = fd, .device = kept_device, .inode = kept_inode, .mount = kept_mount, .system = kept_system,
+    };
 }
 
 bool inroot_proc_is_kept(void)
@@ -150,19 +169,20 @@ bool inroot_proc_is_kept(void)
 
 bool inroot_proc_is_lost(int proc)
 {
-    return proc == atomic_load(&kept) && !is_kept(proc);
+    const struct inroot_own own = of_program();
+    return proc == own.fd && !is_own(&own);
 }
 
 /*
- * Gives a descriptor that is there, or INROOT_NONE. With SURELY it is the one that was opened; else any file of that proc(5)
- * will do.
+ * Gives a descriptor that is there, or INROOT_NONE. With SURELY it is the one that was opened; else any file on that mount will
+ * do.
  */
 static int at_hand(bool surely)
 {
-    int fd = atomic_load(&kept);
-    if (surely ? is_kept(fd) : is_in(fd, kept_mount, kept_system))
-        return fd;
-    return (surely ? is_own(&of_thread) : is_in(of_thread.fd, 0, of_thread.system)) ? of_thread.fd : INROOT_NONE;
+    const struct inroot_own own = of_program();
+    if (surely ? is_own(&own) : is_in(&own))
+        return own.fd;
+    return (surely ? is_own(&of_thread) : is_in(&of_thread)) ? of_thread.fd : INROOT_NONE;
 }
 
 int inroot_proc_open(bool surely, bool *is_callers)
@@ -246,6 +266,7 @@ bool inroot_proc_ends(void)
 int inroot_proc_stay(void)
 {
     struct inroot_own own;
+    uint64_t unused;
     int fd = at_hand(true);
     int failed = fd >= 0 ? 0 : open_proc(&own);
     if (failed || fd >= 0)
@@ -256,6 +277,7 @@ int inroot_proc_stay(void)
         close(own.fd);
         return -ENOMEM;
     }
+    own.mount = inroot_mount_number(own.fd, &unused);
     of_thread = own;
     return own.fd;
 }
@@ -281,7 +303,6 @@ static int take_over(int proc)
     int failed = fd < 0 ? -errno : own_top(fd, system, &own);
     if (failed)
         return failed;
-    own.mount = inroot_mount_unique(own.fd);
     if (keep(&own)) {
         atomic_store(&is_handed_in, true);
         return 0;

@@ -1,7 +1,7 @@
 /*
  * corners: what seldom happens to a call. The C library or the kernel refuses what hardly ever is refused, a text is
  * too long in the midst of a call, or there is no /proc, or no number, as the first call is made. To be linked with
- * --wrap of madvise, pthread_setspecific, readlinkat and syscall.
+ * --wrap of fstatfs, madvise, pthread_setspecific, readlinkat and syscall.
  *
  * usage: corners DIR. Exits 0 where each call gives the error that inroot.h has for it, and leaves nothing open. 78:
  * no right to change a root, so that a part is left out.
@@ -25,6 +25,10 @@ static int root;
 
 /* The error by which each such call fails, or 0; and how often reading a directory is interrupted before that. */
 static int no_advice, no_place, no_text, no_names, interrupts;
+
+/* Whether mounts have no numbers; and how often the question for one, or for a file system, is interrupted. */
+static bool no_numbers;
+static int number_interrupts, system_interrupts;
 
 /* The root, to be shut to others as a directory is asked where it stands; or -1. */
 static int to_shut = -1;
@@ -50,6 +54,14 @@ int __wrap_pthread_setspecific(pthread_key_t key, const void *value)
     return no_place ? no_place : __real_pthread_setspecific(key, value);
 }
 
+int __real_fstatfs(int fd, struct statfs *about);
+int __wrap_fstatfs(int fd, struct statfs *about);
+
+int __wrap_fstatfs(int fd, struct statfs *about)
+{
+    return system_interrupts > 0 ? system_interrupts--, refused(EINTR) : __real_fstatfs(fd, about);
+}
+
 ssize_t __wrap_readlinkat(int dir, const char *name, char *text, size_t size)
 {
     return no_text && strncmp(name, "thread-self/", 12) != 0 ? refused(no_text) : __real_readlinkat(dir, name, text, size);
@@ -63,6 +75,12 @@ static long my_syscall(long number, const long *with)
         sure(seteuid(65534), "seteuid");
         to_shut = -1;
     }
+    if (number == SYS_statx && number_interrupts > 0) {
+        number_interrupts--;
+        return refused(EINTR);
+    }
+    if (number == SYS_statx && no_numbers)
+        return refused(ENOSYS);
     if (number == SYS_getdents64 && interrupts > 0) {
         interrupts--;
         return refused(EINTR);
@@ -92,6 +110,26 @@ static void lose_proc(void)
     for (int fd = 3; fd < 64; fd++)
         if (fstatfs(fd, &about) == 0 && about.f_type == PROC_SUPER_MAGIC)
             sure(dup3(root, fd, O_CLOEXEC), "dup3");
+}
+
+/* In a jail no other /proc can be opened. A signal that ends the question whether this one is still there has it asked again. */
+static void interrupted(void)
+{
+    const char *by = no_numbers ? "its file system" : "its mount";
+    keep_proc();
+    gives(inroot_jail(root), 0, "a jail");
+    number_interrupts = no_numbers ? 0 : 8;
+    system_interrupts = no_numbers ? 8 : 0;
+    int fd = inroot_openat(INROOT_JAIL, "a/f", O_RDONLY, 0, 0);
+    gives_fd(fd, "a file in a jail whose /proc is known by %s", by);
+    close(fd);
+    gives(number_interrupts + system_interrupts, 0, "signals that are to come still, by %s", by);
+}
+
+static void interrupted_without_numbers(void)
+{
+    no_numbers = true;
+    interrupted();
 }
 
 static void jails(void)
@@ -234,7 +272,8 @@ int main(int count, char **words)
     sure(mknodat(root, "a/t/f", S_IFREG | 0600, 0), "a/t/f");
     sure(mknodat(root, "a/f", S_IFREG | 0600, 0), "a/f");
     sure(symlinkat("f", root, "a/l"), "a/l");
-    skipped = may_jail(root) ? apart(jails) : NO_RIGHT;
+    const bool may = may_jail(root);
+    skipped = may ? apart(jails) | apart(interrupted) | apart(interrupted_without_numbers) : NO_RIGHT;
     /* In a user namespace there may be no such user. */
     skipped |= skipped || seteuid(65534) != 0 || seteuid(0) != 0 ? NO_RIGHT : apart(shut_out);
     for (size_t one = 0; one < sizeof parts / sizeof *parts; one++)

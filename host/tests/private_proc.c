@@ -139,25 +139,44 @@ static uint64_t number_of(const char *path)
     return number;
 }
 
-/*
- * Another proc(5), which somebody has covered, has the number of the one that was closed. Where the kernel doesn't number file
- * systems of that kind, nobody can tell them apart.
- */
-static void another(void)
+static char other[4200];
+
+/* What somebody has covered has the number of the /proc that was closed: nothing goes by it, and nothing outside is changed. */
+static void by_the_number(const char *what)
 {
-    char other[4200], table[4300];
-    apart_from_others();
-    reads("by /proc", 0);
-    snprintf(other, sizeof other, "%s/proc", where);
-    sure(mkdir(other, 0755) == 0 || errno == EEXIST ? 0 : -1, other);
-    if (mount("proc", other, "proc", 0, NULL) != 0 || number_of(other) == number_of("/proc"))
-        _exit(NO_RIGHT);
+    char table[4300], secret[4200];
+    struct stat before, after;
     snprintf(table, sizeof table, "%s/%d/task/%d/fd", other, (int)getpid(), (int)getpid());
+    snprintf(secret, sizeof secret, "%s/secret", where);
     cover_table(table);
     close_all_but_root(64);
     for (int fd = -1; fd < 16;)
         fd = sure(open(other, O_PATH | O_DIRECTORY | O_CLOEXEC), other);
-    reads("another one by the number", 0);
+    reads(what, 0);
+    int file = sure(openat(box, "a/f", O_PATH | O_CLOEXEC), "a/f");
+    sure(stat(secret, &before), secret);
+    gives(inroot_fchmod(file, 0604), 0, "%s: the mode of a file", what);
+    sure(stat(secret, &after), secret);
+    gives_mode(after.st_mode, before.st_mode, "%s: the secret", what);
+}
+
+static void mount_other(const char *source, const char *kind, unsigned long flags)
+{
+    apart_from_others();
+    reads("by /proc", 0);
+    snprintf(other, sizeof other, "%s/proc", where);
+    sure(mkdir(other, 0755) == 0 || errno == EEXIST ? 0 : -1, other);
+    if (mount(source, other, kind, flags, NULL) != 0)
+        _exit(NO_RIGHT);
+}
+
+/* Another proc(5). Where the kernel doesn't number file systems of that kind, nobody can tell them apart. */
+static void another(void)
+{
+    mount_other("proc", "proc", 0);
+    if (number_of(other) == number_of("/proc"))
+        _exit(NO_RIGHT);
+    by_the_number("another one by the number");
 }
 
 /* Where no mount has a number that no other one ever gets, as before Linux 6.8. */
@@ -167,12 +186,22 @@ static void another_by_file_system(void)
     another();
 }
 
-/* Linux 6.8 gives each mount a number that no other one ever gets. */
-static bool numbers_mounts(void)
+/* Linux 5.8 gives each mount a number, and Linux 6.8 one that no other mount ever gets. */
+enum { TELLS_MOUNT = 0x1000, TELLS_UNIQUE = 0x4000 };
+
+static bool numbers_mounts(unsigned what)
 {
-    enum { TELLS_UNIQUE = 0x4000 };
     uint32_t told[64] = {0};
-    return syscall(SYS_statx, AT_FDCWD, "/", 0, TELLS_UNIQUE, told) == 0 && told[0] & TELLS_UNIQUE;
+    return syscall(SYS_statx, AT_FDCWD, "/", 0, what, told) == 0 && told[0] & what;
+}
+
+/* Another mount of the same one, as a container has it. Before Linux 5.8 nobody can tell them apart. */
+static void another_mount(void)
+{
+    if (!numbers_mounts(TELLS_MOUNT))
+        _exit(NO_RIGHT);
+    mount_other("/proc", NULL, MS_BIND);
+    by_the_number("another mount by the number");
 }
 
 /* A copy of /proc was closed, and /proc, which is covered, has its number. Before Linux 6.8 nobody can tell them apart. */
@@ -180,7 +209,7 @@ static void copied(void)
 {
     enum { FSOPEN = 430 };
     apart_from_others();
-    if (!numbers_mounts())
+    if (!numbers_mounts(TELLS_UNIQUE))
         _exit(NO_RIGHT);
     refuse(FSOPEN, EPERM);
     use_private();
@@ -271,6 +300,8 @@ int main(int count, char **words)
         skipped = apart(another);
     if (skipped == 0)
         skipped = apart(another_by_file_system);
+    if (skipped == 0)
+        skipped = apart(another_mount);
     if (skipped == 0)
         skipped = apart(copied);
     printf("private_proc: %d not as they are to be\n", wrong);
