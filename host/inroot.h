@@ -255,7 +255,8 @@ void inroot_jail_done(void);
  * and give EAGAIN. A child of fork(2) needs no promise: its calls go on as without the first two flags. They also go on
  * so if the kernel has no MADV_WIPEONFORK (madvise(2)) or no openat2(2), and on roots beyond some 256 such roots at a
  * time. What is kept of a root goes by its descriptor's number. So a thread with a table of descriptors of its own gives
- * no call another directory by that number while the root is open.
+ * no call another directory by that number while the root is open. If a child of fork(2) has closed the descriptor, and
+ * opens a root that gets its number, the new root counts alone, and closing the first leaves it open.
  *
  * inroot_root_open() walks DIRECTORY as open(2) does, links and all, so it is to be a path that nobody else can
  * change. It gives 0 and the root; -EINVAL of another flag, or of INROOT_TRUST_PROC without

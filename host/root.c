@@ -25,6 +25,8 @@ struct inroot_root {
     /* Which directory it is. A file system may not say. */
     uint64_t device, inode;
     bool is_known;
+    /* A child has closed the descriptor by itself: the number is another root's. */
+    atomic_bool is_lost;
     struct inroot_kept_root kept;
 };
 
@@ -90,6 +92,16 @@ static bool is_of_parent(const struct inroot_root *root)
 static bool is_root(const struct inroot_root *root, const struct stat *about)
 {
     return about->st_dev == root->device && about->st_ino == root->inode;
+}
+
+/* A new root has this number. So a child has closed its parent's root that had it, of which nothing counts any more. */
+static void replace(int fd)
+{
+    struct inroot_root *root;
+    while ((root = find(fd)) != NULL && is_of_parent(root)) {
+        atomic_store(&root->is_lost, true);
+        leave(root);
+    }
 }
 
 /* A child may have closed the root and opened another directory by its number. */
@@ -231,6 +243,7 @@ static int open_root(const char *directory, int flags, struct inroot_root *root)
     root->fd = open_directory(directory);
     if (root->fd < 0)
         return root->fd;
+    replace(root->fd);
     int unknown = identify(root), proc = find_proc(&is_own);
     int failed = proc < 0 ? proc : flags == 0 ? 0 : unknown ? unknown : keep(root, flags, proc);
     if (proc >= 0 && is_own)
@@ -279,7 +292,7 @@ void inroot_root_close(struct inroot_root *root)
         return;
     pthread_setcancelstate(PTHREAD_CANCEL_DISABLE, &state);
     forget(root);
-    if (!is_another(root))
+    if (!atomic_load(&root->is_lost) && !is_another(root))
         close(root->fd);
     free(root);
     pthread_setcancelstate(state, NULL);

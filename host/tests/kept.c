@@ -294,6 +294,37 @@ static void in_child_by_another(void)
     asks_for_names("another directory by the root's number in a child", inroot_open(forked, "box/a/b", 0), true);
 }
 
+/* A child closes its parent's root, and opens its own by that number: the new one's flags count, and it stays open. */
+static struct inroot_root *parents;
+static int own_flags;
+
+static void in_child_by_its_own(void)
+{
+    char what[64];
+    close(forked);
+    struct inroot_root *own = opened(own_flags);
+    int root = inroot_root_fd(own);
+    gives(root, forked, "the number of a child's own root");
+    for (int turn = 0; turn < 2; turn++) {
+        snprintf(what, sizeof what, "a child's own root by %d, turn %d", own_flags, turn);
+        texts = 0;
+        asks_for_names(what, inroot_open(root, "a/b", 0), own_flags == 0);
+        inroot_root_close(turn == 0 ? parents : NULL);
+    }
+    inroot_root_close(own);
+    gives(fcntl(root, F_GETFD), -1, "a child's own root afterwards");
+}
+
+static void by_its_own(struct inroot_root *kept)
+{
+    parents = kept;
+    for (int kind = 0; kind < KINDS; kind++)
+        if (kinds[kind] != INROOT_ROOT_STAYS) {
+            own_flags = kinds[kind];
+            apart(in_child_by_its_own);
+        }
+}
+
 static void on_root_below(struct inroot_root *kept)
 {
     char rest[64];
@@ -310,6 +341,7 @@ static void on_root_below(struct inroot_root *kept)
     asks_for_names("inroot_walk_open", failed, true);
     forked = root;
     apart(in_child_by_another);
+    by_its_own(kept);
 }
 
 /* Which calls have it. The others refuse it, and a root that has it leaves them as they are. */
