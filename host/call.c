@@ -30,10 +30,11 @@ static struct inroot_result make(struct inroot_driver *d, struct inroot_told *st
 {
     struct inroot_result result;
     *length = 0;
-    d->steps++;
     d->known = inroot_last_take(&d->last, step->what, step->handle);
+    /* It isn't counted: no system call may have seen what is closed, where that is the root. */
     if (step->what == INROOT_STEP_CLOSE)
         return inroot_handles_close(d, step->handle);
+    d->steps++;
     if (d->from.dir >= 0 && inroot_from_begins(d, step, room, text, length, &result))
         return result;
     result = inroot_make(d, step, room, text, length);

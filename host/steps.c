@@ -405,6 +405,7 @@ static struct inroot_result name_below(struct inroot_driver *d, const struct inr
 {
     struct inroot_result result = {.what = INROOT_ANSWER_NAMES};
     if (d->known == INROOT_SHOWN_PLACED) {
+        d->steps--;
         *length = d->placed_length;
     } else {
         /* What is behind a place was in no run with what is before it. */

@@ -24,6 +24,21 @@ static int closed(int result)
     return 0;
 }
 
+/* The root's own error comes before what the second path says of itself, though the first one leads to the root without a step. */
+static void renames_below(int root, int wanted)
+{
+    static const char *const ends[] = {"", ".", "a/.."};
+    char name[NAME_MAX + 2];
+    memset(name, 'n', sizeof name - 1);
+    name[sizeof name - 1] = 0;
+    for (int one = 0; one < 3; one++)
+        gives(inroot_rename(root, "x", ends[one], 0, 0), wanted, "a rename to '%s', below %d", ends[one], root);
+    gives(inroot_rename(root, "x", name, 0, 0), wanted, "a rename to a long name, below %d", root);
+    gives(inroot_rename(root, "x", "/y", 0, INROOT_BENEATH), wanted, "a rename to an absolute path, below %d", root);
+    gives(inroot_rename(root, "x", "../y", 0, INROOT_BENEATH), wanted, "a rename out of the root, below %d", root);
+    gives(inroot_rename(root, "./x", "/y", 0, INROOT_BENEATH), wanted, "the same from a path with a dot, below %d", root);
+}
+
 static void bad_roots(void)
 {
     static const char *const paths[] = {"", "/", "a", "..", "a/..", "a/b/c"};
@@ -60,6 +75,8 @@ static void bad_roots(void)
             gives(inroot_mkfile_all(999, path, 010000, 0700, follow), -EINVAL, "a mode that is none, %s", path);
         }
     }
+    renames_below(file, -ENOTDIR);
+    renames_below(999, -EBADF);
     close(file);
     int root = sure(openat(base, ".", O_PATH | O_DIRECTORY | O_CLOEXEC), ".");
     gives(closed(inroot_open(root, "", 0)), -ENOENT, "no path");
