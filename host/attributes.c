@@ -72,9 +72,14 @@ static ssize_t change_times(int proc, const char *name, void *what)
     return utimensat(proc, name, what, 0);
 }
 
-/* Linux before 5.8 doesn't know the flag and says EINVAL. All else was checked before, so EINVAL says nothing more. */
+/*
+ * If both times stay the kernel doesn't look at the descriptor. Linux before 5.8 doesn't know the flag and says EINVAL. All else was
+ * checked before, so EINVAL says nothing more.
+ */
 static int set_times(int fd, struct timespec *times)
 {
+    if (times[0].tv_nsec == UTIME_OMIT && times[1].tv_nsec == UTIME_OMIT)
+        return fcntl(fd, F_GETFD) < 0 ? -EBADF : 0;
     if (utimensat(fd, "", times, AT_EMPTY_PATH) == 0)
         return 0;
     return errno == EINVAL ? (int)inroot_by_proc(fd, change_times, times) : -errno;

@@ -128,14 +128,12 @@ static int move_below(int root, bool trusts)
 int inroot_jail_with(int root, int flags)
 {
     int state;
-    if (flags & ~INROOT_TRUST_PROC)
-        return -EINVAL;
-    if (jailed)
-        return -EBUSY;
+    int failed = flags & ~INROOT_TRUST_PROC ? -EINVAL : jailed ? -EBUSY : 0;
     pthread_setcancelstate(PTHREAD_CANCEL_DISABLE, &state);
-    int failed = move_below(root, flags & INROOT_TRUST_PROC);
+    if (failed == 0)
+        failed = move_below(root, flags & INROOT_TRUST_PROC);
     pthread_setcancelstate(state, NULL);
-    return failed;
+    return failed ? inroot_error_alone(-failed, "", "") : 0;
 }
 
 int inroot_jail(int root)

@@ -81,10 +81,8 @@ static int use_one(void)
 int inroot_use_private_proc(void)
 {
     int state;
-    if (inroot_proc_is_kept())
-        return -EBUSY;
     pthread_setcancelstate(PTHREAD_CANCEL_DISABLE, &state);
-    int failed = use_one();
+    int failed = inroot_proc_is_kept() ? -EBUSY : use_one();
     pthread_setcancelstate(state, NULL);
-    return failed;
+    return failed ? inroot_error_alone(-failed, "", "") : 0;
 }

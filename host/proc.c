@@ -317,5 +317,5 @@ int inroot_use_proc(int proc)
     pthread_setcancelstate(PTHREAD_CANCEL_DISABLE, &state);
     int failed = take_over(proc);
     pthread_setcancelstate(state, NULL);
-    return failed;
+    return failed ? inroot_error_alone(-failed, "", "") : 0;
 }

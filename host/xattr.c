@@ -113,6 +113,9 @@ static ssize_t act(int fd, struct attribute one)
         return inroot_error_alone(EBADF, "", "");
     pthread_setcancelstate(PTHREAD_CANCEL_DISABLE, &state);
     ssize_t done = inroot_by_proc(fd, act_on, &one);
+    /* The kernel may refuse the attribute's name before it looks for the object. */
+    if (done == -ERANGE && fcntl(fd, F_GETFD) < 0)
+        done = -EBADF;
     pthread_setcancelstate(state, NULL);
     return done < 0 ? inroot_error_alone((int)-done, done == -EBADF ? "" : "Attribute", "") : done;
 }

@@ -231,13 +231,15 @@ static void try_errors(int by)
 {
     static char large[65537];
     static const int numbers[] = {-1, AT_FDCWD, INROOT_JAIL, 900};
-    const struct timespec times[2] = {{1, 1}, {1, 1}};
+    const struct timespec times[2] = {{1, 1}, {1, 1}}, stay[2] = {{.tv_nsec = UTIME_OMIT}, {.tv_nsec = UTIME_OMIT}};
     char value[4];
     for (size_t one = 0; one < sizeof numbers / sizeof *numbers; one++) {
         int fd = numbers[one];
         gives(inroot_fchmod(fd, 0600), -EBADF, "the mode of %d", fd);
         gives(inroot_fchown(fd, 0, 0), -EBADF, "the owner of %d", fd);
         gives(inroot_futimens(fd, times), -EBADF, "the times of %d", fd);
+        gives(inroot_futimens(fd, stay), -EBADF, "the times of %d, which stay", fd);
+        gives(inroot_fgetxattr(fd, "", value, 4), -EBADF, "an attribute without a name of %d", fd);
         gives(inroot_fsetxattr(fd, "user.x", "x", 1, 0), -EBADF, "an attribute of %d", fd);
         gives(inroot_fgetxattr(fd, "user.x", value, 4), -EBADF, "an attribute's value of %d", fd);
         gives(inroot_flistxattr(fd, value, 4), -EBADF, "the attributes of %d", fd);
@@ -245,6 +247,7 @@ static void try_errors(int by)
         step_is("");
     }
     int fd = found(by, "file");
+    gives(inroot_futimens(fd, stay), 0, "times that stay");
     gives(inroot_fchmod(fd, S_IFREG | 0600), -EINVAL, "a mode with a kind");
     gives(inroot_fchmod(-1, 010000), -EINVAL, "a mode that is none comes first");
     gives(inroot_fsetxattr(fd, "user.x", "x", 1, 4), -EINVAL, "a flag that is none");

@@ -339,6 +339,34 @@ static void why(void)
     gives_text(error.rest, "", "a rename: the rest");
 }
 
+/* The same of calls that walk no path: each takes the place of what was told before. */
+static void why_without_path(int which, int wanted)
+{
+    struct inroot_root *kept;
+    struct inroot_error error;
+    gives(inroot_open(at, "none", 0), -ENOENT, "what isn't there");
+    int got;
+    switch (which) {
+    case 0: got = inroot_jail_with(999, 1); break;
+    case 1: got = inroot_jail(999); break;
+    case 2: got = inroot_use_proc(999); break;
+    case 3: got = inroot_use_private_proc(); break;
+    case 4: got = inroot_root_open("/", 1, &kept); break;
+    default: got = inroot_at_end(-70000);
+    }
+    gives(got, -wanted, "call %d without a path", which);
+    gives(inroot_last_error(&error), 0, "call %d without a path", which);
+    gives(error.error, wanted, "the error told of call %d without a path", which);
+    gives_text(error.step, "", "the step of call %d without a path", which);
+}
+
+static void why_beside(void)
+{
+    const int wanted[] = {EINVAL, at == INROOT_JAIL ? EBUSY : EBADF, EBADF, EBUSY, EINVAL, EBADF};
+    for (int which = 0; which < 6; which++)
+        why_without_path(which, wanted[which]);
+}
+
 static void *untold(void *unused)
 {
     struct inroot_error error;
@@ -398,7 +426,9 @@ static void make_tree(void)
 
 static void each(void)
 {
-    static void (*const parts[])(void) = {flags, again, interrupted, rights, nodes, told, why, modes, second_names};
+    static void (*const parts[])(void) = {
+        flags, again, interrupted, rights, nodes, told, why, why_beside, modes, second_names,
+    };
     int before = open_descriptors();
     untold(NULL);
     for (size_t part = 0; part < sizeof parts / sizeof *parts; part++) {
