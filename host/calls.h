@@ -731,7 +731,7 @@ struct inroot_asking_facts {
 
 /*
  * What a demand gave: 0, or an error. How many names has what was looked at. How long the names are that were found, or
- * 0. YES: what was looked at is a directory; it was removed; or, of the names, that the thread has no openat2(2).
+ * 0. YES: what was looked at is a directory; it was removed; or, a text alone has given the names.
  */
 struct inroot_asking_answer {
     uint64_t links;

@@ -4,6 +4,7 @@
  */
 #define _GNU_SOURCE
 #include "driver.h"
+#include "openat2.h"
 
 #include <errno.h>
 #include <fcntl.h>
@@ -42,12 +43,22 @@ static uint32_t copy(struct asking *a)
     return a->slot->fd < 0 ? (uint32_t)errno : 0;
 }
 
+/*
+ * A text alone has given the place without openat2(2), and in a jail that of a directory. In a jail what is mounted over the root, or was
+ * in a subvolume that was deleted, has such a text as well: of a directory that the program hands in, and of none that the call itself
+ * has found below the root.
+ */
+static bool is_by_text(const struct asking *a)
+{
+    return !inroot_has_openat2() || (a->root == INROOT_JAILED && a->slot->kind == INROOT_KIND_DIR && a->d->asked->from == 0);
+}
+
 static uint32_t find(struct asking *a)
 {
     struct inroot_result result = inroot_find_place(a->d, a->root, a->slot, a->text, &a->length);
     uint32_t error = result.what == INROOT_ANSWER_NAMES ? 0 : (uint32_t)a->d->unmade;
     a->answer.length = a->length;
-    a->answer.yes = !inroot_has_openat2();
+    a->answer.yes = is_by_text(a);
     a->d->unmade = 0;
     return error;
 }
@@ -84,8 +95,24 @@ static bool takes_held(struct asking *a)
     return true;
 }
 
+static bool is_others_doing(int error)
+{
+    return error == ENOENT || error == ENOTDIR || error == ELOOP || error == EXDEV;
+}
+
+/* The kernel looks all names up below the root. */
+static uint32_t look_for(struct asking *a)
+{
+    a->held = inroot_look_up(a->d, a->root, a->text + 1, O_NOFOLLOW, RESOLVE_BENEATH);
+    if (a->held < 0)
+        return is_others_doing(errno) ? EAGAIN : (uint32_t)errno;
+    const uint32_t error = takes_held(a) ? 0 : EAGAIN;
+    hold(a, a->root);
+    return error;
+}
+
 /* In a jail the names begin at the thread's own root: a path from there could lead out of it by a link of proc(5). */
-static uint32_t lead(struct asking *a)
+static uint32_t open_each(struct asking *a)
 {
     const unsigned char *names = (const unsigned char *)a->text;
     struct inroot_leading now;
@@ -109,7 +136,7 @@ static uint32_t turn(struct asking *a)
     case INROOT_ASKING_LOOK: return look(a);
     case INROOT_ASKING_COPY: return copy(a);
     case INROOT_ASKING_FIND: return find(a);
-    case INROOT_ASKING_LEAD: return lead(a);
+    case INROOT_ASKING_LEAD: return inroot_has_openat2() ? look_for(a) : open_each(a);
     case INROOT_ASKING_DEAD: a->answer.yes = inroot_is_dead(a->slot->fd); return 0;
     default: return close(a->slot->fd) < 0 ? (uint32_t)errno : 0;
     }

@@ -17,7 +17,7 @@
 static int base, root, jail_flags = -1;
 static bool is_old;
 
-/* Whether somebody exchanges two directories, after the kernel has told where one of them is. */
+/* Whether somebody exchanges two directories, after the kernel has told where one of them is: in a jail by getcwd(2) and openat2(2). */
 static bool swaps;
 
 long __real_syscall(long number, ...);
@@ -32,7 +32,7 @@ long __wrap_syscall(long number, ...)
         with[at] = va_arg(more, long);
     va_end(more);
     long got = __real_syscall(number, with[0], with[1], with[2], with[3], with[4]);
-    bool is_told = number == SYS_openat2 || (number == SYS_getcwd && with[1] > 2);
+    bool is_told = number == SYS_openat2 || (is_old && number == SYS_getcwd && with[1] > 2);
     if (swaps && got >= 0 && is_told) {
         swaps = false;
         sure((int)__real_syscall(SYS_renameat2, (long)root, (long)"m/d", (long)root, (long)"m2/e", (long)INROOT_EXCHANGE), "exchange");

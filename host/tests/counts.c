@@ -241,12 +241,12 @@ static const struct {
     {"open a/b/none by BELOW", "a/b/none", open_path_below, {6, 5, 4, 5, 4, 5}},
     {"open a/b/none by BELOW and NO_LINKS", "a/b/none", open_names_below, {3, 5, 1, 5, 1, 5}},
     {"open the part of a/b/none/x", "a/b/none/x", open_partial, {21, 18, 15, 21, 16, 18}},
-    {"open f from a/b", "f", open_from, {19, 19, 19, 19, 15, 15}},
-    {"make new from a/b", "new", make_from, {12, 12, 12, 12, 9, 9}},
+    {"open f from a/b", "f", open_from, {20, 20, 19, 19, 19, 19}},
+    {"make new from a/b", "new", make_from, {13, 13, 12, 12, 13, 13}},
     {"make and give a/b/new", "a/b/new", give, {12, 14, 10, 17, 11, 14}},
     {"make a/b/f with all, which is there", "a/b/f", make_file_all, {6, 14, 5, 13, 3, 11}},
     {"make n/e/w with all", "n/e/w", make_file_all, {32, 26, 35, 32, 29, 26}},
-    {"tell the place of a/b", "a/b", tell_place, {8, 8, 11, 11, 8, 8}},
+    {"tell the place of a/b", "a/b", tell_place, {12, 12, 11, 11, 12, 12}},
 };
 
 enum { ROWS = sizeof rows / sizeof *rows };

@@ -94,6 +94,25 @@ static void covered(void)
     stays_below(begin(mount_other));
 }
 
+/* A directory on what covers the root, which the program hands in, stands nowhere below the root. */
+static void handed_in(void)
+{
+    char place[64];
+    int at = begin(mount_other), from;
+    const char *top = way == BY_DESCRIPTOR ? where : "/..";
+    int over = sure(open(top, O_PATH | O_DIRECTORY | O_CLOEXEC), top);
+    int dir = sure(openat(over, way == BY_DESCRIPTOR ? "box/a" : "a", O_PATH | O_DIRECTORY | O_CLOEXEC), "a");
+    gives(inroot_place(at, dir, place, sizeof place), -EXDEV, "way %d: the place of a directory over the root", way);
+    gives(inroot_at_begin(at, dir, &from), 0, "way %d: calls that begin there", way);
+    is_in_doubt(from, "x", 0);
+    gives(inroot_mkdir(from, "made", 0755, INROOT_NO_RETRY), -EAGAIN, "way %d: made over the root", way);
+    gives(faccessat(base, "other/a/made", F_OK, 0), -1, "way %d: something was made over the root", way);
+    /* What is below the root is found, deeper too. */
+    int x = sure(inroot_open(at, "a/x", 0), "a/x");
+    gives(inroot_place(at, x, place, sizeof place), 4, "way %d: the place of a directory below the root", way);
+    gives_text(place, "/a/x", "way %d: the place of a directory below the root", way);
+}
+
 /* A program that goes up from a directory in a jail comes to what covers the root. */
 static void covered_and_current(void)
 {
@@ -119,7 +138,7 @@ static int each(void)
 {
     int skipped = 0;
     for (way = BY_DESCRIPTOR; way <= INROOT_TRUST_PROC; way += way == 0 ? INROOT_TRUST_PROC : 1) {
-        skipped |= apart(covered) | apart(over_itself);
+        skipped |= apart(covered) | apart(over_itself) | apart(handed_in);
         if (way != BY_DESCRIPTOR)
             skipped |= apart(covered_and_current);
     }

@@ -50,8 +50,7 @@ pub struct Answer {
     pub length: usize,
     /// 0, or the number of an error (errno(3)).
     pub error: u32,
-    /// At LOOK: it is a directory. At DEAD: it was removed. At FIND: the thread has no openat2(2), so that a text alone
-    /// has told the names.
+    /// At LOOK: it is a directory. At DEAD: it was removed. At FIND: a text alone has told the names.
     pub yes: bool,
 }
 
