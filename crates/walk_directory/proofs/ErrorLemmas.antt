@@ -346,7 +346,8 @@ step_whys facts why e s question r =
       unknown = λ at a b c. same_left facts why (is_why facts (record e { asked = LOOK })) s (unknown e.error s) r
           refl refl (λ h. absurd (false≢true h));
       enters = λ at. same_left facts why (is_why facts (record e { asked = ENTER })) s
-          (after_enter e.error e.lost s) r refl refl (λ h. or_left (e.lost && true) (why EAGAIN) (ap (λ t. t && true) h));
+          (after_enter e.error e.lost s) r refl refl (λ h. or_left (e.lost && true) (why EAGAIN)
+          (ap (λ t. t && true) h));
       breaks = λ at lost. record {
         lost = λ h. absurd (false≢true h);
         fault = λ h. or_right (is_why facts (record e { asked = GIVE }) EIO) (why EIO) (r.fault h);

@@ -111,7 +111,8 @@ pub stands_found : (level result : Level) (name : List ℕ) (type at : ℕ) (lef
 stands_found level result name type at left old new room size is asked =
     let facts = facts_of level (length old) in
     let s = typed facts name type left in
-    let few : level.length + (length name + 2) ≤ length old = leb-true (level.length + (length name + 2)) (length old) room in
+    let few : level.length + (length name + 2) ≤ length old = leb-true (level.length + (length name + 2)) (length old)
+    room in
     let same = sym (typed_name facts name type left) in
     subst (λ t. Stands facts (if t then s else blank BREAKS_OFF ENAMETOOLONG (entry name type ∷ left)) result new)
     (sym room)

@@ -8,7 +8,8 @@ pub returns-clause-stands : goal.returns-clause-stands
 returns-clause-stands c = λ left.
     let a = c.args in
     stands_found a.level c.typed.result a.name.now a.entry_type a.at left a.path.now c.lay.new.path
-    (sym c.has_room.ensures ∙ c.if-not-has_room.false) c.lay.auto.path c.lay.ensures (c.typed.ensures a.name.now left (length a.path.now))
+    (sym c.has_room.ensures ∙ c.if-not-has_room.false) c.lay.auto.path c.lay.ensures
+    (c.typed.ensures a.name.now left (length a.path.now))
 
 pub returns-clause-behind : goal.returns-clause-behind
 returns-clause-behind c = λ goes. ap (λ (l : Level). l.at) (c.typed.ensures [] [] 0)
