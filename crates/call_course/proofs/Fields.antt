@@ -413,7 +413,8 @@ pub changed_is : (facts : Facts) (history : List Exchange) → IsHistory facts h
 changed_is facts =
     always facts (λ h c. changed_after facts h ≡ c.changed) (changed_start facts)
     (λ older c a n s same t w.
-    subst (λ (f : Facts). (changed_after facts older || (is_walk c.next && (a.changed && not f.finds_again))) ≡ n.changed) same
+    subst (λ (f : Facts). (changed_after facts older || (is_walk c.next && (a.changed && not f.finds_again))) ≡
+    n.changed) same
     (changed_turn c a n (changed_after facts older) (sound_changed c s) w t))
 
 begun_start : (facts : Facts) → 0 ≡ (start facts).tries

@@ -52,9 +52,11 @@ order_turn c a n was g w t =
       | t_missing p0 p1 p2 l ↦ order_leads false true (lacks a.error (noted a c)) n (check_error_by (exchange c a) was)
           (grind (arith, p0, p1, p2, g, w)) l
       | t_not_once p0 p1 pf p2 is ↦
-          subst (λ m. order_ok (check_error_by (exchange c a) was) m ≡ true) (sym is) (grind (arith, p0, p1, pf, p2, g, w))
+          subst (λ m. order_ok (check_error_by (exchange c a) was) m ≡ true) (sym is)
+          (grind (arith, p0, p1, pf, p2, g, w))
       | t_not_once_held p0 p1 pf p2 is ↦
-          subst (λ m. order_ok (check_error_by (exchange c a) was) m ≡ true) (sym is) (grind (arith, p0, p1, pf, p2, g, w))
+          subst (λ m. order_ok (check_error_by (exchange c a) was) m ≡ true) (sym is)
+          (grind (arith, p0, p1, pf, p2, g, w))
       | t_there_place p0 p1 p2 p3 is ↦
           subst (λ m. order_ok (check_error_by (exchange c a) was) m ≡ true) (sym is)
           (grind (arith, p0, p1, p2, p3, g, w))

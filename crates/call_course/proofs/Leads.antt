@@ -94,16 +94,20 @@ away a c = record c { error = a.error; holds = false; stuck = true }
 
 pub data Turn (c : Calling) (a : Answer) (n : Calling) : Type 0 where
   t_begin : c.next ≡ BEGIN → n ≡ began c → Turn c a n
-  t_join : c.next ≡ JOIN → (a.error == 0) ≡ true → needs_no_check c.facts ≡ false → n ≡ asks SECOND 0 (noted a c) → Turn c a n
+  t_join : c.next ≡ JOIN → (a.error == 0) ≡ true → needs_no_check c.facts ≡ false → n ≡ asks SECOND 0 (noted a c)
+      → Turn c a n
   t_join_held : c.next ≡ JOIN → (a.error == 0) ≡ true → needs_no_check c.facts ≡ true → n ≡ asks CONVERSE 0 (noted a c)
       → Turn c a n
   t_no_join : c.next ≡ JOIN → (a.error == 0) ≡ false → n ≡ asks LET_GO 0 (lacks a.error (noted a c)) → Turn c a n
   t_once : c.next ≡ AT_ONCE → (a.error == 0) ≡ true → Leads false true (gains a.value true (noted a c)) n → Turn c a n
-  t_missing : c.next ≡ AT_ONCE → (a.error == 0) ≡ false → a.fails ≡ true → Leads false true (lacks a.error (noted a c)) n
+  t_missing : c.next ≡ AT_ONCE → (a.error == 0) ≡ false → a.fails ≡ true
+      → Leads false true (lacks a.error (noted a c)) n
       → Turn c a n
-  t_not_once : c.next ≡ AT_ONCE → (a.error == 0) ≡ false → a.fails ≡ false → needs_no_check c.facts ≡ false → n ≡ asks SECOND 0 (noted a c)
+  t_not_once : c.next ≡ AT_ONCE → (a.error == 0) ≡ false → a.fails ≡ false → needs_no_check c.facts ≡ false
+      → n ≡ asks SECOND 0 (noted a c)
       → Turn c a n
-  t_not_once_held : c.next ≡ AT_ONCE → (a.error == 0) ≡ false → a.fails ≡ false → needs_no_check c.facts ≡ true → n ≡ asks CONVERSE 0 (noted a c)
+  t_not_once_held : c.next ≡ AT_ONCE → (a.error == 0) ≡ false → a.fails ≡ false → needs_no_check c.facts ≡ true
+      → n ≡ asks CONVERSE 0 (noted a c)
       → Turn c a n
   t_there_place : c.next ≡ SECOND → (a.error == 0) ≡ true → (c.facts.error == 0) ≡ true → c.facts.places ≡ true
       → n ≡ asks PLACE 0 (noted a c) → Turn c a n
@@ -115,7 +119,8 @@ pub data Turn (c : Calling) (a : Answer) (n : Calling) : Type 0 where
       → n ≡ asks PLACE 0 (noted a c) → Turn c a n
   t_none_walk : c.next ≡ FIND_PROC → (a.error == 0) ≡ false → (c.facts.error == 0) ≡ true → c.facts.places ≡ false
       → n ≡ asks CONVERSE 0 (noted a c) → Turn c a n
-  t_none_given : c.next ≡ FIND_PROC → (a.error == 0) ≡ false → (c.facts.error == 0) ≡ false → n ≡ asks LET_GO 0 (noted a c)
+  t_none_given : c.next ≡ FIND_PROC → (a.error == 0) ≡ false → (c.facts.error == 0) ≡ false
+      → n ≡ asks LET_GO 0 (noted a c)
       → Turn c a n
   t_alone : c.next ≡ SECOND → (a.error == 0) ≡ false → n ≡ asks FIND_PROC 0 (noted a c) → Turn c a n
   t_proc : c.next ≡ FIND_PROC → (a.error == 0) ≡ true → n ≡ asks OWN_ROOT 0 (noted a c) → Turn c a n

@@ -96,7 +96,8 @@ late_turn c a n t =
       | t_closed_stuck p0 p1 is ↦ subst (λ m. late_ok c a m ≡ true) (sym is) (grind (arith, p0, p1))
       | t_same_proc p0 p1 l ↦ late_leads false false c n a c l
       | t_lost_proc p0 p1 is ↦ subst (λ m. late_ok c a m ≡ true) (sym is) (grind (arith, p0, p1))
-      | t_another p0 p1 is ↦ subst (λ m. late_ok c a m ≡ true) (sym is) (late_anew c a (first c.facts) (first_is c.facts))
+      | t_another p0 p1 is ↦ subst (λ m. late_ok c a m ≡ true) (sym is)
+          (late_anew c a (first c.facts) (first_is c.facts))
       | t_no_other p0 p1 l ↦ late_leads false false c n a (lacks a.error c) l
       | t_proc_closed p0 l ↦ late_leads false false c n a (record c { owns_proc = false }) l
       | t_home p0 p1 l ↦ late_leads false false c n a (record c { moved = false }) l

@@ -59,9 +59,11 @@ others_turn c a n was s w t =
       | t_missing p0 p1 p2 l ↦ others_leads false true (lacks a.error (noted a c)) n (others_by (exchange c a) was)
           (grind (arith, p0, p1, p2, w)) (λ is can. grind (arith, p0, p1, p2, w, so, can)) l
       | t_not_once p0 p1 pf p2 is ↦
-          subst (λ m. others_ok (others_by (exchange c a) was) m ≡ true) (sym is) (grind (arith, p0, p1, pf, p2, w, so, sa))
+          subst (λ m. others_ok (others_by (exchange c a) was) m ≡ true) (sym is)
+          (grind (arith, p0, p1, pf, p2, w, so, sa))
       | t_not_once_held p0 p1 pf p2 is ↦
-          subst (λ m. others_ok (others_by (exchange c a) was) m ≡ true) (sym is) (grind (arith, p0, p1, pf, p2, w, so, sa))
+          subst (λ m. others_ok (others_by (exchange c a) was) m ≡ true) (sym is)
+          (grind (arith, p0, p1, pf, p2, w, so, sa))
       | t_there_place p0 p1 p2 p3 is ↦
           subst (λ m. others_ok (others_by (exchange c a) was) m ≡ true) (sym is)
           (grind (arith, p0, p1, p2, p3, w, so, sa))

@@ -21,7 +21,8 @@ asked_ok checked c =
     (c.facts.error == 0) || (needs_no_check c.facts || (checked || ((c.next == BEGIN) || is_check c.next)))
 
 asked_leads : (seen may : Bool) (c n : Calling) (checked : Bool)
-    → ((c.facts.error == 0) || (needs_no_check c.facts || checked)) ≡ true → Leads seen may c n → asked_ok checked n ≡ true
+    → ((c.facts.error == 0) || (needs_no_check c.facts || checked)) ≡ true → Leads seen may c n
+    → asked_ok checked n ≡ true
 asked_leads seen may c n checked w l =
     elim l [
       | to_proc p0 p1 is ↦ subst (λ m. asked_ok checked m ≡ true) (sym is) (grind (arith, p0, p1, w))
@@ -201,7 +202,8 @@ steps_first facts k own f =
       | f_once p0 at ↦ subst (λ j. steps j ≡ false) (sym at) refl
     ]
 
-steps_turn : (older : List Exchange) (c : Calling) (a : Answer) (n : Calling) → needs_no_check c.facts ≡ false → Turn c a n
+steps_turn : (older : List Exchange) (c : Calling) (a : Answer) (n : Calling) → needs_no_check c.facts ≡ false
+    → Turn c a n
     → steps n.next ≡ true
     → IsChecked (exchange c a ∷ older)
 steps_turn older c a n own t r =

@@ -275,7 +275,8 @@ few_turn c a n was so sa ss st sm t =
           (λ is can. grind (arith, p0, p1, w, can)) (λ is. grind (arith, p0, p1, so, w, is))
           (λ is away. grind (arith, p0, p1, w, away)) (λ is. grind (arith, p0, p1, w)) (grind (arith, p0, p1, w)) l)
       | t_missing p0 p1 p2 l ↦ few_via AT_ONCE c was (few_ok (suc was) n) p0
-          (λ w. few_leads false true (lacks a.error (noted a c)) n (suc was) (λ is can. grind (arith, p0, p1, p2, w, can))
+          (λ w. few_leads false true (lacks a.error (noted a c)) n (suc was)
+          (λ is can. grind (arith, p0, p1, p2, w, can))
           (λ is. grind (arith, p0, p1, p2, so, w, is)) (λ is away. grind (arith, p0, p1, p2, w, away))
           (λ is. grind (arith, p0, p1, p2, w)) (grind (arith, p0, p1, p2, w)) l)
       | t_not_once p0 p1 pf p2 is ↦
