@@ -1233,6 +1233,8 @@ static const uint32_t INROOT_NO_SLOT = UINT32_MAX;
  * have a descriptor and a slot above, up to the first other one. If they are more than MOST, it is the outermost of them.
  */
 uint32_t inroot_let_go(const struct inroot_slot *slots, size_t count, uint32_t from, uint32_t most);
+/* Whether one proved call, of 1,024 handles, goes no deeper than the directory in this slot. */
+bool inroot_is_deepest(const struct inroot_slot *slot);
 
 /*
  * What is found out next, of a directory that is to be opened again: `..` is opened, of the one below that was closed last; which

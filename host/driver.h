@@ -15,11 +15,8 @@
 /* A path and a NUL; what a step or a reply can lay out: two texts, or a name and a text. */
 enum { INROOT_TEXT_MAX = PATH_MAX, INROOT_ROOM = 2 * PATH_MAX + 2 * (NAME_MAX + 1) };
 
-/*
- * How many descriptors a call that removes a tree holds at most, and how deep one of the proved calls goes: with the root's and the
- * walk's it then has the 1,024 handles of the step table.
- */
-enum { INROOT_HELD_MAX = 32, INROOT_DEPTH_MAX = 1022 };
+/* How many descriptors a call that removes a tree holds at most. */
+enum { INROOT_HELD_MAX = 32 };
 
 /*
  * How the handle was opened. INROOT_SEEN_BELOW: by its names from the root, and the kernel saw it below the root in the end. This

@@ -114,11 +114,6 @@ static int open_itself(struct inroot_driver *d, uint64_t handle, const struct en
     return work.course.next == INROOT_ENDS_OPENED ? work.fd : -(int)work.course.error;
 }
 
-static bool is_too_deep(struct inroot_driver *d, uint64_t dir)
-{
-    return d->begun && inroot_handles_slot(d, dir)->depth >= INROOT_DEPTH_MAX;
-}
-
 /* A tree that is too deep for one proved call, which ends, is left at this entry, from which another call goes on. */
 static struct inroot_result leave_here(struct inroot_driver *d, uint64_t dir, const struct entry *entry)
 {
@@ -142,7 +137,7 @@ static struct inroot_result open_alone(struct inroot_driver *d, const struct inr
     int error = find(d, step->handle, name, step->first, &entry);
     if (error)
         return inroot_unmade(d, error);
-    if (is_too_deep(d, step->handle))
+    if (d->begun && inroot_is_deepest(inroot_handles_slot(d, step->handle)))
         return leave_here(d, step->handle, &entry);
     if (!inroot_handles_reserve(d))
         return inroot_unmade(d, ENOMEM);

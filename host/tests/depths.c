@@ -19,8 +19,8 @@
 #include <sys/stat.h>
 
 /*
- * More levels than driver.h's INROOT_DEPTH_MAX by the places that remove.c keeps, twice over; more names than listing.c holds at
- * once; and the levels of one proved call, which has 1,024 handles with those of the root and of the walk.
+ * More levels than one proved call goes by the places that remove.c keeps, twice over; more names than listing.c holds at once;
+ * and the levels of one proved call, which has 1,024 handles with those of the root and of the walk.
  */
 enum { LEVELS = 33000, NAMES = 5000, ONE_CALL = 1022, PLACES = 16 };
 

@@ -3,7 +3,7 @@ ghost use Rattle.std.specs.Prelude.{◌≡◌, ◌∷◌, [], List, Bool, true, 
 ghost use Rattle.remove_by_calls.specs.Back.{is_question, IsBackAt, Step};
 ghost use Rattle.remove_by_calls.specs.History.{is_asked, Exchange};
 ghost use Rattle.remove_by_calls.specs.Removal.{demand_of, exchange, IsAt};
-ghost use Rattle.remove_by_calls.specs.Slots.{let_go};
+ghost use Rattle.remove_by_calls.specs.Slots.{is_deepest, let_go};
 
 use remove_by_calls::{Answer, Back, Found, Removal, Slot};
 use system_calls::Birth;
@@ -33,6 +33,14 @@ pub extern "C" fn inroot_let_go(slots: &[Slot], from: u32, most: u32) -> u32
     ensures { result ≡ let_go slots.now from most }
 {
     remove_by_calls::let_go(slots, from, most)
+}
+
+/// Whether a call goes no deeper: `remove_by_calls::is_deepest`.
+#[unsafe(no_mangle)]
+pub extern "C" fn inroot_is_deepest(slot: &Slot) -> bool
+    ensures { result ≡ is_deepest slot.now }
+{
+    remove_by_calls::is_deepest(slot)
 }
 
 /// Begins to open a directory again that was let go: `remove_by_calls::back_begin`.

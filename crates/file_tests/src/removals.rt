@@ -2,7 +2,8 @@
 //! meanwhile, and whether it is back.
 use remove_by_calls::{
     AT_ROOT, Answer, Back, CLOSE, ENDS, FAILS, FILE_SYSTEM, Found, IDENTIFY, IN_PLACE, IS_BACK,
-    IS_LOST, KEEP, NO_SLOT, OPEN, Removal, Slot, back_begin, back_next, begin, let_go, next,
+    IS_LOST, KEEP, NO_SLOT, OPEN, Removal, Slot, back_begin, back_next, begin, is_deepest, let_go,
+    next,
 };
 use std::test::Fail;
 use system_calls::{Birth, next_try};
@@ -339,6 +340,22 @@ fn the_outermost_of_too_many_is_let_go(rt: HostRuntime) -> Result<(), Fail> {
     assert!(rt; let_go(&slots, 1, 0) == NO_SLOT);
     assert!(rt; let_go(&slots, 0, 0) == NO_SLOT);
     assert!(rt; let_go(&slots, 6, 0) == NO_SLOT);
+    Ok(())
+}
+
+#[test]
+fn a_call_goes_1022_levels_deep(rt: HostRuntime) -> Result<(), Fail> {
+    let above = Slot {
+        depth: 1021,
+        ..slot(3, 0)
+    };
+    assert!(rt; !is_deepest(&above));
+    assert!(rt;
+        is_deepest(&Slot {
+            depth: 1022,
+            ..above
+        })
+    );
     Ok(())
 }
 

@@ -1,5 +1,5 @@
--- Which directory's descriptor is let go, as a call goes ever deeper.
-use Rattle.std.specs.Prelude.{ℕ, zero, suc, ◌-◌, ◌^◌, List, [], ◌∷◌, Bool, false, ◌&&◌, if◌then◌else◌, nat_lt, length, slice_get, Option, Some, None}
+-- Which directory's descriptor is let go, as a call goes ever deeper; and how deep it goes.
+use Rattle.std.specs.Prelude.{ℕ, zero, suc, ◌+◌, ◌-◌, ◌^◌, List, [], ◌∷◌, Bool, false, ◌&&◌, if◌then◌else◌, nat_lt, length, slice_get, Option, Some, None}
 use Rattle.remove_by_calls.specs.declared.slots.Slot.{Slot}
 
 abbrev pub NO_SLOT : ℕ
@@ -41,3 +41,7 @@ last_or none (at ∷ more) = last_or at more
 abbrev pub let_go : List Slot → ℕ → ℕ → ℕ
 let_go slots from most =
     if nat_lt most (length (held_above slots from)) then last_or NO_SLOT (held_above slots from) else NO_SLOT
+
+-- the root's handle, the walk's, those of the directories down to this one, and one more are over 1,024
+abbrev pub is_deepest : Slot → Bool
+is_deepest slot = nat_lt 1024 (2 + slot.depth + 1)

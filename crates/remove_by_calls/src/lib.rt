@@ -22,4 +22,4 @@ pub use laws::{
     why_it_is_lost,
 };
 pub use removal::{AT_ROOT, CLOSE, Demand, ENDS, FAILS, IN_PLACE, KEEP, Removal, begin, next};
-pub use slots::{NO_SLOT, Slot, let_go};
+pub use slots::{NO_SLOT, Slot, is_deepest, let_go};

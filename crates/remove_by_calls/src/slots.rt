@@ -1,6 +1,6 @@
-//! Which directory's descriptor is let go.
+//! Which directory's descriptor is let go, and how deep one call goes.
 ghost use Rattle.std.specs.Prelude.{◌≡◌, false};
-ghost use Rattle.remove_by_calls.specs.Slots.{above_of, holds, is_held, let_go};
+ghost use Rattle.remove_by_calls.specs.Slots.{above_of, holds, is_deepest, is_held, let_go};
 
 use system_calls::Birth;
 
@@ -10,7 +10,11 @@ pub const NO_SLOT: u32 = u32::MAX;
 // Greater numbers are of no descriptor, and of no slot.
 const MARKS: u32 = 0x8000_0000;
 
-/// What C keeps for a handle of a call, in a table. It is looked at for its descriptor and the directory above.
+// With the root's handle and the walk's, a call has 1,024 there.
+const DEPTH_MAX: u32 = 1022;
+
+/// What C keeps for a handle of a call, in a table. It is looked at for its descriptor, the directory above, and how
+/// deep it is.
 #[repr(C)]
 #[derive(Clone, Copy, Debug, PartialEq, Eq)]
 pub struct Slot {
@@ -20,6 +24,7 @@ pub struct Slot {
     /// Of a directory in a tree that is removed: the slot of the one above. A number from 2,147,483,648 on is none:
     /// it is the walk's.
     pub above: u32,
+    /// So many levels below the directory that has the tree.
     pub depth: u32,
     pub listed: u32,
     pub way: u8,
@@ -72,4 +77,12 @@ pub fn let_go(slots: &[Slot], from: u32, most: u32) -> u32
     } else {
         NO_SLOT
     }
+}
+
+/// Whether a call goes no deeper than the directory in this slot. It has a handle of the root, one of the walk, and one
+/// of each directory down to this one; and 1,024 at most. Takes no memory.
+pub fn is_deepest(slot: &Slot) -> bool
+    ensures { result ≡ is_deepest slot.now }
+{
+    slot.depth >= DEPTH_MAX
 }
