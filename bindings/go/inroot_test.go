@@ -106,6 +106,8 @@ func TestKeptRoots(t *testing.T) {
 			t.Fatal(flags, err)
 		}
 		root.Close()
+		_, err = OpenatInRoot(root, "in/f")
+		fails(t, err, syscall.EBADF)
 	}
 	if _, err := OpenRoot(top, TrustProc); !errors.Is(err, syscall.EINVAL) {
 		t.Fatal(err)

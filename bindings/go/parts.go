@@ -46,9 +46,13 @@ func (at *At) Name() string {
 	return at.dir.Name()
 }
 
-// Close ends it, after all calls. It closes neither file.
+// Close ends it, after all calls, which give EBADF from there on. It closes neither file.
 func (at *At) Close() error {
-	at.once.Do(func() { C.inroot_at_end(at.number) })
+	at.once.Do(func() {
+		C.inroot_at_end(at.number)
+		// The library may give the number to another.
+		at.number = -1
+	})
 	runtime.KeepAlive(at.root)
 	runtime.KeepAlive(at.dir)
 	return nil

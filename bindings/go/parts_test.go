@@ -41,6 +41,12 @@ func TestAt(t *testing.T) {
 	must(t, at.Close())
 	_, err = OpenatInRoot(at, ".")
 	fails(t, err, syscall.EBADF)
+	// Another has the number by now.
+	other, err := BeginAt(root, dir)
+	must(t, err)
+	_, err = OpenatInRoot(at, ".")
+	fails(t, err, syscall.EBADF)
+	must(t, other.Close())
 	plain, err := os.Open(filepath.Join(top, "box/moved/d/g"))
 	must(t, err)
 	defer plain.Close()

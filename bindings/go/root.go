@@ -48,8 +48,11 @@ func OpenRoot(path string, flags ...RootFlags) (*KeptRoot, error) {
 	return kept, nil
 }
 
-// Fd gives the root's descriptor, which is its own: leave it open.
+// Fd gives the root's descriptor, which is its own: leave it open. A root that was closed has none: functions give EBADF.
 func (kept *KeptRoot) Fd() uintptr {
+	if kept.root == nil {
+		return ^uintptr(0)
+	}
 	return uintptr(C.inroot_root_fd(kept.root))
 }
 
@@ -58,7 +61,7 @@ func (kept *KeptRoot) Name() string {
 	return kept.path
 }
 
-// Close closes the root, after all functions that were given it have ended. It may be called once.
+// Close closes the root, after all functions that were given it have ended.
 func (kept *KeptRoot) Close() error {
 	C.inroot_root_close(kept.root)
 	kept.root = nil

@@ -27,8 +27,12 @@ func (e *WalkEntry) IsDir() bool {
 	return e.Type.IsDir()
 }
 
-// Open opens the entry with O_PATH, by its name in the directory that has it; a link itself.
+// Open opens the entry with O_PATH, by its name in the directory that has it; a link itself. EBADF where the function that
+// was given the entry has returned.
 func (e *WalkEntry) Open() (*os.File, error) {
+	if e.entry == nil {
+		return nil, &os.PathError{Op: "openat", Path: e.Path, Err: syscall.EBADF}
+	}
 	fd := C.inroot_open(e.entry.directory, e.entry.name, C.INROOT_NOFOLLOW)
 	if fd < 0 {
 		return nil, &os.PathError{Op: "openat", Path: e.Path, Err: syscall.Errno(-fd)}
@@ -75,7 +79,10 @@ func WalkInRoot(root *os.File, unsafePath string, levels int, what func(*WalkEnt
 			Path: C.GoString(told.path), Type: kindOf(told.kind), Depth: int(told.depth),
 			root: root.Name(), entry: &told,
 		}
-		switch err := what(&entry, wrongIn(&entry, found, told.error)); {
+		err := what(&entry, wrongIn(&entry, found, told.error))
+		// Its name lies in the walk's own memory.
+		entry.entry = nil
+		switch {
 		case err == fs.SkipDir:
 			C.inroot_walk_skip(walk)
 		case err != nil:

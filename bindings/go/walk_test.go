@@ -50,10 +50,14 @@ func TestWalk(t *testing.T) {
 func TestWalkIsLeft(t *testing.T) {
 	_, root := tree(t)
 	count, ends := 0, errors.New("ends")
+	var left *WalkEntry
 	must(t, WalkInRoot(root, "a", 0, func(entry *WalkEntry, err error) error {
 		count++
+		left = entry
 		return fs.SkipDir
 	}))
+	_, err := left.Open()
+	fails(t, err, syscall.EBADF)
 	if count != 1 {
 		t.Errorf("%d entries, and not 1", count)
 	}
