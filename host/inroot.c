@@ -33,7 +33,9 @@ void inroot_copy(char text[INROOT_TEXT_MAX + 1], const char *from)
  */
 static int settle_below(int root, struct inroot_request *asked)
 {
-    const struct inroot_kept_root *kept = asked->takes_below ? inroot_root_kept(root) : NULL;
+    int above = root, dir;
+    inroot_at_find(root, &above, &dir);
+    const struct inroot_kept_root *kept = asked->takes_below ? inroot_root_kept(above) : NULL;
     if (kept != NULL)
         asked->flags |= kept->flags & INROOT_BELOW;
     return !asked->takes_below && asked->flags & INROOT_BELOW ? -EINVAL : 0;

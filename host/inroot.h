@@ -197,8 +197,9 @@ int inroot_use_private_proc(void);
 /*
  * Gives the calling thread a root directory, a current directory and a umask of its own (unshare(2), CLONE_FS) and
  * changes the first two to ROOT (chroot(2)), so that its calls may be given INROOT_JAIL. Other threads keep theirs. A
- * thread that was moved can't be moved back. Its current directory is that root after each call. Needs
- * CAP_SYS_CHROOT, which unshare(2) with CLONE_NEWUSER gives, and a /proc to ask for a non-directory.
+ * thread that was moved can't be moved back. Its current directory is that root after each call. Only if the thread may not
+ * search the root any more, a call gives EACCES, and the current directory may be another. Needs CAP_SYS_CHROOT, which
+ * unshare(2) with CLONE_NEWUSER gives, and a /proc to ask for a non-directory.
  *
  * Leave alone in such a thread, and in each that it makes: the root directory, by chroot(2), pivot_root(2) or
  * setns(2). A thread that it makes shares that with it, and isn't a moved one: it gives a descriptor as ROOT.
@@ -248,7 +249,7 @@ void inroot_jail_done(void);
  *                      are made in threads that share the descriptors of its first thread; that it closes no
  *                      descriptor that it didn't open, and puts no other in the place of one; and that it makes no
  *                      calls in a child of vfork(2), or of clone(2) with CLONE_VM or CLONE_FILES
- *   INROOT_BELOW       each call on this root that has this flag is made with it
+ *   INROOT_BELOW       each call on this root that has this flag is made with it, also from a directory below the root
  *
  * If the program breaks a promise, the second witness still holds: the kernel itself has seen below the root whatever a
  * call opens. But the path's names may never have led there all at one moment; and a call may begin again for nothing,

@@ -339,6 +339,15 @@ static void on_root_below(struct inroot_root *kept)
     int failed = inroot_walk_open(root, "a", 0, 0, &walk);
     inroot_walk_close(walk);
     asks_for_names("inroot_walk_open", failed, true);
+    /* By a number of inroot_at_begin() as well: without the flag nobody can say of such a name that it is there. */
+    int at, dir = inroot_open(root, "a", 0);
+    gives(inroot_at_begin(root, dir, &at), 0, "inroot_at_begin");
+    sure(mknodat(dir, "x (deleted)", S_IFREG | 0600, 0), "x (deleted)");
+    gives(inroot_open(box, "a/x (deleted)", INROOT_NO_RETRY), -EAGAIN, "what is called so, without the flag");
+    gives_object(inroot_open(at, "x (deleted)", INROOT_NO_RETRY), dir, "x (deleted)", "what is called so, from a directory below the root");
+    gives(inroot_unlink(at, "x (deleted)", 0), 0, "inroot_unlink from a directory below the root");
+    inroot_at_end(at);
+    close(dir);
     forked = root;
     apart(in_child_by_another);
     by_its_own(kept);
