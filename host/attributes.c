@@ -73,8 +73,8 @@ static ssize_t change_times(int proc, const char *name, void *what)
 }
 
 /*
- * If both times stay the kernel doesn't look at the descriptor. Linux before 5.8 doesn't know the flag and says EINVAL. All else was
- * checked before, so EINVAL says nothing more.
+ * If both times stay the kernel doesn't look at the descriptor. Linux before 5.8 doesn't know the flag and says EINVAL.
+ * All else was checked before, so EINVAL says nothing more.
  */
 static int set_times(int fd, struct timespec *times)
 {

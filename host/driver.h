@@ -523,8 +523,8 @@ int inroot_partial(int root, int from, char *text, int flags, bool follows, size
 
 /* mount.c */
 /*
- * The number of the mount that a descriptor is on, or 0 where the kernel doesn't say; and the device of its file system. From Linux
- * 6.8 on no other mount ever gets that number, and from 5.8 on none as long as this mount is there.
+ * The number of the mount that a descriptor is on, or 0 where the kernel doesn't say; and the device of its file system.
+ * From Linux 6.8 on no other mount ever gets that number, and from 5.8 on none as long as this mount is there.
  */
 uint64_t inroot_mount_number(int fd, uint64_t *device);
 /* Whether an object is on the mount of the root, as far as the kernel shows it. */

@@ -344,7 +344,10 @@ struct inroot_result inroot_name_below(struct inroot_driver *d, const struct inr
         return inroot_unmade(d, lost);
     struct inroot_slot *slot = inroot_handles_slot(d, step->handle);
     *length = 0;
-    /* The root's own second handle: it stands below itself at no names, wherever it is. No system call has seen whether it is one. */
+    /*
+     * The root's own second handle: it stands below itself at no names, wherever it is. No system call has seen whether it
+     * is one.
+     */
     if (slot->way == INROOT_BY_ROOT) {
         d->steps--;
         text[(*length)++] = '/';

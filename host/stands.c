@@ -44,9 +44,9 @@ static uint32_t copy(struct asking *a)
 }
 
 /*
- * A text alone has given the place without openat2(2), and in a jail that of a directory. In a jail what is mounted over the root, or was
- * in a subvolume that was deleted, has such a text as well: of a directory that the program hands in, and of none that the call itself
- * has found below the root.
+ * A text alone has given the place without openat2(2), and in a jail that of a directory. In a jail what is mounted over the
+ * root, or was in a subvolume that was deleted, has such a text as well. So the names of a directory that the program hands
+ * in are looked up, and not of one that the call itself has found below the root.
  */
 static bool is_by_text(const struct asking *a)
 {

@@ -17,7 +17,10 @@
 static int base, root, jail_flags = -1;
 static bool is_old;
 
-/* Whether somebody exchanges two directories, after the kernel has told where one of them is: in a jail by getcwd(2) and openat2(2). */
+/*
+ * Whether somebody exchanges two directories, after the kernel has told where one of them is: in a jail by getcwd(2), and
+ * where there is openat2(2), by that behind it.
+ */
 static bool swaps;
 
 long __real_syscall(long number, ...);
