@@ -62,9 +62,10 @@
  * RESOLVE_IN_ROOT refuses it. Without openat2(2) the flag refuses each link of a proc(5) and of securityfs.
  *
  * Without INROOT_NO_XDEV a path crosses mounts. With it no part of the path may be a mount point, not the last one
- * either. A call that looks up names one by one, for INROOT_ONE_BY_ONE or want of openat2(2), knows a mount by its
- * number (statx(2), Linux 5.8). Before that kernel it knows the device alone, and doesn't see a bind mount of the root's
- * own file system.
+ * either. The name of an entry that is made, renamed or removed isn't walked: if that is a mount point, the call gives
+ * what its system call has, as EEXIST or EBUSY. A call that looks up names one by one, for INROOT_ONE_BY_ONE or want of
+ * openat2(2), knows a mount by its number (statx(2), Linux 5.8). Before that kernel it knows the device alone, and
+ * doesn't see a bind mount of the root's own file system.
  *
  * MODE is what the kernel takes for a new entry, less the umask: bits of 07777. The kernel may drop some, as
  * mkdirat(2) does with those for set-user-ID.
