@@ -4,7 +4,6 @@
 
 #include <errno.h>
 #include <fcntl.h>
-#include <pthread.h>
 #include <sys/stat.h>
 #include <unistd.h>
 
@@ -40,13 +39,11 @@ static int set_mode(int fd, mode_t mode)
 
 int inroot_fchmod(int fd, mode_t mode)
 {
-    int state;
     int failed = check(fd, !(mode & ~(mode_t)MODE_BITS));
     if (failed)
         return inroot_error_alone(-failed, "", "");
-    pthread_setcancelstate(PTHREAD_CANCEL_DISABLE, &state);
+    INROOT_UNCANCELLED;
     failed = set_mode(fd, mode);
-    pthread_setcancelstate(state, NULL);
     return told(failed);
 }
 
@@ -87,14 +84,12 @@ static int set_times(int fd, struct timespec *times)
 
 int inroot_futimens(int fd, const struct timespec times[2])
 {
-    int state;
     const struct timespec now = {.tv_nsec = UTIME_NOW};
     struct timespec own[2] = {times == NULL ? now : times[0], times == NULL ? now : times[1]};
     int failed = check(fd, is_time(&own[0]) && is_time(&own[1]));
     if (failed)
         return inroot_error_alone(-failed, "", "");
-    pthread_setcancelstate(PTHREAD_CANCEL_DISABLE, &state);
+    INROOT_UNCANCELLED;
     failed = set_times(fd, own);
-    pthread_setcancelstate(state, NULL);
     return told(failed);
 }

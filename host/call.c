@@ -3,7 +3,6 @@
 #include "driver.h"
 
 #include <errno.h>
-#include <pthread.h>
 #include <stdlib.h>
 #include <string.h>
 #include <sys/stat.h>
@@ -271,10 +270,8 @@ ssize_t inroot_call(int root, const struct inroot_request *asked, char *room)
 int inroot_error_behind(int root, int error, const char *path)
 {
     struct inroot_driver d;
-    int state;
     const struct inroot_request asked = {.first = path, .second = ""};
-    pthread_setcancelstate(PTHREAD_CANCEL_DISABLE, &state);
+    INROOT_UNCANCELLED;
     ssize_t failed = run(&d, root, &asked, NULL, (uint32_t)error, false);
-    pthread_setcancelstate(state, NULL);
     return inroot_error_alone((int)-failed, inroot_step_name(d.step), path);
 }

@@ -6,6 +6,7 @@
 #include "inroot.h"
 
 #include <limits.h>
+#include <pthread.h>
 #include <stdatomic.h>
 #include <stdbool.h>
 #include <stddef.h>
@@ -175,6 +176,21 @@ struct inroot_driver {
     struct inroot_slot few[INROOT_FEW];
     char rest[INROOT_TEXT_MAX];
 };
+
+/* From here to the end of the block no thread is cancelled: a call leaves nothing open, and lets go of what it holds. */
+#define INROOT_UNCANCELLED __attribute__((cleanup(inroot_cancel_again))) int inroot_cancels = inroot_cancel_not()
+
+static inline int inroot_cancel_not(void)
+{
+    int state;
+    pthread_setcancelstate(PTHREAD_CANCEL_DISABLE, &state);
+    return state;
+}
+
+static inline void inroot_cancel_again(const int *state)
+{
+    pthread_setcancelstate(*state, NULL);
+}
 
 #pragma GCC visibility push(hidden)
 

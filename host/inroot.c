@@ -3,7 +3,6 @@
 #include "driver.h"
 
 #include <errno.h>
-#include <pthread.h>
 #include <string.h>
 
 /* The bits of a mode beside the kind of file; and the flags that each call takes. */
@@ -43,7 +42,6 @@ static int settle_below(int root, struct inroot_request *asked)
 
 ssize_t inroot_carry_out(int root, const struct inroot_request *asked, char *room)
 {
-    int state;
     char first[INROOT_TEXT_MAX + 1], second[INROOT_TEXT_MAX + 1];
     struct inroot_request own = *asked;
     own.first = first;
@@ -55,10 +53,9 @@ ssize_t inroot_carry_out(int root, const struct inroot_request *asked, char *roo
         failed = inroot_check(root, own.flags & ~INROOT_BELOW);
     if (failed)
         return inroot_error_alone(-failed, "", first);
-    pthread_setcancelstate(PTHREAD_CANCEL_DISABLE, &state);
+    INROOT_UNCANCELLED;
     bool removes = own.op == INROOT_ASK_REMOVE_ALL;
     ssize_t result = removes ? inroot_remove_tree(root, &own, room) : inroot_call(root, &own, room);
-    pthread_setcancelstate(state, NULL);
     return result;
 }
 

@@ -5,7 +5,6 @@
 #include <errno.h>
 #include <fcntl.h>
 #include <linux/capability.h>
-#include <pthread.h>
 #include <sched.h>
 #include <sys/syscall.h>
 #include <unistd.h>
@@ -19,11 +18,9 @@ bool inroot_is_jailed(void)
 
 void inroot_jail_done(void)
 {
-    int state;
-    pthread_setcancelstate(PTHREAD_CANCEL_DISABLE, &state);
+    INROOT_UNCANCELLED;
     jailed = false;
     inroot_proc_leave();
-    pthread_setcancelstate(state, NULL);
 }
 
 /* ---- the current directory of a thread in a jail */
@@ -127,12 +124,10 @@ static int move_below(int root, bool trusts)
 
 int inroot_jail_with(int root, int flags)
 {
-    int state;
     int failed = flags & ~INROOT_TRUST_PROC ? -EINVAL : jailed ? -EBUSY : 0;
-    pthread_setcancelstate(PTHREAD_CANCEL_DISABLE, &state);
+    INROOT_UNCANCELLED;
     if (failed == 0)
         failed = move_below(root, flags & INROOT_TRUST_PROC);
-    pthread_setcancelstate(state, NULL);
     return failed ? inroot_error_alone(-failed, "", "") : 0;
 }
 

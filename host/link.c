@@ -4,7 +4,6 @@
 
 #include <errno.h>
 #include <fcntl.h>
-#include <pthread.h>
 #include <sys/stat.h>
 #include <unistd.h>
 
@@ -42,16 +41,12 @@ static int link_object(int root, int fd, const char *path, int flags)
 
 int inroot_link_fd(int root, int fd, const char *path, int flags)
 {
-    int state;
-    pthread_setcancelstate(PTHREAD_CANCEL_DISABLE, &state);
-    int result = link_object(root, fd, path, flags);
-    pthread_setcancelstate(state, NULL);
-    return result;
+    INROOT_UNCANCELLED;
+    return link_object(root, fd, path, flags);
 }
 
 int inroot_link(int root, const char *existing, const char *path, int flags)
 {
-    int state;
     char text[INROOT_TEXT_MAX + 1];
     bool follows = flags & INROOT_FOLLOW;
     const struct inroot_request asked = {
@@ -63,13 +58,12 @@ int inroot_link(int root, const char *existing, const char *path, int flags)
     };
     /* Of both paths the text as the call began counts. */
     inroot_copy(text, path);
-    pthread_setcancelstate(PTHREAD_CANCEL_DISABLE, &state);
+    INROOT_UNCANCELLED;
     int fd = inroot_carry_out_alone(root, &asked);
     int result = fd;
     if (fd >= 0) {
         result = link_object(root, fd, text, flags & ~(INROOT_FOLLOW | INROOT_BELOW));
         close(fd);
     }
-    pthread_setcancelstate(state, NULL);
     return result;
 }

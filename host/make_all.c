@@ -7,7 +7,6 @@
 
 #include <errno.h>
 #include <fcntl.h>
-#include <pthread.h>
 #include <string.h>
 #include <unistd.h>
 
@@ -144,7 +143,6 @@ static int make(struct work *w)
 /* The flags and modes are looked at first. */
 static int run(int root, const char *path, mode_t mode, mode_t above, int flags, bool file)
 {
-    int state;
     struct work w = {.root = root, .flags = flags & ~INROOT_FOLLOW, .mode = mode, .above = above};
     inroot_copy(w.path, path);
     const bool is_mode = ((mode | above) & ~(mode_t)MODE_BITS) == 0;
@@ -152,10 +150,8 @@ static int run(int root, const char *path, mode_t mode, mode_t above, int flags,
     if (failed)
         return inroot_error_alone(-failed, "", w.path);
     inroot_making_begin(strlen(w.path), file, flags & INROOT_FOLLOW, !(flags & INROOT_NO_RETRY), &w.making);
-    pthread_setcancelstate(PTHREAD_CANCEL_DISABLE, &state);
-    int result = make(&w);
-    pthread_setcancelstate(state, NULL);
-    return result;
+    INROOT_UNCANCELLED;
+    return make(&w);
 }
 
 int inroot_mkdir_all(int root, const char *path, mode_t mode, int flags)

@@ -6,7 +6,6 @@
 #include "driver.h"
 
 #include <errno.h>
-#include <pthread.h>
 #include <string.h>
 #include <unistd.h>
 
@@ -63,14 +62,13 @@ int inroot_partial(int root, int from, char *text, int flags, bool follows, size
 
 int inroot_open_partial(int root, const char *path, int flags, char *rest, size_t size)
 {
-    int state;
     char text[INROOT_TEXT_MAX + 1];
     size_t at;
     inroot_copy(text, path);
     /* The call makes several walks, and asks for the names between them. */
     if (flags & INROOT_BELOW)
         return inroot_error_alone(EINVAL, "", text);
-    pthread_setcancelstate(PTHREAD_CANCEL_DISABLE, &state);
+    INROOT_UNCANCELLED;
     int fd = inroot_partial(root, 0, text, flags & ~INROOT_NOFOLLOW, !(flags & INROOT_NOFOLLOW), &at);
     if (fd >= 0 && strlen(text + at) >= size) {
         close(fd);
@@ -78,6 +76,5 @@ int inroot_open_partial(int root, const char *path, int flags, char *rest, size_
     }
     if (fd >= 0)
         strcpy(rest, text + at);
-    pthread_setcancelstate(state, NULL);
     return fd;
 }

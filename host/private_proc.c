@@ -8,7 +8,6 @@
 
 #include <errno.h>
 #include <fcntl.h>
-#include <pthread.h>
 #include <stdatomic.h>
 #include <sys/syscall.h>
 #include <unistd.h>
@@ -80,9 +79,7 @@ static int use_one(void)
 
 int inroot_use_private_proc(void)
 {
-    int state;
-    pthread_setcancelstate(PTHREAD_CANCEL_DISABLE, &state);
+    INROOT_UNCANCELLED;
     int failed = inroot_proc_is_kept() ? -EBUSY : use_one();
-    pthread_setcancelstate(state, NULL);
     return failed ? inroot_error_alone(-failed, "", "") : 0;
 }

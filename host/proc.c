@@ -313,9 +313,7 @@ static int take_over(int proc)
 
 int inroot_use_proc(int proc)
 {
-    int state;
-    pthread_setcancelstate(PTHREAD_CANCEL_DISABLE, &state);
+    INROOT_UNCANCELLED;
     int failed = take_over(proc);
-    pthread_setcancelstate(state, NULL);
     return failed ? inroot_error_alone(-failed, "", "") : 0;
 }

@@ -4,7 +4,6 @@
 
 #include <errno.h>
 #include <fcntl.h>
-#include <pthread.h>
 #include <stdatomic.h>
 #include <stdlib.h>
 #include <string.h>
@@ -260,7 +259,6 @@ static int open_root(const char *directory, int flags, struct inroot_root *root)
 
 int inroot_root_open(const char *directory, int flags, struct inroot_root **root)
 {
-    int state;
     *root = NULL;
     bool trusts_alone = flags & INROOT_TRUST_PROC && !(flags & INROOT_ROOT_STAYS);
     if (trusts_alone || flags & ~(INROOT_ROOT_STAYS | INROOT_TRUST_PROC | INROOT_BELOW))
@@ -269,9 +267,8 @@ int inroot_root_open(const char *directory, int flags, struct inroot_root **root
     if (new == NULL)
         return inroot_error_alone(ENOMEM, "", directory);
     new->table.fd = new->kept.table = INROOT_NONE;
-    pthread_setcancelstate(PTHREAD_CANCEL_DISABLE, &state);
+    INROOT_UNCANCELLED;
     int failed = open_root(directory, flags, new);
-    pthread_setcancelstate(state, NULL);
     if (failed) {
         free(new);
         return inroot_error_alone(-failed, "", directory);
@@ -287,13 +284,11 @@ int inroot_root_fd(const struct inroot_root *root)
 
 void inroot_root_close(struct inroot_root *root)
 {
-    int state;
     if (root == NULL)
         return;
-    pthread_setcancelstate(PTHREAD_CANCEL_DISABLE, &state);
+    INROOT_UNCANCELLED;
     forget(root);
     if (!atomic_load(&root->is_lost) && !is_another(root))
         close(root->fd);
     free(root);
-    pthread_setcancelstate(state, NULL);
 }

@@ -7,7 +7,6 @@
 
 #include <errno.h>
 #include <fcntl.h>
-#include <pthread.h>
 #include <string.h>
 #include <sys/stat.h>
 #include <unistd.h>
@@ -106,46 +105,41 @@ static int turn(const struct use *use, struct inroot_course *course, char path[I
 
 int inroot_openat(int root, const char *path, int open_flags, mode_t mode, int flags)
 {
-    int state, result = 0;
+    int result = 0;
     char text[INROOT_TEXT_MAX + 1];
     struct use use = {.root = root, .flags = flags, .mode = mode};
     struct inroot_course course;
     inroot_copy(text, path);
     inroot_opening_of(&machine, (uint32_t)open_flags, mode, &use.how);
     inroot_course_begin(strlen(text), &use.how, flags & INROOT_NO_LINKS, !(flags & INROOT_NO_RETRY), &course);
-    pthread_setcancelstate(PTHREAD_CANCEL_DISABLE, &state);
+    INROOT_UNCANCELLED;
     while (course.next < INROOT_COURSE_ENDS)
         result = turn(&use, &course, text);
     if (course.next == INROOT_COURSE_FAILS)
         result = inroot_error_alone(course.error, inroot_step_name(course.step), text);
-    pthread_setcancelstate(state, NULL);
     return result;
 }
 
 int inroot_reopen(int fd, int open_flags)
 {
-    int state;
     uint32_t how = inroot_reopen_flags(&machine, (uint32_t)open_flags);
     if (how == 0)
         return inroot_error_alone(EINVAL, "", "");
     if (fcntl(fd, F_GETFD) < 0)
         return inroot_error_alone(EBADF, "", "");
-    pthread_setcancelstate(PTHREAD_CANCEL_DISABLE, &state);
+    INROOT_UNCANCELLED;
     int result = reopened(fd, how);
-    pthread_setcancelstate(state, NULL);
     return result < 0 ? inroot_error_alone(-result, "Reopen", "") : result;
 }
 
 int inroot_stat(int root, const char *path, struct stat *about, int flags)
 {
-    int state;
-    pthread_setcancelstate(PTHREAD_CANCEL_DISABLE, &state);
+    INROOT_UNCANCELLED;
     int fd = inroot_open(root, path, flags);
     int result = fd;
     if (fd >= 0) {
         result = fstat(fd, about) == 0 ? 0 : inroot_error_alone(errno, "Stat", "");
         close(fd);
     }
-    pthread_setcancelstate(state, NULL);
     return result;
 }

@@ -9,7 +9,6 @@
 
 #include <errno.h>
 #include <fcntl.h>
-#include <pthread.h>
 #include <stdlib.h>
 #include <string.h>
 #include <sys/stat.h>
@@ -273,16 +272,14 @@ static int begin(struct inroot_walk *walk, int levels)
 
 int inroot_walk_open(int root, const char *path, int levels, int flags, struct inroot_walk **walk)
 {
-    int state;
     *walk = NULL;
     struct inroot_walk *new = levels < 0 ? NULL : malloc(sizeof *new);
     if (new == NULL)
         return inroot_error_alone(levels < 0 ? EINVAL : ENOMEM, "", "");
     *new = (struct inroot_walk){.root = root, .flags = flags & ~INROOT_NOFOLLOW, .first = flags & INROOT_NOFOLLOW};
     inroot_copy(new->text, path);
-    pthread_setcancelstate(PTHREAD_CANCEL_DISABLE, &state);
+    INROOT_UNCANCELLED;
     int failed = begin(new, levels);
-    pthread_setcancelstate(state, NULL);
     if (failed)
         free(new);
     else
@@ -292,31 +289,24 @@ int inroot_walk_open(int root, const char *path, int levels, int flags, struct i
 
 int inroot_walk_next(struct inroot_walk *walk, struct inroot_walk_entry *entry)
 {
-    int state;
-    pthread_setcancelstate(PTHREAD_CANCEL_DISABLE, &state);
-    int found = next(walk, entry);
-    pthread_setcancelstate(state, NULL);
-    return found;
+    INROOT_UNCANCELLED;
+    return next(walk, entry);
 }
 
 void inroot_walk_skip(struct inroot_walk *walk)
 {
-    int state;
-    pthread_setcancelstate(PTHREAD_CANCEL_DISABLE, &state);
+    INROOT_UNCANCELLED;
     drop(walk->entered);
     walk->entered = NULL;
-    pthread_setcancelstate(state, NULL);
 }
 
 void inroot_walk_close(struct inroot_walk *walk)
 {
-    int state;
     if (walk == NULL)
         return;
     inroot_walk_skip(walk);
-    pthread_setcancelstate(PTHREAD_CANCEL_DISABLE, &state);
+    INROOT_UNCANCELLED;
     while (walk->top != NULL)
         leave(walk);
-    pthread_setcancelstate(state, NULL);
     free(walk);
 }

@@ -8,7 +8,6 @@
 
 #include <errno.h>
 #include <fcntl.h>
-#include <pthread.h>
 #include <stdio.h>
 #include <sys/syscall.h>
 #include <sys/xattr.h>
@@ -108,15 +107,13 @@ static ssize_t act_on(int proc, const char *name, void *what)
 
 static ssize_t act(int fd, struct attribute one)
 {
-    int state;
     if (fd < 0)
         return inroot_error_alone(EBADF, "", "");
-    pthread_setcancelstate(PTHREAD_CANCEL_DISABLE, &state);
+    INROOT_UNCANCELLED;
     ssize_t done = inroot_by_proc(fd, act_on, &one);
     /* The kernel may refuse the attribute's name before it looks for the object. */
     if (done == -ERANGE && fcntl(fd, F_GETFD) < 0)
         done = -EBADF;
-    pthread_setcancelstate(state, NULL);
     return done < 0 ? inroot_error_alone((int)-done, done == -EBADF ? "" : "Attribute", "") : done;
 }
 
