@@ -187,7 +187,7 @@ static int at_hand(bool surely)
 
 int inroot_proc_open(bool surely, bool *is_callers)
 {
-    struct inroot_own own;
+    struct inroot_own own = {.fd = INROOT_NONE};
     int fd = at_hand(surely);
     *is_callers = false;
     /* The kernel may have failed to say just then, and there is no other one. */
@@ -265,7 +265,7 @@ bool inroot_proc_ends(void)
 
 int inroot_proc_stay(void)
 {
-    struct inroot_own own;
+    struct inroot_own own = {.fd = INROOT_NONE};
     uint64_t unused;
     int fd = at_hand(true);
     int failed = fd >= 0 ? 0 : open_proc(&own);
@@ -292,7 +292,7 @@ void inroot_proc_leave(void)
 
 static int take_over(int proc)
 {
-    struct inroot_own own;
+    struct inroot_own own = {.fd = INROOT_NONE};
     struct statfs about;
     uint64_t system;
     if (fstatfs(proc, &about) != 0)
