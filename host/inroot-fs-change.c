@@ -72,18 +72,23 @@ static enum fs_status open_found(const struct fs_call *call, const char *path, i
     return *file < 0 ? fs_refused(call, path, -*file) : FS_DONE;
 }
 
-/* Goes on to the path to which the link at the end of this one leads. Whether it is one, and there is room. */
-static bool follow(const struct fs_call *call, char path[PATH_MAX])
+/*
+ * Goes on to the path to which the link at the end of this one leads. Gives EAGAIN where the next turn is due, also if others took
+ * the link away; or why there is none.
+ */
+static int follow(const struct fs_call *call, char path[PATH_MAX])
 {
     char text[PATH_MAX];
     ssize_t length = inroot_readlink(call->root, path, call->flags, text, sizeof text);
     const char *slash = strrchr(path, '/');
     size_t kept = slash == NULL || (length > 0 && text[0] == '/') ? 0 : (size_t)(slash - path) + 1;
-    if (length <= 0 || kept + (size_t)length >= PATH_MAX)
-        return false;
+    if (length < 0)
+        return length == -EINVAL || length == -ENOENT ? EAGAIN : (int)-length;
+    if (kept + (size_t)length >= PATH_MAX)
+        return ENAMETOOLONG;
     memcpy(path + kept, text, (size_t)length);
     path[kept + (size_t)length] = '\0';
-    return true;
+    return EAGAIN;
 }
 
 /* Opens the file that is written to; where it is missing, at the end of a link too, it is made, and is nobody else's then. */
@@ -105,7 +110,7 @@ static enum fs_status open_to_write(const struct fs_call *call, const char *give
         if (*file != -EEXIST || call->exclusive)
             error = -*file;
         else if (!(call->flags & INROOT_NO_LINKS))
-            follow(call, path);
+            error = follow(call, path);
     }
     return fs_refused(call, given, error);
 }

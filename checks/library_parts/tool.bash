@@ -106,6 +106,11 @@ expect 0 '' '' write a/chain-1 <<<made
 expect 0 made '' cat a/made
 expect 1 '' "inroot-fs: write 'loop': ELOOP: Too many levels of symbolic links" write loop <<<lost
 rm "$box/a/chain-1" "$box/chain-2" "$box/loop" "$box/a/made"
+# A link's text that makes too long a path.
+ln -s "$(printf './%.0s' {1..600})made" "$box/long"
+path=$(printf './%.0s' {1..1500})long
+expect 1 '' "inroot-fs: write '$path': ENAMETOOLONG: File name too long" write "$path" <<<lost
+rm "$box/long"
 # Where standard files are closed, what is told doesn't come to the file that is written.
 "$watched_fs" "$box" write closed <&- 2>&-
 [ $? -eq 4 ] && [ -f "$box/closed" ] && [ ! -s "$box/closed" ]
