@@ -90,6 +90,41 @@ else
     skip 'a tree unpacked as tar(1) does' 'there is no tar here that writes pax archives, or it may not make what is in one'
 fi
 
+# What comes twice is as tar(1) leaves it: a file, which is a link to itself then, and a directory of other modes, by other names of
+# it, too. A global header is no entry.
+again=$work/again
+mkdir -p "$again/tree/d" "$again/tar" && echo file >"$again/tree/a"
+# appended MODE NAME..: adds entries of that mode.
+appended() {
+    tar --format=pax -C "$again/tree" --no-recursion --mode="$1" -rf "$again/tar.tar" "${@:2}"
+}
+if tar --format=pax --pax-option=comment=x -C "$again/tree" -cf "$again/tar.tar" a a 2>/dev/null && appended 755 . && appended 777 ./d d &&
+    appended 700 d && appended 750 . && tar --numeric-owner -xpf "$again/tar.tar" -C "$again/tar" 2>/dev/null; then
+    by_tar=$(grown "$again/tar")
+    [ "$(stat -c %a "$again/tar" "$again/tar/d" | xargs)" = '750 700' ]
+    verdict $? "what tar(1) makes of an archive with entries that come twice: $by_tar"
+    for unpack in "${unpackers[@]}"; do
+        name=${unpack##*/}
+        mkdir "$again/$name"
+        "$unpack" -t "$again/$name" <"$again/tar.tar" 2>"$work/err" && [ "$(grown "$again/$name")" = "$by_tar" ]
+        verdict $? "$name, of what comes twice: $(cat "$work/err")$(diff <(grown "$again/$name") <(echo "$by_tar"))"
+    done
+else
+    skip 'what comes twice in an archive' 'there is no tar here that writes pax archives'
+fi
+
+# An owner of -1 is none: chown(2) would leave the one that is there.
+if tar --format=pax --pax-option=uid:=-1 -C "$again/tree" -cf "$again/owner.tar" a 2>/dev/null; then
+    for unpack in "${unpackers[@]}"; do
+        mkdir "$again/owner"
+        ! "$unpack" -o "$again/owner" <"$again/owner.tar" 2>"$work/err" && grep -q 'a pax number is none\|invalid argument' "$work/err"
+        verdict $? "${unpack##*/}, of an owner of -1: $(cat "$work/err")"
+        rm -r "$again/owner"
+    done
+else
+    skip 'an owner of -1 in an archive' 'there is no tar here that writes pax archives'
+fi
+
 # The attacks work where they meet an unpacker that opens by its own paths: below a root directory of its own, so that
 # nothing else can be changed.
 if [ -e "$work/static" ] && unshare -rm true 2>/dev/null; then

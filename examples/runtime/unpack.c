@@ -17,6 +17,7 @@
 #include <errno.h>
 #include <fcntl.h>
 #include <inroot.h>
+#include <search.h>
 #include <stdbool.h>
 #include <stdlib.h>
 #include <string.h>
@@ -28,6 +29,7 @@
 struct directory {
     struct directory *next;
     struct tar_status status;
+    struct stat about;          /* which one it is, where that is asked for */
     char name[];
 };
 
@@ -37,8 +39,10 @@ struct unpacking {
     char above_name[PATH_MAX];
     int at;                     /* what calls take in the root's place, so that their paths begin there */
     bool owners, strict, times, failed;
+    bool again;                 /* a directory was there already, so it may have come before */
     struct tar_reader reader;
     struct directory *directories;
+    void *set;                  /* those of them that are set, by device and inode (tsearch(3)) */
 };
 
 /* Tells on standard error, without letting the archive's bytes at a terminal. */
@@ -205,10 +209,22 @@ static int make_link(const struct unpacking *u, const struct tar_entry *entry, c
     return set_given(u, inroot_symlink(u->at, entry->link, last, INROOT_GIVE), entry, true);
 }
 
+static bool is_there(const struct unpacking *u, const char *last, int object)
+{
+    int found = inroot_open(u->at, last, INROOT_NOFOLLOW);
+    bool is = found >= 0 && is_same(found, object);
+    if (found >= 0)
+        close(found);
+    return is;
+}
+
+/* What has the name already stays: a file that comes twice is a link to itself the second time. */
 static int make_second_name(const struct unpacking *u, const struct tar_entry *entry, const char *last)
 {
     int existing = inroot_open(u->root, entry->link, INROOT_NOFOLLOW);
     int failed = existing < 0 ? existing : inroot_link_fd(u->at, existing, last, 0);
+    if (failed == -EEXIST && is_there(u, last, existing))
+        failed = 0;
     if (existing >= 0)
         close(existing);
     return failed;
@@ -235,8 +251,10 @@ static int make_in_place(struct unpacking *u, const struct tar_entry *entry, con
     int failed = make_new(u, entry, last);
     if (failed != -EEXIST)
         return failed;
-    if (entry->type == '5' && inroot_stat(u->at, last, &about, INROOT_NOFOLLOW) == 0 && S_ISDIR(about.st_mode))
+    if (entry->type == '5' && inroot_stat(u->at, last, &about, INROOT_NOFOLLOW) == 0 && S_ISDIR(about.st_mode)) {
+        u->again = true;
         return 0;
+    }
     failed = make_room(u, last);
     return failed < 0 ? failed : make_new(u, entry, last);
 }
@@ -256,9 +274,10 @@ static int keep(struct unpacking *u, const struct tar_entry *entry)
 }
 
 /* What a path without a last name means, as `..`, is a directory or none. */
-static int make_directories(const struct unpacking *u, const struct tar_entry *entry)
+static int make_directories(struct unpacking *u, const struct tar_entry *entry)
 {
     int opened = entry->type == '5' ? inroot_mkdir_all(u->root, entry->name, 0700, 0) : -EINVAL;
+    u->again |= u->directories != NULL;
     if (opened >= 0)
         close(opened);
     return opened < 0 ? opened : 0;
@@ -281,20 +300,45 @@ static int make_entry(struct unpacking *u, struct tar_entry *entry)
     return failed == 0 && entry->type == '5' ? keep(u, entry) : failed;
 }
 
-/* Sets what is to be set of directories, the last first, so that what is below is reached before it is closed. */
+static int by_object(const void *one, const void *other)
+{
+    const struct stat *a = &((const struct directory *)one)->about, *b = &((const struct directory *)other)->about;
+    if (a->st_dev != b->st_dev)
+        return a->st_dev < b->st_dev ? -1 : 1;
+    return (a->st_ino > b->st_ino) - (a->st_ino < b->st_ino);
+}
+
+/* Whether this directory isn't set yet. Gives 0 or -errno. */
+static int look_if_new(struct unpacking *u, struct directory *one, int found, bool *is_new)
+{
+    if (fstat(found, &one->about) != 0)
+        return -errno;
+    struct directory **set = tsearch(one, &u->set, by_object);
+    *is_new = set != NULL && *set == one;
+    return set == NULL ? -ENOMEM : 0;
+}
+
+/* Sets what is to be set of one; of one that came more than once, what came last. Gives 0 or -errno. */
+static int set_directory(struct unpacking *u, struct directory *one)
+{
+    bool is_new = true;
+    /* The archive may have put something else in its place: a link is not followed. */
+    int found = inroot_openat(u->root, one->name, O_PATH | O_DIRECTORY | O_NOFOLLOW, 0, INROOT_BELOW);
+    int failed = found < 0 ? found : u->again ? look_if_new(u, one, found, &is_new) : 0;
+    if (failed == 0 && is_new)
+        failed = set_found(u, found, &one->status, false);
+    if (found >= 0)
+        close(found);
+    return failed;
+}
+
+/* Of all of them, the last first, so that what is below is reached before it is closed. They stay until the program ends. */
 static void set_directories(struct unpacking *u)
 {
-    while (u->directories != NULL) {
-        struct directory *one = u->directories;
-        /* The archive may have put something else in its place: a link is not followed. */
-        int found = inroot_openat(u->root, one->name, O_PATH | O_DIRECTORY | O_NOFOLLOW, 0, INROOT_BELOW);
-        int failed = found < 0 ? found : set_found(u, found, &one->status, false);
+    for (struct directory *one = u->directories; one != NULL; one = one->next) {
+        int failed = set_directory(u, one);
         if (failed < 0)
             fail(u, one->name, -failed);
-        if (found >= 0)
-            close(found);
-        u->directories = one->next;
-        free(one);
     }
 }
 

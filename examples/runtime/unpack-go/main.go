@@ -32,6 +32,11 @@ type directory struct {
 	header *tar.Header
 }
 
+// object is a directory's device and inode.
+type object struct {
+	device, inode uint64
+}
+
 type unpacking struct {
 	root                  *os.File
 	above                 *os.File // the directory of the last entry, or nil; and its path
@@ -39,9 +44,11 @@ type unpacking struct {
 	at                    inroot.Root // what calls take in the root's place, so that their paths begin there
 	owners, strict, times bool
 	failed                bool
+	again                 bool // a directory was there already, so it may have come before
 	archive               *tar.Reader
 	buffer                []byte
 	directories           []directory
+	set                   map[object]bool // those of them that are set
 }
 
 // fail tells what went wrong, without letting the archive's bytes at a terminal.
@@ -131,6 +138,10 @@ func (u *unpacking) makeRoom(last string) error {
 // setFound sets what is to be set of what was found or made. The owner first: the kernel takes bits of the mode off.
 func (u *unpacking) setFound(found *os.File, header *tar.Header) error {
 	if u.owners {
+		// -1 would leave what is there.
+		if header.Uid < 0 || header.Gid < 0 {
+			return syscall.EINVAL
+		}
 		if err := inroot.Chown(found, header.Uid, header.Gid); err != nil {
 			return err
 		}
@@ -190,13 +201,28 @@ func (u *unpacking) makeLink(last string, header *tar.Header) error {
 	return u.setGiven(given, err, header)
 }
 
+// isThere says whether the name is that object's already.
+func (u *unpacking) isThere(last string, object *os.File) bool {
+	found, err := inroot.LstatInRoot(u.at, last)
+	if err != nil {
+		return false
+	}
+	about, err := object.Stat()
+	return err == nil && os.SameFile(found, about)
+}
+
+// makeSecondName leaves what has the name already: a file that comes twice is a link to itself the second time.
 func (u *unpacking) makeSecondName(last string, header *tar.Header) error {
 	existing, err := inroot.OpenatInRootNoFollow(u.root, header.Linkname)
 	if err != nil {
 		return err
 	}
 	defer existing.Close()
-	return inroot.LinkFileInRoot(u.at, existing, last)
+	err = inroot.LinkFileInRoot(u.at, existing, last)
+	if errors.Is(err, syscall.EEXIST) && u.isThere(last, existing) {
+		return nil
+	}
+	return err
 }
 
 // makeNew makes the entry in the directory that is open, or gives EEXIST.
@@ -231,6 +257,7 @@ func (u *unpacking) makeInPlace(last string, header *tar.Header) error {
 	}
 	if header.Typeflag == tar.TypeDir {
 		if about, err := inroot.LstatInRoot(u.at, last); err == nil && about.IsDir() {
+			u.again = true
 			return nil
 		}
 	}
@@ -245,6 +272,7 @@ func (u *unpacking) makeDirectories(name string, header *tar.Header) error {
 	if header.Typeflag != tar.TypeDir {
 		return syscall.EINVAL
 	}
+	u.again = u.again || len(u.directories) > 0
 	made, err := inroot.MkdirAllHandle(u.root, name, 0o700)
 	if err != nil {
 		return err
@@ -272,8 +300,21 @@ func (u *unpacking) makeEntry(name string, header *tar.Header) error {
 	return err
 }
 
-// setDirectory sets what is to be set of a directory. The archive may have put something else in its place: a link is
-// not followed.
+// isNew says whether this directory isn't set yet.
+func (u *unpacking) isNew(found *os.File) (bool, error) {
+	about, err := found.Stat()
+	if err != nil {
+		return false, err
+	}
+	status := about.Sys().(*syscall.Stat_t)
+	which := object{uint64(status.Dev), status.Ino}
+	isNew := !u.set[which]
+	u.set[which] = true
+	return isNew, nil
+}
+
+// setDirectory sets what is to be set of a directory; of one that came more than once, what came last. The archive may
+// have put something else in its place: a link is not followed.
 func (u *unpacking) setDirectory(one directory) error {
 	const oPath = 0x200000
 	flags := oPath | syscall.O_DIRECTORY | syscall.O_NOFOLLOW
@@ -282,6 +323,11 @@ func (u *unpacking) setDirectory(one directory) error {
 		return err
 	}
 	defer found.Close()
+	if u.again {
+		if isNew, err := u.isNew(found); !isNew {
+			return err
+		}
+	}
 	return u.setFound(found, one.header)
 }
 
@@ -294,6 +340,10 @@ func (u *unpacking) unpack() int {
 		if err != nil {
 			fmt.Fprintf(os.Stderr, "unpack: the archive: %v\n", err)
 			return 4
+		}
+		// What a global header says is the default of all entries: nothing that is set here.
+		if header.Typeflag == tar.TypeXGlobalHeader {
+			continue
 		}
 		name := header.Name
 		for len(name) > 1 && strings.HasSuffix(name, "/") {
@@ -333,6 +383,7 @@ func main() {
 	u := unpacking{
 		root: root, owners: *owners, strict: *strict, times: *times,
 		archive: tar.NewReader(bufio.NewReaderSize(os.Stdin, 1<<18)), buffer: make([]byte, 1<<16),
+		set: map[object]bool{},
 	}
 	status := u.unpack()
 	root.Close()
