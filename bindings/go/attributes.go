@@ -84,7 +84,7 @@ func Setxattr(handle *os.File, name string, value []byte, mode int) error {
 	bytes := C.CBytes(value)
 	defer C.free(bytes)
 	_, err := onAttribute("setxattr", handle, name, func(fd C.int, name *C.char) C.long {
-		return C.long(C.inroot_fsetxattr(fd, name, bytes, C.size_t(len(value)), C.int(mode)))
+		return C.long(C.inroot_fsetxattr(fd, name, bytes, C.size_t(len(value)), number(mode)))
 	})
 	return err
 }

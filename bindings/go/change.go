@@ -117,6 +117,6 @@ const (
 // RenameInRoot renames an entry, which stays below the root.
 func RenameInRoot(root Root, from, to string, mode int, flags ...Flags) error {
 	return onPaths("rename", root, from, to, func(root C.int, from, to *C.char) C.int {
-		return C.inroot_rename(root, from, to, C.int(mode), joined(flags, 0))
+		return C.inroot_rename(root, from, to, number(mode), joined(flags, 0))
 	})
 }

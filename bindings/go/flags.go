@@ -27,10 +27,18 @@ const (
 	Below Flags = C.INROOT_BELOW
 )
 
-// joined gives them as the library takes them, with one of its own.
+// number gives a number as the library takes it. Of one that has more than 32 bits that is -1, which each call refuses.
+func number(value int) C.int {
+	if int(C.int(value)) != value {
+		return -1
+	}
+	return C.int(value)
+}
+
+// joined gives flags as the library takes them, with one of its own.
 func joined(flags []Flags, own C.int) C.int {
 	for _, flag := range flags {
-		own |= C.int(flag)
+		own |= number(int(flag))
 	}
 	return own
 }

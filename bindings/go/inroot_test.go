@@ -244,6 +244,35 @@ func TestFlags(t *testing.T) {
 	must(t, err)
 }
 
+// Numbers whose lower 32 bits would be taken.
+func TestNumbers(t *testing.T) {
+	top, root := tree(t)
+	const beyond = 1 << 32
+	file, err := OpenatInRoot(root, "in/f", NoRetry)
+	must(t, err)
+	defer file.Close()
+	_, err = OpenatInRoot(root, "in/f", beyond)
+	fails(t, err, syscall.EINVAL)
+	_, err = OpenatInRoot(root, "in/f", NoRetry, beyond|OneByOne)
+	fails(t, err, syscall.EINVAL)
+	_, err = MkfileHandle(root, "new", 0o600, beyond)
+	fails(t, err, syscall.EINVAL)
+	_, err = OpenFileInRoot(root, "in/f", beyond, 0)
+	fails(t, err, syscall.EINVAL)
+	_, err = OpenFileInRoot(root, "new", beyond|os.O_CREATE, 0o600)
+	fails(t, err, syscall.EINVAL)
+	_, err = Reopen(file, beyond)
+	fails(t, err, syscall.EINVAL)
+	fails(t, RenameInRoot(root, "in/f", "new", beyond), syscall.EINVAL)
+	fails(t, Setxattr(file, "user.inroot", nil, beyond), syscall.EINVAL)
+	_, err = OpenRoot(filepath.Join(top, "box"), beyond)
+	fails(t, err, syscall.EINVAL)
+	fails(t, WalkInRoot(root, "a", -beyond, nil), syscall.EINVAL)
+	if paths := walked(t, root, "a", beyond+1); !reflect.DeepEqual(paths, []string{"b", "b/f"}) {
+		t.Errorf("%q", paths)
+	}
+}
+
 func TestLinksThemselves(t *testing.T) {
 	top, root := tree(t)
 	about, err := LstatInRoot(root, "up")

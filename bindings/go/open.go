@@ -47,7 +47,7 @@ func OpenFileInRoot(root Root, unsafePath string, flag int, mode os.FileMode, fl
 		if flag&(os.O_CREATE|makesFile) == 0 {
 			bits = 0
 		}
-		return C.inroot_openat(root, path, C.int(flag), bits, joined(flags, 0))
+		return C.inroot_openat(root, path, number(flag), bits, joined(flags, 0))
 	})
 }
 
@@ -59,7 +59,7 @@ func UnnamedFileInRoot(root Root, directory string, mode os.FileMode, flags ...F
 
 // Reopen opens what handle is open on once more, for another use. No path is walked again.
 func Reopen(handle *os.File, flag int) (*os.File, error) {
-	fd := C.inroot_reopen(C.int(handle.Fd()), C.int(flag))
+	fd := C.inroot_reopen(C.int(handle.Fd()), number(flag))
 	runtime.KeepAlive(handle)
 	if fd < 0 {
 		return nil, &os.PathError{Op: "reopen", Path: handle.Name(), Err: syscall.Errno(-fd)}

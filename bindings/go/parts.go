@@ -21,14 +21,15 @@ type Root interface {
 // At is a root whose paths begin at a directory below it. The root stays the root: ".." and absolute links stop there,
 // and an absolute path begins there. Each call asks anew where the directory stands.
 type At struct {
-	number    C.int
-	root, dir *os.File
-	once      sync.Once
+	number C.int
+	root   Root
+	dir    *os.File
+	once   sync.Once
 }
 
-// BeginAt gives the root whose paths begin at dir, which was found below root. Close ends it; both files stay open until
-// then.
-func BeginAt(root, dir *os.File) (*At, error) {
+// BeginAt gives the root whose paths begin at dir, which was found below root. Close ends it; root and dir stay open until
+// then. Of an At its root counts.
+func BeginAt(root Root, dir *os.File) (*At, error) {
 	at := &At{root: root, dir: dir}
 	if failed := C.inroot_at_begin(C.int(root.Fd()), C.int(dir.Fd()), &at.number); failed < 0 {
 		return nil, &os.PathError{Op: "beginat", Path: dir.Name(), Err: syscall.Errno(-failed)}

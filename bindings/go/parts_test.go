@@ -1,8 +1,10 @@
 package inroot
 
 import (
+	"errors"
 	"os"
 	"path/filepath"
+	"reflect"
 	"syscall"
 	"testing"
 )
@@ -52,6 +54,42 @@ func TestAt(t *testing.T) {
 	defer plain.Close()
 	_, err = BeginAt(root, plain)
 	fails(t, err, syscall.ENOTDIR)
+}
+
+// A root that the library keeps is one for BeginAt, too, and its flags count: what they open is called so.
+func TestAtOfAKeptRoot(t *testing.T) {
+	top, root := tree(t)
+	must(t, os.WriteFile(filepath.Join(top, "box/a/b/f (deleted)"), nil, 0o644))
+	dir, err := OpenatInRoot(root, "in")
+	must(t, err)
+	defer dir.Close()
+	_, err = StatInRoot(root, "in/f (deleted)", Below)
+	if errors.Is(err, syscall.EAGAIN) {
+		t.Skip("there is no openat2(2)")
+	}
+	must(t, err)
+	for flags, opens := range map[RootFlags]bool{0: false, RootBelow: true} {
+		kept, err := OpenRoot(filepath.Join(top, "box"), flags)
+		must(t, err)
+		at, err := BeginAt(kept, dir)
+		must(t, err)
+		again, err := BeginAt(at, dir)
+		must(t, err)
+		for _, begins := range []Root{at, again} {
+			file, err := OpenatInRoot(begins, "f (deleted)", NoRetry)
+			if opens {
+				sameAs(t, file, err, filepath.Join(top, "box/a/b/f (deleted)"))
+			} else {
+				fails(t, err, syscall.EAGAIN)
+			}
+			if paths := walked(t, begins, "..", 1); !reflect.DeepEqual(paths, []string{"b"}) {
+				t.Errorf("%q", paths)
+			}
+		}
+		must(t, again.Close())
+		must(t, at.Close())
+		must(t, kept.Close())
+	}
 }
 
 func TestParts(t *testing.T) {

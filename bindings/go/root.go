@@ -37,7 +37,7 @@ func OpenRoot(path string, flags ...RootFlags) (*KeptRoot, error) {
 	}
 	var all C.int
 	for _, flag := range flags {
-		all |= C.int(flag)
+		all |= number(int(flag))
 	}
 	kept := &KeptRoot{path: path}
 	text := C.CString(path)
@@ -75,4 +75,11 @@ func UsePrivateProc() error {
 		return syscall.Errno(-given)
 	}
 	return nil
+}
+
+// UseProc has all functions ask the proc(5) of which proc is the topmost directory, in place of /proc: inroot_use_proc(3).
+// It comes before the first other function; proc may be closed afterwards.
+func UseProc(proc *os.File) error {
+	_, err := onHandle("useproc", proc, func(fd C.int) C.long { return C.long(C.inroot_use_proc(fd)) })
+	return err
 }

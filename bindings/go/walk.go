@@ -6,6 +6,7 @@ import "C"
 
 import (
 	"io/fs"
+	"math"
 	"os"
 	"path/filepath"
 	"runtime"
@@ -53,16 +54,24 @@ func kindOf(bits C.mode_t) fs.FileMode {
 	return fs.ModeIrregular
 }
 
+// levelsOf gives a number of levels. No path has more than 32 bits of them.
+func levelsOf(levels int) C.int {
+	if levels > math.MaxInt32 {
+		levels = math.MaxInt32
+	}
+	return number(levels)
+}
+
 // WalkInRoot calls what for each entry below the directory unsafePath: for a directory before what is in it, and else
 // in no order. With levels above 0 it goes so deep: 1 gives the directory's own entries alone. An entry whose kind can't
 // be asked comes with an error, and so do a directory that isn't gone into and one the rest of whose entries isn't given;
 // the last has no directory above to be opened in. If what returns fs.SkipDir for a directory, the walk leaves out what
 // is below it; any other error ends the walk, and is returned. What is promised while others rename is in inroot_walk_open(3).
-func WalkInRoot(root *os.File, unsafePath string, levels int, what func(*WalkEntry, error) error, flags ...Flags) error {
+func WalkInRoot(root Root, unsafePath string, levels int, what func(*WalkEntry, error) error, flags ...Flags) error {
 	// A walk in a thread's jail would have to stay there; a descriptor's may go on in any thread.
 	var walk *C.struct_inroot_walk
 	err := done("walk", root, unsafePath, func(root C.int, path *C.char) C.int {
-		return C.inroot_walk_open(root, path, C.int(levels), joined(flags, 0), &walk)
+		return C.inroot_walk_open(root, path, levelsOf(levels), joined(flags, 0), &walk)
 	})
 	if err != nil {
 		return err

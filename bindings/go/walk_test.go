@@ -12,7 +12,7 @@ import (
 )
 
 // walked gives the paths that a walk gives, sorted.
-func walked(t *testing.T, root *os.File, path string, levels int, flags ...Flags) []string {
+func walked(t *testing.T, root Root, path string, levels int, flags ...Flags) []string {
 	t.Helper()
 	var paths []string
 	must(t, WalkInRoot(root, path, levels, func(entry *WalkEntry, err error) error {

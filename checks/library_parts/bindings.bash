@@ -1,6 +1,16 @@
 # shellcheck shell=bash disable=SC2154
 # The tests of the bindings, and programs over them. checks/library reads this file.
 
+# Both make each call of inroot.h, but for those of jails, and two in whose place they have others: opening and fstat(2), and the
+# version's text.
+for name in $(sed -n 's/^[a-z][a-z_ ]*[ *]\(inroot_[a-z_]*\)(.*/\1/p' host/inroot.h); do
+    case $name in
+    inroot_jail* | inroot_stat | inroot_version_number) ! grep -qE "(ffi::|C\.)$name\(" bindings/rust/src/*.rs bindings/go/*.go ;;
+    *) grep -qF "ffi::$name(" bindings/rust/src/*.rs && grep -qF "C.$name(" bindings/go/*.go ;;
+    esac
+    verdict $? "a binding makes no call $name, or makes one that this check leaves out"
+done
+
 if ! lacks cargo bindings/rust; then
     # Nobody debugs what is built here, nor builds it a second time after a change.
     export CARGO_TARGET_DIR=$work/target CARGO_INCREMENTAL=0 CARGO_PROFILE_DEV_DEBUG=0 CARGO_PROFILE_TEST_DEBUG=0

@@ -98,7 +98,7 @@ fn spec_of(time: Option<SystemTime>) -> ffi::Timespec {
             let part = i64::from(before.subsec_nanos());
             let borrowed = i64::from(part > 0);
             ffi::Timespec {
-                seconds: -(before.as_secs() as i64) - borrowed,
+                seconds: (before.as_secs() as i64).wrapping_neg() - borrowed,
                 nanoseconds: (1_000_000_000 - part) * borrowed,
             }
         }

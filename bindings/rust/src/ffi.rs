@@ -50,6 +50,7 @@ extern "C" {
     pub fn inroot_root_open(directory: *const c_char, flags: c_int, root: *mut *mut Kept) -> c_int;
     pub fn inroot_root_fd(root: *const Kept) -> c_int;
     pub fn inroot_root_close(root: *mut Kept);
+    pub fn inroot_use_proc(proc: c_int) -> c_int;
     pub fn inroot_use_private_proc() -> c_int;
     pub fn inroot_version() -> *const c_char;
     pub fn inroot_last_error(error: *mut Error) -> c_int;

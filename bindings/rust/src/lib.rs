@@ -47,6 +47,15 @@ pub use handle::Handle;
 pub use root::{InodeType, Root};
 pub use walk::{Walk, WalkEntry};
 
+use std::os::unix::io::{AsFd, AsRawFd};
+
+/// Has the calls ask the proc(5) of which this is the topmost directory, in place of /proc: inroot_use_proc(3). Before the
+/// first other call; the descriptor may be closed afterwards.
+pub fn use_proc(proc: impl AsFd) -> std::io::Result<()> {
+    // SAFETY: it takes a number alone.
+    error::done(unsafe { ffi::inroot_use_proc(proc.as_fd().as_raw_fd()) })
+}
+
 /// Has the calls ask a proc(5) that is mounted nowhere, in place of /proc: inroot_use_private_proc(3). Before the first
 /// other call.
 pub fn use_private_proc() -> std::io::Result<()> {

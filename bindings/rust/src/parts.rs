@@ -10,6 +10,7 @@ use std::os::raw::{c_char, c_int};
 use std::os::unix::ffi::OsStringExt;
 use std::os::unix::io::{AsFd, AsRawFd, OwnedFd};
 use std::path::{Path, PathBuf};
+use std::sync::Arc;
 
 /// The library's number for a root and a directory below it, which calls take in the root's place.
 #[derive(Debug)]
@@ -27,10 +28,14 @@ impl Drop for Begin {
 
 impl Root {
     /// The same root, whose paths begin at this directory below it. The root stays the root: `..` and absolute links
-    /// stop there, and an absolute path begins there. Each call asks anew where the directory stands.
+    /// stop there, and an absolute path begins there. Each call asks anew where the directory stands. What the library
+    /// keeps of the root counts there, too.
     pub fn at(&self, dir: impl AsFd) -> io::Result<Root> {
-        let root = Root { begin: None, held: Held::Own(self.as_fd().try_clone_to_owned()?), flags: self.flags };
-        root.begin_at(dir.as_fd().try_clone_to_owned()?)
+        let held = match &self.held {
+            Held::Own(fd) => Held::Own(fd.try_clone()?),
+            Held::Kept(kept) => Held::Kept(Arc::clone(kept)),
+        };
+        Root { begin: None, held, flags: self.flags }.begin_at(dir.as_fd().try_clone_to_owned()?)
     }
 
     pub(crate) fn begin_at(mut self, dir: OwnedFd) -> io::Result<Root> {

@@ -12,6 +12,7 @@ use std::os::unix::fs::{OpenOptionsExt, PermissionsExt};
 use std::os::unix::io::{AsFd, AsRawFd, BorrowedFd, OwnedFd};
 use std::path::{Path, PathBuf};
 use std::ptr::{null_mut, NonNull};
+use std::sync::Arc;
 
 const S_IFIFO: u32 = 0o010000;
 const S_IFCHR: u32 = 0o020000;
@@ -60,7 +61,7 @@ impl Drop for KeptRoot {
 #[derive(Debug)]
 pub(crate) enum Held {
     Own(OwnedFd),
-    Kept(KeptRoot),
+    Kept(Arc<KeptRoot>),
 }
 
 /// A directory below which paths are resolved. Any number of threads may make calls on it.
@@ -88,7 +89,7 @@ impl Root {
         // SAFETY: the path ends with a NUL, and the library writes a root, or a null pointer after an error.
         done(unsafe { ffi::inroot_root_open(path.as_ptr(), flags.bits(), &mut kept) })?;
         let kept = NonNull::new(kept).ok_or(io::ErrorKind::Other)?;
-        Ok(Root { begin: None, held: Held::Kept(KeptRoot(kept)), flags: ResolverFlags::default() })
+        Ok(Root { begin: None, held: Held::Kept(Arc::new(KeptRoot(kept))), flags: ResolverFlags::default() })
     }
 
     /// The root that this descriptor is open on. Calls give ENOTDIR if it isn't a directory.

@@ -1,12 +1,13 @@
 //! Directories at which paths begin, parents, parts and places, and what is missing of a path.
 
-use inroot::{last_error, InodeType, OpenFlags, RenameFlags, ResolverFlags, Root};
+use inroot::{last_error, InodeType, OpenFlags, RenameFlags, ResolverFlags, Root, RootFlags};
 use std::fs::{self, Permissions};
 use std::io;
 use std::os::unix::fs::{symlink, FileTypeExt, MetadataExt, PermissionsExt};
 use std::path::{Path, PathBuf};
 
 const ENOENT: i32 = 2;
+const EAGAIN: i32 = 11;
 const EEXIST: i32 = 17;
 const EXDEV: i32 = 18;
 const ENOTDIR: i32 = 20;
@@ -71,6 +72,25 @@ fn paths_begin_at_a_directory() {
     fails(again.resolve("."), ENOENT);
     let file = root.create_file("file", OpenFlags::O_WRONLY, &mode(0o600)).unwrap();
     fails(root.at(file), ENOTDIR);
+}
+
+/// Without openat2(2) the flag changes nothing.
+#[test]
+fn what_is_kept_of_a_root_counts_from_a_directory() {
+    let tree = Tree::new("kept");
+    fs::write(tree.0.join("box/a/b/f (deleted)"), "").unwrap();
+    let plain = tree.root().with_resolver_flags(ResolverFlags::BELOW).resolve("in/f (deleted)").map(|_| ());
+    for flags in [RootFlags::default(), RootFlags::BELOW] {
+        let kept = Root::open_kept(tree.0.join("box"), flags).unwrap();
+        let at = kept.at(kept.resolve("in").unwrap()).unwrap();
+        let again = at.at(at.resolve(".").unwrap()).unwrap();
+        drop((kept, at));
+        let found = again.with_resolver_flags(ResolverFlags::NO_RETRY).resolve("f (deleted)");
+        match (flags == RootFlags::BELOW, &plain) {
+            (true, Ok(())) => assert_eq!(found.unwrap().metadata().unwrap().ino(), tree.inode("a/b/f (deleted)")),
+            _ => fails(found, EAGAIN),
+        }
+    }
 }
 
 #[test]
