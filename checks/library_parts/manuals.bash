@@ -45,6 +45,25 @@ ordered_in_header() { sed -n '/gives -errno where it fails/,/any other/s/^ \*   
 ordered_in_manual() { sed -n '/^[.]Ss Errors/,/^[.]Sh/s/^[.]It Bq Er //p' man/libinroot.7; }
 [ "$(ordered_in_manual | wc -l)" -ge 15 ] && [ "$(ordered_in_manual)" = "$(ordered_in_header)" ]
 verdict $? "man/libinroot.7 has another order of errors: $(diff <(ordered_in_manual) <(ordered_in_header))"
+# So do those that a call's own comment names: each paragraph's stand on the call's page, in this order.
+named_errors() { tr -c 'A-Z0-9_' '\n' | grep -E '^E[A-Z0-9]{2,}$' | grep -vxE 'ENTRY|EXISTING|ERROR|EXAMPLES'; }
+own_paragraphs() {
+    awk '
+        /^\/\*/ { count = 1; told[1] = ""; inside = 1 }
+        inside && /^ \*$/ { told[++count] = "" }
+        inside { told[count] = told[count] " " $0; if (/\*\//) inside = 0; next }
+        /^[a-z]/ && match($0, /inroot_[a-z_]*\(/) {
+            for (at = 1; at <= count; at++) print substr($0, RSTART, RLENGTH - 1), told[at]
+        }' host/inroot.h
+}
+while read -r name told; do
+    errors=$(named_errors <<<"$told" | awk '!seen[$0]++')
+    [ -n "$errors" ] || continue
+    page=$(grep -l "^[.]Nm $name\( ,\)*$" man/*.3)
+    # shellcheck disable=SC2086
+    named_errors <"$page" | tr '\n' ' ' | grep -qE "(^| )$(printf '%s (.* )?' $errors)"
+    verdict $? "$page hasn't the errors of $name, as inroot.h names them in order: ${errors//$'\n'/ }"
+done < <(own_paragraphs)
 if ! lacks mandoc 'the form of the man pages'; then
     # Which pages of others are installed here is no matter.
     told=$(mandoc -T lint man/*.[1-8] 2>/dev/null | grep -v 'referenced manual not found')
