@@ -18,6 +18,9 @@
 /* What getdents64(2) gives at once; and the longest name that has room behind any path: as on vfat it may be over 255 bytes. */
 enum { RECORDS = 8192, NAME_ROOM = 1024 };
 
+/* A directory that is gone into has a path that fits, and takes two bytes of it at least: so the number of its level is no large one. */
+_Static_assert(PATH_MAX / 2 < INT_MAX, "a level's number is an int");
+
 /* A directory that is being listed: which call comes next, the proved library says (crates/walk_directory). */
 struct level {
     struct level *above;
