@@ -119,7 +119,8 @@ int inroot_mkdir(int root, const char *path, mode_t mode, int flags)
 
 int inroot_mknod(int root, const char *path, mode_t mode, dev_t dev, int flags)
 {
-    if (!inroot_is_node(mode, dev))
+    /* The kernel takes so many bits, and a C library may leave out the others: it would make the node of another device. */
+    if (!inroot_is_node(mode, dev) || dev > UINT32_MAX)
         return inroot_error_alone(EINVAL, "", path);
     return make(root, INROOT_ASK_MKFILE, path, mode & S_IFMT, mode & ~(mode_t)S_IFMT, dev, flags);
 }

@@ -513,8 +513,8 @@ int inroot_mkfile(int root, const char *path, mode_t mode, int flags);
 /*
  * Makes an entry of the kind that MODE has beside its permissions (mknodat(2)): S_IFREG, S_IFIFO, S_IFSOCK, S_IFCHR
  * or S_IFBLK. The last two make a node of the device DEV, which is 0 otherwise. Gives 0. EINVAL of another kind, and
- * of a DEV that isn't asked for; EEXIST where there is such an entry, a link too; EPERM without the right to make
- * devices, and what mknodat(2) has beside it.
+ * of a DEV that isn't asked for or has more than 32 bits; EEXIST where there is such an entry, a link too; EPERM
+ * without the right to make devices, and what mknodat(2) has beside it.
  */
 int inroot_mknod(int root, const char *path, mode_t mode, dev_t dev, int flags);
 

@@ -191,6 +191,9 @@ static void nodes(void)
     gives(inroot_mknod(at, "n/x", 0600, 0, 0), -EINVAL, "no kind");
     gives(inroot_mknod(at, "n/x", S_IFIFO | 0600, makedev(1, 3), 0), -EINVAL, "a FIFO's device");
     gives(inroot_mknod(999, "n/x", S_IFIFO | 0600, 0, 0), -EBADF, "below a root that isn't open");
+    /* The lower bits alone are those of another device; the call refuses it before the C library sees it. */
+    gives(inroot_mknod(999, "n/x", S_IFCHR | 0600, makedev(4097, 3), 0), -EINVAL, "a major number of more than 12 bits");
+    gives(inroot_mknod(999, "n/x", S_IFBLK | 0600, makedev(1, 1048579), 0), -EINVAL, "a minor number of more than 20 bits");
     int device = inroot_mknod(at, "n/null", S_IFCHR | 0600, makedev(1, 3), 0);
     if (device == -EPERM)
         puts("calls: no right to make a device here");
