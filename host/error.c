@@ -53,8 +53,8 @@ void inroot_error_note(struct inroot_driver *d, const struct inroot_told *step, 
     bool on_name = step->what == INROOT_STEP_OPEN || step->what >= INROOT_STEP_MAKE_DIR;
     size_t length = on_name ? step->first : 0;
     d->step = step->what;
-    /* A handle without a slot is behind the place that was noted last. */
-    if (!inroot_handles_is_passed(step->handle))
+    /* A handle without a slot is behind the place that was noted last, and so is a link that is read. */
+    if (!inroot_handles_is_passed(step->handle) && step->what != INROOT_STEP_READLINK)
         d->stands = inroot_passed_base(d, step->handle);
     d->name_length = length < sizeof d->step_name ? length : sizeof d->step_name;
     memcpy(d->step_name, room, d->name_length);
