@@ -382,9 +382,9 @@ static struct inroot_result change_entry(struct inroot_driver *d, const struct i
     if (error)
         return inroot_unmade(d, error);
     switch (step->what) {
-    case INROOT_STEP_MAKE_DIR:
+    case INROOT_STEP_MAKE_DIR: case INROOT_STEP_MAKE_FILE:
         return make_entry(d, step, &entry, "");
-    case INROOT_STEP_MAKE_FILE: case INROOT_STEP_MAKE_LINK:
+    case INROOT_STEP_MAKE_LINK:
         return make_entry(d, step, &entry, second);
     case INROOT_STEP_REMOVE_FILE:
         return removed(d, &entry, 0);
