@@ -27,10 +27,10 @@ static struct inroot_looks_request request_of(const struct inroot_driver *d)
     };
 }
 
-/* At most so many of them. */
+/* At most so many of them. The number is that of inroot_handles_passed(), as they are reported next. */
 static void ask(struct inroot_driver *d, size_t most, struct inroot_coming *coming)
 {
-    const uint64_t number = (uint64_t)d->serial << 32 | INROOT_PASSED;
+    const uint64_t number = (uint64_t)(d->serial + 1) << 32 | INROOT_PASSED;
     inroot_names_ahead(d->kept, most, number, (unsigned char *)coming->text, INROOT_TEXT_MAX, &coming->ahead);
     coming->text[coming->ahead.used] = 0;
 }
