@@ -64,7 +64,7 @@ static uint32_t turn(struct look *l, enum inroot_one_look_next next, bool *kept)
 /* Makes the system calls that the library says. Gives 0 or an error's number. */
 static uint32_t carry_out(struct look *l, bool asks)
 {
-    struct inroot_one_look now;
+    struct inroot_one_look now = {0};
     inroot_one_look_begin(known, asks, &now);
     while (now.next < INROOT_ONE_GIVES) {
         bool kept = false;

@@ -138,6 +138,7 @@ struct inroot_driver {
     uint32_t used, serial;         /* of the slots, so many were taken so far; and the last handle's number above its slot */
     char *names;                   /* those of the directory that was listed last */
     size_t listed;                 /* bytes of names that the call holds */
+    struct inroot_looks looks;     /* how far it has come with the names that come next */
     struct inroot_last_step last;  /* what the step before has shown */
     uint8_t known;                 /* what of that is known of this one (`enum inroot_shown`) */
     size_t name_length;            /* of the name that `step` was about */
@@ -156,7 +157,6 @@ struct inroot_driver {
     /* What follows isn't cleared as a call begins: it is set then, or where what it belongs to is. */
     const struct inroot_request *asked;
     struct inroot_kept *kept;      /* the proved call, while it goes on */
-    struct inroot_looks looks;     /* how far it has come with the names that come next */
     size_t first_length, second_length;
     int proc;                      /* the /proc that was found to be one, or none yet */
     int made;                      /* what was made and opened, or none */

@@ -69,7 +69,7 @@ static void keep_rest(struct inroot_driver *d, size_t length, bool is_whole)
 
 bool inroot_error_note_rest(struct inroot_driver *d, uint8_t from)
 {
-    struct inroot_left left;
+    struct inroot_left left = {0};
     inroot_parts_ahead(d->kept, from, (unsigned char *)d->rest, sizeof d->rest, &left);
     keep_rest(d, left.used, left.whole);
     return left.named;
@@ -124,7 +124,7 @@ static void put_parts(const struct inroot_driver *d, char *to)
         used = add(to, 0, d->rest + d->rest_at + 1, length - 1);
     if (inroot_walks_whole(asked) || d->rest_is == INROOT_REST_CUT)
         return;
-    struct inroot_parted parted;
+    struct inroot_parted parted = {0};
     inroot_split((const unsigned char *)asked->first, strlen(asked->first), true, &parted);
     if (used > 0 && parted.length > 0)
         used = add(to, used, "/", 1);

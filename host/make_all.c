@@ -43,7 +43,7 @@ static struct inroot_outcome find(const struct work *w)
 
 static struct inroot_outcome split(const struct work *w)
 {
-    struct inroot_parted parted;
+    struct inroot_parted parted = {0};
     inroot_split((const unsigned char *)w->part, w->making.size, false, &parted);
     return (struct inroot_outcome){.error = parted.error, .rest = parted.name};
 }

@@ -44,7 +44,7 @@ static struct inroot_own_look look_at_root(void)
 static bool is_mount_root(int proc)
 {
     unsigned char about[256], part[1024];
-    struct inroot_own_root own;
+    struct inroot_own_root own = {0};
     const struct inroot_own_look look = look_at_root();
     size_t known = 0;
     int fd = INROOT_NONE;

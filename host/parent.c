@@ -20,7 +20,7 @@ static int open_before(int root, char *text, const struct inroot_parted *parted,
 int inroot_open_parent(int root, const char *path, int flags, char last[256])
 {
     char text[INROOT_TEXT_MAX + 1], name[NAME_MAX + 1];
-    struct inroot_parted parted;
+    struct inroot_parted parted = {0};
     const int restrictions = flags & ~INROOT_DIRECTORY;
     /* LAST may be the room of PATH. */
     inroot_copy(text, path);

@@ -19,7 +19,7 @@ struct cut {
 /* Opens the first pieces of the text that are tried. */
 static int open_pieces(const struct cut *cut, const struct inroot_search *search)
 {
-    struct inroot_trial now;
+    struct inroot_trial now = {0};
     inroot_search_trial(search, (const unsigned char *)cut->text, cut->length, cut->follows, &now);
     char *end = cut->text + now.length, behind = *end;
     *end = 0;
@@ -52,7 +52,7 @@ int inroot_partial(int root, int from, char *text, int flags, bool follows, size
     const struct cut cut = {
         .root = root, .from = from, .flags = flags, .follows = follows, .text = text, .length = strlen(text),
     };
-    struct inroot_search search;
+    struct inroot_search search = {0};
     inroot_search_begin((const unsigned char *)text, cut.length, &search);
     while (search.next < INROOT_SEARCH_ENDS)
         turn(&cut, &search);

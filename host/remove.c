@@ -74,6 +74,7 @@ static void turn(struct removing *r, int root, const struct inroot_request *aske
 ssize_t inroot_remove_tree(int root, const struct inroot_request *asked, char *room)
 {
     struct removing r;
+    r.course = (struct inroot_removal){0};
     inroot_removal_begin(!(asked->flags & INROOT_NO_RETRY), &r.course);
     while (r.course.next < INROOT_REMOVAL_ENDS)
         turn(&r, root, asked, room);

@@ -38,6 +38,7 @@ static void ask(struct inroot_driver *d, size_t most, struct inroot_coming *comi
 void inroot_run_ask(struct inroot_driver *d, struct inroot_coming *coming)
 {
     const struct inroot_looks_request request = request_of(d);
+    coming->ahead = (struct inroot_ahead_names){0};
     ask(d, inroot_looks_most(&d->looks, &request, inroot_has_openat2()), coming);
 }
 
@@ -51,6 +52,7 @@ static size_t first_link(struct inroot_driver *d, uint64_t handle, const struct 
 static void begin(struct inroot_driver *d, struct inroot_coming *coming, const struct inroot_looks_spot *spot)
 {
     const struct inroot_looks_request request = request_of(d);
+    coming->facts = (struct inroot_coming_names){0};
     inroot_looks_coming(&request, &coming->ahead, spot, &coming->facts);
     inroot_looks_begin(&d->looks, &coming->facts);
 }
@@ -200,7 +202,7 @@ static struct inroot_result answer(struct inroot_driver *d, const struct inroot_
 
 struct inroot_result inroot_run_tell(struct inroot_driver *d, struct inroot_told *told, char *room, const char *parts)
 {
-    struct inroot_ran ran;
+    struct inroot_ran ran = {0};
     const uint64_t from = told->handle;
     inroot_pass_names(d->kept, (const unsigned char *)parts, strlen(parts), from, inroot_handles_passed(d), told,
                       (unsigned char *)room, INROOT_ROOM, &ran);

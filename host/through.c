@@ -110,7 +110,7 @@ static uint32_t read_link(struct walk *w, struct inroot_through_answer *answer)
 /* Puts the text of the link in its place. A link that the steps follow is left to them from now on. */
 static uint32_t goes(struct walk *w, struct inroot_through_answer *answer)
 {
-    struct inroot_next_path next;
+    struct inroot_next_path next = {0};
     inroot_goes_through(w->numbers, w->course.links, bytes(w->path), w->length, w->at, w->link, w->seen.end, bytes(w->text),
                         w->told, room(w->then), INROOT_TEXT_MAX, &next);
     if (!next.goes_on)
@@ -151,7 +151,7 @@ static uint32_t hold_top(struct walk *w)
 
 static uint32_t rises(struct walk *w)
 {
-    struct inroot_next_path next;
+    struct inroot_next_path next = {0};
     inroot_rises_through(bytes(w->path), w->length, w->at, bytes(w->text), w->told, room(w->then), INROOT_TEXT_MAX, &next);
     return go_on(w, &next);
 }

@@ -68,7 +68,7 @@ static int give_found(int fd, enum inroot_kind kind, const struct use *use)
 /* Makes a call on this path: a descriptor, or the length of the text that lies in the room; or -errno. */
 static int make(const struct use *use, uint8_t call, const char *path, enum inroot_kind *kind, char *room)
 {
-    struct inroot_course_request now;
+    struct inroot_course_request now = {0};
     inroot_course_request(&use->how, use->mode, call, &now);
     const struct inroot_request asked = {
         .op = (enum inroot_op)now.op,
@@ -108,7 +108,7 @@ int inroot_openat(int root, const char *path, int open_flags, mode_t mode, int f
     int result = 0;
     char text[INROOT_TEXT_MAX + 1];
     struct use use = {.root = root, .flags = flags, .mode = mode};
-    struct inroot_course course;
+    struct inroot_course course = {0};
     inroot_copy(text, path);
     inroot_opening_of(&machine, (uint32_t)open_flags, mode, &use.how);
     inroot_course_begin(strlen(text), &use.how, flags & INROOT_NO_LINKS, !(flags & INROOT_NO_RETRY), &course);

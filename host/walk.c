@@ -125,6 +125,7 @@ static struct level *new_level(int fd)
     level->above = NULL;
     level->fd = fd;
     level->got = 0;
+    level->course = (struct inroot_level){0};
     return level;
 }
 
