@@ -4,6 +4,15 @@
  * list_directory, walk_directory, call_course, ask_place, give_entry, open_partial, open_at_once, open_through_links,
  * enter_directory, begin_below, kernel_text and system_calls, whose contracts say what they stand for. A program that
  * makes calls includes inroot.h, and not this.
+ *
+ * Each function asks this of its caller, beside what stands at it. No pointer is NULL, not even one to no bytes. Each is
+ * aligned, and leads to a value of its type: a bool is 0 or 1, also where the function only writes it; a number may be any.
+ * What a function writes overlaps nothing that another argument points to. While it runs, no other thread uses that, or
+ * changes the rest. What a driver leaves alone was begun before. It leaves alone, too, what belongs to that: the facts, the
+ * text and the path with which it began, and what the library has laid in its room. checks/owed has what looks for this as
+ * the driver is tested.
+ *
+ * inroot_begin(), inroot_next(), inroot_pass_names() and inroot_sort_names() take memory, by malloc(3).
  */
 #ifndef INROOT_CALLS_H
 #define INROOT_CALLS_H
@@ -66,10 +75,7 @@ void inroot_begin(const struct inroot_asked *asked, const unsigned char *first, 
                   const unsigned char *second, size_t second_length, struct inroot_kept *kept, struct inroot_told *told,
                   unsigned char *room, size_t size);
 
-/*
- * Takes the answer to the last step. `kept` holds a call: the one that the last turn left there. The bytes, the
- * room and what is pointed to otherwise must not overlap, here and above.
- */
+/* Takes the answer to the last step. `kept` holds a call: the one that the last turn left there. */
 void inroot_next(struct inroot_kept *kept, const struct inroot_answered *answered, const unsigned char *bytes,
                  size_t length, struct inroot_told *told, unsigned char *room, size_t size);
 
@@ -582,8 +588,8 @@ void inroot_course_request(const struct inroot_opening *opening, uint32_t mode, 
                            struct inroot_course_request *request);
 
 /*
- * Takes what the last call gave: an error, or 0 and the text of the link that was read. The room has 4,095 bytes at least, and its
- * path is that of the call which comes next. Where none does, it is that of the last one.
+ * Takes what the last call gave: an error, or 0 and the text of the link that was read. The room has 4,095 bytes at least, and holds
+ * the path, which then is that of the call which comes next. Where none does, it is that of the last one.
  */
 void inroot_course_next(struct inroot_course *course, uint32_t error, const unsigned char *text, size_t text_length,
                         unsigned char *room, size_t size);

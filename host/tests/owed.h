@@ -1,0 +1,117 @@
+/*
+ * owed.h: looks, at each call of the proved library, for what the library asks of C. checks/owed writes a function for each
+ * one of calls.h, which includes this. Whoever owes something is named, and ended by abort(3).
+ */
+#ifndef INROOT_OWED_H
+#define INROOT_OWED_H
+
+#include "../calls.h"
+
+#include <stdatomic.h>
+#include <stdio.h>
+#include <stdlib.h>
+#include <string.h>
+
+/* What an argument points to; whether it is written. */
+struct span {
+    const void *at;
+    size_t size, aligned;
+    bool is_written;
+};
+
+static void owes(const char *call, const char *what)
+{
+    fprintf(stderr, "%s: its caller owes this: %s\n", call, what);
+    abort();
+}
+
+static void must(bool holds, const char *call, const char *what)
+{
+    if (!holds)
+        owes(call, what);
+}
+
+/* An address of bytes that are none counts, too. */
+static bool is_apart(const struct span *one, const struct span *other)
+{
+    const uintptr_t a = (uintptr_t)one->at, b = (uintptr_t)other->at;
+    return one->size == 0 || other->size == 0 || a + one->size <= b || b + other->size <= a;
+}
+
+/* Each is somewhere, and nothing that is written is another argument's, too. */
+static void must_lie_apart(const char *call, const struct span *spans, size_t count)
+{
+    for (size_t one = 0; one < count; one++) {
+        must(spans[one].at != NULL && (uintptr_t)spans[one].at % spans[one].aligned == 0, call, "a place of its type");
+        for (size_t other = 0; other < count; other++)
+            must(one == other || !spans[one].is_written || is_apart(&spans[one], &spans[other]), call,
+                 "what is written is no other argument's");
+    }
+}
+
+/* Of a struct that is only written, too. */
+static void must_be_bool(const char *call, const void *at)
+{
+    unsigned char byte;
+    memcpy(&byte, at, sizeof byte);
+    must(byte <= 1, call, "a bool of 0 or 1");
+}
+
+/* ---- what is left alone between two turns */
+
+/* By its address. Two may fall together: then nothing is known of the older one. */
+enum { LEFT = 4096, LEFT_SIZE = 256, TRIES = 1 << 20 };
+
+static struct {
+    const void *at;
+    size_t size;
+    unsigned char bytes[LEFT_SIZE];
+} left[LEFT];
+static atomic_flag is_held = ATOMIC_FLAG_INIT;
+static atomic_bool is_off;
+
+/* A child of fork(2) may find it held for ever: then it looks no more. */
+static bool hold(void)
+{
+    for (int tries = 0; tries < TRIES && !is_off; tries++)
+        if (!atomic_flag_test_and_set(&is_held))
+            return true;
+    is_off = true;
+    return false;
+}
+
+static size_t place_of(const void *at)
+{
+    return (uintptr_t)at / 8 % LEFT;
+}
+
+static void leave(const void *at, size_t size)
+{
+    const size_t place = place_of(at);
+    if (size > LEFT_SIZE || !hold())
+        return;
+    left[place].at = at;
+    left[place].size = size;
+    memcpy(left[place].bytes, at, size);
+    atomic_flag_clear(&is_held);
+}
+
+static bool is_zero(const void *at, size_t size)
+{
+    static const unsigned char zero[LEFT_SIZE];
+    return memcmp(at, zero, size) == 0;
+}
+
+/* As the library left it, or zero where it MAY_BEGIN so. */
+static void must_be_left(const char *call, const void *at, size_t size, bool may_begin)
+{
+    const size_t place = place_of(at);
+    if (size > LEFT_SIZE || !hold())
+        return;
+    const bool is_known = left[place].at == at && left[place].size == size;
+    const bool is_same = !is_known || memcmp(left[place].bytes, at, size) == 0;
+    atomic_flag_clear(&is_held);
+    must(is_same || (may_begin && is_zero(at, size)), call, "what is left alone between two turns");
+}
+
+#endif
