@@ -46,6 +46,7 @@ static void next(void)
 static void split_nothing(void) { inroot_split(NULL, 0, false, &parted); }
 static void split(void) { inroot_split(text, 4, false, &parted); }
 static void split_unset(void) { memset(&parted, 0xaa, sizeof parted); split(); }
+static void split_more(void) { inroot_split(text, sizeof text + 1, false, &parted); }
 static void split_into_its_path(void) { inroot_split((unsigned char *)&parted, 4, false, &parted); }
 static void split_askew(void) { inroot_split(text, 4, false, (void *)((char *)room + 1)); }
 static void ask_oddly(void) { memset(&request.beneath, 2, 1); begin(); }
@@ -129,6 +130,7 @@ static const struct {
     {"a path and its parts", split, false},
     {"a bool that is none, where one is written", split_unset, true},
     {"parts that are written to their path", split_into_its_path, true},
+    {"more bytes than are there", split_more, true},
     {"a struct that isn't aligned", split_askew, true},
     {"a bool that is none, where one is read", ask_oddly, true},
     {"a call", begin, false},

@@ -1,12 +1,13 @@
 /*
  * owed.h: looks, at each call of the proved library, for what the library asks of C. checks/owed writes a function for each
- * one of calls.h, which includes this. Whoever owes something is named, and ended by abort(3).
+ * one of calls.h, which includes this. Whoever owes something is named, and ended by abort(3). It is for the address sanitizer.
  */
 #ifndef INROOT_OWED_H
 #define INROOT_OWED_H
 
 #include "../calls.h"
 
+#include <sanitizer/asan_interface.h>
 #include <stdatomic.h>
 #include <stdio.h>
 #include <stdlib.h>
@@ -38,11 +39,18 @@ static bool is_apart(const struct span *one, const struct span *other)
     return one->size == 0 || other->size == 0 || a + one->size <= b || b + other->size <= a;
 }
 
-/* Each is somewhere, and nothing that is written is another argument's, too. */
+/* The sanitizer knows which bytes are a variable's or a block's. */
+static bool is_there(const struct span *span)
+{
+    return span->at != NULL && (uintptr_t)span->at % span->aligned == 0 &&
+           (span->size == 0 || __asan_region_is_poisoned((void *)(uintptr_t)span->at, span->size) == NULL);
+}
+
+/* Each is there, and nothing that is written is another argument's, too. */
 static void must_lie_apart(const char *call, const struct span *spans, size_t count)
 {
     for (size_t one = 0; one < count; one++) {
-        must(spans[one].at != NULL && (uintptr_t)spans[one].at % spans[one].aligned == 0, call, "a place of its type");
+        must(is_there(&spans[one]), call, "so many bytes at a place for them");
         for (size_t other = 0; other < count; other++)
             must(one == other || !spans[one].is_written || is_apart(&spans[one], &spans[other]), call,
                  "what is written is no other argument's");
