@@ -523,7 +523,7 @@ enum inroot_calling_next {
  * a reply's count, or the root's kind. LENGTH is a text's. Of the proved call: its reply, and whether the text is WHOLE; 0, or
  * why a step wasn't made; 0, or why what it made could not be opened; and the descriptor of that, its number and one, or 0. Of
  * all things up to TAKE: a step was made; an entry was changed; the thread isn't at its root directory; a /proc is in use; it
- * is the call's own.
+ * is the call's own, which counts of ANOTHER_PROC, too.
  */
 struct inroot_calling_answer {
     uint64_t value, length;
@@ -984,7 +984,7 @@ void inroot_through_next(const struct inroot_through_facts *facts, const struct 
 /*
  * The name is opened in the directory above: openat(2) with O_PATH, O_DIRECTORY, O_NOFOLLOW and O_CLOEXEC. A call opens what the
  * directory's path means, through no link at its end. Both are compared. `.` is opened in what was found: openat(2) with
- * O_RDONLY and O_DIRECTORY. What was found is closed; so is what was opened by its name. A call opens what the path of
+ * O_RDONLY, O_DIRECTORY and O_CLOEXEC. What was found is closed; so is what was opened by its name. A call opens what the path of
  * the directory above means; that is compared with the one that is being listed, and closed. The directory with which a walk begins
  * stands in none: a call opens what its path means, `.` is opened in that to be read, and what the call found is closed. If it
  * ENTERS, what was opened to be read is the directory. If it FAILS, there is an error; if it LOSES, the directory above isn't where
