@@ -558,8 +558,7 @@ int inroot_own_root_check(struct inroot_driver *d);
 struct inroot_result inroot_list(struct inroot_driver *d, uint64_t handle);
 
 /* refused.c */
-/* The answer to the last step: refused by the error, if the step table has it for this step; or not made. */
-struct inroot_result inroot_refused(struct inroot_driver *d, int error);
+/* The answer to a step that wasn't made, for this error. */
 struct inroot_result inroot_unmade(struct inroot_driver *d, int error);
 
 /* by_calls.c */

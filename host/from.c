@@ -70,7 +70,7 @@ static struct inroot_result pass(struct inroot_driver *d, struct inroot_told *to
     d->run.fd = inroot_mount_stay(d, d->from.fd);
     d->from.fd = INROOT_NONE;
     if (d->run.fd < 0)
-        return inroot_refused(d, errno);
+        return inroot_unmade(d, errno);
     d->run.kind = INROOT_KIND_DIR;
     d->run.way = INROOT_BY_NAME;
     d->run.passed = inroot_passed_put(d, told->handle, names, length);
@@ -87,7 +87,7 @@ static struct inroot_result pass_again(struct inroot_driver *d, struct inroot_to
     inroot_from_end(d);
     ssize_t length = find(d, d->root, text);
     if (length < 0)
-        return inroot_refused(d, (int)-length);
+        return inroot_unmade(d, (int)-length);
     if (!inroot_telling_again(&d->from.telling, bytes(d->from.place), strlen(d->from.place), bytes(text), (size_t)length))
         return inroot_unmade(d, EAGAIN);
     return pass(d, told, room);
