@@ -80,39 +80,39 @@ bool inroot_handles_grow(struct inroot_driver *d)
 /* Room for what a file system calls an object by (name_to_handle_at(2)). */
 enum { HANDLE_ROOM = 128 };
 
-/*
- * Of a file system that keeps no births: what it calls the directory by has a number that counts how often the inode's was used.
- * None where it can't be asked.
- */
-static void identify_by_handle(int fd, struct inroot_birth *who)
+/* What the file system calls the directory by: with a number that counts how often the inode's was used. 0 where it can't be asked. */
+static uint64_t handle_of(int fd)
 {
     int mount;
+    uint64_t sum = 1;
     _Alignas(struct file_handle) unsigned char room[sizeof(struct file_handle) + HANDLE_ROOM];
     struct file_handle *handle = (void *)room;
     handle->handle_bytes = HANDLE_ROOM;
     if (name_to_handle_at(fd, "", handle, &mount, AT_EMPTY_PATH) != 0)
-        return;
-    who->seconds = 1;
+        return 0;
     for (unsigned at = 0; at < handle->handle_bytes; at++)
-        who->seconds = (who->seconds ^ handle->f_handle[at]) * 0x100000001b3u;
+        sum = (sum ^ handle->f_handle[at]) * 0x100000001b3u;
+    return sum;
 }
 
-/* The birth tells a directory from a later one with the same number. If it can't be asked, the identity is empty. */
+/*
+ * The birth tells a directory from a later one with the same number, but not from one of the same tick of the clock: the handle does.
+ * It is kept beside the seconds. If the directory can't be asked, the identity is empty.
+ */
 static void identify(int fd, struct inroot_birth *who)
 {
     struct stat about = {0};
     memset(who, 0, sizeof *who);
     who->inode = fstat(fd, &about) == 0 ? about.st_ino : 0;
     who->device = about.st_dev;
+    who->seconds = handle_of(fd);
 #ifdef STATX_BTIME
     struct statx more;
     if (statx(fd, "", AT_EMPTY_PATH, STATX_BTIME, &more) == 0 && more.stx_mask & STATX_BTIME) {
-        who->seconds = (uint64_t)more.stx_btime.tv_sec;
+        who->seconds ^= (uint64_t)more.stx_btime.tv_sec;
         who->nanoseconds = more.stx_btime.tv_nsec;
-        return;
     }
 #endif
-    identify_by_handle(fd, who);
 }
 
 /*

@@ -1,8 +1,8 @@
 /*
  * births: a directory that was let go while a tree is removed comes back by its device, its inode and its birth. Another one that
  * has the same number, since it was made after the first was removed, has another birth: it is left alone. Where there are no
- * births, it has another handle (name_to_handle_at(2)). To be linked with --wrap=statx, --wrap=openat and
- * --wrap=name_to_handle_at.
+ * births, or it was born in the same tick of the clock, it has another handle (name_to_handle_at(2)). To be linked with
+ * --wrap=statx, --wrap=openat and --wrap=name_to_handle_at.
  *
  * usage: births DIR. Exits 0 where that holds.
  */
@@ -19,10 +19,11 @@ enum { LEVELS = 90 };
 
 static int root;
 
-/* Whether directories are told as born later from here on: from when the call goes up for the first time, if it is wanted. */
+/* Whether directories are told as others from here on: from when the call goes up for the first time, if it is wanted. */
 static bool is_wanted, has_turned;
-/* Whether there are births; if not, whether there are handles, which differ. */
-static bool has_births = true, has_handles = true;
+/* By what they differ then: the birth; the handle, where there are no births; the handle alone, where the births are the same. */
+static enum { BIRTH, ONLY_HANDLE, HANDLE, WAYS } differs;
+static bool has_handles = true;
 
 int __real_statx(int dir, const char *name, int flags, unsigned mask, struct statx *about);
 int __wrap_statx(int dir, const char *name, int flags, unsigned mask, struct statx *about);
@@ -30,11 +31,11 @@ int __wrap_statx(int dir, const char *name, int flags, unsigned mask, struct sta
 int __wrap_statx(int dir, const char *name, int flags, unsigned mask, struct statx *about)
 {
     int result = __real_statx(dir, name, flags, mask, about);
-    if (result == 0 && mask & STATX_BTIME && !has_births)
+    if (result == 0 && mask & STATX_BTIME && differs == ONLY_HANDLE)
         about->stx_mask &= ~(unsigned)STATX_BTIME;
     else if (result == 0 && mask & STATX_BTIME) {
         about->stx_mask |= STATX_BTIME;
-        about->stx_btime.tv_sec = has_turned ? 2 : 1;
+        about->stx_btime.tv_sec = differs == BIRTH && has_turned ? 2 : 1;
         about->stx_btime.tv_nsec = 0;
     }
     return result;
@@ -54,7 +55,7 @@ int __wrap_name_to_handle_at(int dir, const char *name, struct file_handle *hand
     *mount = 1;
     handle->handle_bytes = 8;
     memset(handle->f_handle, 0, 8);
-    handle->f_handle[7] = !has_births && has_turned;
+    handle->f_handle[7] = differs != BIRTH && has_turned;
     return 0;
 }
 
@@ -86,19 +87,19 @@ int main(int count, char **words)
         return 2;
     root = sure(open(words[1], O_PATH | O_DIRECTORY | O_CLOEXEC), words[1]);
     dig();
-    for (int turn = 0; turn < 2; turn++) {
-        has_births = turn == 0;
+    for (differs = BIRTH; differs < WAYS; differs++) {
         is_wanted = true;
         ssize_t got = inroot_remove_all(root, "d", INROOT_NO_RETRY);
         expect(has_turned, "no directory was let go");
-        gives(got, -EAGAIN, "directories that were born later, births %d", has_births);
+        gives(got, -EAGAIN, "directories that are others, by way %d", differs);
         gives(faccessat(root, "d/f", F_OK, 0), 0, "the topmost directory's file, which is to be there still");
         is_wanted = has_turned = false;
         dig();
         got = inroot_remove_all(root, "d", INROOT_NO_RETRY);
-        gives(got, 2 * LEVELS, "the same directories, births %d", has_births);
+        gives(got, 2 * LEVELS, "the same directories, by way %d", differs);
         dig();
     }
+    differs = ONLY_HANDLE;
     has_handles = false;
     is_wanted = true;
     gives((long)inroot_remove_all(root, "d", INROOT_NO_RETRY), 2 * LEVELS, "directories that are known by their numbers alone");
