@@ -19,7 +19,8 @@ type WalkEntry struct {
 	Type  fs.FileMode // the bits of its kind, as they were read
 	Depth int         // 1 where the directory that the walk began with has it
 
-	root  string
+	root string
+	// That of its copies, too. It has no name any more where the function has returned.
 	entry *C.struct_inroot_walk_entry
 }
 
@@ -29,9 +30,9 @@ func (e *WalkEntry) IsDir() bool {
 }
 
 // Open opens the entry with O_PATH, by its name in the directory that has it; a link itself. EBADF where the function that
-// was given the entry has returned.
+// was given the entry has returned, also of a copy.
 func (e *WalkEntry) Open() (*os.File, error) {
-	if e.entry == nil {
+	if e.entry == nil || e.entry.name == nil {
 		return nil, &os.PathError{Op: "openat", Path: e.Path, Err: syscall.EBADF}
 	}
 	fd := C.inroot_open(e.entry.directory, e.entry.name, C.INROOT_NOFOLLOW)
@@ -88,9 +89,7 @@ func WalkInRoot(root Root, unsafePath string, levels int, what func(*WalkEntry, 
 			Path: C.GoString(told.path), Type: kindOf(told.kind), Depth: int(told.depth),
 			root: root.Name(), entry: &told,
 		}
-		err := what(&entry, wrongIn(&entry, found, told.error))
-		// Its name lies in the walk's own memory.
-		entry.entry = nil
+		err := given(what, &entry, wrongIn(&entry, found, told.error))
 		switch {
 		case err == fs.SkipDir:
 			C.inroot_walk_skip(walk)
@@ -98,6 +97,13 @@ func WalkInRoot(root Root, unsafePath string, levels int, what func(*WalkEntry, 
 			return err
 		}
 	}
+}
+
+// given calls what for the entry, which is of no use afterwards, also where what panics: its name lies in the walk's own memory.
+func given(what func(*WalkEntry, error) error, entry *WalkEntry, wrong error) error {
+	told := entry.entry
+	defer func() { told.name = nil }()
+	return what(entry, wrong)
 }
 
 // wrongIn gives the error of an entry, if there is one.

@@ -66,6 +66,52 @@ func TestWalkIsLeft(t *testing.T) {
 	}
 }
 
+// Of a copy of an entry neither the name nor the directory is opened, whatever has the directory's number since.
+func TestWalkEntriesAreLeft(t *testing.T) {
+	top, root := tree(t)
+	must(t, os.MkdirAll(filepath.Join(top, "box/p/s"), 0o755))
+	for _, name := range []string{"1234secret", "p/s/secret", "5678secret"} {
+		must(t, os.WriteFile(filepath.Join(top, "box", name), nil, 0o644))
+	}
+	var copies []WalkEntry
+	tried := 0
+	try := func() {
+		for i := range copies {
+			_, err := copies[i].Open()
+			fails(t, err, syscall.EBADF)
+			tried++
+		}
+	}
+	func() {
+		defer func() {
+			if recover() == nil {
+				t.Error("there was no panic")
+			}
+		}()
+		WalkInRoot(root, "/", 0, func(entry *WalkEntry, err error) error {
+			must(t, err)
+			if entry.Depth == 1 && len(copies) > 0 {
+				for i := 0; i < 4; i++ {
+					outside, err := os.Open(filepath.Join(top, "outside"))
+					must(t, err)
+					defer outside.Close()
+				}
+				try()
+			}
+			copies = append(copies, *entry)
+			if len(copies) == 9 {
+				panic("ends")
+			}
+			return nil
+		})
+	}()
+	before := tried
+	try()
+	if before == 0 || tried-before != 9 {
+		t.Errorf("%d entries were tried, and then %d", before, tried-before)
+	}
+}
+
 func TestWalkTellsWhatWasMoved(t *testing.T) {
 	top, root := tree(t)
 	must(t, os.Mkdir(filepath.Join(top, "box/a/b/c"), 0o755))
