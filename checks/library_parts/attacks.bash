@@ -236,6 +236,11 @@ for kind in dir file; do
         [ "$("$fs" "$box" stat "a/b/new/$kind" | head -n 1)" = "kind $kind" ]
     verdict $? "mount-target of a $kind: $told"
 done
+mkdir "$box/"$'odd\e[2J\x9b' && ln -s $'odd\e[2J\x9b' "$box/plain"
+told=$("$work/mount-target" "$box" plain/new dir)
+[[ $told == "$box/odd?[2J?/new /proc/self/fd/"[0-9]* ]]
+verdict $? "mount-target below a directory with an odd name: $(cat -v <<<"$told")"
+rm -r "$box/"$'odd\e[2J\x9b' "$box/plain"
 ! "$work/mount-target" "$box" abs/new dir 2>/dev/null && ! "$work/mount-target" "$box" fifo file 2>/dev/null
 verdict $? 'mount-target through a link that leads out, and of a FIFO'
 if unshare -rm true 2>/dev/null; then

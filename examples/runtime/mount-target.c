@@ -57,7 +57,7 @@ static int make_file(int root, const char *path)
     return target;
 }
 
-/* Prints where the target stands, and by which path this process has it. */
+/* Prints where the target stands, without letting others' bytes at a terminal, and by which path this process has it. */
 static int tell_target(int target)
 {
     char link[32], place[PATH_MAX];
@@ -67,7 +67,9 @@ static int tell_target(int target)
         perror("mount-target: /proc");
         return 4;
     }
-    printf("%.*s %s\n", (int)length, place, link);
+    for (ssize_t at = 0; at < length; at++)
+        putchar(place[at] < ' ' || place[at] > '~' ? '?' : place[at]);
+    printf(" %s\n", link);
     return fflush(stdout) == 0 ? 0 : 4;
 }
 
