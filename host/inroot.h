@@ -281,7 +281,8 @@ void inroot_root_close(struct inroot_root *root);
  * Each call asks both witnesses anew for DIR's path below the root. Then it walks from the root by these names, whose
  * last one is DIR itself, and by its own path. So it begins at DIR, wherever somebody moved that below the root. If DIR
  * was removed the call gives ENOENT, and if DIR is outside EAGAIN at each try. The names and the path together have at
- * most 4,095 bytes: ENAMETOOLONG beyond. These errors come behind those of ROOT. Such a call takes memory.
+ * most 4,095 bytes: ENAMETOOLONG beyond. For inroot_open_parent() PATH's last name doesn't count. These errors come
+ * behind those of ROOT. Such a call takes memory.
  *
  * Gives 0, and the number, which is below -4,095; -EBADF or -ENOTDIR where ROOT or DIR isn't a descriptor of a
  * directory, ROOT's first; -EMFILE where a program has INROOT_ATS numbers. Then *AT is -1. inroot_at_end() gives a

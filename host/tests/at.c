@@ -149,6 +149,30 @@ static void opens_from(int root_or_jail)
     close(dir);
 }
 
+/* The directory's names and the path have at most 4,095 bytes together; of the path of a parent the last name doesn't count. */
+static void long_paths_from(int root_or_jail)
+{
+    char path[PATH_MAX + 1], last[256];
+    const size_t most = PATH_MAX - 1 - strlen("a/b/");
+    int at, dir = sure(inroot_open(root_or_jail, "a/b", 0), "a/b");
+    sure(inroot_at_begin(root_or_jail, dir, &at), "inroot_at_begin");
+    for (size_t more = 0; more <= 2; more++) {
+        memset(path, '/', sizeof path);
+        path[0] = '.';
+        strcpy(path + most + more - 1, "f");
+        if (more == 0)
+            finds(inroot_open(at, path, 0), "a/b/f", "as long a path as may be");
+        else
+            fails(inroot_open(at, path, 0), ENAMETOOLONG, "a longer path");
+        if (more <= 1)
+            finds(inroot_open_parent(at, path, 0, last), "a/b", "the parent of as long a path as may be");
+        else
+            fails(inroot_open_parent(at, path, 0, last), ENAMETOOLONG, "the parent of a longer path");
+    }
+    inroot_at_end(at);
+    close(dir);
+}
+
 /* What is given has an open file description of its own, by O_PATH, also where it is the directory itself. */
 static void is_apart(int fd, const char *what)
 {
@@ -428,6 +452,7 @@ static void each(void)
     int before = open_descriptors();
     parents(at);
     opens_from(at);
+    long_paths_from(at);
     shares_nothing(at);
     changes_from(at);
     moved_directories(at);
