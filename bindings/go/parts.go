@@ -31,14 +31,22 @@ type At struct {
 // then. Of an At its root counts.
 func BeginAt(root Root, dir *os.File) (*At, error) {
 	at := &At{root: root, dir: dir}
+	if above, is := root.(*At); is {
+		at.root = above.root
+	}
 	if failed := C.inroot_at_begin(C.int(root.Fd()), C.int(dir.Fd()), &at.number); failed < 0 {
 		return nil, &os.PathError{Op: "beginat", Path: dir.Name(), Err: syscall.Errno(-failed)}
 	}
 	return at, nil
 }
 
-// Fd gives the library's number for it, which is no descriptor.
+// Fd gives the library's number for it, which is no descriptor. If the root or the directory was closed, it has none:
+// functions give EBADF, and never go by another file that has that one's descriptor by now.
 func (at *At) Fd() uintptr {
+	const none = ^uintptr(0)
+	if at.root.Fd() == none || at.dir.Fd() == none {
+		return none
+	}
 	return uintptr(at.number)
 }
 

@@ -2,6 +2,7 @@ package inroot
 
 import (
 	"errors"
+	"io"
 	"os"
 	"path/filepath"
 	"reflect"
@@ -54,6 +55,38 @@ func TestAt(t *testing.T) {
 	defer plain.Close()
 	_, err = BeginAt(root, plain)
 	fails(t, err, syscall.ENOTDIR)
+}
+
+// What was closed too early isn't taken for another file that has its descriptor since.
+func TestAtOfWhatWasClosed(t *testing.T) {
+	top, root := tree(t)
+	for _, close := range []func(root Root, dir *os.File) error{
+		func(root Root, _ *os.File) error { return root.(io.Closer).Close() },
+		func(_ Root, dir *os.File) error { return dir.Close() },
+	} {
+		file, err := openRoot(filepath.Join(top, "box"))
+		must(t, err)
+		kept, err := OpenRoot(filepath.Join(top, "box"))
+		must(t, err)
+		for _, above := range []Root{file, kept} {
+			dir, err := OpenatInRoot(root, "in")
+			must(t, err)
+			at, err := BeginAt(above, dir)
+			must(t, err)
+			must(t, close(above, dir))
+			outside, err := openRoot(filepath.Join(top, "outside"))
+			must(t, err)
+			for _, path := range []string{"/secret", "secret", "f"} {
+				_, err = OpenatInRoot(at, path)
+				fails(t, err, syscall.EBADF)
+			}
+			must(t, outside.Close())
+			must(t, at.Close())
+			dir.Close()
+		}
+		file.Close()
+		must(t, kept.Close())
+	}
 }
 
 // A root that the library keeps is one for BeginAt, too, and its flags count: what they open is called so.
