@@ -25,10 +25,18 @@ static _Atomic uint64_t kept_device, kept_inode, kept_mount, kept_system;
 static _Thread_local struct inroot_own of_thread = {.fd = INROOT_NONE};
 
 /* Whether the program has handed one in. */
-static atomic_bool is_handed_in;
+static atomic_bool was_handed_in;
 
-/* Stands in place of a descriptor while another thread writes its device and inode. */
-enum { CLAIMED = -5 };
+/*
+ * Stand in place of a descriptor while another thread writes its device and inode. In a child that is made just then they stay: so
+ * the second says that the program was handing one in.
+ */
+enum { CLAIMED = -5, HANDED_IN = -6 };
+
+static bool is_handed_in(void)
+{
+    return atomic_load(&kept) == HANDED_IN || atomic_load(&was_handed_in);
+}
 
 /* Its destructor closes what a thread keeps, as the thread ends. */
 static pthread_once_t key_once = PTHREAD_ONCE_INIT;
@@ -127,7 +135,7 @@ static int own_top(int fd, uint64_t system, struct inroot_own *own)
 static int open_proc(struct inroot_own *own)
 {
     uint64_t system;
-    if (atomic_load(&is_handed_in))
+    if (is_handed_in())
         return -ENOSYS;
     int fd = open("/proc", O_PATH | O_DIRECTORY | O_NOFOLLOW | O_CLOEXEC);
     if (fd < 0)
@@ -138,13 +146,14 @@ static int open_proc(struct inroot_own *own)
     return -ENOSYS;
 }
 
-/* Makes it the program's, if the program has none yet. */
-static bool keep(const struct inroot_own *own)
+/* Makes it the program's, as CLAIMED or as HANDED_IN, if the program has none yet. */
+static bool keep(const struct inroot_own *own, int as)
 {
     int none = INROOT_NONE;
     uint64_t unused;
-    if (!atomic_compare_exchange_strong(&kept, &none, CLAIMED))
+    if (!atomic_compare_exchange_strong(&kept, &none, as))
         return false;
+    atomic_store(&was_handed_in, as == HANDED_IN);
     kept_device = own->device;
     kept_inode = own->inode;
     kept_mount = inroot_mount_number(own->fd, &unused);
@@ -191,7 +200,7 @@ int inroot_proc_open(bool surely, bool *is_callers)
     int fd = at_hand(surely);
     *is_callers = false;
     /* The kernel may have failed to say just then, and there is no other one. */
-    if (fd < 0 && atomic_load(&is_handed_in))
+    if (fd < 0 && is_handed_in())
         fd = at_hand(true);
     if (fd >= 0)
         return fd;
@@ -199,7 +208,7 @@ int inroot_proc_open(bool surely, bool *is_callers)
     int failed = inroot_is_jailed() ? -ENOSYS : open_proc(&own);
     if (failed)
         return failed;
-    *is_callers = !keep(&own);
+    *is_callers = !keep(&own, CLAIMED);
     return own.fd;
 }
 
@@ -271,7 +280,7 @@ int inroot_proc_stay(void)
     int failed = fd >= 0 ? 0 : open_proc(&own);
     if (failed || fd >= 0)
         return failed ? failed : fd;
-    if (keep(&own))
+    if (keep(&own, CLAIMED))
         return own.fd;
     if (!inroot_proc_ends()) {
         close(own.fd);
@@ -303,10 +312,8 @@ static int take_over(int proc)
     int failed = fd < 0 ? -errno : own_top(fd, system, &own);
     if (failed)
         return failed;
-    if (keep(&own)) {
-        atomic_store(&is_handed_in, true);
+    if (keep(&own, HANDED_IN))
         return 0;
-    }
     close(own.fd);
     return -EBUSY;
 }

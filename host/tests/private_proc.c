@@ -2,12 +2,14 @@
  * private_proc: in a mount namespace whose /proc is covered, calls by inroot_use_private_proc() go on as they should: /proc as a
  * whole, and the directory of this thread's descriptors, by one with links that lead elsewhere. Where the program has closed it,
  * no call goes by another one. Nor does any by a proc(5) that the program has opened by the number of the one that it closed, be it
- * another mount of the same one.
+ * another mount of the same one; nor in a child that another thread made in the midst of inroot_use_private_proc().
  *
- * usage: private_proc DIR. Exits 0 where that holds. 78: no right to mount here, so that nothing was tried.
+ * usage: private_proc DIR. Exits 0 where that holds. 78: no right to mount here, so that nothing was tried. To be linked with
+ * --wrap=syscall.
  */
 #define _GNU_SOURCE
 #include "filter.h"
+#include "wraps.h"
 
 #include <sched.h>
 #include <string.h>
@@ -18,6 +20,21 @@
 
 static char where[4096];
 static int box;
+
+/* What is done before the next statx(2) of the library. */
+static void (*act)(void);
+
+static long my_syscall(long number, const long *with)
+{
+    void (*now)(void) = act;
+    if (now != NULL && number == SYS_statx) {
+        act = NULL;
+        now();
+    }
+    return REAL_SYSCALL(number, with);
+}
+
+INSTEAD_OF_SYSCALL(my_syscall)
 
 static void apart_from_others(void)
 {
@@ -110,6 +127,32 @@ static void closed(void)
     gives(inroot_root_open(where, 0, &kept), -ENOSYS, "a root");
     gives(inroot_jail(box), -ENOSYS, "a jail");
     gives(inroot_use_private_proc(), -EBUSY, "another private one");
+}
+
+/* The child knows that a /proc was handed in, though not by which number: it doesn't go by the one that is covered. */
+static void go_on_in_child(void)
+{
+    int status;
+    pid_t child = sure(fork(), "fork");
+    if (child == 0) {
+        int file = sure(openat(box, "a/f", O_PATH | O_CLOEXEC), "a/f");
+        cover_with_lies();
+        gives(inroot_reopen(file, O_RDONLY), -ENOSYS, "a file once more in a child that was made meanwhile");
+        reads("in a child that was made meanwhile", -ENOSYS);
+        fflush(stdout);
+        _exit(wrong != 0);
+    }
+    sure(waitpid(child, &status, 0), "waitpid");
+    ended_well(status, "a child that was made meanwhile");
+}
+
+static void forked_meanwhile(void)
+{
+    apart_from_others();
+    act = go_on_in_child;
+    use_private();
+    expect(act == NULL, "no child was made meanwhile");
+    reads("where a child was made meanwhile", 0);
 }
 
 /* A copy of /proc is of the same file system, and has what is at /proc not covered. Before Linux 6.13 attributes go by a path. */
@@ -294,6 +337,8 @@ int main(int count, char **words)
         skipped = apart(in_part);
     if (skipped == 0)
         skipped = apart(closed);
+    if (skipped == 0)
+        skipped = apart(forked_meanwhile);
     if (skipped == 0)
         skipped = apart(attribute);
     if (skipped == 0)
