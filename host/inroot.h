@@ -255,7 +255,7 @@ void inroot_jail_done(void);
  * If the program breaks a promise, the second witness still holds: the kernel itself has seen below the root whatever a
  * call opens. But the path's names may never have led there all at one moment; and a call may begin again for nothing,
  * and give EAGAIN. A child of fork(2) needs no promise: its calls go on as without the first two flags. They also go on
- * so if the kernel has no MADV_WIPEONFORK (madvise(2)) or no openat2(2), and on roots beyond some 256 such roots at a
+ * so if the kernel has no MADV_WIPEONFORK (madvise(2)) or no openat2(2), and on roots beyond some 256 roots at a
  * time. What is kept of a root goes by its descriptor's number. So a thread with a table of descriptors of its own gives
  * no call another directory by that number while the root is open. If a child of fork(2) has closed the descriptor, and
  * opens a root that gets its number, the new root counts alone, and closing the first leaves it open.

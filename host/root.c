@@ -31,7 +31,10 @@ struct inroot_root {
 
 /* ---- the roots of which something is kept, by their descriptors */
 
-/* The table has so many roots; of any others nothing is kept. A root is looked for in so many places, from its number on. */
+/*
+ * The table has so many roots, also such of which nothing is kept; of any others nothing is. A root is looked for in so many places,
+ * from its number on.
+ */
 enum { KEPT = 256, PLACES = 8 };
 
 /*
@@ -182,7 +185,7 @@ static int keep(struct inroot_root *root, int flags, int proc)
     char written[INROOT_PROC_NAME];
     root->kept.flags = flags;
     int failed = make_mark(root);
-    if (failed || root->mark == NULL)
+    if (failed || root->mark == NULL || flags == 0)
         return failed;
     if (flags & INROOT_ROOT_STAYS)
         root->kept.length = path_of(proc, inroot_proc_name(root->fd, written), root->kept.path);
@@ -244,7 +247,7 @@ static int open_root(const char *directory, int flags, struct inroot_root *root)
         return root->fd;
     replace(root->fd);
     int unknown = identify(root), proc = find_proc(&is_own);
-    int failed = proc < 0 ? proc : flags == 0 ? 0 : unknown ? unknown : keep(root, flags, proc);
+    int failed = proc < 0 ? proc : flags != 0 && unknown ? unknown : keep(root, flags, proc);
     if (proc >= 0 && is_own)
         close(proc);
     if (failed) {
@@ -252,8 +255,7 @@ static int open_root(const char *directory, int flags, struct inroot_root *root)
         close(root->fd);
         return failed;
     }
-    if (flags != 0)
-        enter(root);
+    enter(root);
     return 0;
 }
 

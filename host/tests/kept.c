@@ -352,7 +352,17 @@ static void on_root_below(struct inroot_root *kept)
     close(dir);
     forked = root;
     apart(in_child_by_another);
-    by_its_own(kept);
+}
+
+/* Its parent's root is of any kind. */
+static void in_children(void)
+{
+    for (int kind = 0; kind < KINDS; kind++) {
+        struct inroot_root *kept = opened(kinds[kind]);
+        forked = inroot_root_fd(kept);
+        by_its_own(kept);
+        inroot_root_close(kept);
+    }
 }
 
 /* Which calls have it. The others refuse it, and a root that has it leaves them as they are. */
@@ -487,6 +497,7 @@ int main(int count, char **words)
     apart(without_table);
     many();
     calls_below();
+    in_children();
     wrong_hints();
     directory_in_between();
     printf("kept: %d not as they are to be\n", wrong);
