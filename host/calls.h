@@ -722,22 +722,27 @@ void inroot_looks_next(struct inroot_looks *looks, const struct inroot_coming_na
 
 /*
  * The object is looked at: statx(2). The descriptor is copied. The names are found out at which the object stands, as
- * above. It is found out whether they LEAD to it, as below. It is asked whether the directory was removed. The copy is
- * closed. If it ENDS, the object stands at the names that were found. If it FAILS, there is an error.
+ * above. All of them are looked up at once below the root, through no link: openat2(2) with RESOLVE_BENEATH. It is found out
+ * whether they LEAD to the object, as below. It is asked whether the directory was removed. The copy is closed. If it ENDS, the
+ * object stands at the names that were found. If it FAILS, there is an error.
  */
 enum inroot_asking_next {
-    INROOT_ASKING_LOOK = 1, INROOT_ASKING_COPY, INROOT_ASKING_FIND, INROOT_ASKING_LEAD, INROOT_ASKING_DEAD,
-    INROOT_ASKING_CLOSE, INROOT_ASKING_ENDS, INROOT_ASKING_FAILS,
+    INROOT_ASKING_LOOK = 1, INROOT_ASKING_COPY, INROOT_ASKING_FIND, INROOT_ASKING_LOOK_UP, INROOT_ASKING_LEAD,
+    INROOT_ASKING_DEAD, INROOT_ASKING_CLOSE, INROOT_ASKING_ENDS, INROOT_ASKING_FAILS,
 };
 
-/* The object is known to be a directory; and the copy is kept where the place is told. */
+/*
+ * The object is known to be a directory; the copy is kept where the place is told; the root is the thread's own; and the program has
+ * handed the descriptor in, where else the call itself has found the object below the root.
+ */
 struct inroot_asking_facts {
-    bool directory, keeps;
+    bool directory, keeps, jailed, handed;
 };
 
 /*
  * What a demand gave: 0, or an error. How many names has what was looked at. How long the names are that were found, or
- * 0. YES: what was looked at is a directory; it was removed; or, a text alone has given the names.
+ * 0. YES: what was looked at is a directory; the thread has openat2(2), as the names were found; what was looked up is the object;
+ * or, the directory was removed.
  */
 struct inroot_asking_answer {
     uint64_t links;

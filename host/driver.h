@@ -486,11 +486,11 @@ struct inroot_result inroot_name_below(struct inroot_driver *d, const struct inr
 
 /* stands.c */
 /*
- * The names of a descriptor's object below the root: how long the text is, or -errno; -EAGAIN: it isn't below, or is
- * moved. The slot has another descriptor of it, if that is kept: a copy, which shares all with the caller's, where it IS_SHARED.
+ * The names of a descriptor's object below the root: how long the text is, or -errno; -EAGAIN: it isn't below, or is moved. If
+ * paths BEGIN there, it is a directory, and the slot has another descriptor of it: a copy, which shares all with the caller's, where
+ * it IS_SHARED.
  */
-ssize_t inroot_ask_place(struct inroot_driver *d, int root, int fd, const struct inroot_asking_facts *facts, char *text,
-                         struct inroot_slot *slot);
+ssize_t inroot_ask_place(struct inroot_driver *d, int root, int fd, bool begin, char *text, struct inroot_slot *slot);
 /*
  * The path of the request's object below the root: the length of the text in the room, or -errno; -EAGAIN: it isn't below.
  */

@@ -20,8 +20,7 @@ static const unsigned char *bytes(const char *text)
 static ssize_t find(struct inroot_driver *d, int root, char *text)
 {
     struct inroot_slot slot;
-    const struct inroot_asking_facts facts = {.directory = true, .keeps = true};
-    ssize_t length = inroot_ask_place(d, root, d->from.dir, &facts, text, &slot);
+    ssize_t length = inroot_ask_place(d, root, d->from.dir, true, text, &slot);
     if (length >= 0) {
         d->from.fd = slot.fd;
         d->from.is_copy = slot.is_shared;

@@ -1,6 +1,6 @@
 /*
- * stands.c: an object's path below the root, by both witnesses. Which question comes next, how often one is asked, and
- * which name is opened next, the proved library says (crates/ask_place).
+ * stands.c: an object's path below the root, by both witnesses. Which question comes next, how often one is asked, whether the
+ * names must lead to the object, and which one is opened next, the proved library says (crates/ask_place).
  */
 #define _GNU_SOURCE
 #include "driver.h"
@@ -43,22 +43,12 @@ static uint32_t copy(struct asking *a)
     return a->slot->fd < 0 ? (uint32_t)errno : 0;
 }
 
-/*
- * A text alone has given the place without openat2(2), and in a jail that of a directory. In a jail what is mounted over the
- * root, or was in a subvolume that was deleted, has such a text as well. So the names of a directory that the program hands
- * in are looked up, and not of one that the call itself has found below the root.
- */
-static bool is_by_text(const struct asking *a)
-{
-    return !inroot_has_openat2() || (a->root == INROOT_JAILED && a->slot->kind == INROOT_KIND_DIR && a->d->asked->from == 0);
-}
-
 static uint32_t find(struct asking *a)
 {
     struct inroot_result result = inroot_find_place(a->d, a->root, a->slot, a->text, &a->length);
     uint32_t error = result.what == INROOT_ANSWER_NAMES ? 0 : (uint32_t)a->d->unmade;
     a->answer.length = a->length;
-    a->answer.yes = is_by_text(a);
+    a->answer.yes = inroot_has_openat2();
     a->d->unmade = 0;
     return error;
 }
@@ -95,20 +85,14 @@ static bool takes_held(struct asking *a)
     return true;
 }
 
-static bool is_others_doing(int error)
-{
-    return error == ENOENT || error == ENOTDIR || error == ELOOP || error == EXDEV;
-}
-
-/* The kernel looks all names up below the root. */
-static uint32_t look_for(struct asking *a)
+static uint32_t look_up(struct asking *a)
 {
     a->held = inroot_look_up(a->d, a->root, a->text + 1, O_NOFOLLOW, RESOLVE_BENEATH);
     if (a->held < 0)
-        return is_others_doing(errno) ? EAGAIN : (uint32_t)errno;
-    const uint32_t error = takes_held(a) ? 0 : EAGAIN;
+        return (uint32_t)errno;
+    a->answer.yes = takes_held(a);
     hold(a, a->root);
-    return error;
+    return 0;
 }
 
 /* In a jail the names begin at the thread's own root: a path from there could lead out of it by a link of proc(5). */
@@ -136,22 +120,25 @@ static uint32_t turn(struct asking *a)
     case INROOT_ASKING_LOOK: return look(a);
     case INROOT_ASKING_COPY: return copy(a);
     case INROOT_ASKING_FIND: return find(a);
-    case INROOT_ASKING_LEAD: return inroot_has_openat2() ? look_for(a) : open_each(a);
+    case INROOT_ASKING_LOOK_UP: return look_up(a);
+    case INROOT_ASKING_LEAD: return open_each(a);
     case INROOT_ASKING_DEAD: a->answer.yes = inroot_is_dead(a->slot->fd); return 0;
     default: return close(a->slot->fd) < 0 ? (uint32_t)errno : 0;
     }
 }
 
-ssize_t inroot_ask_place(struct inroot_driver *d, int root, int fd, const struct inroot_asking_facts *facts, char *text,
-                         struct inroot_slot *slot)
+ssize_t inroot_ask_place(struct inroot_driver *d, int root, int fd, bool begin, char *text, struct inroot_slot *slot)
 {
     struct asking a = {.d = d, .root = root, .fd = fd, .text = text, .slot = slot};
+    const struct inroot_asking_facts facts = {
+        .directory = begin, .keeps = begin, .jailed = root == INROOT_JAILED, .handed = d->asked->from == 0,
+    };
     *slot = (struct inroot_slot){.kind = INROOT_KIND_DIR, .way = INROOT_BY_NAME, .above = -1};
-    inroot_asking_begin(facts, &a.course);
+    inroot_asking_begin(&facts, &a.course);
     while (a.course.next < INROOT_ASKING_ENDS) {
         a.answer = (struct inroot_asking_answer){.length = 0};
         a.answer.error = turn(&a);
-        inroot_asking_next(&a.course, facts, &a.answer);
+        inroot_asking_next(&a.course, &facts, &a.answer);
     }
     /* A look-up was made while the copy was open, so it has another number. */
     slot->is_shared = slot->fd == a.copied;
@@ -161,9 +148,8 @@ ssize_t inroot_ask_place(struct inroot_driver *d, int root, int fd, const struct
 ssize_t inroot_stands(struct inroot_driver *d, int root, char *room)
 {
     struct inroot_slot slot;
-    const struct inroot_asking_facts facts = {.directory = false};
     d->step = INROOT_STEP_NAME_BELOW;
-    return inroot_ask_place(d, root, d->asked->object, &facts, room, &slot);
+    return inroot_ask_place(d, root, d->asked->object, false, room, &slot);
 }
 
 ssize_t inroot_place(int root, int fd, char *path, size_t size)

@@ -19,7 +19,7 @@
 /* Behind the last byte each system call fails. */
 static uint32_t some_error(struct input *in)
 {
-    static const uint32_t errors[] = {0, 0, 0, 0, 0, 0, EINTR, ENOENT, ENOTDIR, EAGAIN, EACCES, 200};
+    static const uint32_t errors[] = {0, 0, 0, 0, 0, 0, EINTR, ENOENT, ENOTDIR, EAGAIN, EACCES, 200, ELOOP, EXDEV};
     return in->left == 0 ? EIO : errors[byte(in) % (sizeof errors / sizeof *errors)];
 }
 
@@ -124,10 +124,16 @@ static void give(struct input *in)
 struct placed {
     struct inroot_asking_facts facts;
     struct inroot_asking_answer answer;
-    bool is_open, directory, nameless, found, alone, led;
+    bool is_open, directory, nameless, found, has_openat2, alone, led;
     uint32_t error;                /* for which nothing more is asked, or 0 */
     unsigned exchanges;
 };
+
+/* Others have moved what the names led to (openat2(2)). */
+static bool is_raced(uint32_t error)
+{
+    return error == ENOENT || error == ENOTDIR || error == ELOOP || error == EXDEV;
+}
 
 /* Answers what comes next, if that can be asked. Gives the error that it is for, if nothing more is asked. */
 static uint32_t answer_asking(struct input *in, const struct inroot_asking *now, struct placed *p)
@@ -149,10 +155,16 @@ static uint32_t answer_asking(struct input *in, const struct inroot_asking *now,
     case INROOT_ASKING_FIND:
         p->answer.length = byte(in) % 4;
         p->found = error == 0 && p->answer.length > 0;
-        p->alone = p->answer.yes && !(p->directory && p->answer.length == 1);
+        p->has_openat2 = p->answer.yes;
+        p->alone = (!p->has_openat2 || (p->facts.jailed && p->facts.handed && p->directory)) &&
+                   !(p->directory && p->answer.length == 1);
         return p->found ? 0 : error == 0 || error == EAGAIN ? lost : error;
+    case INROOT_ASKING_LOOK_UP:
+        MUST(p->found && p->alone && p->has_openat2);
+        p->led = error == 0 && p->answer.yes;
+        return p->led ? 0 : error == 0 || error == EAGAIN || is_raced(error) ? lost : error;
     case INROOT_ASKING_LEAD:
-        MUST(p->found && p->alone);
+        MUST(p->found && p->alone && !p->has_openat2);
         p->led = error == 0;
         return error == EAGAIN ? lost : error;
     case INROOT_ASKING_DEAD:
@@ -170,7 +182,7 @@ static void place(struct input *in)
     struct placed p = {.answer.error = 0};
     struct inroot_asking now;
     unsigned what = byte(in);
-    p.facts = (struct inroot_asking_facts){.directory = what & 1, .keeps = what & 2};
+    p.facts = (struct inroot_asking_facts){.directory = what & 1, .keeps = what & 2, .jailed = what & 4, .handed = what & 8};
     p.directory = p.facts.directory;
     inroot_asking_begin(&p.facts, &now);
     while (now.next < INROOT_ASKING_ENDS) {

@@ -1,11 +1,13 @@
 -- What holds of every history.
 use Rattle.std.proofs.Common.{◌≡◌, ◌≢◌, ◌≤◌, ◌+◌, ℕ, List, [], ◌∷◌, length, Bool, true, false, not, ◌&&◌, ◌||◌, refl, ap, sym, subst, ◌∙◌, arith}
 use Rattle.std.specs.Prelude.{◌==◌, if◌then◌else◌}
+use Rattle.system_calls.specs.Errors.{EAGAIN}
 use Rattle.std.proofs.lemmas.Bool.{eqb-true, false≢true}
-use Rattle.ask_place.specs.History.{after_exchange, asks, is_directory_after, is_nameless_after, is_question, next_after, Exchange, IsHistory, Next}
-use Rattle.ask_place.specs.Promises.{error_of, is_alone_after, is_found_after, is_led_after, is_open_after, is_over, latest, needs_open, open_by, why_after, IsFound}
+use Rattle.ask_place.specs.History.{after_exchange, after_lead, asks, is_by_text, is_directory_after, is_nameless_after, is_question, leads, look_up_error, missing, next_after, told, Exchange, IsHistory, Next}
+use Rattle.ask_place.specs.Promises.{error_of, has_openat2_after, is_alone_after, is_found_after, is_led_after, is_led_by, is_open_after, is_over, latest, lead_error, missing_error, needs_open, open_by, why_after, IsFound}
+use Rattle.ask_place.specs.declared.asking.Answer.{Answer}
 use Rattle.ask_place.specs.declared.asking.Facts.{Facts}
-use Rattle.ask_place.specs.declared.asking.TheConstants.{LOOK, COPY, FIND, LEAD, DEAD, CLOSE, ENDS, FAILS}
+use Rattle.ask_place.specs.declared.asking.TheConstants.{LOOK, COPY, FIND, LOOK_UP, LEAD, DEAD, CLOSE, ENDS, FAILS}
 
 -- ---- what was asked for
 
@@ -13,29 +15,59 @@ pub data Asked (next : ℕ) : Type 0 where
   look_at_it : next ≡ LOOK → Asked next
   copy_it : next ≡ COPY → Asked next
   find_it : next ≡ FIND → Asked next
+  look_them_up : next ≡ LOOK_UP → Asked next
   lead_it : next ≡ LEAD → Asked next
   ask_dead : next ≡ DEAD → Asked next
   close_it : next ≡ CLOSE → Asked next
 
-asked_in : (looks copies finds leads deads closes : Bool) (next : ℕ) → (next == LOOK) ≡ looks → (next == COPY) ≡ copies → (next == FIND) ≡ finds → (next == LEAD) ≡ leads → (next == DEAD) ≡ deads → (next == CLOSE) ≡ closes
-    → (looks || (copies || (finds || (leads || (deads || (closes)))))) ≡ true → Asked next
-asked_in true copies finds leads deads closes next a b c d g i h = look_at_it (eqb-true next LOOK a)
-asked_in false true finds leads deads closes next a b c d g i h = copy_it (eqb-true next COPY b)
-asked_in false false true leads deads closes next a b c d g i h = find_it (eqb-true next FIND c)
-asked_in false false false true deads closes next a b c d g i h = lead_it (eqb-true next LEAD d)
-asked_in false false false false true closes next a b c d g i h = ask_dead (eqb-true next DEAD g)
-asked_in false false false false false true next a b c d g i h = close_it (eqb-true next CLOSE i)
-asked_in false false false false false false next a b c d g i h = absurd (false≢true h)
+asked_in : (looks copies finds ups leads deads closes : Bool) (next : ℕ) → (next == LOOK) ≡ looks
+    → (next == COPY) ≡ copies → (next == FIND) ≡ finds → (next == LOOK_UP) ≡ ups → (next == LEAD) ≡ leads
+    → (next == DEAD) ≡ deads → (next == CLOSE) ≡ closes
+    → (looks || (copies || (finds || (ups || (leads || (deads || closes)))))) ≡ true → Asked next
+asked_in true copies finds ups leads deads closes next a b c d g i j h = look_at_it (eqb-true next LOOK a)
+asked_in false true finds ups leads deads closes next a b c d g i j h = copy_it (eqb-true next COPY b)
+asked_in false false true ups leads deads closes next a b c d g i j h = find_it (eqb-true next FIND c)
+asked_in false false false true leads deads closes next a b c d g i j h = look_them_up (eqb-true next LOOK_UP d)
+asked_in false false false false true deads closes next a b c d g i j h = lead_it (eqb-true next LEAD g)
+asked_in false false false false false true closes next a b c d g i j h = ask_dead (eqb-true next DEAD i)
+asked_in false false false false false false true next a b c d g i j h = close_it (eqb-true next CLOSE j)
+asked_in false false false false false false false next a b c d g i j h = absurd (false≢true h)
 
 pub asked_is : (next : ℕ) → is_question next ≡ true → Asked next
 asked_is next h =
-    asked_in (next == LOOK) (next == COPY) (next == FIND) (next == LEAD) (next == DEAD) (next == CLOSE) next
-    refl refl refl refl refl refl h
+    asked_in (next == LOOK) (next == COPY) (next == FIND) (next == LOOK_UP) (next == LEAD) (next == DEAD)
+    (next == CLOSE) next refl refl refl refl refl refl refl h
 
 -- what comes next, by its parts
 same_next : (f : Facts) (e : Exchange) (older : List Exchange) → IsHistory f (e ∷ older)
     → next_after f older ≡ asks e.asked (next_after f older).error
 same_next f e older h = ap (λ n. asks n (next_after f older).error) (sym h.0.due)
+
+-- ---- turns of which there is more to say
+
+abbrev gave_at : ℕ → Answer → Exchange
+gave_at asked gave = record { asked = asked; gave = gave }
+
+-- what comes after the names: they can't be found out; there are none; they must lead to the object; or they are told
+abbrev find_to : Facts → ℕ → Bool → Bool → Bool → Bool → Bool → Bool → Next
+find_to f error refused absent leading openat2 directory nameless =
+    if refused then asks CLOSE error
+    else (if absent then missing directory nameless else (if leading then leads openat2 else told f))
+
+abbrev is_refused : ℕ → Bool
+is_refused error = not (error == 0) && not (error == EAGAIN)
+
+abbrev is_absent : Answer → Bool
+is_absent gave = not (gave.error == 0) || (gave.length == 0)
+
+abbrev is_leading : Facts → Answer → Bool → Bool
+is_leading f gave directory = is_by_text f gave.yes directory && not (directory && (gave.length == 1))
+
+refused_is : (error : ℕ) → is_refused error ≡ true → (error == 0) ≡ false
+refused_is error h = grind (arith, h)
+
+found_all : (error : ℕ) (same : Bool) → look_up_error error same ≡ 0 → ((error == 0) && same) ≡ true
+found_all error same h = grind (arith, h)
 
 -- ---- what is open
 
@@ -43,15 +75,38 @@ same_next f e older h = ap (λ n. asks n (next_after f older).error) (sym h.0.du
 abbrev is_kept_late : Facts → Next → Bool
 is_kept_late f n = not (n.next == CLOSE) || (not f.keeps || not (n.error == 0))
 
+abbrev Opens : Facts → Next → Bool → Type 0
+Opens f n is_open = (is_open ≡ needs_open f n) × (is_kept_late f n ≡ true)
+
+open_find : (f : Facts) (error : ℕ) (refused absent leading openat2 directory nameless : Bool)
+    → (refused ≡ true → (error == 0) ≡ false)
+    → Opens f (find_to f error refused absent leading openat2 directory nameless) true
+open_find f error true absent leading openat2 directory nameless h = grind (arith, h)
+open_find f error false true leading openat2 directory nameless h = grind arith
+open_find f error false false true openat2 directory nameless h = grind arith
+open_find f error false false false openat2 directory nameless h = grind arith
+
+open_lead : (f : Facts) (error : ℕ) (directory nameless : Bool) → Opens f (after_lead f error directory nameless) true
+open_lead f error directory nameless = grind arith
+
 open_step : (f : Facts) (e : Exchange) (directory nameless : Bool) (why : ℕ) (was : Bool)
     → was ≡ needs_open f (asks e.asked why) → is_kept_late f (asks e.asked why) ≡ true → is_question e.asked ≡ true
-    → (open_by e was ≡ needs_open f (after_exchange f e directory nameless why))
-    × (is_kept_late f (after_exchange f e directory nameless why) ≡ true)
+    → Opens f (after_exchange f e directory nameless why) (open_by e was)
 open_step f e directory nameless why was is late question =
+    let opens_at : ℕ → Type 0 = λ k. Opens f (after_exchange f (gave_at k e.gave) directory nameless why)
+    (open_by (gave_at k e.gave) was) in
     elim (asked_is e.asked question) [
       | look_at_it at ↦ grind (arith, at)
       | copy_it at ↦ grind (arith, at)
-      | find_it at ↦ grind (arith, at)
+      | find_it at ↦ let was_open : was ≡ true = grind (arith, at, is) in
+          subst opens_at (sym at)
+          (subst (Opens f (after_exchange f (gave_at FIND e.gave) directory nameless why)) (sym was_open)
+          (open_find f e.gave.error (is_refused e.gave.error) (is_absent e.gave) (is_leading f e.gave directory)
+          e.gave.yes directory nameless (refused_is e.gave.error)))
+      | look_them_up at ↦ let was_open : was ≡ true = grind (arith, at, is) in
+          subst opens_at (sym at)
+          (subst (Opens f (after_exchange f (gave_at LOOK_UP e.gave) directory nameless why)) (sym was_open)
+          (open_lead f (look_up_error e.gave.error e.gave.yes) directory nameless))
       | lead_it at ↦ grind (arith, at)
       | ask_dead at ↦ grind (arith, at)
       | close_it at ↦ grind (arith, at)
@@ -73,6 +128,9 @@ open_is f history h = (both_open f history h).0
 -- ---- what was found
 
 -- names were found, and if they are still to be looked up, nothing is told
+abbrev is_led_next : ℕ → Bool
+is_led_next next = (next == LOOK_UP) || (next == LEAD)
+
 abbrev is_told : Next → Bool
 is_told n = (n.next == ENDS) || ((n.next == CLOSE) && (n.error == 0))
 
@@ -80,46 +138,68 @@ abbrev found_by : Exchange → Bool → Bool
 found_by e was = if e.asked == FIND then (e.gave.error == 0) && not (e.gave.length == 0) else was
 
 found_step : (f : Facts) (e : Exchange) (directory nameless : Bool) (why : ℕ) (was : Bool)
-    → ((is_told (asks e.asked why) || (e.asked == LEAD)) ≡ true → was ≡ true) → is_question e.asked ≡ true
+    → ((is_told (asks e.asked why) || is_led_next e.asked) ≡ true → was ≡ true) → is_question e.asked ≡ true
     → (is_told (after_exchange f e directory nameless why)
-    || ((after_exchange f e directory nameless why).next == LEAD)) ≡ true
+    || is_led_next (after_exchange f e directory nameless why).next) ≡ true
     → found_by e was ≡ true
 found_step f e directory nameless why was before question now =
     elim (asked_is e.asked question) [
       | look_at_it at ↦ grind (arith, at, before)
       | copy_it at ↦ grind (arith, at, before)
       | find_it at ↦ grind (arith, at, before)
+      | look_them_up at ↦ grind (arith, at, before)
       | lead_it at ↦ grind (arith, at, before)
       | ask_dead at ↦ grind (arith, at, before)
       | close_it at ↦ grind (arith, at, before)
     ]
 
 found_is : (f : Facts) (history : List Exchange) → IsHistory f history
-    → (is_told (next_after f history) || ((next_after f history).next == LEAD)) ≡ true → is_found_after history ≡ true
+    → (is_told (next_after f history) || is_led_next (next_after f history).next) ≡ true → is_found_after history ≡ true
 found_is f [] h now = absurd (grind (arith, now))
 found_is f (e ∷ older) h now =
     let same = same_next f e older h in
     found_step f e (is_directory_after f older) (is_nameless_after older) (next_after f older).error
     (is_found_after older)
-    (λ p. found_is f older h.1 (subst (λ n. (is_told n || (n.next == LEAD)) ≡ true) (sym same) p)) h.0.question now
+    (λ p. found_is f older h.1 (subst (λ n. (is_told n || is_led_next n.next) ≡ true) (sym same) p)) h.0.question now
 
-abbrev alone_by : Exchange → Bool → Bool → Bool
-alone_by e directory was =
-    if e.asked == FIND then e.gave.yes && not (directory && (e.gave.length == 1)) else was
+abbrev alone_by : Facts → Exchange → Bool → Bool → Bool
+alone_by f e directory was =
+    if e.asked == FIND then is_by_text f e.gave.yes directory && not (directory && (e.gave.length == 1)) else was
 
 abbrev led_by : Exchange → Bool → Bool
-led_by e was =
-    if e.asked == FIND then false else (if e.asked == LEAD then e.gave.error == 0 else was)
+led_by e was = if e.asked == FIND then false else (if is_led_next e.asked then is_led_by e else was)
+
+led_find : (f : Facts) (error : ℕ) (refused absent leading openat2 directory nameless : Bool)
+    → (refused ≡ true → (error == 0) ≡ false)
+    → is_told (find_to f error refused absent leading openat2 directory nameless) ≡ true → leading ≡ true
+    → false ≡ true
+led_find f error true absent leading openat2 directory nameless h now is = grind (arith, h, now)
+led_find f error false true leading openat2 directory nameless h now is = grind (arith, now)
+led_find f error false false true openat2 directory nameless h now is = grind (arith, now)
+led_find f error false false false openat2 directory nameless h now is = is
+
+told_lead : (f : Facts) (error : ℕ) (directory nameless : Bool)
+    → is_told (after_lead f error directory nameless) ≡ true → error ≡ 0
+told_lead f error directory nameless now = grind (arith, now)
 
 led_step : (f : Facts) (e : Exchange) (directory nameless : Bool) (why : ℕ) (alone led : Bool)
     → (is_told (asks e.asked why) ≡ true → alone ≡ true → led ≡ true) → is_question e.asked ≡ true
-    → is_told (after_exchange f e directory nameless why) ≡ true → alone_by e directory alone ≡ true
+    → is_told (after_exchange f e directory nameless why) ≡ true → alone_by f e directory alone ≡ true
     → led_by e led ≡ true
 led_step f e directory nameless why alone led before question now by_text =
+    let is_told_at : ℕ → Type 0 = λ k. is_told (after_exchange f (gave_at k e.gave) directory nameless why) ≡ true in
+    let is_alone_at : ℕ → Type 0 = λ k. alone_by f (gave_at k e.gave) directory alone ≡ true in
+    let is_led_at : ℕ → Type 0 = λ k. led_by (gave_at k e.gave) led ≡ true in
     elim (asked_is e.asked question) [
       | look_at_it at ↦ grind (arith, at, before)
       | copy_it at ↦ grind (arith, at, before)
-      | find_it at ↦ grind (arith, at, before)
+      | find_it at ↦ subst is_led_at (sym at)
+          (led_find f e.gave.error (is_refused e.gave.error) (is_absent e.gave) (is_leading f e.gave directory)
+          e.gave.yes directory nameless (refused_is e.gave.error) (subst is_told_at at now)
+          (subst is_alone_at at by_text))
+      | look_them_up at ↦ subst is_led_at (sym at)
+          (found_all e.gave.error e.gave.yes
+          (told_lead f (look_up_error e.gave.error e.gave.yes) directory nameless (subst is_told_at at now)))
       | lead_it at ↦ grind (arith, at, before)
       | ask_dead at ↦ grind (arith, at, before)
       | close_it at ↦ grind (arith, at, before)
@@ -141,6 +221,59 @@ found f history h ends =
       led = λ alone. led_is f history h (grind (arith, ends)) alone;
     }
 
+-- ---- by which way
+
+way_find : (f : Facts) (error : ℕ) (refused absent leading openat2 directory nameless : Bool)
+    → is_led_next (find_to f error refused absent leading openat2 directory nameless).next ≡ true
+    → openat2 ≡ ((find_to f error refused absent leading openat2 directory nameless).next == LOOK_UP)
+way_find f error true absent leading openat2 directory nameless now = grind (arith, now)
+way_find f error false true leading openat2 directory nameless now = grind (arith, now)
+way_find f error false false true openat2 directory nameless now = grind (arith, now)
+way_find f error false false false openat2 directory nameless now = grind (arith, now)
+
+led_ends : (f : Facts) (error : ℕ) (directory nameless : Bool)
+    → is_led_next (after_lead f error directory nameless).next ≡ true → false ≡ true
+led_ends f error directory nameless now = grind (arith, now)
+
+abbrev openat2_by : Exchange → Bool → Bool
+openat2_by e had = if e.asked == FIND then e.gave.yes else had
+
+-- it is asked for right behind the names
+way_step : (f : Facts) (e : Exchange) (directory nameless : Bool) (why : ℕ) (had : Bool) → is_question e.asked ≡ true
+    → is_led_next (after_exchange f e directory nameless why).next ≡ true
+    → openat2_by e had ≡ ((after_exchange f e directory nameless why).next == LOOK_UP)
+way_step f e directory nameless why had question now =
+    let next_at : ℕ → Next = λ k. after_exchange f (gave_at k e.gave) directory nameless why in
+    let is_led_at : ℕ → Type 0 = λ k. is_led_next (next_at k).next ≡ true in
+    let is_way_at : ℕ → Type 0 = λ k. openat2_by (gave_at k e.gave) had ≡ ((next_at k).next == LOOK_UP) in
+    elim (asked_is e.asked question) [
+      | look_at_it at ↦ grind (arith, at, now)
+      | copy_it at ↦ grind (arith, at, now)
+      | find_it at ↦ subst is_way_at (sym at)
+          (way_find f e.gave.error (is_refused e.gave.error) (is_absent e.gave) (is_leading f e.gave directory)
+          e.gave.yes directory nameless (subst is_led_at at now))
+      | look_them_up at ↦ absurd (false≢true
+          (led_ends f (look_up_error e.gave.error e.gave.yes) directory nameless (subst is_led_at at now)))
+      | lead_it at ↦ grind (arith, at, now)
+      | ask_dead at ↦ grind (arith, at, now)
+      | close_it at ↦ grind (arith, at, now)
+    ]
+
+way : (f : Facts) (history : List Exchange) → IsHistory f history → is_led_next (next_after f history).next ≡ true
+    → has_openat2_after history ≡ ((next_after f history).next == LOOK_UP)
+way f [] h now = absurd (grind (arith, now))
+way f (e ∷ older) h now =
+    way_step f e (is_directory_after f older) (is_nameless_after older) (next_after f older).error
+    (has_openat2_after older) h.0.question now
+
+pub looked_up_with : (f : Facts) (history : List Exchange) → IsHistory f history
+    → (next_after f history).next ≡ LOOK_UP → has_openat2_after history ≡ true
+looked_up_with f history h is = way f history h (grind (arith, is)) ∙ grind (arith, is)
+
+pub led_without : (f : Facts) (history : List Exchange) → IsHistory f history → (next_after f history).next ≡ LEAD
+    → has_openat2_after history ≡ false
+led_without f history h is = way f history h (grind (arith, is)) ∙ grind (arith, is)
+
 -- ---- errors
 
 -- the end says whether there was an error
@@ -151,32 +284,61 @@ is_ended n = (not (n.next == ENDS) || (n.error == 0)) && (not (n.next == FAILS) 
 abbrev Keeps : Next → ℕ → Type 0
 Keeps n error = (n.error ≡ error) × (is_ended n ≡ true)
 
+keeps_find : (f : Facts) (error : ℕ) (refused absent leading openat2 directory nameless : Bool)
+    → (refused ≡ true → (error == 0) ≡ false)
+    → Keeps (find_to f error refused absent leading openat2 directory nameless)
+    (latest (if refused then error else (if absent then missing_error directory nameless else 0)) 0)
+keeps_find f error true absent leading openat2 directory nameless h = grind (arith, h)
+keeps_find f error false true leading openat2 directory nameless h = grind arith
+keeps_find f error false false true openat2 directory nameless h = grind arith
+keeps_find f error false false false openat2 directory nameless h = grind arith
+
+keeps_lead : (f : Facts) (error : ℕ) (directory nameless : Bool)
+    → Keeps (after_lead f error directory nameless) (latest (lead_error error directory nameless) 0)
+keeps_lead f error directory nameless = grind arith
+
 keeps_by : (f : Facts) (e : Exchange) (directory nameless : Bool) (why : ℕ) → ((e.asked == CLOSE) ≡ false → why ≡ 0)
     → is_question e.asked ≡ true
     → Keeps (after_exchange f e directory nameless why) (latest (error_of e directory nameless) why)
 keeps_by f e directory nameless why none question =
+    let keeps_at : ℕ → ℕ → Type 0 = λ k w. Keeps (after_exchange f (gave_at k e.gave) directory nameless why)
+    (latest (error_of (gave_at k e.gave) directory nameless) w) in
     elim (asked_is e.asked question) [
       | look_at_it at ↦ grind (arith, at, none)
       | copy_it at ↦ grind (arith, at, none)
-      | find_it at ↦ grind (arith, at, none)
+      | find_it at ↦ let fresh : why ≡ 0 = none (grind (arith, at)) in
+          subst (λ k. keeps_at k why) (sym at)
+          (subst (keeps_at FIND) (sym fresh)
+          (keeps_find f e.gave.error (is_refused e.gave.error) (is_absent e.gave) (is_leading f e.gave directory)
+          e.gave.yes directory nameless (refused_is e.gave.error)))
+      | look_them_up at ↦ let fresh : why ≡ 0 = none (grind (arith, at)) in
+          subst (λ k. keeps_at k why) (sym at)
+          (subst (keeps_at LOOK_UP) (sym fresh)
+          (keeps_lead f (look_up_error e.gave.error e.gave.yes) directory nameless))
       | lead_it at ↦ grind (arith, at, none)
       | ask_dead at ↦ grind (arith, at, none)
       | close_it at ↦ grind (arith, at, none)
     ]
 
 -- before all but the last nothing has failed
+abbrev Fresh : Next → Type 0
+Fresh n = is_question n.next ≡ true → (n.next == CLOSE) ≡ false → n.error ≡ 0
+
+fresh_lead : (f : Facts) (error : ℕ) (directory nameless : Bool) → Fresh (after_lead f error directory nameless)
+fresh_lead f error directory nameless more early = grind (arith, more, early)
+
 fresh_step : (f : Facts) (e : Exchange) (directory nameless : Bool) (why : ℕ) → is_question e.asked ≡ true
-    → is_question (after_exchange f e directory nameless why).next ≡ true
-    → ((after_exchange f e directory nameless why).next == CLOSE) ≡ false
-    → (after_exchange f e directory nameless why).error ≡ 0
-fresh_step f e directory nameless why question more early =
+    → Fresh (after_exchange f e directory nameless why)
+fresh_step f e directory nameless why question =
     elim (asked_is e.asked question) [
-      | look_at_it at ↦ grind (arith, at)
-      | copy_it at ↦ grind (arith, at)
-      | find_it at ↦ grind (arith, at)
-      | lead_it at ↦ grind (arith, at)
-      | ask_dead at ↦ grind (arith, at)
-      | close_it at ↦ grind (arith, at)
+      | look_at_it at ↦ λ more early. grind (arith, at)
+      | copy_it at ↦ λ more early. grind (arith, at)
+      | find_it at ↦ λ more early. grind (arith, at)
+      | look_them_up at ↦ subst (λ k. Fresh (after_exchange f (gave_at k e.gave) directory nameless why)) (sym at)
+          (fresh_lead f (look_up_error e.gave.error e.gave.yes) directory nameless)
+      | lead_it at ↦ λ more early. grind (arith, at)
+      | ask_dead at ↦ λ more early. grind (arith, at)
+      | close_it at ↦ λ more early. grind (arith, at)
     ]
 
 fresh_is : (f : Facts) (history : List Exchange) → IsHistory f history → is_question (next_after f history).next ≡ true
@@ -222,7 +384,10 @@ rank next =
     if next == LOOK then 0
     else (if next == COPY then 1
     else (if next == FIND then 2
-    else (if next == LEAD then 3 else (if next == DEAD then 4 else (if next == CLOSE then 5 else 6)))))
+    else (if is_led_next next then 3 else (if next == DEAD then 4 else (if next == CLOSE then 5 else 6)))))
+
+rank_lead : (f : Facts) (error : ℕ) (directory nameless : Bool) → 4 ≤ rank (after_lead f error directory nameless).next
+rank_lead f error directory nameless = grind arith
 
 rank_step : (f : Facts) (e : Exchange) (directory nameless : Bool) (why : ℕ) → is_question e.asked ≡ true
     → rank e.asked + 1 ≤ rank (after_exchange f e directory nameless why).next
@@ -231,6 +396,9 @@ rank_step f e directory nameless why question =
       | look_at_it at ↦ grind (arith, at)
       | copy_it at ↦ grind (arith, at)
       | find_it at ↦ grind (arith, at)
+      | look_them_up at ↦ subst
+          (λ k. rank k + 1 ≤ rank (after_exchange f (gave_at k e.gave) directory nameless why).next) (sym at)
+          (rank_lead f (look_up_error e.gave.error e.gave.yes) directory nameless)
       | lead_it at ↦ grind (arith, at)
       | ask_dead at ↦ grind (arith, at)
       | close_it at ↦ grind (arith, at)

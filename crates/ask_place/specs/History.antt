@@ -1,10 +1,11 @@
 -- What was asked of a driver as it asks for an object's place, what that gave, and what comes next. A history has the
 -- last exchange first.
 use Rattle.std.specs.Prelude.{◌≡◌, ℕ, List, [], ◌∷◌, ◌==◌, Bool, true, false, not, ◌&&◌, ◌||◌, if◌then◌else◌}
-use Rattle.system_calls.specs.Errors.{ENOENT, EAGAIN}
+use Rattle.system_calls.specs.Errors.{ENOENT, EAGAIN, EACCES}
+use Rattle.system_calls.specs.Objects.{is_elsewhere}
 use Rattle.ask_place.specs.declared.asking.Answer.{Answer}
 use Rattle.ask_place.specs.declared.asking.Facts.{Facts}
-use Rattle.ask_place.specs.declared.asking.TheConstants.{LOOK, COPY, FIND, LEAD, DEAD, CLOSE, ENDS, FAILS}
+use Rattle.ask_place.specs.declared.asking.TheConstants.{LOOK, COPY, FIND, LOOK_UP, LEAD, DEAD, CLOSE, ENDS, FAILS}
 
 -- what was asked for, and what that gave
 pub record Exchange : Type 0 where
@@ -14,7 +15,8 @@ pub record Exchange : Type 0 where
 abbrev pub is_question : ℕ → Bool
 is_question next =
     (next == LOOK)
-    || ((next == COPY) || ((next == FIND) || ((next == LEAD) || ((next == DEAD) || (next == CLOSE)))))
+    || ((next == COPY)
+    || ((next == FIND) || ((next == LOOK_UP) || ((next == LEAD) || ((next == DEAD) || (next == CLOSE))))))
 
 -- ---- what was seen of the object
 
@@ -56,17 +58,31 @@ after_look error = if error == 0 then asks COPY 0 else asks FAILS error
 abbrev pub after_copy : ℕ → Next
 after_copy error = if error == 0 then asks FIND 0 else asks FAILS error
 
+-- A text alone has given the names: there is no openat2(2); or it is getcwd(2)'s, of a directory that may be anywhere.
+abbrev pub is_by_text : Facts → Bool → Bool → Bool
+is_by_text f openat2 directory = not openat2 || (f.jailed && (f.handed && directory))
+
+-- what looks them up, so that they lead to the object
+abbrev pub leads : Bool → Next
+leads openat2 = asks (if openat2 then LOOK_UP else LEAD) 0
+
 -- The witnesses didn't agree (EAGAIN), or it doesn't stand below the root. A text alone may be that of an object of
 -- another tree, or outside of a jail, but for the root itself.
 abbrev pub after_find : Facts → ℕ → ℕ → Bool → Bool → Bool → Next
-after_find f error length alone directory nameless =
+after_find f error length openat2 directory nameless =
     if not (error == 0) && not (error == EAGAIN) then asks CLOSE error
     else (if not (error == 0) || (length == 0) then missing directory nameless
-    else (if alone && not (directory && (length == 1)) then asks LEAD 0 else told f))
+    else (if is_by_text f openat2 directory && not (directory && (length == 1)) then leads openat2 else told f))
 
 abbrev pub after_lead : Facts → ℕ → Bool → Bool → Next
 after_lead f error directory nameless =
     if error == 0 then told f else (if error == EAGAIN then missing directory nameless else asks CLOSE error)
+
+-- The names lead elsewhere, or to another object: others have moved it. That a directory may not be searched isn't
+-- their doing.
+abbrev pub look_up_error : ℕ → Bool → ℕ
+look_up_error error same =
+    if (is_elsewhere error && not (error == EACCES)) || ((error == 0) && not same) then EAGAIN else error
 
 -- after this exchange, before which that was seen, and it would have failed by this error
 abbrev pub after_exchange : Facts → Exchange → Bool → Bool → ℕ → Next
@@ -74,8 +90,9 @@ after_exchange f e directory nameless why =
     if e.asked == LOOK then after_look e.gave.error
     else (if e.asked == COPY then after_copy e.gave.error
     else (if e.asked == FIND then after_find f e.gave.error e.gave.length e.gave.yes directory nameless
+    else (if e.asked == LOOK_UP then after_lead f (look_up_error e.gave.error e.gave.yes) directory nameless
     else (if e.asked == LEAD then after_lead f e.gave.error directory nameless
-    else (if e.asked == DEAD then lost (e.gave.yes || nameless) else over why))))
+    else (if e.asked == DEAD then lost (e.gave.yes || nameless) else over why)))))
 
 abbrev pub next_after : Facts → List Exchange → Next
 next_after f [] = asks (if f.directory then COPY else LOOK) 0

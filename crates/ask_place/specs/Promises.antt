@@ -1,9 +1,9 @@
 -- What holds of every history.
 use Rattle.std.specs.Prelude.{◌≡◌, ℕ, List, [], ◌∷◌, ◌==◌, Bool, true, false, not, ◌&&◌, ◌||◌, if◌then◌else◌}
 use Rattle.system_calls.specs.Errors.{ENOENT, EAGAIN}
-use Rattle.ask_place.specs.History.{is_directory_after, is_nameless_after, Exchange, Next}
+use Rattle.ask_place.specs.History.{is_by_text, is_directory_after, is_nameless_after, look_up_error, Exchange, Next}
 use Rattle.ask_place.specs.declared.asking.Facts.{Facts}
-use Rattle.ask_place.specs.declared.asking.TheConstants.{LOOK, COPY, FIND, LEAD, DEAD, CLOSE, ENDS, FAILS}
+use Rattle.ask_place.specs.declared.asking.TheConstants.{LOOK, COPY, FIND, LOOK_UP, LEAD, DEAD, CLOSE, ENDS, FAILS}
 
 -- ---- descriptors
 
@@ -17,7 +17,7 @@ is_open_after (e ∷ older) = open_by e (is_open_after older)
 
 abbrev pub needs_open : Facts → Next → Bool
 needs_open f n =
-    ((n.next == FIND) || ((n.next == LEAD) || ((n.next == DEAD) || (n.next == CLOSE))))
+    ((n.next == FIND) || ((n.next == LOOK_UP) || ((n.next == LEAD) || ((n.next == DEAD) || (n.next == CLOSE)))))
     || ((n.next == ENDS) && f.keeps)
 
 abbrev pub is_over : ℕ → Bool
@@ -31,18 +31,29 @@ is_found_after [] = false
 is_found_after (e ∷ older) =
     if e.asked == FIND then (e.gave.error == 0) && not (e.gave.length == 0) else is_found_after older
 
+-- the thread had openat2(2) as they were found
+abbrev pub has_openat2_after : List Exchange → Bool
+has_openat2_after [] = false
+has_openat2_after (e ∷ older) = if e.asked == FIND then e.gave.yes else has_openat2_after older
+
 -- a text alone has told them, of what isn't the root itself: that is a directory, at a slash alone
 abbrev pub is_alone_after : Facts → List Exchange → Bool
 is_alone_after f [] = false
 is_alone_after f (e ∷ older) =
-    if e.asked == FIND then e.gave.yes && not (is_directory_after f older && (e.gave.length == 1))
+    if e.asked == FIND
+    then is_by_text f e.gave.yes (is_directory_after f older)
+    && not (is_directory_after f older && (e.gave.length == 1))
     else is_alone_after f older
 
--- they led to the object
+-- they led to the object: the kernel opened it by all of them at once, or it was opened by one in another
+abbrev pub is_led_by : Exchange → Bool
+is_led_by e = (e.gave.error == 0) && (not (e.asked == LOOK_UP) || e.gave.yes)
+
 abbrev pub is_led_after : List Exchange → Bool
 is_led_after [] = false
 is_led_after (e ∷ older) =
-    if e.asked == FIND then false else (if e.asked == LEAD then e.gave.error == 0 else is_led_after older)
+    if e.asked == FIND then false
+    else (if (e.asked == LOOK_UP) || (e.asked == LEAD) then is_led_by e else is_led_after older)
 
 pub record IsFound (f : Facts) (history : List Exchange) : Type 0 where
   pub found : is_found_after history ≡ true
@@ -70,8 +81,9 @@ abbrev pub error_of : Exchange → Bool → Bool → ℕ
 error_of e directory nameless =
     if (e.asked == LOOK) || (e.asked == COPY) then e.gave.error
     else (if e.asked == FIND then find_error e.gave.error e.gave.length directory nameless
+    else (if e.asked == LOOK_UP then lead_error (look_up_error e.gave.error e.gave.yes) directory nameless
     else (if e.asked == LEAD then lead_error e.gave.error directory nameless
-    else (if e.asked == DEAD then gone_error (e.gave.yes || nameless) else 0)))
+    else (if e.asked == DEAD then gone_error (e.gave.yes || nameless) else 0))))
 
 abbrev pub latest : ℕ → ℕ → ℕ
 latest error before = if error == 0 then before else error

@@ -1,9 +1,10 @@
 //! How far a question for an object's place has come, and what comes next.
 ghost use Rattle.std.specs.Prelude.{◌≡◌, List, [], ◌∷◌, ◌==◌, true, false};
-ghost use Rattle.ask_place.specs.History.{after_copy, after_find, after_lead, after_look, is_question, lost, missing, over, told, Exchange};
+ghost use Rattle.ask_place.specs.History.{after_copy, after_find, after_lead, after_look, is_by_text, is_question, leads, look_up_error, lost, missing, over, told, Exchange};
 ghost use Rattle.ask_place.specs.Asking.{due_of, exchange, IsAt, Same};
 
-use system_calls::errors::{EAGAIN, ENOENT};
+use system_calls::errors::{EACCES, EAGAIN, ENOENT};
+use system_calls::is_elsewhere;
 
 /// The object is looked at: statx(2), or fstat(2).
 pub const LOOK: u8 = 1;
@@ -14,21 +15,25 @@ pub const COPY: u8 = 2;
 /// It is found out at which names below the root the object stands (`place_protocol`).
 pub const FIND: u8 = 3;
 
+/// All these names are looked up at once below the root, through no link: openat2(2) with RESOLVE_BENEATH. If that
+/// opens the object, the driver goes on with what was opened.
+pub const LOOK_UP: u8 = 4;
+
 /// It is found out whether these names lead to the object, each opened in the one before it (`lead`). The driver goes
 /// on with what they led to.
-pub const LEAD: u8 = 4;
+pub const LEAD: u8 = 5;
 
 /// It is asked whether the directory was removed.
-pub const DEAD: u8 = 5;
+pub const DEAD: u8 = 6;
 
 /// The copy is closed.
-pub const CLOSE: u8 = 6;
+pub const CLOSE: u8 = 7;
 
 /// Nothing comes: the object stands at the names that were found.
-pub const ENDS: u8 = 7;
+pub const ENDS: u8 = 8;
 
 /// Nothing comes: it failed by an error.
-pub const FAILS: u8 = 8;
+pub const FAILS: u8 = 9;
 
 /// What is known before the first question.
 #[repr(C)]
@@ -38,6 +43,10 @@ pub struct Facts {
     pub directory: bool,
     /// The copy stays open where the place is told.
     pub keeps: bool,
+    /// The root is the thread's own: getcwd(2) gives the names of a directory.
+    pub jailed: bool,
+    /// The program has handed the descriptor in. Else the call itself has found the object below the root.
+    pub handed: bool,
 }
 
 /// What a question was answered.
@@ -50,7 +59,8 @@ pub struct Answer {
     pub length: usize,
     /// 0, or the number of an error (errno(3)).
     pub error: u32,
-    /// At LOOK: it is a directory. At DEAD: it was removed. At FIND: a text alone has told the names.
+    /// At LOOK: it is a directory. At FIND: the thread has openat2(2), by what is known then. At LOOK_UP: what was
+    /// opened is the object. At DEAD: it was removed.
     pub yes: bool,
 }
 
@@ -144,6 +154,21 @@ fn after_copy(asking: Asking, error: u32) -> Asking
     }
 }
 
+// In a jail what is mounted over the root has the text of what stands below it, and so has what was in a subvolume that
+// was deleted.
+fn is_by_text(facts: &Facts, openat2: bool, directory: bool) -> bool
+    ensures { result ≡ is_by_text facts.now openat2 directory }
+{
+    !openat2 || facts.jailed && facts.handed && directory
+}
+
+fn leads(asking: Asking, openat2: bool) -> Asking
+    ensures due { due_of result ≡ leads openat2 }
+    ensures same { Same asking result }
+{
+    asks(asking, if openat2 { LOOK_UP } else { LEAD }, 0)
+}
+
 fn after_find(asking: Asking, facts: &Facts, answer: &Answer) -> Asking
     ensures due { due_of result
         ≡ after_find facts.now answer.now.error answer.now.length answer.now.yes asking.directory asking.nameless }
@@ -153,8 +178,10 @@ fn after_find(asking: Asking, facts: &Facts, answer: &Answer) -> Asking
         asks(asking, CLOSE, answer.error)
     } else if answer.error != 0 || answer.length == 0 {
         missing(asking)
-    } else if answer.yes && !(asking.directory && answer.length == 1) {
-        asks(asking, LEAD, 0)
+    } else if is_by_text(facts, answer.yes, asking.directory)
+        && !(asking.directory && answer.length == 1)
+    {
+        leads(asking, answer.yes)
     } else {
         told(asking, facts)
     }
@@ -170,6 +197,17 @@ fn after_lead(asking: Asking, facts: &Facts, error: u32) -> Asking
         missing(asking)
     } else {
         asks(asking, CLOSE, error)
+    }
+}
+
+// Others have moved the object, or put another one in its place. That a name may not be searched isn't their doing.
+fn look_up_error(error: u32, same: bool) -> u32
+    ensures { result ≡ look_up_error error same }
+{
+    if is_elsewhere(error) && error != EACCES || error == 0 && !same {
+        EAGAIN
+    } else {
+        error
     }
 }
 
@@ -189,11 +227,14 @@ pub fn begin(facts: &Facts) -> Asking
 /// (errno(3)); of FIND and LEAD, 0 or the error for which the place could not be found out; of CLOSE it isn't looked
 /// at. Where nothing comes any more, nothing changes. Takes no memory.
 ///
-/// It looks at the object, unless that is known to be a directory, copies the descriptor, and asks for the names. If
-/// a text alone has told them, they must lead to this object, but for a directory that is the root itself.
+/// It looks at the object, unless that is known to be a directory, copies the descriptor, and asks for the names. A
+/// text alone has told them without openat2(2), and in a jail those of a directory that the program has handed in.
+/// They must lead to this object then, but for a directory that is the root itself: with openat2(2) all are looked up
+/// at once, and without it each is opened in the one before it.
 ///
-/// Errors: ENOENT (2) of what has no place and was removed; EAGAIN (11) of anything else that has none; any other one
-/// of the last demand.
+/// Errors: ENOENT (2) of what has no place and was removed; EAGAIN (11) of anything else that has none, which is so if
+/// LOOK_UP opens another object or gives ENOENT, ENOTDIR (20), ELOOP (40) or EXDEV (18); any other one of the last
+/// demand.
 pub fn next(asking: Asking, facts: &Facts, answer: &Answer) -> Asking
     ensures goes { (history : List Exchange) → IsAt facts.now history asking → is_question asking.next ≡ true
         → IsAt facts.now (exchange asking answer.now ∷ history) result }
@@ -203,6 +244,7 @@ pub fn next(asking: Asking, facts: &Facts, answer: &Answer) -> Asking
         LOOK => after_look(asking, answer),
         COPY => after_copy(asking, answer.error),
         FIND => after_find(asking, facts, answer),
+        LOOK_UP => after_lead(asking, facts, look_up_error(answer.error, answer.yes)),
         LEAD => after_lead(asking, facts, answer.error),
         DEAD => lost(asking, answer.yes || asking.nameless),
         CLOSE => over(asking, asking.error),

@@ -1,19 +1,28 @@
 //! What holds of every history, as laws over its exchanges: each function's contract is one, and its body is empty.
-ghost use Rattle.std.specs.Prelude.{◌≡◌, ◌≢◌, ◌<◌, ◌≤◌, ◌+◌, ℕ, true, List, length};
+ghost use Rattle.std.specs.Prelude.{◌≡◌, ◌≢◌, ◌<◌, ◌≤◌, ◌+◌, ℕ, true, false, List, length};
 ghost use Rattle.system_calls.specs.Errors.{EAGAIN};
 ghost use Rattle.ask_place.specs.History.{next_after, Exchange, IsHistory};
 ghost use Rattle.ask_place.specs.Leading.{answered_after, leading_after, misled_after, AreTurns, IsLed, Turn};
-ghost use Rattle.ask_place.specs.Promises.{is_open_after, is_over, needs_open, why_after, IsFound};
+ghost use Rattle.ask_place.specs.Promises.{has_openat2_after, is_open_after, is_over, needs_open, why_after, IsFound};
 ghost use Rattle.ask_place.specs.Questions.{next_question};
 ghost use Rattle.ask_place.specs.declared.asking.Facts.{Facts};
-ghost use Rattle.ask_place.specs.declared.asking.TheConstants.{ENDS, FAILS};
+ghost use Rattle.ask_place.specs.declared.asking.TheConstants.{ENDS, FAILS, LEAD, LOOK_UP};
 ghost use Rattle.ask_place.specs.declared.leading.TheConstants.{LEADS, MISLEADS, OPEN};
 
 /// Where a place is told, it was found out. If a text alone has told it, then its names led to the very object, but of
-/// a directory that is the root itself.
+/// a directory that is the root itself: the kernel's look-up of all of them opened it, or it was opened by one name in
+/// another.
 pub fn what_is_told_was_found()
     ensures { (f : Facts) (history : List Exchange) → IsHistory f history → (next_after f history).next ≡ ENDS
         → IsFound f history }
+{}
+
+/// Names are looked up at once only where the thread has openat2(2), and opened one in another only where it hasn't.
+pub fn names_lead_by_the_threads_way()
+    ensures at_once { (f : Facts) (history : List Exchange) → IsHistory f history
+        → (next_after f history).next ≡ LOOK_UP → has_openat2_after history ≡ true }
+    ensures one_by_one { (f : Facts) (history : List Exchange) → IsHistory f history
+        → (next_after f history).next ≡ LEAD → has_openat2_after history ≡ false }
 {}
 
 /// The copy of the descriptor is looked at or closed while it is open. It is open in the end only where the place is
@@ -23,8 +32,10 @@ pub fn the_copy_is_closed_once_or_kept()
         → is_open_after history ≡ needs_open f (next_after f history) }
 {}
 
-/// It fails by the last error that it met. That is a demand's own, but for EAGAIN of the place, or of its names: then,
-/// and where there is no place, it is ENOENT of what was removed, or has no name left, and EAGAIN of anything else.
+/// It fails by the last error that it met. That is a demand's own, but for EAGAIN of the place, or of its names. A
+/// look-up of all of them counts as EAGAIN if others have moved the object (ENOENT, ENOTDIR, ELOOP, EXDEV), and if it
+/// opens another one. After EAGAIN, and where there is no place, it is ENOENT of what was removed, or has no name left,
+/// and EAGAIN of anything else.
 pub fn why_it_fails()
     ensures { (f : Facts) (history : List Exchange) → IsHistory f history → (next_after f history).next ≡ FAILS
         → ((next_after f history).error ≢ 0) × ((next_after f history).error ≡ why_after f history) }
