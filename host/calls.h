@@ -442,13 +442,14 @@ struct inroot_place_facts {
  * A question: fchdir(2) to the object; getcwd(2), and once more with a room of one byte; the text of the object's link in /proc, by
  * what is kept of the root; that of the root's link; that of the object's; whether the thread's own root directory is a mount's;
  * the root's link once more; what the names lead to from the root; the object's link once more; whether the directory was removed;
- * which objects the object and the root are. Or there is none: the object stands at the names; it isn't below the root; or that
- * could not be found out.
+ * which objects the object and the root are; in a jail, which ones the directory and `/` are, and once more with `/` opened anew;
+ * which ones the root and its `..` are. Or there is none: the object stands at the names; it isn't below the root; or that could not
+ * be found out.
  */
 enum inroot_place_what {
     INROOT_PLACE_ENTER = 1, INROOT_PLACE_CWD, INROOT_PLACE_CWD_AGAIN, INROOT_PLACE_KEPT_LINK, INROOT_PLACE_ROOT_LINK,
     INROOT_PLACE_OBJECT_LINK, INROOT_PLACE_OWN_ROOT, INROOT_PLACE_ROOT_AGAIN, INROOT_PLACE_LOOK_UP, INROOT_PLACE_LINK_AGAIN,
-    INROOT_PLACE_DEAD, INROOT_PLACE_IS_ROOT,
+    INROOT_PLACE_DEAD, INROOT_PLACE_IS_ROOT, INROOT_PLACE_SLASH, INROOT_PLACE_SLASH_AGAIN, INROOT_PLACE_TOP,
     INROOT_PLACE_STANDS = 16, INROOT_PLACE_NOWHERE, INROOT_PLACE_UNMADE,
 };
 
@@ -465,8 +466,8 @@ struct inroot_place_told {
 
 /*
  * What a question was answered: 0 or an error's number. `yes`: the root directory is a mount's; the directory was removed; or the
- * thread has no openat2(2) any more. Of a look-up: the object, and what was found. Of which objects they are: the object, and the
- * root in the place of what was found.
+ * thread has no openat2(2) any more. Of a look-up: the object, and what was found. Of which objects two are: the first, and the
+ * other in the place of what was found.
  */
 struct inroot_place_answer {
     uint32_t error;

@@ -149,18 +149,10 @@ static void read_root(struct search *s)
     s->path = s->above;
 }
 
-/* A slash alone is the text of a top, which is its own parent, and of a root that was moved out of its mount: that has none. */
-static bool is_top(int root)
-{
-    struct inroot_which itself, above;
-    return inroot_find_which(root, "", &itself) && inroot_find_which(root, "..", &above) &&
-           inroot_is_same_object(&itself.object, &above.object, true);
-}
-
 static bool tells_own_root(const struct search *s)
 {
     int proc = inroot_proc_for(s->d);
-    return proc >= 0 && inroot_own_root_tells(s->d, proc) && (s->path_length > 1 || is_top(s->root));
+    return proc >= 0 && inroot_own_root_tells(s->d, proc);
 }
 
 /* ---- getcwd(2) */
@@ -177,13 +169,13 @@ static void read_cwd_again(struct search *s)
     note(s, read_cwd(none, sizeof none));
 }
 
-/* ---- the kernel's own look-up */
+/* ---- which objects two are */
 
-/* Compares what was found with the object. If they can't be compared, that counts as others' doing. */
-static void compare(struct search *s)
+/* If one of them can't be asked, that counts as others' doing. */
+static void compare(struct search *s, int fd, int dir, const char *name)
 {
     struct inroot_which held, found;
-    if (!inroot_find_which(s->slot->fd, "", &held) || !inroot_find_which(s->found, "", &found)) {
+    if (!inroot_find_which(fd, "", &held) || !inroot_find_which(dir, name, &found)) {
         s->answer.error = EAGAIN;
         return;
     }
@@ -202,34 +194,18 @@ static void look_up(struct search *s)
     s->found = inroot_look_up(s->d, s->root, sought, O_NOFOLLOW, RESOLVE_BENEATH);
     note(s, s->found);
     if (s->found >= 0)
-        compare(s);
+        compare(s, s->slot->fd, s->found, "");
     else
         s->answer.yes = !inroot_has_openat2();
 }
 
-/* The root is opened anew, so that the call goes on with it if the object is the root. That of a jail is the thread's own. */
-static void find_root(struct search *s)
+/* The root is opened anew by a name, so that the call goes on with it if the object is the root. */
+static void find_root(struct search *s, int dir, const char *name)
 {
-    const bool jailed = s->root == INROOT_JAILED;
-    s->found = openat(jailed ? AT_FDCWD : s->root, jailed ? "/" : ".", O_PATH | O_DIRECTORY | O_CLOEXEC);
+    s->found = openat(dir, name, O_PATH | O_DIRECTORY | O_CLOEXEC);
     note(s, s->found);
     if (s->found >= 0)
-        compare(s);
-}
-
-/*
- * A slash alone is also the path of what is mounted over the root, to which `..` leads. If that is the root once more, by another
- * mount, the call goes on with the root itself.
- */
-static void read_path(struct search *s)
-{
-    enum inroot_kind kind;
-    s->text_length = note(s, read_cwd(s->text, INROOT_TEXT_MAX));
-    if (s->text_length != sizeof "/" || inroot_is_entry(AT_FDCWD, "/", s->slot->fd, &kind))
-        return;
-    find_root(s);
-    if (s->answer.error == 0 && !inroot_is_same_object(&s->answer.held, &s->answer.found, true))
-        s->answer.error = EAGAIN;
+        compare(s, s->slot->fd, s->found, "");
 }
 
 /* The call goes on with what was found, if it is the object, so that no step rests on the numbers that were compared. */
@@ -250,7 +226,7 @@ static void ask(struct search *s)
     s->answer.yes = false;
     switch (s->told.what) {
     case INROOT_PLACE_ENTER: note(s, inroot_jail_enter(s->d, s->slot->fd) ? 0 : -1); break;
-    case INROOT_PLACE_CWD: read_path(s); break;
+    case INROOT_PLACE_CWD: s->text_length = note(s, read_cwd(s->text, INROOT_TEXT_MAX)); break;
     case INROOT_PLACE_CWD_AGAIN: read_cwd_again(s); break;
     case INROOT_PLACE_KEPT_LINK: s->text_length = note(s, kept_link(s)); break;
     case INROOT_PLACE_ROOT_LINK: read_root(s); break;
@@ -260,7 +236,10 @@ static void ask(struct search *s)
     case INROOT_PLACE_LOOK_UP: look_up(s); break;
     case INROOT_PLACE_LINK_AGAIN: s->again_length = note(s, object_link(s, s->again)); break;
     case INROOT_PLACE_DEAD: s->answer.yes = inroot_may_be_dead(s->slot->fd); break;
-    case INROOT_PLACE_IS_ROOT: find_root(s); break;
+    case INROOT_PLACE_IS_ROOT: find_root(s, s->root, "."); break;
+    case INROOT_PLACE_SLASH: compare(s, s->slot->fd, AT_FDCWD, "/"); break;
+    case INROOT_PLACE_SLASH_AGAIN: find_root(s, AT_FDCWD, "/"); break;
+    case INROOT_PLACE_TOP: compare(s, s->root, s->root, ".."); break;
     }
 }
 

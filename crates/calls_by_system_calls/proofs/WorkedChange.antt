@@ -16,11 +16,12 @@ use Rattle.kernel_text.specs.Place.{place_of_cwd, IsPart}
 use Rattle.kernel_text.specs.declared.place.Place.{Place}
 use Rattle.place_protocol.specs.Conversation.{Exchange}
 use Rattle.place_protocol.specs.Moments.{IsAnswer, ReadsLink, World}
+use Rattle.place_protocol.specs.Texts.{is_top}
 use Rattle.place_protocol.specs.Turns.{has_path}
 use Rattle.place_protocol.specs.Witness.{Worked}
 use Rattle.place_protocol.specs.declared.questions.Facts.{Facts as PlaceFacts}
 use Rattle.place_protocol.specs.declared.questions.Question.{Question}
-use Rattle.place_protocol.specs.declared.questions.Question.TheVariants.{Enter, Cwd, CwdAgain, KeptLink, RootLink, ObjectLink, RootAgain, LookUp, LinkAgain, Dead, IsRoot}
+use Rattle.place_protocol.specs.declared.questions.Question.TheVariants.{Enter, Cwd, CwdAgain, KeptLink, RootLink, ObjectLink, RootAgain, LookUp, LinkAgain, Dead, IsRoot, Slash, SlashAgain}
 use Rattle.place_protocol.specs.declared.turns.Turn.TheVariants.{Ask, Stands}
 use Rattle.calls_by_system_calls.specs.Linux.{Change, found_behind, state_at, with_change, ChangeNothing, IsLinux}
 use Rattle.calls_by_system_calls.specs.Changes.{MakeIsMade}
@@ -124,7 +125,7 @@ apart : (e : Exchange) (other : Question) → is_of_cwd e.question ≡ true → 
 apart e other is none same = false≢true (sym none ∙ ap is_of_cwd (sym same) ∙ is)
 
 says_of_cwd : (n : ℕ) (e : Exchange) → is_of_cwd e.question ≡ true
-    → ((place : List ℕ) → Worked Cwd e → place_of_cwd e.text ≡ Some place
+    → ((place : List ℕ) → Worked Cwd e → place_of_cwd e.text ≡ Some place → is_top place ≡ false
     → (jail_world.gone n ≡ true) ⊎ (jail_world.stands n place ≡ true))
     → (e.question ≡ CwdAgain → has_path e.answer.error ≡ true → jail_world.gone n ≡ false)
     → IsAnswer jail_world in_jail n e
@@ -142,6 +143,7 @@ says_of_cwd n e is stands has = record {
   look_up = λ place found. absurd (apart e LookUp is refl found.0.0);
   looked_root = λ found. absurd (apart e LookUp is refl found.0.0);
   is_root = λ found. absurd (apart e IsRoot is refl found.0.0);
+  own_root = λ found. absurd (⊎_elim (λ w. apart e Slash is refl w.0.0) (λ w. apart e SlashAgain is refl w.0.0) found);
 }
 
 all_of_cwd : (es : List Exchange) → AllByRecursion (λ e. is_of_cwd e.question ≡ true) es → ReadsLink es → ⊥
@@ -184,7 +186,7 @@ asks_b =
         says_of_cwd 0 (asked Enter 0 []) refl (λ place worked. absurd (cc (worked.0))) (λ same. absurd (cc (same))),
         (
           says_of_cwd 1 (asked Cwd 0 (codes "/a/b" ++ 0 ∷ [])) refl
-              (λ place worked e. inr (let same : codes "/a/b" ≡ place = cc (e) in
+              (λ place worked e plain. inr (let same : codes "/a/b" ≡ place = cc (e) in
               subst (λ p. jail_world.stands 1 p ≡ true) same refl)) (λ same. absurd (cc (same))),
           (says_of_cwd 2 (asked CwdAgain 34 []) refl (λ place worked. absurd (cc (worked.0))) (λ same has. refl), tt),
         ),

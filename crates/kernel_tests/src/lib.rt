@@ -17,4 +17,6 @@ mod protocol;
 #[cfg(test)]
 mod records;
 #[cfg(test)]
+mod slashes;
+#[cfg(test)]
 mod tries;

@@ -6,14 +6,14 @@ use place_protocol::{
 use std::test::Fail;
 use system_calls::Object;
 
-const OBJECT: Object = Object {
+pub(crate) const OBJECT: Object = Object {
     device: 7,
     inode: 11,
     mount: 3,
 };
 
 // Of a directory below a root that is a descriptor, in a thread that has openat2(2).
-const FACTS: Facts = Facts {
+pub(crate) const FACTS: Facts = Facts {
     jailed: false,
     directory: true,
     seen: false,
@@ -22,29 +22,29 @@ const FACTS: Facts = Facts {
     kept: false,
 };
 
-const JAIL: Facts = Facts {
+pub(crate) const JAIL: Facts = Facts {
     jailed: true,
     ..FACTS
 };
 
-const FINE: Answer = Answer {
+pub(crate) const FINE: Answer = Answer {
     error: 0,
     yes: false,
     held: OBJECT,
     found: OBJECT,
 };
 
-const YES: Answer = Answer { yes: true, ..FINE };
+pub(crate) const YES: Answer = Answer { yes: true, ..FINE };
 
-fn fails(error: u32) -> Answer {
+pub(crate) fn fails(error: u32) -> Answer {
     Answer { error, ..FINE }
 }
 
 // What an exchange is in a test: the question that must be told, what it is answered, and the text that is read for it.
-type Exchange<'a> = (u8, Answer, &'a str);
+pub(crate) type Exchange<'a> = (u8, Answer, &'a str);
 
 // What is told in the end, or 0 where another question was due than the one that is answered.
-fn end_of(mut facts: Facts, kept: &str, exchanges: &[Exchange]) -> Told {
+pub(crate) fn end_of(mut facts: Facts, kept: &str, exchanges: &[Exchange]) -> Told {
     let mut told = begin(&facts);
     let mut root = kept.as_bytes();
     let mut text = b"".as_slice();
@@ -65,11 +65,11 @@ fn end_of(mut facts: Facts, kept: &str, exchanges: &[Exchange]) -> Told {
 }
 
 // Whether the object stands at so many bytes of its text, from there on.
-fn stands(told: Told, start: usize, length: usize, is_root: bool) -> bool {
+pub(crate) fn stands(told: Told, start: usize, length: usize, is_root: bool) -> bool {
     told.what == 16 && told.start == start && told.length == length && told.is_root == is_root
 }
 
-fn is_unmade(told: Told, error: u32) -> bool {
+pub(crate) fn is_unmade(told: Told, error: u32) -> bool {
     told.what == 18 && told.error == error
 }
 
@@ -220,7 +220,7 @@ fn what_was_seen_needs_no_look_up(rt: HostRuntime) -> Result<(), Fail> {
     Ok(())
 }
 
-const ALONE: Facts = Facts {
+pub(crate) const ALONE: Facts = Facts {
     second: false,
     ..FACTS
 };
@@ -370,108 +370,6 @@ fn a_refused_look_up_is_done_without(rt: HostRuntime) -> Result<(), Fail> {
     Ok(())
 }
 
-// Of the root itself, or of what has left its mount: a text alone, and which objects both are.
-fn alone_at_root<'a>(path: &'a str, answer: Answer) -> [Exchange<'a>; 5] {
-    [
-        (5, FINE, path),
-        (6, FINE, path),
-        (7, YES, ""),
-        (8, FINE, path),
-        (12, answer, ""),
-    ]
-}
-
-#[test]
-fn what_left_its_mount_is_not_the_root(rt: HostRuntime) -> Result<(), Fail> {
-    let other = Answer {
-        found: Object {
-            inode: 12,
-            ..OBJECT
-        },
-        ..FINE
-    };
-    let by_mount = Answer {
-        found: Object { mount: 4, ..OBJECT },
-        ..FINE
-    };
-    for path in &["/", "/srv/root"] {
-        assert!(rt; stands(end_of(ALONE, "", &alone_at_root(*path, FINE)), 0, 1, true));
-        assert!(rt;
-            stands(
-                end_of(ALONE, "", &alone_at_root(*path, by_mount)),
-                0,
-                1,
-                true
-            )
-        );
-        assert!(rt; is_unmade(end_of(ALONE, "", &alone_at_root(*path, other)), 11));
-        assert!(rt; is_unmade(end_of(ALONE, "", &alone_at_root(*path, fails(11))), 11));
-        assert!(rt; is_unmade(end_of(ALONE, "", &alone_at_root(*path, fails(24))), 24));
-    }
-    // It was seen below the root before it left.
-    let seen = Facts {
-        seen: true,
-        ..FACTS
-    };
-    let begun = [(5, FINE, "/"), (6, FINE, "/"), (9, other, "")];
-    assert!(rt; is_unmade(end_of(seen, "", &begun), 11));
-    assert!(rt; end_of(FACTS, "", &begun[..2]).what == 9);
-    Ok(())
-}
-
-#[test]
-fn in_a_jail_no_link_leads_to_the_root(rt: HostRuntime) -> Result<(), Fail> {
-    let alone = Facts {
-        second: false,
-        ..JAIL
-    };
-    let file = Facts {
-        directory: false,
-        ..alone
-    };
-    let text = (6, FINE, "/");
-    assert!(rt; is_unmade(end_of(file, "", &[text]), 11));
-    assert!(rt; is_unmade(end_of(alone, "", &[(1, fails(13), ""), text]), 11));
-    assert!(rt;
-        stands(
-            end_of(
-                alone,
-                "",
-                &[(1, FINE, ""), (2, FINE, "/\0"), (3, fails(34), "")]
-            ),
-            0,
-            1,
-            true
-        )
-    );
-    Ok(())
-}
-
-#[test]
-fn nine_questions_may_come(rt: HostRuntime) -> Result<(), Fail> {
-    let kept = Facts {
-        kept: true,
-        ..FACTS
-    };
-    let refused = Answer {
-        yes: true,
-        ..fails(38)
-    };
-    let begun = [
-        (4, fails(2), ""),
-        ROOT,
-        TEXT,
-        (9, refused, ""),
-        ROOT,
-        (6, FINE, "/srv/root"),
-        (7, YES, ""),
-        (8, FINE, "/srv/root"),
-        (12, FINE, ""),
-    ];
-    assert!(rt; stands(end_of(kept, "/srv/root", &begun), 0, 1, true));
-    Ok(())
-}
-
 #[test]
 fn getcwd_is_asked_twice(rt: HostRuntime) -> Result<(), Fail> {
     let cwd = (2, FINE, "/a/b\0");
@@ -481,18 +379,6 @@ fn getcwd_is_asked_twice(rt: HostRuntime) -> Result<(), Fail> {
             0,
             4,
             false
-        )
-    );
-    assert!(rt;
-        stands(
-            end_of(
-                JAIL,
-                "",
-                &[(1, FINE, ""), (2, FINE, "/\0"), (3, fails(34), "")]
-            ),
-            0,
-            1,
-            true
         )
     );
     assert!(rt; end_of(JAIL, "", &[(1, FINE, ""), cwd, (3, fails(2), "")]).what == 17);
@@ -553,7 +439,7 @@ fn links_fail_by_names_of_their_own(rt: HostRuntime) -> Result<(), Fail> {
     let long = [b'/'; 4096];
     let mut facts = FACTS;
     assert!(rt; is_unmade(next(&mut facts, 6, &FINE, b"/", &long, b""), 36));
-    assert!(rt; is_unmade(next(&mut facts, 13, &FINE, b"/", b"/a", b""), 22));
+    assert!(rt; is_unmade(next(&mut facts, 16, &FINE, b"/", b"/a", b""), 22));
     Ok(())
 }
 

@@ -1,21 +1,22 @@
 -- Agreeing answers tell the place.
-use Rattle.std.proofs.Common.{◌≡◌, ◌==◌, ◌||◌, ◌≤◌, ℕ, true, false, not, List, [], ◌∷◌, length, nat_lt, Option, Some, None, refl, sym, ap, subst, ◌∙◌}
+use Rattle.std.proofs.Common.{◌≡◌, ◌==◌, ◌||◌, ◌≤◌, ℕ, true, false, not, List, [], ◌∷◌, length, nat_lt, Option, Some, None, refl, sym, ap, subst, ◌∙◌, ◌&&◌, ◌++◌, cond, Bool}
 use Rattle.std.specs.Cmp.Derive.{both_true}
 use Rattle.std.proofs.lemmas.Bool.{cond-true, cond-false, cond_both, eq-eqb, le-ltb, ltb-false, or_from, or_parts, or_right}
 use Rattle.path_text.specs.Name.{same_bytes}
 use Rattle.path_text.specs.declared.name.TheConstants.{SLASH}
 use Rattle.path_text.specs.declared.path.TheConstants.{TEXT_MAX}
-use Rattle.system_calls.specs.Errors.{EAGAIN, ENAMETOOLONG}
+use Rattle.system_calls.specs.Errors.{EAGAIN, ENAMETOOLONG, EOPNOTSUPP}
 use Rattle.kernel_text.specs.Place.{ends_as_gone, is_named, place_below, place_between, place_of_cwd, IsPart}
 use Rattle.kernel_text.specs.declared.place.Place.{Place}
 use Rattle.system_calls.specs.Objects.{is_same_object}
 use Rattle.place_protocol.specs.Conversation.{Conversation, Exchange, Goes, StandsAt, keep}
-use Rattle.place_protocol.specs.Texts.{Texts, Finds, bytes_of, path_of_root, place_before, place_of, texts_of}
-use Rattle.place_protocol.specs.Turns.{after_cwd, after_cwd_again, after_found, after_is_root, after_link_again, after_look_up, after_object, after_root_again, ask_there, confirm, confirm_alone, confirm_place, facts_after, first_link, has_found, has_path, in_jail, is_root, link_error, look_up_error, without_second}
-use Rattle.place_protocol.specs.Witness.{AgreeingWitnessesAreTold, FindsObject, FindsRoot, Worked, is_top}
+use Rattle.place_protocol.specs.Texts.{Texts, Finds, bytes_of, path_of_root, place_before, place_of, texts_of, is_top}
+use Rattle.place_protocol.specs.Turns.{after_cwd, after_cwd_again, after_found, after_is_root, after_link_again, after_look_up, after_object, after_root_again, ask_there, confirm, confirm_alone, confirm_place, facts_after, first_link, has_found, has_path, in_jail, is_root, link_error, look_up_error, without_second, are_same, ask_path, is_slash}
+use Rattle.place_protocol.specs.Witness.{AgreeingWitnessesAreTold, FindsObject, FindsRoot, Worked, AsksSlash, AsksTop, FindsSame, IsOwnParent}
 use Rattle.place_protocol.specs.declared.questions.Answer.{Answer}
 use Rattle.place_protocol.specs.declared.questions.Facts.{Facts}
-use Rattle.place_protocol.specs.declared.questions.Question.TheVariants.{Enter, Cwd, CwdAgain, RootLink, ObjectLink, OwnRoot, RootAgain, LookUp, LinkAgain, IsRoot}
+use Rattle.place_protocol.specs.declared.questions.Question.{Question}
+use Rattle.place_protocol.specs.declared.questions.Question.TheVariants.{Enter, Cwd, CwdAgain, RootLink, ObjectLink, OwnRoot, RootAgain, LookUp, LinkAgain, IsRoot, Slash, SlashAgain, Top}
 use Rattle.place_protocol.specs.declared.turns.Turn.{Turn}
 use Rattle.place_protocol.specs.declared.turns.Turn.TheVariants.{Ask, Look, Stands, Unmade}
 use Rattle.place_protocol.proofs.GoesLemmas.{answered}
@@ -62,9 +63,13 @@ found_turn facts a at had none same top there =
     ∙ (cond-false (is_root at) (Stands at true) (ask_there facts at) top
     ∙ cond-true (not at.gone) (Ask LinkAgain) _ (ap not there)))
 
-cwd_turn : (facts : Facts) (error : ℕ) (found : Option Place) → error ≡ 0 → facts.seen ≡ false → after_cwd facts error found ≡ Ask CwdAgain
-cwd_turn facts error found none seen =
-    subst (λ (n : ℕ). after_cwd facts n found ≡ Ask CwdAgain) (sym none) (cond-false facts.seen (in_jail found) (Ask CwdAgain) seen)
+path_turn : (facts : Facts) (found : Option Place) → facts.seen ≡ false → ask_path facts found ≡ Ask CwdAgain
+path_turn facts found seen = cond-false facts.seen (in_jail found) (Ask CwdAgain) seen
+
+cwd_turn : (facts : Facts) (error : ℕ) (found : Option Place) → error ≡ 0
+    → after_cwd facts error found ≡ cond (is_slash found) (Ask Slash) (ask_path facts found)
+cwd_turn facts error found none =
+    subst (λ (n : ℕ). after_cwd facts n found ≡ cond (is_slash found) (Ask Slash) (ask_path facts found)) (sym none) refl
 
 cwd_again_turn : (error : ℕ) (at : Place) → has_path error ≡ true → after_cwd_again error (Some at) ≡ Stands at (is_root at)
 cwd_again_turn error at has = cond-true (has_path error) (in_jail (Some at)) _ has
@@ -178,24 +183,85 @@ again_tells facts place t next again told q ne is h =
     a.1.2 ∙ (ap (after_cwd_again again.answer.error) f.1 ∙ cwd_again_turn again.answer.error f.0 ne) in
     ended place t a.0 f.0 e f.2 a.2
 
-cwd_tells : (facts : Facts) (place : List ℕ) (t : Texts) (next : Turn) (cwd again : Exchange) → facts.seen ≡ false
-    → Worked Cwd cwd → place_of_cwd cwd.text ≡ Some place → again.question ≡ CwdAgain → has_path again.answer.error ≡ true
-    → next ≡ Ask Cwd → Goes facts t next (cwd ∷ again ∷ []) (Else place) → ⊥
-cwd_tells facts place t next cwd again seen worked told q ne is h =
-    let g = subst (λ (n : Turn). Goes facts t n (cwd ∷ again ∷ []) (Else place)) is h in
-    let a = answered Cwd facts t cwd (again ∷ []) (Else place) worked.0 g.1 in
-    again_tells facts place (keep Cwd cwd.text t) a.0 again told q ne (a.1.2 ∙ cwd_turn facts cwd.answer.error a.1.0 worked.1 seen) a.2
+-- of a slash alone, which objects the directory and `/` are
+found_same : (question : Question) (by_any_mount : Bool) (e : Exchange) → FindsSame question by_any_mount e
+    → are_same e.answer by_any_mount ≡ true
+found_same question by_any_mount e finds = both_true (eq-eqb e.answer.error 0 finds.0.1) finds.1
 
-enter_tells : (facts : Facts) (kept place : List ℕ) (enter cwd again : Exchange)
-    → facts.jailed ≡ true → facts.directory ≡ true → facts.seen ≡ false
-    → Worked Enter enter → Worked Cwd cwd → place_of_cwd cwd.text ≡ Some place
+slash_again_tells : (facts : Facts) (place : List ℕ) (t : Texts) (next : Turn) (slash again : Exchange)
+    → facts.seen ≡ false → place_of_cwd t.text ≡ Some place → FindsSame SlashAgain true slash
+    → again.question ≡ CwdAgain → has_path again.answer.error ≡ true → next ≡ Ask SlashAgain
+    → Goes facts t next (slash ∷ again ∷ []) (Else place) → ⊥
+slash_again_tells facts place t next slash again seen told finds q ne is h =
+    let g = subst (λ (n : Turn). Goes facts t n (slash ∷ again ∷ []) (Else place)) is h in
+    let a = answered SlashAgain facts t slash (again ∷ []) (Else place) finds.0.0 g.1 in
+    let e : a.0 ≡ Ask CwdAgain =
+    a.1.2 ∙ (cond-true (are_same slash.answer true) (ask_path facts a.1.0) _ (found_same SlashAgain true slash finds)
+    ∙ path_turn facts a.1.0 seen) in
+    again_tells facts place t a.0 again told q ne e a.2
+
+slash_tells : (facts : Facts) (place : List ℕ) (t : Texts) (next : Turn) (slash again : Exchange)
+    → facts.seen ≡ false → place_of_cwd t.text ≡ Some place → FindsSame Slash false slash
+    → again.question ≡ CwdAgain → has_path again.answer.error ≡ true → next ≡ Ask Slash
+    → Goes facts t next (slash ∷ again ∷ []) (Else place) → ⊥
+slash_tells facts place t next slash again seen told finds q ne is h =
+    let g = subst (λ (n : Turn). Goes facts t n (slash ∷ again ∷ []) (Else place)) is h in
+    let a = answered Slash facts t slash (again ∷ []) (Else place) finds.0.0 g.1 in
+    let e : a.0 ≡ Ask CwdAgain =
+    a.1.2 ∙ (cond-true (are_same slash.answer false) (ask_path facts a.1.0) (Ask SlashAgain) (found_same Slash false slash finds)
+    ∙ path_turn facts a.1.0 seen) in
+    again_tells facts place t a.0 again told q ne e a.2
+
+covered_tells : (facts : Facts) (place : List ℕ) (t : Texts) (next : Turn) (slash anew again : Exchange)
+    → facts.seen ≡ false → place_of_cwd t.text ≡ Some place
+    → Worked Slash slash → is_same_object slash.answer.held slash.answer.found false ≡ false → FindsSame SlashAgain true anew
+    → again.question ≡ CwdAgain → has_path again.answer.error ≡ true → next ≡ Ask Slash
+    → Goes facts t next (slash ∷ anew ∷ again ∷ []) (Else place) → ⊥
+covered_tells facts place t next slash anew again seen told worked other finds q ne is h =
+    let g = subst (λ (n : Turn). Goes facts t n (slash ∷ anew ∷ again ∷ []) (Else place)) is h in
+    let a = answered Slash facts t slash (anew ∷ again ∷ []) (Else place) worked.0 g.1 in
+    let same = is_same_object slash.answer.held slash.answer.found false in
+    let differ : are_same slash.answer false ≡ false =
+    ap (λ b. b && same) (eq-eqb slash.answer.error 0 worked.1) ∙ other in
+    let e : a.0 ≡ Ask SlashAgain = a.1.2 ∙ cond-false (are_same slash.answer false) (ask_path facts a.1.0) (Ask SlashAgain) differ in
+    slash_again_tells facts place t a.0 anew again seen told finds q ne e a.2
+
+cwd_tells : (facts : Facts) (place : List ℕ) (t : Texts) (next : Turn) (cwd again : Exchange) (which : List Exchange)
+    → facts.seen ≡ false → Worked Cwd cwd → place_of_cwd cwd.text ≡ Some place → AsksSlash place which
     → again.question ≡ CwdAgain → has_path again.answer.error ≡ true
-    → Conversation facts kept (enter ∷ cwd ∷ again ∷ []) (Else place) → ⊥
-enter_tells facts kept place enter cwd again jailed directory seen worked cwd_worked told q ne h =
+    → next ≡ Ask Cwd → Goes facts t next (cwd ∷ which ++ (again ∷ [])) (Else place) → ⊥
+cwd_tells facts place t next cwd again which seen worked told asks q ne is h =
+    let g = subst (λ (n : Turn). Goes facts t n (cwd ∷ which ++ (again ∷ [])) (Else place)) is h in
+    let a = answered Cwd facts t cwd (which ++ (again ∷ [])) (Else place) worked.0 g.1 in
+    let f = found_there cwd.text (place_of_cwd cwd.text) a.1.0 place a.1.1 told in
+    let alone : is_slash a.1.0 ≡ is_top place =
+    ap is_slash f.1 ∙ sym (ap (λ n. n == 1) (part_size cwd.text place f.0.start f.0.length f.2)) in
+    behind which asks (is_slash a.1.0) alone a.1.0 a.0 (a.1.2 ∙ cwd_turn facts cwd.answer.error a.1.0 worked.1) a.2
+  where
+    behind : (more : List Exchange) → AsksSlash place more → (alone : Bool) → alone ≡ is_top place
+        → (found : Option Place) (turn : Turn) → turn ≡ cond alone (Ask Slash) (ask_path facts found)
+        → Goes facts (keep Cwd cwd.text t) turn (more ++ (again ∷ [])) (Else place) → ⊥
+    behind [] plain alone is found turn e h =
+        again_tells facts place (keep Cwd cwd.text t) turn again told q ne
+        (e ∙ (cond-false alone (Ask Slash) (ask_path facts found) (is ∙ plain) ∙ path_turn facts found seen)) h
+    behind (x ∷ []) own alone is found turn e h =
+        slash_tells facts place (keep Cwd cwd.text t) turn x again seen told own.1 q ne
+        (e ∙ cond-true alone (Ask Slash) (ask_path facts found) (is ∙ own.0)) h
+    behind (x ∷ y ∷ []) own alone is found turn e h =
+        covered_tells facts place (keep Cwd cwd.text t) turn x y again seen told own.1 own.2 own.3 q ne
+        (e ∙ cond-true alone (Ask Slash) (ask_path facts found) (is ∙ own.0)) h
+    behind (x ∷ y ∷ z ∷ es) none alone is found turn e h = none
+
+enter_tells : (facts : Facts) (kept place : List ℕ) (enter cwd again : Exchange) (which : List Exchange)
+    → facts.jailed ≡ true → facts.directory ≡ true → facts.seen ≡ false
+    → Worked Enter enter → Worked Cwd cwd → place_of_cwd cwd.text ≡ Some place → AsksSlash place which
+    → again.question ≡ CwdAgain → has_path again.answer.error ≡ true
+    → Conversation facts kept (enter ∷ cwd ∷ which ++ (again ∷ [])) (Else place) → ⊥
+enter_tells facts kept place enter cwd again which jailed directory seen worked cwd_worked told asks q ne h =
     let t = texts_of kept [] [] in
-    let a = answered Enter facts t enter (cwd ∷ again ∷ []) (Else place) worked.0 h.1 in
+    let a = answered Enter facts t enter (cwd ∷ which ++ (again ∷ [])) (Else place) worked.0 h.1 in
     let e : a.0 ≡ Ask Cwd = a.1 ∙ cond-true (enter.answer.error == 0) (Ask Cwd) _ (eq-eqb enter.answer.error 0 worked.1) in
-    cwd_tells facts place t a.0 cwd again seen cwd_worked told q ne e a.2
+    cwd_tells facts place t a.0 cwd again which seen cwd_worked told asks q ne e a.2
 
 -- ---- without openat2(2)
 
@@ -250,54 +316,79 @@ root_again_tells facts place t next again last jailed second worked size told te
     ∙ cond-true (not facts.second) (confirm_alone facts f.0) _ (ap not second))) in
     tells t' a.0 f.0 here f.2 f.3 e a.2
 
-own_tells : (facts : Facts) (place : List ℕ) (t : Texts) (next : Turn) (own again last : Exchange)
-    → facts.jailed ≡ false → facts.second ≡ false → own.question ≡ OwnRoot → own.answer.yes ≡ true
+top_tells : (facts : Facts) (place : List ℕ) (t : Texts) (next : Turn) (top again last : Exchange)
+    → facts.jailed ≡ false → facts.second ≡ false → IsOwnParent top
     → Worked RootAgain again → length again.text ≤ TEXT_MAX → place_between t.root t.text again.text ≡ Some place
-    → LastTells facts place last → next ≡ Ask OwnRoot → Goes facts t next (own ∷ again ∷ last ∷ []) (Else place) → ⊥
-own_tells facts place t next own again last jailed second q own_yes worked size told tells is h =
-    let g = subst (λ (n : Turn). Goes facts t n (own ∷ again ∷ last ∷ []) (Else place)) is h in
-    let a = answered OwnRoot facts t own (again ∷ last ∷ []) (Else place) q g.1 in
-    let e : a.0 ≡ Ask RootAgain = a.1 ∙ cond-true own.answer.yes (Ask RootAgain) _ own_yes in
+    → LastTells facts place last → next ≡ Ask Top → Goes facts t next (top ∷ again ∷ last ∷ []) (Else place) → ⊥
+top_tells facts place t next top again last jailed second finds worked size told tells is h =
+    let g = subst (λ (n : Turn). Goes facts t n (top ∷ again ∷ last ∷ []) (Else place)) is h in
+    let a = answered Top facts t top (again ∷ last ∷ []) (Else place) finds.0.0 g.1 in
+    let e : a.0 ≡ Ask RootAgain =
+    a.1 ∙ cond-true (are_same top.answer true) (Ask RootAgain) (Unmade EOPNOTSUPP) (found_same Top true top finds) in
     root_again_tells facts place t a.0 again last jailed second worked size told tells e a.2
 
-object_alone_tells : (facts : Facts) (place : List ℕ) (t : Texts) (next : Turn) (object own again last : Exchange)
+own_tells : (facts : Facts) (place : List ℕ) (t : Texts) (next : Turn) (own again last : Exchange) (top : List Exchange)
+    → facts.jailed ≡ false → facts.second ≡ false → own.question ≡ OwnRoot → own.answer.yes ≡ true → AsksTop t.root top
+    → Worked RootAgain again → length again.text ≤ TEXT_MAX → place_between t.root t.text again.text ≡ Some place
+    → LastTells facts place last → next ≡ Ask OwnRoot
+    → Goes facts t next (own ∷ top ++ (again ∷ last ∷ [])) (Else place) → ⊥
+own_tells facts place t next own again last top jailed second q own_yes asks worked size told tells is h =
+    let g = subst (λ (n : Turn). Goes facts t n (own ∷ top ++ (again ∷ last ∷ [])) (Else place)) is h in
+    let a = answered OwnRoot facts t own (top ++ (again ∷ last ∷ [])) (Else place) q g.1 in
+    let e : a.0 ≡ cond (is_top t.root) (Ask Top) (Ask RootAgain) =
+    a.1 ∙ cond-false (not own.answer.yes) (Unmade EOPNOTSUPP) _ (ap not own_yes) in
+    behind top asks a.0 e a.2
+  where
+    behind : (more : List Exchange) → AsksTop t.root more → (turn : Turn) → turn ≡ cond (is_top t.root) (Ask Top) (Ask RootAgain)
+        → Goes facts t turn (more ++ (again ∷ last ∷ [])) (Else place) → ⊥
+    behind [] plain turn e h =
+        root_again_tells facts place t turn again last jailed second worked size told tells
+        (e ∙ cond-false (is_top t.root) (Ask Top) (Ask RootAgain) plain) h
+    behind (x ∷ []) is_own turn e h =
+        top_tells facts place t turn x again last jailed second is_own.1 worked size told tells
+        (e ∙ cond-true (is_top t.root) (Ask Top) (Ask RootAgain) is_own.0) h
+    behind (x ∷ y ∷ es) none turn e h = none
+
+object_alone_tells : (facts : Facts) (place : List ℕ) (t : Texts) (next : Turn) (object own again last : Exchange) (top : List Exchange)
     → facts.jailed ≡ false → facts.second ≡ false → Worked ObjectLink object
-    → own.question ≡ OwnRoot → own.answer.yes ≡ true → Worked RootAgain again → length again.text ≤ TEXT_MAX
+    → own.question ≡ OwnRoot → own.answer.yes ≡ true → AsksTop t.root top
+    → Worked RootAgain again → length again.text ≤ TEXT_MAX
     → place_between t.root object.text again.text ≡ Some place → LastTells facts place last
-    → next ≡ Ask ObjectLink → Goes facts t next (object ∷ own ∷ again ∷ last ∷ []) (Else place) → ⊥
-object_alone_tells facts place t next object own again last jailed second read q own_yes worked size told tells is h =
-    let g = subst (λ (n : Turn). Goes facts t n (object ∷ own ∷ again ∷ last ∷ []) (Else place)) is h in
-    let a = answered ObjectLink facts t object (own ∷ again ∷ last ∷ []) (Else place) read.0 g.1 in
+    → next ≡ Ask ObjectLink → Goes facts t next (object ∷ own ∷ top ++ (again ∷ last ∷ [])) (Else place) → ⊥
+object_alone_tells facts place t next object own again last top jailed second read q own_yes asks worked size told tells is h =
+    let g = subst (λ (n : Turn). Goes facts t n (object ∷ own ∷ top ++ (again ∷ last ∷ [])) (Else place)) is h in
+    let a = answered ObjectLink facts t object (own ∷ top ++ (again ∷ last ∷ [])) (Else place) read.0 g.1 in
     let error = link_error object.answer.error object.text in
     let fine = link_fine object.answer.error object.text read.1 (short t.root object.text again.text place told) in
     let e : a.0 ≡ Ask OwnRoot =
     a.1.2 ∙ (cond-false (not (error == 0)) (Unmade error) _ (zero_error error fine)
     ∙ cond-false (facts.jailed || facts.second) (confirm facts a.1.0) (Ask OwnRoot) (or_from facts.jailed facts.second jailed second)) in
-    own_tells facts place (keep ObjectLink object.text t) a.0 own again last jailed second q own_yes worked size told tells e a.2
+    own_tells facts place (keep ObjectLink object.text t) a.0 own again last top jailed second q own_yes asks worked size told tells e a.2
 
-alone_tells : (facts : Facts) (kept place : List ℕ) (root object own again last : Exchange)
+alone_tells : (facts : Facts) (kept place : List ℕ) (root object own again last : Exchange) (top : List Exchange)
     → facts.jailed ≡ false → facts.second ≡ false
     → Worked RootLink root → length root.text ≤ TEXT_MAX → Worked ObjectLink object
-    → own.question ≡ OwnRoot → own.answer.yes ≡ true → Worked RootAgain again → length again.text ≤ TEXT_MAX
+    → own.question ≡ OwnRoot → own.answer.yes ≡ true → AsksTop root.text top
+    → Worked RootAgain again → length again.text ≤ TEXT_MAX
     → place_between root.text object.text again.text ≡ Some place → LastTells facts place last
-    → Conversation facts kept (root ∷ object ∷ own ∷ again ∷ last ∷ []) (Else place) → ⊥
-alone_tells facts kept place root object own again last jailed second read size object_read q own_yes worked again_size told tells h =
+    → Conversation facts kept (root ∷ object ∷ own ∷ top ++ (again ∷ last ∷ [])) (Else place) → ⊥
+alone_tells facts kept place root object own again last top jailed second read size object_read q own_yes asks worked again_size told tells h =
     let t = texts_of kept [] [] in
-    let a = answered RootLink facts t root (object ∷ own ∷ again ∷ last ∷ []) (Else place) read.0 h.1 in
+    let a = answered RootLink facts t root (object ∷ own ∷ top ++ (again ∷ last ∷ [])) (Else place) read.0 h.1 in
     let fine = link_fine root.answer.error root.text read.1 size in
     let e : a.0 ≡ Ask ObjectLink =
     a.1 ∙ cond-true (link_error root.answer.error root.text == 0) (Ask ObjectLink) _ (eq-eqb (link_error root.answer.error root.text) 0 fine) in
-    object_alone_tells facts place (keep RootLink root.text t) a.0 object own again last jailed second object_read q own_yes worked again_size told tells e a.2
+    object_alone_tells facts place (keep RootLink root.text t) a.0 object own again last top jailed second object_read q own_yes asks worked again_size told tells e a.2
 
 pub agreeing-witnesses-are-told : AgreeingWitnessesAreTold
 agreeing-witnesses-are-told = (
   root_tells,
   enter_tells,
-  (λ facts kept place root object own again which jailed second top read size object_read q yes worked again_size told finds.
-      alone_tells facts kept place root object own again which jailed second read size object_read q yes worked again_size told
-      (which_tells facts place which jailed top finds)),
-  (λ facts kept place root object own again link jailed second top there read size object_read q yes worked again_size told
+  (λ facts kept place root object own again which top jailed second is read size object_read q yes asks worked again_size told finds.
+      alone_tells facts kept place root object own again which top jailed second read size object_read q yes asks worked again_size told
+      (which_tells facts place which jailed is finds)),
+  (λ facts kept place root object own again link top jailed second is there read size object_read q yes asks worked again_size told
       link_read link_size named.
-      alone_tells facts kept place root object own again link jailed second read size object_read q yes worked again_size told
-      (link_tells facts place link top there (link_read, link_size, named))),
+      alone_tells facts kept place root object own again link top jailed second read size object_read q yes asks worked again_size told
+      (link_tells facts place link is there (link_read, link_size, named))),
 )

@@ -1,17 +1,17 @@
 -- Where the text is the one witness.
-use Rattle.std.proofs.Common.{◌≡◌, ◌==◌, ◌&&◌, ◌||◌, ℕ, Bool, true, false, not, List, [], ◌∷◌, Option, Some, None, refl, sym, ap, subst, ◌∙◌, inl, inr}
-use Rattle.std.proofs.lemmas.Bool.{eqb-true, not-true, or_left, true≢false, false≢true, and_parts, or_from}
+use Rattle.std.proofs.Common.{◌≡◌, ◌==◌, ◌&&◌, ◌||◌, ℕ, Bool, true, false, not, List, [], ◌∷◌, Option, Some, None, refl, sym, ap, subst, ◌∙◌, inl, inr, ◌⊎◌, cond}
+use Rattle.std.proofs.lemmas.Bool.{eqb-true, not-true, or_left, true≢false, false≢true, and_parts, or_from, not-false}
 use Rattle.path_text.specs.declared.name.TheConstants.{SLASH}
 use Rattle.system_calls.specs.Errors.{EAGAIN, EOPNOTSUPP}
 use Rattle.kernel_text.specs.Place.{ends_as_gone, is_named, place_between, IsPart}
 use Rattle.kernel_text.specs.declared.place.Place.{Place}
 use Rattle.system_calls.specs.Objects.{is_same_object}
 use Rattle.place_protocol.specs.Conversation.{Comes, Exchange, StandsAt, keep}
-use Rattle.place_protocol.specs.Texts.{Texts, Finds, bytes_of, place_before, place_of}
-use Rattle.place_protocol.specs.Turns.{after_dead, after_is_root, after_link_again, after_object, after_root_again, ask_there, confirm, confirm_alone, is_root, link_error, look_up_error}
-use Rattle.place_protocol.specs.Witness.{FindsRoot, IsAlive, IsThere, NamedAgain, RootStayed, TextTells, Worked, is_top}
+use Rattle.place_protocol.specs.Texts.{Texts, Finds, bytes_of, place_before, place_of, is_top}
+use Rattle.place_protocol.specs.Turns.{after_dead, after_is_root, after_link_again, after_object, after_root_again, ask_there, confirm, confirm_alone, is_root, link_error, look_up_error, are_same}
+use Rattle.place_protocol.specs.Witness.{FindsRoot, IsAlive, IsThere, NamedAgain, RootStayed, TextTells, Worked, IsOwnParent}
 use Rattle.place_protocol.specs.declared.questions.Facts.{Facts}
-use Rattle.place_protocol.specs.declared.questions.Question.TheVariants.{RootLink, ObjectLink, OwnRoot, RootAgain, LinkAgain, Dead, IsRoot}
+use Rattle.place_protocol.specs.declared.questions.Question.TheVariants.{RootLink, ObjectLink, OwnRoot, RootAgain, LinkAgain, Dead, IsRoot, Top}
 use Rattle.place_protocol.specs.declared.turns.Turn.TheVariants.{Ask, Stands, Unmade}
 use Rattle.place_protocol.proofs.GoesLemmas.{Ends, asked, either, if_not, if_so, link_worked, no_error, not_so, so, stood, turned, unmade}
 use Rattle.place_protocol.proofs.TextLemmas.{found_part, is_found, part_size, some_found, told_alone, told_before, told_in_jail}
@@ -220,21 +220,40 @@ again place r facts t (e ∷ es) second jailed h =
     let t' = keep RootAgain e.text t in
     again_of place r facts t' e es a.1.1.0 second jailed a.0 refl a.1.1.1 (turned place r facts t' a.1.0 _ es a.1.1.2 a.1.2)
 
+-- the root, if its path is a slash alone, was its own parent
+abbrev InMount : List ℕ → List Exchange → Type 0
+InMount root es = (is_top root ≡ false) ⊎ Comes (λ p _. IsOwnParent p) es
+
+top : (place : List ℕ) (r : Bool) (facts : Facts) (t : Texts) (es : List Exchange) → facts.second ≡ false
+    → facts.jailed ≡ false → Ends place r facts t (Ask Top) es → Comes (λ p _. IsOwnParent p) es × Again facts place t es
+top place r facts t [] second jailed h = absurd h
+top place r facts t (e ∷ es) second jailed h =
+    let a = asked Top facts t e es (StandsAt place r) h in
+    let n = if_so place r facts t (are_same e.answer true) (Ask RootAgain) EOPNOTSUPP es (turned place r facts t a.1.0 _ es a.1.1 a.1.2) in
+    let b = and_parts (e.answer.error == 0) (is_same_object e.answer.held e.answer.found true) n.0 in
+    (inl ((a.0, eqb-true e.answer.error 0 b.0), b.1), inr (again place r facts t es second jailed n.1))
+
 abbrev Own : Facts → List ℕ → Texts → List Exchange → Type 0
-Own facts place t = Comes (λ m last. (m.question ≡ OwnRoot) × (m.answer.yes ≡ true) × Again facts place t last)
+Own facts place t =
+    Comes (λ m last. (m.question ≡ OwnRoot) × (m.answer.yes ≡ true) × InMount t.root last × Again facts place t last)
 
 own : (place : List ℕ) (r : Bool) (facts : Facts) (t : Texts) (es : List Exchange) → facts.second ≡ false
     → facts.jailed ≡ false → Ends place r facts t (Ask OwnRoot) es → Own facts place t es
 own place r facts t [] second jailed h = absurd h
 own place r facts t (e ∷ es) second jailed h =
     let a = asked OwnRoot facts t e es (StandsAt place r) h in
-    let n = if_so place r facts t e.answer.yes (Ask RootAgain) EOPNOTSUPP es (turned place r facts t a.1.0 _ es a.1.1 a.1.2) in
-    inl (a.0, n.0, again place r facts t es second jailed n.1)
+    let tops = cond (is_top t.root) (Ask Top) (Ask RootAgain) in
+    let n = if_not place r facts t (not e.answer.yes) tops EOPNOTSUPP es (turned place r facts t a.1.0 _ es a.1.1 a.1.2) in
+    let yes = not-false e.answer.yes n.0 in
+    elim (either place r facts t (is_top t.root) (Ask Top) (Ask RootAgain) es n.1) [
+      | inl c ↦ let p = top place r facts t es second jailed c.1 in inl (a.0, yes, inr p.0, p.1)
+      | inr c ↦ inl (a.0, yes, inl c.0, again place r facts t es second jailed c.1)
+    ]
 
 abbrev Object : Facts → List ℕ → List ℕ → List Exchange → Type 0
 Object facts place root =
     Comes (λ o later. Worked ObjectLink o
-    × Comes (λ m last. (m.question ≡ OwnRoot) × (m.answer.yes ≡ true)
+    × Comes (λ m last. (m.question ≡ OwnRoot) × (m.answer.yes ≡ true) × InMount root last
     × Comes (λ a end. Worked RootAgain a × (place_between root o.text a.text ≡ Some place)
     × Confirmed (IsThere facts place) (is_top place) end) last) later)
 

@@ -7,9 +7,9 @@ use Rattle.kernel_text.specs.Place.{place_between, IsPart}
 use Rattle.kernel_text.specs.declared.place.Place.{Place}
 use Rattle.system_calls.specs.Objects.{is_same_object}
 use Rattle.place_protocol.specs.Conversation.{Comes, Exchange, StandsAt, keep}
-use Rattle.place_protocol.specs.Texts.{Texts, Finds, path_of_root, place_of}
+use Rattle.place_protocol.specs.Texts.{Texts, Finds, path_of_root, place_of, is_top}
 use Rattle.place_protocol.specs.Turns.{after_found, after_look_up, after_object, ask_there, confirm, confirm_alone, confirm_place, facts_after, first_link, has_found, is_root, link_error, look_up_error, without_second}
-use Rattle.place_protocol.specs.Witness.{IsThere, RootStayed, SecondWitness, TextTells, WasThere, Worked, is_top}
+use Rattle.place_protocol.specs.Witness.{IsThere, RootStayed, SecondWitness, TextTells, WasThere, Worked}
 use Rattle.place_protocol.specs.declared.questions.Facts.{Facts}
 use Rattle.place_protocol.specs.declared.questions.Question.{Question}
 use Rattle.place_protocol.specs.declared.questions.Question.TheVariants.{RootLink, ObjectLink, OwnRoot, LookUp}

@@ -1,16 +1,18 @@
 -- What answers say of the file system.
-use Rattle.std.proofs.Common.{◌≡◌, ◌+◌, ◌<◌, ◌≤◌, ◌==◌, ◌&&◌, ◌||◌, ℕ, Bool, true, false, not, zero, suc, ◌-◌, List, [], ◌∷◌, length, take, drop, nat_lt, Some, None, refl, sym, ap, subst, ◌∙◌, ◌⊎◌, inl, inr, arith}
+use Rattle.std.proofs.Common.{◌≡◌, ◌+◌, ◌<◌, ◌≤◌, ◌==◌, ◌&&◌, ◌||◌, ℕ, Bool, true, false, not, zero, suc, ◌-◌, List, [], ◌∷◌, length, take, drop, nat_lt, Some, None, refl, sym, ap, subst, ◌∙◌, ◌⊎◌, inl, inr, arith, nat_eq}
 use Rattle.std.proofs.lemmas.Bool.{both_ways, cond_both, eqb-true, false_from_ne_true, false≢true, not-false, and_parts}
 use Rattle.std.specs.Cmp.Derive.{both_true}
+use Rattle.std.specs.List.{ends_with}
 use Rattle.path_text.specs.declared.name.TheConstants.{SLASH}
-use Rattle.path_text.specs.Name.{same_bytes}
+use Rattle.path_text.specs.Name.{same_bytes, NUL}
 use Rattle.path_text.specs.Text.{begins_with_slash}
 use Rattle.path_text.specs.declared.path.TheConstants.{TEXT_MAX}
-use Rattle.kernel_text.specs.Place.{behind, ends_as_gone, place_below, place_between}
+use Rattle.kernel_text.specs.Place.{behind, ends_as_gone, place_below, place_between, but_last, place_of_cwd}
 use Rattle.place_protocol.specs.Conversation.{Comes, Exchange}
 use Rattle.place_protocol.specs.Moments.{AreAnswers, IsAnswer, PlacesStood, PlacesWerePassed, ReadsLink, StaysGone, TextsTell, World}
+use Rattle.place_protocol.specs.Texts.{is_top}
 use Rattle.place_protocol.specs.Turns.{has_path}
-use Rattle.place_protocol.specs.Witness.{DirectoryTells, FindsObject, FindsRoot, FirstWitness, below_slash, below_kept, below_link, HasNoSecond, IsAlive, IsThere, IsWitnessed, by_directory, by_both, by_seen, in_old_jail, by_text, root_itself, NamedAgain, RootStayed, SecondWitness, TextTells, WasThere, Worked, is_top}
+use Rattle.place_protocol.specs.Witness.{DirectoryTells, FindsObject, FindsRoot, FirstWitness, below_slash, below_kept, below_link, HasNoSecond, IsAlive, IsThere, IsWitnessed, by_directory, by_both, by_seen, in_old_jail, by_text, root_itself, NamedAgain, RootStayed, SecondWitness, TextTells, WasThere, Worked}
 use Rattle.place_protocol.specs.declared.questions.Facts.{Facts}
 use Rattle.place_protocol.specs.declared.questions.Question.{Question}
 use Rattle.place_protocol.specs.declared.questions.Question.TheVariants.{CwdAgain, KeptLink, RootLink, ObjectLink, LookUp}
@@ -97,13 +99,6 @@ cwd_there : (w : World) (facts : Facts) (k : ℕ) (later : List Exchange) → w.
 cwd_there w facts k later before rest (inl seen) = inl (seen, before)
 cwd_there w facts k later before rest (inr c) =
     let r = at _ w facts (k + 1) later c rest in inr (r.k, omega (arith, r.from), r.answer.again r.is.0 r.is.1)
-
-directory : (w : World) (facts : Facts) (place : List ℕ) (es : List Exchange) → StaysGone w → AreAnswers w facts 0 es
-    → DirectoryTells facts place es → Stood w facts place (length es)
-directory w facts place es stays answers c =
-    let r = at _ w facts 0 es c answers in
-    settled w facts place r.k (length es) stays (omega (arith, r.size)) (r.answer.cwd place r.is.0 r.is.1)
-    (cwd_there w facts r.k r.later (r.answer.cwd_before r.is.0) r.rest r.is.2)
 
 -- ---- what comes behind a text
 
@@ -217,7 +212,7 @@ alone_stood w facts kept place es reads answers c =
     let r = at _ w facts 0 es c answers in
     let o = at _ w facts (r.k + 1) r.later r.is.1 r.rest in
     let m = at _ w facts (o.k + 1) o.later o.is.1 o.rest in
-    let a = at _ w facts (m.k + 1) m.later m.is.2 m.rest in
+    let a = at _ w facts (m.k + 1) m.later m.is.3 m.rest in
     let path = reads.tell.path in
     let before = r.answer.root_link r.is.0 ∙ reads.tell.stays r.k in
     let after = a.answer.root_again a.is.0 ∙ reads.tell.stays a.k in
@@ -278,6 +273,28 @@ first_slash facts kept place After es (below_slash j c) top = text_slash ObjectL
 first_slash facts kept place After es (below_kept j k c) top = text_slash KeptLink kept place After es c top
 first_slash facts kept place After es (below_link j c) top = link_slash place After es c top
 
+cwd_slash : (text place : List ℕ) → place_of_cwd text ≡ Some place → is_top place ≡ true → place ≡ SLASH ∷ []
+cwd_slash text place e top =
+    cond_both (ends_with nat_eq text (NUL ∷ [])) (place_between (SLASH ∷ []) (but_last text) (SLASH ∷ [])) None
+    (λ o. o ≡ Some place → place ≡ SLASH ∷ []) (λ _ f. slash (SLASH ∷ []) (but_last text) (SLASH ∷ []) place f top)
+    (λ _ f. absurd cc) e
+
+-- in a jail it was found to be the root; any other directory has its own path
+directory : (w : World) (facts : Facts) (place : List ℕ) (es : List Exchange) → StaysGone w → AreAnswers w facts 0 es
+    → DirectoryTells facts place es → (top : Bool) → is_top place ≡ top → Stood w facts place (length es)
+directory w facts place es stays answers c true top =
+    let r = at _ w facts 0 es c answers in
+    elim r.is.2 [
+      | inl plain ↦ absurd (both_ways (is_top place) plain top)
+      | inr own ↦
+          let o = at _ w facts (r.k + 1) r.later own r.rest in
+          (o.k, omega (arith, o.size, r.size), inl (ap (w.stands o.k) (cwd_slash r.e.text place r.is.1 top) ∙ o.answer.own_root o.is))
+    ]
+directory w facts place es stays answers c false top =
+    let r = at _ w facts 0 es c answers in
+    settled w facts place r.k (length es) stays (omega (arith, r.size)) (r.answer.cwd place r.is.0 r.is.1 top)
+    (cwd_there w facts r.k r.later (r.answer.cwd_before r.is.0) r.rest r.is.3)
+
 -- which objects both are was asked last
 root_stood : (w : World) (facts : Facts) (place : List ℕ) (es : List Exchange) → is_top place ≡ true → AreAnswers w facts 0 es
     → RootStayed place (Comes (λ e _. FindsRoot e)) es → Stood w facts place (length es)
@@ -285,7 +302,7 @@ root_stood w facts place es top answers c =
     let r = at _ w facts 0 es c answers in
     let o = at _ w facts (r.k + 1) r.later r.is.1 r.rest in
     let m = at _ w facts (o.k + 1) o.later o.is.1 o.rest in
-    let a = at _ w facts (m.k + 1) m.later m.is.2 m.rest in
+    let a = at _ w facts (m.k + 1) m.later m.is.3 m.rest in
     let f = at _ w facts (a.k + 1) a.later a.is.2 a.rest in
     let is = slash r.e.text o.e.text a.e.text place a.is.1 top in (
       f.k,
@@ -373,7 +390,8 @@ both_stood w facts kept place es stays tell answers f false top =
 witnessed_stood : (w : World) (facts : Facts) (kept place : List ℕ) (es : List Exchange) → StaysGone w → AreAnswers w facts 0 es
     → (ReadsLink es → TextsTell w facts kept) → IsWitnessed facts kept es place
     → Stood w facts place (length es)
-witnessed_stood w facts kept place es stays answers tell (by_directory j d c) = directory w facts place es stays answers c
+witnessed_stood w facts kept place es stays answers tell (by_directory j d c) =
+    directory w facts place es stays answers c (is_top place) refl
 witnessed_stood w facts kept place es stays answers tell (by_both s f) =
     both_stood w facts kept place es stays (tell (first_read facts kept place es (SecondWitness facts place) f)) answers f (is_top place) refl
 witnessed_stood w facts kept place es stays answers tell (by_seen s v top f) =

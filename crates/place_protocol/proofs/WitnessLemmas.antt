@@ -1,21 +1,22 @@
 -- Each place is witnessed.
-use Rattle.std.proofs.Common.{◌≡◌, ◌==◌, ◌&&◌, ℕ, Bool, true, false, not, cond, List, [], ◌∷◌, Option, Some, None, refl, ap, subst, ◌∙◌, inl, inr}
+use Rattle.std.proofs.Common.{◌≡◌, ◌==◌, ◌&&◌, ℕ, Bool, true, false, not, cond, List, [], ◌∷◌, Option, Some, None, refl, ap, subst, ◌∙◌, inl, inr, ◌⊎◌}
 use Rattle.std.proofs.lemmas.Bool.{cond-true, cond-false, eqb-true, and_parts}
 use Rattle.path_text.specs.declared.name.TheConstants.{SLASH}
 use Rattle.system_calls.specs.Errors.{ENOENT, EACCES}
+use Rattle.system_calls.specs.Objects.{is_same_object}
 use Rattle.kernel_text.specs.Place.{place_of_cwd}
 use Rattle.kernel_text.specs.declared.place.Place.{Place}
 use Rattle.place_protocol.specs.Conversation.{Comes, Exchange, StandsAt, keep}
-use Rattle.place_protocol.specs.Texts.{Texts, Finds, place_of, texts_of}
-use Rattle.place_protocol.specs.Turns.{after_cwd, after_cwd_again, after_enter, after_kept, confirm_place, first_link, has_path, in_jail, is_root}
-use Rattle.place_protocol.specs.Witness.{DirectoryTells, FirstWitness, below_slash, below_kept, below_link, IsWitnessed, by_directory, by_both, by_seen, in_old_jail, by_text, root_itself, HasNoSecond, IsThere, PlacesAreWitnessed, RootStayed, SecondWitness, TextTells, WasThere, is_top}
+use Rattle.place_protocol.specs.Texts.{Texts, Finds, place_of, texts_of, is_top}
+use Rattle.place_protocol.specs.Turns.{after_cwd, after_cwd_again, after_enter, after_kept, confirm_place, first_link, has_path, in_jail, is_root, after_slash, after_slash_again, are_same, ask_path, is_slash, look_up_error}
+use Rattle.place_protocol.specs.Witness.{DirectoryTells, FirstWitness, below_slash, below_kept, below_link, IsWitnessed, by_directory, by_both, by_seen, in_old_jail, by_text, root_itself, HasNoSecond, IsThere, PlacesAreWitnessed, RootStayed, SecondWitness, TextTells, WasThere, IsOwnRoot}
 use Rattle.place_protocol.specs.declared.questions.Facts.{Facts}
-use Rattle.place_protocol.specs.declared.questions.Question.TheVariants.{Enter, Cwd, CwdAgain, KeptLink, RootLink, ObjectLink}
+use Rattle.place_protocol.specs.declared.questions.Question.TheVariants.{Enter, Cwd, CwdAgain, KeptLink, RootLink, ObjectLink, Slash, SlashAgain}
 use Rattle.place_protocol.specs.declared.turns.Turn.TheVariants.{Ask, Unmade}
-use Rattle.place_protocol.proofs.AloneLemmas.{Confirmed, jail_alone, root_stayed}
+use Rattle.place_protocol.proofs.AloneLemmas.{Confirmed, jail_alone, root_stayed, top_of}
 use Rattle.place_protocol.proofs.BothLemmas.{Lost, Reached, reached_both, reached_seen, reached_lost, by_place, object, root, told_by}
-use Rattle.place_protocol.proofs.GoesLemmas.{Ends, asked, either, if_here, if_not, no_error, nowhere, stood, turned, unmade}
-use Rattle.place_protocol.proofs.TextLemmas.{some_found}
+use Rattle.place_protocol.proofs.GoesLemmas.{Ends, asked, either, if_here, if_not, no_error, nowhere, stood, turned, unmade, if_so}
+use Rattle.place_protocol.proofs.TextLemmas.{some_found, found_part}
 
 -- ---- getcwd(2)
 
@@ -44,18 +45,89 @@ cwd_again place r facts t (e ∷ es) h =
     let a = asked CwdAgain facts t e es (StandsAt place r) h in
     cwd_again_of place r facts t e es a.1.1.0 a.0 a.1.1.1 (turned place r facts t a.1.0 _ es a.1.1.2 a.1.2)
 
+-- it had a path still, or was seen right before
+abbrev HasPath : Facts → List Exchange → Type 0
+HasPath facts es =
+    (facts.seen ≡ true) ⊎ Comes (λ a _. (a.question ≡ CwdAgain) × (has_path a.answer.error ≡ true)) es
+
+later : (facts : Facts) (e : Exchange) (es : List Exchange) → HasPath facts es → HasPath facts (e ∷ es)
+later facts e es had = elim had [ inl s ↦ inl s | inr c ↦ inr (inr c) ]
+
+path_asked : (place : List ℕ) (r : Bool) (facts : Facts) (t : Texts) (es : List Exchange) (found : Option Place)
+    → Finds t.text (place_of_cwd t.text) found → Ends place r facts t (ask_path facts found) es
+    → HasPath facts es × (place_of_cwd t.text ≡ Some place)
+path_asked place r facts t es found finds h =
+    elim (either place r facts t facts.seen (in_jail found) (Ask CwdAgain) es h) [
+      | inl c ↦ (inl c.0, named_cwd place r facts t es found finds c.1)
+      | inr c ↦ let a = cwd_again place r facts t es c.1 in (inr a.0, a.1)
+    ]
+
+-- ---- a slash alone
+
+-- the directory was the thread's own root
+abbrev OwnTells : Facts → List ℕ → Texts → List Exchange → Type 0
+OwnTells facts place t es = Comes (λ r _. IsOwnRoot r) es × HasPath facts es × (place_of_cwd t.text ≡ Some place)
+
+slash_again_of : (place : List ℕ) (r : Bool) (facts : Facts) (t : Texts) (e : Exchange) (es : List Exchange) (found : Option Place)
+    → e.question ≡ SlashAgain → Finds t.text (place_of_cwd t.text) found
+    → Ends place r facts t (after_slash_again facts e.answer found) es → OwnTells facts place t (e ∷ es)
+slash_again_of place r facts t e es found q finds h =
+    let n = if_so place r facts t (are_same e.answer true) (ask_path facts found) (look_up_error e.answer.error) es h in
+    let b = and_parts (e.answer.error == 0) (is_same_object e.answer.held e.answer.found true) n.0 in
+    let p = path_asked place r facts t es found finds n.1 in
+    (inl (inr ((q, eqb-true e.answer.error 0 b.0), b.1)), later facts e es p.0, p.1)
+
+slash_again : (place : List ℕ) (r : Bool) (facts : Facts) (t : Texts) (es : List Exchange)
+    → Ends place r facts t (Ask SlashAgain) es → OwnTells facts place t es
+slash_again place r facts t [] h = absurd h
+slash_again place r facts t (e ∷ es) h =
+    let a = asked SlashAgain facts t e es (StandsAt place r) h in
+    slash_again_of place r facts t e es a.1.1.0 a.0 a.1.1.1 (turned place r facts t a.1.0 _ es a.1.1.2 a.1.2)
+
+slash_of : (place : List ℕ) (r : Bool) (facts : Facts) (t : Texts) (e : Exchange) (es : List Exchange) (found : Option Place)
+    → e.question ≡ Slash → Finds t.text (place_of_cwd t.text) found
+    → Ends place r facts t (after_slash facts e.answer found) es → OwnTells facts place t (e ∷ es)
+slash_of place r facts t e es found q finds h =
+    elim (either place r facts t (are_same e.answer false) (ask_path facts found) (Ask SlashAgain) es h) [
+      | inl c ↦
+          let b = and_parts (e.answer.error == 0) (is_same_object e.answer.held e.answer.found false) c.0 in
+          let p = path_asked place r facts t es found finds c.1 in
+          (inl (inl ((q, eqb-true e.answer.error 0 b.0), b.1)), later facts e es p.0, p.1)
+      | inr c ↦ let s = slash_again place r facts t es c.1 in (inr s.0, later facts e es s.1, s.2)
+    ]
+
+slash : (place : List ℕ) (r : Bool) (facts : Facts) (t : Texts) (es : List Exchange) → Ends place r facts t (Ask Slash) es
+    → OwnTells facts place t es
+slash place r facts t [] h = absurd h
+slash place r facts t (e ∷ es) h =
+    let a = asked Slash facts t e es (StandsAt place r) h in
+    slash_of place r facts t e es a.1.1.0 a.0 a.1.1.1 (turned place r facts t a.1.0 _ es a.1.1.2 a.1.2)
+
+-- it is one where what was found is
+top_cwd : (text : List ℕ) (o : Option (List ℕ)) (place : List ℕ) (found : Option Place) → Finds text o found → o ≡ Some place
+    → is_top place ≡ is_slash found
+top_cwd text None place found finds told = absurd cc
+top_cwd text (Some p) place None finds told = absurd finds
+top_cwd text (Some p) place (Some found) finds told =
+    top_of text place found (found_part text (Some p) found place finds told).0
+
+-- ---- the first getcwd(2)
+
 cwd_of : (place : List ℕ) (r : Bool) (facts : Facts) (t : Texts) (e : Exchange) (es : List Exchange) (found : Option Place)
     → e.question ≡ Cwd → e.text ≡ t.text → Finds t.text (place_of_cwd t.text) found
     → Ends place r facts t (after_cwd facts e.answer.error found) es → DirectoryTells facts place (e ∷ es)
 cwd_of place r facts t e es found q same finds h =
     let n = if_here place r facts t (e.answer.error == ENOENT) _ es h in
-    let m = if_not place r facts t (not (e.answer.error == 0)) (cond facts.seen (in_jail found) (Ask CwdAgain)) e.answer.error es n.1 in
+    let m = if_not place r facts t (not (e.answer.error == 0)) (cond (is_slash found) (Ask Slash) (ask_path facts found)) e.answer.error es n.1 in
     let worked = no_error e.answer.error m.0 in
-    elim (either place r facts t facts.seen (in_jail found) (Ask CwdAgain) es m.1) [
-      | inl c ↦ inl ((q, worked), ap place_of_cwd same ∙ named_cwd place r facts t es found finds c.1, inl c.0)
+    elim (either place r facts t (is_slash found) (Ask Slash) (ask_path facts found) es m.1) [
+      | inl c ↦
+          let s = slash place r facts t es c.1 in
+          inl ((q, worked), ap place_of_cwd same ∙ s.2, inr s.0, s.1)
       | inr c ↦
-          let a = cwd_again place r facts t es c.1 in
-          inl ((q, worked), ap place_of_cwd same ∙ a.1, inr a.0)
+          let p = path_asked place r facts t es found finds c.1 in
+          let top = top_cwd t.text (place_of_cwd t.text) place found finds p.1 in
+          inl ((q, worked), ap place_of_cwd same ∙ p.1, inl (top ∙ c.0), p.0)
     ]
 
 cwd : (place : List ℕ) (r : Bool) (facts : Facts) (t : Texts) (es : List Exchange) → Ends place r facts t (Ask Cwd) es

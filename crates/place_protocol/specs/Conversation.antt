@@ -6,7 +6,7 @@ use Rattle.place_protocol.specs.Turns.{facts_after, first, Follows}
 use Rattle.place_protocol.specs.declared.questions.Answer.{Answer}
 use Rattle.place_protocol.specs.declared.questions.Facts.{Facts}
 use Rattle.place_protocol.specs.declared.questions.Question.{Question}
-use Rattle.place_protocol.specs.declared.questions.Question.TheVariants.{Enter, Cwd, CwdAgain, KeptLink, RootLink, ObjectLink, OwnRoot, RootAgain, LookUp, LinkAgain, Dead, IsRoot}
+use Rattle.place_protocol.specs.declared.questions.Question.TheVariants.{Enter, Cwd, CwdAgain, KeptLink, RootLink, ObjectLink, OwnRoot, RootAgain, LookUp, LinkAgain, Dead, IsRoot, Slash, SlashAgain, Top}
 use Rattle.place_protocol.specs.declared.turns.Turn.{Turn}
 use Rattle.place_protocol.specs.declared.turns.Turn.TheVariants.{Ask, Look, Stands, Nowhere, Unmade}
 
@@ -31,6 +31,9 @@ keep OwnRoot text t = t
 keep LookUp text t = t
 keep Dead text t = t
 keep IsRoot text t = t
+keep Slash text t = t
+keep SlashAgain text t = t
+keep Top text t = t
 
 -- the question that was due is asked; a look-up, by just the names of the place
 abbrev pub IsAsked : Texts → Turn → Exchange → Type 0

@@ -4,8 +4,9 @@ use Rattle.std.specs.Prelude.{◌≡◌, ◌⊎◌, ◌+◌, ◌<◌, ◌&&◌, 
 use Rattle.path_text.specs.declared.name.TheConstants.{SLASH}
 use Rattle.kernel_text.specs.Place.{ends_as_gone, place_between, place_of_cwd}
 use Rattle.place_protocol.specs.Conversation.{Comes, Conversation, Exchange, StandsAt}
+use Rattle.place_protocol.specs.Texts.{is_top}
 use Rattle.place_protocol.specs.Turns.{has_path}
-use Rattle.place_protocol.specs.Witness.{FindsObject, FindsRoot, Worked, is_top}
+use Rattle.place_protocol.specs.Witness.{FindsObject, FindsRoot, IsOwnRoot, Worked}
 use Rattle.place_protocol.specs.declared.questions.Facts.{Facts}
 use Rattle.place_protocol.specs.declared.questions.Question.TheVariants.{Cwd, CwdAgain, KeptLink, RootLink, ObjectLink, RootAgain, LookUp, LinkAgain, Dead}
 
@@ -32,8 +33,9 @@ abbrev pub StaysGone : World → Type 0
 StaysGone w = (n : ℕ) → w.gone n ≡ true → w.gone (n + 1) ≡ true
 
 pub record IsAnswer (w : World) (facts : Facts) (n : ℕ) (e : Exchange) : Type 0 where
-  -- getcwd(2): the names of one moment, but whether the directory is gone is asked before
-  pub cwd : (place : List ℕ) → Worked Cwd e → place_of_cwd e.text ≡ Some place
+  -- getcwd(2): the names of one moment, but whether the directory is gone is asked before. Of a slash alone this is no
+  -- premise: it is also the path of what is mounted over the thread's own root.
+  pub cwd : (place : List ℕ) → Worked Cwd e → place_of_cwd e.text ≡ Some place → is_top place ≡ false
       → (w.gone n ≡ true) ⊎ (w.stands n place ≡ true)
   -- getcwd(2): it has a path only where it hasn't been unlinked (ENOENT)
   pub again : e.question ≡ CwdAgain → has_path e.answer.error ≡ true → w.gone n ≡ false
@@ -57,6 +59,8 @@ pub record IsAnswer (w : World) (facts : Facts) (n : ℕ) (e : Exchange) : Type 
   -- which a look-up of no names finds.
   pub looked_root : FindsObject (SLASH ∷ []) e → w.stands n (SLASH ∷ []) ≡ true
   pub is_root : FindsRoot e → w.stands n (SLASH ∷ []) ≡ true
+  -- the same of a jail's root, which is `/` there (chroot(2))
+  pub own_root : IsOwnRoot e → w.stands n (SLASH ∷ []) ≡ true
 
 abbrev pub AreAnswers : World → Facts → ℕ → List Exchange → Type 0
 AreAnswers w facts n [] = Unit {0}

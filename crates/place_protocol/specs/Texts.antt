@@ -1,5 +1,5 @@
 -- The texts that a driver has read, and the place that they tell. Those of links are of proc(5), /proc/pid/fd.
-use Rattle.std.specs.Prelude.{◌≡◌, ◌+◌, ◌≤◌, ℕ, List, [], ◌∷◌, ◌==◌, ◌||◌, if◌then◌else◌, length, take, drop, Option, Some, None, IsSomeAnd}
+use Rattle.std.specs.Prelude.{◌≡◌, ◌+◌, ◌≤◌, ℕ, List, [], ◌∷◌, ◌==◌, ◌||◌, if◌then◌else◌, Bool, length, take, drop, Option, Some, None, IsSomeAnd}
 use Rattle.path_text.specs.declared.name.TheConstants.{SLASH}
 use Rattle.kernel_text.specs.Place.{ends_as_gone, place_between, IsPart}
 use Rattle.kernel_text.specs.declared.place.Place.{Place}
@@ -30,6 +30,10 @@ place_of facts texts =
 -- the same once the link was read again, in the place of the root's second text, which was the first by then
 abbrev pub place_before : Facts → Texts → Option (List ℕ)
 place_before facts texts = place_of facts (texts_of texts.root texts.text texts.root)
+
+-- a slash alone: the place of the root itself, and the path of a top
+abbrev pub is_top : List ℕ → Bool
+is_top place = length place == 1
 
 -- a place of no bytes is none
 abbrev pub as_found : Place → Option Place

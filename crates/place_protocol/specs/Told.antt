@@ -7,7 +7,7 @@ use Rattle.place_protocol.specs.declared.told.Told.{Told}
 use Rattle.place_protocol.specs.declared.questions.Answer.{Answer}
 use Rattle.place_protocol.specs.declared.questions.Facts.{Facts}
 use Rattle.place_protocol.specs.declared.questions.Question.{Question}
-use Rattle.place_protocol.specs.declared.questions.Question.TheVariants.{Enter, Cwd, CwdAgain, KeptLink, RootLink, ObjectLink, OwnRoot, RootAgain, LookUp, LinkAgain, Dead, IsRoot}
+use Rattle.place_protocol.specs.declared.questions.Question.TheVariants.{Enter, Cwd, CwdAgain, KeptLink, RootLink, ObjectLink, OwnRoot, RootAgain, LookUp, LinkAgain, Dead, IsRoot, Slash, SlashAgain, Top}
 use Rattle.place_protocol.specs.declared.turns.Turn.{Turn}
 use Rattle.place_protocol.specs.declared.turns.Turn.TheVariants.{Ask, Look, Stands, Nowhere, Unmade}
 
@@ -24,6 +24,9 @@ number_of LookUp = 9
 number_of LinkAgain = 10
 number_of Dead = 11
 number_of IsRoot = 12
+number_of Slash = 13
+number_of SlashAgain = 14
+number_of Top = 15
 
 abbrev pub question_of : ℕ → Option Question
 question_of number =
@@ -38,7 +41,10 @@ question_of number =
     else (if number == 9 then Some LookUp
     else (if number == 10 then Some LinkAgain
     else (if number == 11 then Some Dead
-    else (if number == 12 then Some IsRoot else None)))))))))))
+    else (if number == 12 then Some IsRoot
+    else (if number == 13 then Some Slash
+    else (if number == 14 then Some SlashAgain
+    else (if number == 15 then Some Top else None))))))))))))))
 
 -- a question about the names that are so many bytes of the text, from there on; or about none
 abbrev pub question_told : Question → ℕ → ℕ → Told

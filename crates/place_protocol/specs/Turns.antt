@@ -6,11 +6,11 @@ use Rattle.system_calls.specs.Errors.{ENOENT, EAGAIN, EACCES, ERANGE, ENAMETOOLO
 use Rattle.kernel_text.specs.Place.{is_named, place_of_cwd}
 use Rattle.kernel_text.specs.declared.place.Place.{Place}
 use Rattle.system_calls.specs.Objects.{is_elsewhere, is_same_object}
-use Rattle.place_protocol.specs.Texts.{Texts, Finds, bytes_of, place_before, place_of}
+use Rattle.place_protocol.specs.Texts.{Texts, Finds, bytes_of, is_top, place_before, place_of}
 use Rattle.place_protocol.specs.declared.questions.Answer.{Answer}
 use Rattle.place_protocol.specs.declared.questions.Facts.{Facts}
 use Rattle.place_protocol.specs.declared.questions.Question.{Question}
-use Rattle.place_protocol.specs.declared.questions.Question.TheVariants.{Enter, Cwd, CwdAgain, KeptLink, RootLink, ObjectLink, OwnRoot, RootAgain, LookUp, LinkAgain, Dead, IsRoot}
+use Rattle.place_protocol.specs.declared.questions.Question.TheVariants.{Enter, Cwd, CwdAgain, KeptLink, RootLink, ObjectLink, OwnRoot, RootAgain, LookUp, LinkAgain, Dead, IsRoot, Slash, SlashAgain, Top}
 use Rattle.place_protocol.specs.declared.turns.Turn.{Turn}
 use Rattle.place_protocol.specs.declared.turns.Turn.TheVariants.{Ask, Look, Stands, Nowhere, Unmade}
 
@@ -40,10 +40,27 @@ abbrev pub in_jail : Option Place → Turn
 in_jail None = Nowhere
 in_jail (Some place) = Stands place (is_root place)
 
+-- whether the directory was removed is asked again, unless it was seen right before
+abbrev pub ask_path : Facts → Option Place → Turn
+ask_path facts place = if facts.seen then in_jail place else Ask CwdAgain
+
+abbrev pub is_slash : Option Place → Bool
+is_slash None = false
+is_slash (Some place) = is_root place
+
+-- A slash alone is also the path of what is mounted over the root.
 abbrev pub after_cwd : Facts → ℕ → Option Place → Turn
 after_cwd facts error place =
     if error == ENOENT then Nowhere
-    else (if not (error == 0) then Unmade error else (if facts.seen then in_jail place else Ask CwdAgain))
+    else (if not (error == 0) then Unmade error else (if is_slash place then Ask Slash else ask_path facts place))
+
+-- Two answers are about the same object, by the same mount or by any.
+abbrev pub are_same : Answer → Bool → Bool
+are_same answer by_any_mount = (answer.error == 0) && is_same_object answer.held answer.found by_any_mount
+
+-- the directory is the thread's own root; or the root may be mounted over itself
+abbrev pub after_slash : Facts → Answer → Option Place → Turn
+after_slash facts answer place = if are_same answer false then ask_path facts place else Ask SlashAgain
 
 -- getcwd(2) says that one byte is too small for the path, which it does only where there is one
 abbrev pub has_path : ℕ → Bool
@@ -86,8 +103,14 @@ after_object facts error place =
     if not (error == 0) then Unmade error
     else (if facts.jailed || facts.second then confirm facts place else Ask OwnRoot)
 
-abbrev pub after_own_root : Bool → Turn
-after_own_root tells = if tells then Ask RootAgain else Unmade EOPNOTSUPP
+-- A root with a slash alone for its text is a top, or was moved out of its mount.
+abbrev pub after_own_root : Bool → List ℕ → Turn
+after_own_root tells root =
+    if not tells then Unmade EOPNOTSUPP else (if is_top root then Ask Top else Ask RootAgain)
+
+-- a top is its own parent
+abbrev pub after_top : Answer → Turn
+after_top answer = if are_same answer true then Ask RootAgain else Unmade EOPNOTSUPP
 
 abbrev pub after_root_again : Facts → ℕ → Option Place → Turn
 after_root_again facts error place = if error == 0 then confirm facts place else Unmade error
@@ -95,7 +118,7 @@ after_root_again facts error place = if error == 0 then confirm facts place else
 -- The object itself was found: device, inode and mount are the same. Where the root was mounted over itself, `..`
 -- leads to it by another mount.
 abbrev pub has_found : Answer → Place → Bool
-has_found answer place = (answer.error == 0) && is_same_object answer.held answer.found (is_root place)
+has_found answer place = are_same answer (is_root place)
 
 abbrev pub look_up_error : ℕ → ℕ
 look_up_error error = if (error == 0) || is_elsewhere error then EAGAIN else error
@@ -127,8 +150,12 @@ after_dead dead (Some place) = if not dead then Stands place false else Unmade E
 abbrev pub after_is_root : Answer → Option Place → Turn
 after_is_root answer None = Unmade (look_up_error answer.error)
 after_is_root answer (Some place) =
-    if (answer.error == 0) && is_same_object answer.held answer.found true then Stands place (is_root place)
-    else Unmade (look_up_error answer.error)
+    if are_same answer true then Stands place (is_root place) else Unmade (look_up_error answer.error)
+
+-- the same of a directory in a jail
+abbrev pub after_slash_again : Facts → Answer → Option Place → Turn
+after_slash_again facts answer place =
+    if are_same answer true then ask_path facts place else Unmade (look_up_error answer.error)
 
 -- a turn that depends on where a place lies in the text
 abbrev pub WithPlace : List ℕ → Option (List ℕ) → (Option Place → Turn) → Turn → Type 0
@@ -143,7 +170,7 @@ Follows facts KeptLink a t turn = WithPlace t.text (place_of facts t) (after_kep
 Follows facts RootLink a t turn = turn ≡ after_root (link_error a.error t.root)
 Follows facts ObjectLink a t turn =
     WithPlace t.text (place_of facts t) (after_object facts (link_error a.error t.text)) turn
-Follows facts OwnRoot a t turn = turn ≡ after_own_root a.yes
+Follows facts OwnRoot a t turn = turn ≡ after_own_root a.yes t.root
 Follows facts RootAgain a t turn =
     WithPlace t.text (place_of facts t) (after_root_again facts (link_error a.error t.again)) turn
 Follows facts LookUp a t turn = WithPlace t.text (place_of facts t) (after_look_up facts a) turn
@@ -151,6 +178,9 @@ Follows facts LinkAgain a t turn =
     WithPlace t.text (place_before facts t) (after_link_again (link_error a.error t.again) t.again t.text) turn
 Follows facts Dead a t turn = WithPlace t.text (place_of facts t) (after_dead a.yes) turn
 Follows facts IsRoot a t turn = WithPlace t.text (place_of facts t) (after_is_root a) turn
+Follows facts Slash a t turn = WithPlace t.text (place_of_cwd t.text) (after_slash facts a) turn
+Follows facts SlashAgain a t turn = WithPlace t.text (place_of_cwd t.text) (after_slash_again facts a) turn
+Follows facts Top a t turn = turn ≡ after_top a
 
 -- a thread that has lost openat2(2) doesn't get it back
 abbrev pub facts_after : Facts → Question → Answer → Facts
@@ -166,3 +196,6 @@ facts_after facts RootAgain a = facts
 facts_after facts LinkAgain a = facts
 facts_after facts Dead a = facts
 facts_after facts IsRoot a = facts
+facts_after facts Slash a = facts
+facts_after facts SlashAgain a = facts
+facts_after facts Top a = facts

@@ -10,13 +10,14 @@ pub fn places_are_witnessed()
 
 /// Where a text of the object tells a place below the root, the look-up finds the object, and its link has its name
 /// still, the conversation tells just that place. So does a directory's in a jail, where getcwd(2) tells it, and then
-/// that there is a path still. Without openat2(2) so does any conversation whose texts agree, where the link has its
-/// name still; and the root's own, where device and inode are the same.
+/// that there is a path still; between the two, of a slash alone, that the directory is the root. Without openat2(2) so
+/// does any conversation whose texts agree, where the link has its name still; and the root's own, where device and
+/// inode are the same. A root whose path is a slash alone is its own parent there.
 pub fn agreeing_witnesses_are_told()
     ensures { AgreeingWitnessesAreTold }
 {}
 
-/// No more than nine questions are asked about one place, and nine may be.
+/// No more than ten questions are asked about one place, and ten may be.
 pub fn questions_come_to_an_end()
     ensures { QuestionsComeToAnEnd }
 {}
@@ -24,8 +25,8 @@ pub fn questions_come_to_an_end()
 /// What answers of Linux say of the file system, each at its moment, is a premise (getcwd(2), proc(5), rmdir(2)).
 /// With it: where a place is told, the object stood there at the moment of an answer. If a link's text was read,
 /// texts must tell inside from outside, but for a slash alone, and the root must stay at its path. Of a directory in
-/// a jail that is no premise. What the kernel had seen below the root right before may also have been removed by
-/// then, but not before the first question.
+/// a jail that is no premise. A slash alone is told of what device and inode have shown to be the root. What the kernel
+/// had seen below the root right before may also have been removed by then, but not before the first question.
 pub fn places_stood()
     ensures { PlacesStood }
 {}

@@ -34,8 +34,7 @@ pub enum Question {
     RootLink,
     /// The text of the object's link.
     ObjectLink,
-    /// Whether texts tell inside from outside: the thread's own root directory is that of a mount, and a root whose
-    /// text is a slash alone is its own parent, so that it hasn't left its mount.
+    /// Whether texts tell inside from outside: the thread's own root directory is that of a mount.
     OwnRoot,
     /// The text of the root's link, after the object's.
     RootAgain,
@@ -48,6 +47,12 @@ pub enum Question {
     Dead,
     /// Which objects the root and the object are: statx(2) or fstat(2) of both.
     IsRoot,
+    /// Which objects the directory and `/` are, in a jail.
+    Slash,
+    /// The same, with `/` opened anew.
+    SlashAgain,
+    /// Which objects the root and the directory above it are.
+    Top,
 }
 
 /// What a question was answered.
@@ -58,8 +63,8 @@ pub struct Answer {
     pub error: u32,
     /// To OwnRoot and to Dead: yes. To LookUp: the thread has no openat2(2) any more.
     pub yes: bool,
-    /// To LookUp and to IsRoot: the object that the question is about.
+    /// To LookUp, IsRoot, Slash and SlashAgain: the object that the question is about. To Top: the root.
     pub held: Object,
-    /// To LookUp: what was found. To IsRoot: the root.
+    /// To LookUp: what was found. To IsRoot, Slash and SlashAgain: the root. To Top: the directory above it.
     pub found: Object,
 }

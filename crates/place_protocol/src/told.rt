@@ -18,7 +18,7 @@ pub struct Told {
     pub length: usize,
     /// Why the place could not be found out (errno(3)), or 0.
     pub error: u32,
-    /// 1 to 12: the number of a `Question`. 16: the object stands at the names. 17: it isn't below the root. 18: that
+    /// 1 to 15: the number of a `Question`. 16: the object stands at the names. 17: it isn't below the root. 18: that
     /// could not be found out.
     pub what: u8,
     /// The object turned out to be the root itself.
@@ -41,6 +41,9 @@ fn number_of(question: Question) -> u8
         Question::LinkAgain => 10,
         Question::Dead => 11,
         Question::IsRoot => 12,
+        Question::Slash => 13,
+        Question::SlashAgain => 14,
+        Question::Top => 15,
     }
 }
 
@@ -60,6 +63,9 @@ fn question_of(number: u8) -> Option<Question>
         10 => Some(Question::LinkAgain),
         11 => Some(Question::Dead),
         12 => Some(Question::IsRoot),
+        13 => Some(Question::Slash),
+        14 => Some(Question::SlashAgain),
+        15 => Some(Question::Top),
         _ => None,
     }
 }

@@ -1,7 +1,7 @@
 //! What follows from an answer.
 ghost use Rattle.std.specs.Prelude.{◌≡◌};
 ghost use Rattle.place_protocol.specs.Texts.{texts_of, IsWithin};
-ghost use Rattle.place_protocol.specs.Turns.{after_cwd, after_cwd_again, after_dead, after_enter, after_found, after_is_root, after_kept, after_link_again, after_look_up, after_object, after_own_root, after_root, after_root_again, ask_there, confirm, confirm_alone, confirm_place, facts_after, first, first_link, has_found, has_path, in_jail, is_root, link_error, look_up_error, without_second, Follows};
+ghost use Rattle.place_protocol.specs.Turns.{after_cwd, after_cwd_again, after_dead, after_enter, after_found, after_is_root, after_kept, after_link_again, after_look_up, after_object, after_own_root, after_root, after_root_again, after_slash, after_slash_again, after_top, are_same, ask_path, ask_there, confirm, confirm_alone, confirm_place, facts_after, first, first_link, has_found, has_path, in_jail, is_root, is_slash, link_error, look_up_error, without_second, Follows};
 
 use crate::questions::{Answer, Facts, Question};
 use crate::texts::{found, found_in_jail};
@@ -93,6 +93,26 @@ fn in_jail(place: Option<Place>) -> Turn
 }
 
 // The kernel looks whether the directory is gone before it takes the names. So that is asked again.
+fn ask_path(facts: &Facts, place: Option<Place>) -> Turn
+    ensures { result ≡ ask_path facts.now place }
+{
+    if facts.seen {
+        in_jail(place)
+    } else {
+        Turn::Ask(Question::CwdAgain)
+    }
+}
+
+fn is_slash(place: &Option<Place>) -> bool
+    ensures { result ≡ is_slash place.now }
+{
+    match place {
+        None => false,
+        Some(place) => is_root(place),
+    }
+}
+
+// A slash alone is also the path of what is mounted over the root.
 fn after_cwd(facts: &Facts, error: u32, place: Option<Place>) -> Turn
     ensures { result ≡ after_cwd facts.now error place }
 {
@@ -100,10 +120,38 @@ fn after_cwd(facts: &Facts, error: u32, place: Option<Place>) -> Turn
         Turn::Nowhere
     } else if error != 0 {
         Turn::Unmade(error)
-    } else if facts.seen {
-        in_jail(place)
+    } else if is_slash(&place) {
+        Turn::Ask(Question::Slash)
     } else {
-        Turn::Ask(Question::CwdAgain)
+        ask_path(facts, place)
+    }
+}
+
+fn are_same(answer: &Answer, by_any_mount: bool) -> bool
+    ensures { result ≡ are_same answer.now by_any_mount }
+{
+    answer.error == 0 && is_same_object(&answer.held, &answer.found, by_any_mount)
+}
+
+// By another mount it may still be the root, which is mounted over itself then: the call goes on with the root, opened
+// anew.
+fn after_slash(facts: &Facts, answer: &Answer, place: Option<Place>) -> Turn
+    ensures { result ≡ after_slash facts.now answer.now place }
+{
+    if are_same(answer, false) {
+        ask_path(facts, place)
+    } else {
+        Turn::Ask(Question::SlashAgain)
+    }
+}
+
+fn after_slash_again(facts: &Facts, answer: &Answer, place: Option<Place>) -> Turn
+    ensures { result ≡ after_slash_again facts.now answer.now place }
+{
+    if are_same(answer, true) {
+        ask_path(facts, place)
+    } else {
+        Turn::Unmade(look_up_error(answer.error))
     }
 }
 
@@ -215,10 +263,24 @@ fn after_object(facts: &Facts, error: u32, place: Option<Place>) -> Turn
     }
 }
 
-fn after_own_root(tells: bool) -> Turn
-    ensures { result ≡ after_own_root tells }
+// A slash alone is the text of a top, and of a root that was moved out of its mount: that has no path.
+fn after_own_root(tells: bool, root: &[u8]) -> Turn
+    ensures { result ≡ after_own_root tells root.now }
 {
-    if tells {
+    if !tells {
+        Turn::Unmade(EOPNOTSUPP)
+    } else if root.len() == 1 {
+        Turn::Ask(Question::Top)
+    } else {
+        Turn::Ask(Question::RootAgain)
+    }
+}
+
+// A top is its own parent.
+fn after_top(answer: &Answer) -> Turn
+    ensures { result ≡ after_top answer.now }
+{
+    if are_same(answer, true) {
         Turn::Ask(Question::RootAgain)
     } else {
         Turn::Unmade(EOPNOTSUPP)
@@ -240,7 +302,7 @@ fn after_root_again(facts: &Facts, error: u32, place: Option<Place>) -> Turn
 fn has_found(answer: &Answer, place: &Place) -> bool
     ensures { result ≡ has_found answer.now place.now }
 {
-    answer.error == 0 && is_same_object(&answer.held, &answer.found, is_root(place))
+    are_same(answer, is_root(place))
 }
 
 // Where the witnesses don't agree, neither says that it stood elsewhere at one moment.
@@ -322,9 +384,7 @@ fn after_is_root(answer: &Answer, place: Option<Place>) -> Turn
     ensures { result ≡ after_is_root answer.now place }
 {
     match place {
-        Some(place) if answer.error == 0 && is_same_object(&answer.held, &answer.found, true) => {
-            Turn::Stands(place, is_root(&place))
-        }
+        Some(place) if are_same(answer, true) => Turn::Stands(place, is_root(&place)),
         _ => Turn::Unmade(look_up_error(answer.error)),
     }
 }
@@ -354,7 +414,7 @@ pub(crate) fn follow(
                 found(facts, root, text, again),
             )
         }
-        Question::OwnRoot => after_own_root(answer.yes),
+        Question::OwnRoot => after_own_root(answer.yes, root),
         Question::RootAgain => {
             after_root_again(
                 facts,
@@ -372,6 +432,9 @@ pub(crate) fn follow(
         ),
         Question::Dead => after_dead(answer.yes, found(facts, root, text, again)),
         Question::IsRoot => after_is_root(answer, found(facts, root, text, again)),
+        Question::Slash => after_slash(facts, answer, found_in_jail(text)),
+        Question::SlashAgain => after_slash_again(facts, answer, found_in_jail(text)),
+        Question::Top => after_top(answer),
     }
 }
 
