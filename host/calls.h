@@ -430,6 +430,31 @@ bool inroot_is_node(uint32_t mode, uint64_t device);
 /* ---- at which names an object stands below a root. None of these takes memory, or needs a call under way. */
 
 /*
+ * How a walk has opened what it holds: as the root itself, by a second descriptor; by a name; by its names from the root, and the
+ * kernel saw it below the root in the end; by `..`. The third answers one question about its place, the one that follows.
+ */
+enum inroot_way { INROOT_BY_ROOT, INROOT_BY_NAME, INROOT_SEEN_BELOW, INROOT_BY_PARENT };
+
+/*
+ * What is known of it as its place is due: the WAY; `..` of another led to it (ABOVE); it is a directory; the names are known that
+ * the walk passed to it (NAMED); the thread has openat2(2) (SECOND); the kernel's own check is enough (INROOT_BELOW).
+ */
+struct inroot_held {
+    uint8_t way;
+    bool above, directory, named, second, below;
+};
+
+/*
+ * It stands at a slash alone, without a question; its names are looked up from the root with RESOLVE_BENEATH; it stands at these
+ * names; or questions are due.
+ */
+enum inroot_held_next { INROOT_HELD_AT_ROOT = 1, INROOT_HELD_LOOK_UP, INROOT_HELD_AT_NAMES, INROOT_HELD_ASK };
+
+/* What comes first; and what comes behind that look-up, by whether it has FOUND the very object. */
+uint8_t inroot_place_before(const struct inroot_held *held);
+uint8_t inroot_place_behind(const struct inroot_held *held, bool found);
+
+/*
  * What is known before the first question: the root is the thread's own root directory; the object is a directory; openat2(2)
  * opened it by names from the root with RESOLVE_BENEATH right before; `..` led to it; the thread has openat2(2); and the root's
  * path is known, since the root stays there.

@@ -19,12 +19,6 @@ enum { INROOT_TEXT_MAX = PATH_MAX, INROOT_ROOM = 2 * PATH_MAX + 2 * (NAME_MAX + 
 /* How many descriptors a call that removes a tree holds at most. */
 enum { INROOT_HELD_MAX = 32 };
 
-/*
- * How the handle was opened. INROOT_SEEN_BELOW: by its names from the root, and the kernel saw it below the root in the end. This
- * answers one question about its place, the one that follows.
- */
-enum inroot_way { INROOT_BY_ROOT, INROOT_BY_NAME, INROOT_SEEN_BELOW, INROOT_BY_PARENT };
-
 /* In place of a descriptor: one that was let go and can be opened again; the root of a jail, which needs none; none. */
 enum { INROOT_AWAY = -2, INROOT_JAILED = -3, INROOT_NONE = -1 };
 

@@ -295,45 +295,37 @@ struct inroot_result inroot_find_place(struct inroot_driver *d, int root, struct
     return result;
 }
 
-/*
- * Where the names are known that the walk passed to what it has opened by a name, the look-up comes first, and the text after it
- * says whether the object is gone. Under INROOT_BELOW that look-up is all, and these names are told. So it is at a walk's end
- * alone: after `..` the object was opened by no name.
- */
-static bool is_seen_below(struct inroot_driver *d, int root, uint64_t handle, char *text, size_t *length)
+/* What comes before the questions. The names that the walk passed may be looked up first: the text behind that says what is gone. */
+static uint8_t come_before(struct inroot_driver *d, int root, struct inroot_slot *slot, const char *passed)
 {
-    struct inroot_slot *slot = inroot_handles_slot(d, handle);
-    const char *passed = inroot_passed_names(d, handle, length);
-    bool is_plain = slot->kind != INROOT_KIND_DIR;
-    if (passed == NULL || slot->is_above || !inroot_has_openat2() || !(d->below || is_plain))
-        return false;
-    if (slot->way == INROOT_BY_NAME && !inroot_look_first(d, root, slot, passed))
-        return false;
-    if (!d->below || slot->way != INROOT_SEEN_BELOW)
-        return false;
-    memcpy(text, passed, *length);
-    return true;
+    const struct inroot_held held = {
+        .way = slot->way, .above = slot->is_above, .directory = slot->kind == INROOT_KIND_DIR, .named = passed != NULL,
+        .second = passed != NULL && inroot_has_openat2(), .below = d->below,
+    };
+    uint8_t next = inroot_place_before(&held);
+    if (next == INROOT_HELD_LOOK_UP)
+        next = inroot_place_behind(&held, inroot_look_first(d, root, slot, passed));
+    return next;
 }
 
 struct inroot_result inroot_name_below(struct inroot_driver *d, const struct inroot_told *step, char *text, size_t *length)
 {
     int fd, root;
     int lost = inroot_handles_fd(d, step->handle, &fd);
+    if (lost == 0)
+        lost = inroot_handles_fd(d, step->other, &root);
     if (lost)
         return inroot_unmade(d, lost);
     struct inroot_slot *slot = inroot_handles_slot(d, step->handle);
-    *length = 0;
-    /*
-     * The root's own second handle: it stands below itself at no names, wherever it is. No system call has seen whether it
-     * is one.
-     */
-    if (slot->way == INROOT_BY_ROOT) {
+    const char *place = inroot_passed_names(d, step->handle, length);
+    switch (come_before(d, root, slot, place)) {
+    case INROOT_HELD_ASK: return inroot_find_place(d, root, slot, text, length);
+    case INROOT_HELD_AT_ROOT:
+        /* The step counts as one that has made no system call. */
         d->steps--;
-        text[(*length)++] = '/';
-        return names();
+        place = "/";
+        *length = 1;
     }
-    lost = inroot_handles_fd(d, step->other, &root);
-    if (lost)
-        return inroot_unmade(d, lost);
-    return is_seen_below(d, root, step->handle, text, length) ? names() : inroot_find_place(d, root, slot, text, length);
+    memcpy(text, place, *length);
+    return names();
 }

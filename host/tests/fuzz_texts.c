@@ -152,6 +152,10 @@ static void places(size_t size, const uint8_t *bytes, size_t length)
     if (told.length > 1 && !is_asked)
         MUST(after(INROOT_PLACE_LINK_AGAIN, false, root, root_length, path, path_length).length == told.length);
     told = after(INROOT_PLACE_CWD, true, root, root_length, path, path_length);
+    /* Nor is a slash alone that getcwd(2) wrote. */
+    MUST((told.what == INROOT_PLACE_SLASH) == (path_length == sizeof "/" && memcmp(path, "/", sizeof "/") == 0));
+    if (told.what == INROOT_PLACE_SLASH)
+        told = after(INROOT_PLACE_SLASH, true, root, root_length, path, path_length);
     MUST(told.length == 0 || (told.start == 0 && told.length == path_length - 1 && path[path_length - 1] == 0));
     free(root);
     free(path);

@@ -20,6 +20,7 @@ ghost use Rattle.c_protocol.specs.Through.{with_text};
 ghost use Rattle.c_protocol.specs.ThroughAhead.{laid_if, leads_on, look_ahead, next_above, next_behind};
 ghost use Rattle.open_through_links.specs.declared.passage.TheConstants.{UP};
 ghost use Rattle.c_protocol.specs.Turns.{call_of, IsBegun, IsNext, IsTold};
+ghost use Rattle.place_protocol.specs.Held.{before_questions, behind_look_up};
 ghost use Rattle.place_protocol.specs.Told.{begun, facts_after_number, question_of, TellsNext};
 ghost use Rattle.place_protocol.specs.Texts.{texts_of};
 ghost use Rattle.path_text.specs.declared.path.TheConstants.{TEXT_MAX};
@@ -49,7 +50,7 @@ mod ways;
 use c_protocol::{Ahead, Answered, Asked, Kept, Left, NextPath, Parted, PathAhead, Ran, Told};
 use make_through_links::{Making, Outcome};
 use open_or_make::{Course, Request};
-use place_protocol::{Answer, Facts};
+use place_protocol::{Answer, Facts, Held};
 use std::alloc::Global;
 use system_calls::{MachineFlags, Object, Opening, Use};
 
@@ -318,6 +319,22 @@ pub extern "C" fn inroot_place_next(
     ensures told { TellsNext facts.old told.old.what answer.now (texts_of root.now text.now again.now) told.new }
 {
     *told = place_protocol::next(facts, told.what, answer, root, text, again);
+}
+
+/// What comes before the first question about what a walk holds: `place_protocol::before_questions`.
+#[unsafe(no_mangle)]
+pub extern "C" fn inroot_place_before(held: &Held) -> u8
+    ensures { result ≡ before_questions held.now }
+{
+    place_protocol::before_questions(held)
+}
+
+/// What comes behind the look-up of its names: `place_protocol::behind_look_up`.
+#[unsafe(no_mangle)]
+pub extern "C" fn inroot_place_behind(held: &Held, found: bool) -> u8
+    ensures { result ≡ behind_look_up held.now found }
+{
+    place_protocol::behind_look_up(held, found)
 }
 
 /// Begins a call that opens a file, or makes it: `open_or_make::begin`.

@@ -6,3 +6,4 @@ pub mod WitnessLemmas
 pub mod RankLemmas
 pub mod AgreeLemmas
 pub mod MomentLemmas
+pub mod HeldLemmas

@@ -1,4 +1,5 @@
 pub mod Conversation
+pub mod Held
 pub mod Moments
 pub mod Texts
 pub mod Told

@@ -1,4 +1,5 @@
 //! What a conversation comes to: laws, each the contract of a function without a body.
+ghost use Rattle.place_protocol.specs.Held.{NamesAreLookedUpFirst, NamesAreToldByTheKernelsCheck, OnlyTheRootIsAtItself};
 ghost use Rattle.place_protocol.specs.Moments.{PlacesStood, PlacesWerePassed};
 ghost use Rattle.place_protocol.specs.Witness.{AgreeingWitnessesAreTold, PlacesAreWitnessed, QuestionsComeToAnEnd};
 
@@ -37,4 +38,23 @@ pub fn places_stood()
 /// has openat2(2) and keeps it. Of the root itself it isn't said that it wasn't removed.
 pub fn places_were_passed()
     ensures { PlacesWerePassed }
+{}
+
+/// Where no question is asked, and the object isn't the root, the names that the walk passed are told by the kernel's
+/// check alone, which the call has asked for: openat2(2) has seen the object below the root, as the call opened it or
+/// by a look-up of these names. So it is never behind `..`, nor without openat2(2). Where that check is enough, nothing
+/// more is asked behind it.
+pub fn names_are_told_by_the_kernels_check()
+    ensures { NamesAreToldByTheKernelsCheck }
+{}
+
+/// The names that the walk passed are looked up before the questions only of what was opened by a name, in a thread
+/// that has openat2(2): where that look-up is all, or of what is no directory.
+pub fn names_are_looked_up_first()
+    ensures { NamesAreLookedUpFirst }
+{}
+
+/// The root itself, by a second descriptor, stands at a slash alone, without a question; and nothing else does.
+pub fn only_the_root_is_at_itself()
+    ensures { OnlyTheRootIsAtItself }
 {}
