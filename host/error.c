@@ -115,11 +115,17 @@ static size_t add(char *to, size_t used, const char *text, size_t length)
     return used + length;
 }
 
+/* Whether the step is one on the entry, behind the walk to its directory. Of that walk `.` may be left, which is no step. */
+static bool is_behind_walk(const struct inroot_driver *d)
+{
+    return !inroot_walks_whole(d->asked) && d->step >= INROOT_STEP_MAKE_DIR && d->step != INROOT_STEP_OWN_ROOT;
+}
+
 /* Parts without the slash before the first; and the name of the entry, which isn't walked. */
 static void put_parts(const struct inroot_driver *d, char *to)
 {
     const struct inroot_request *asked = d->asked;
-    size_t length = d->rest_end - d->rest_at, used = 0;
+    size_t length = is_behind_walk(d) ? 0 : d->rest_end - d->rest_at, used = 0;
     if (length > 0)
         used = add(to, 0, d->rest + d->rest_at + 1, length - 1);
     if (inroot_walks_whole(asked) || d->rest_is == INROOT_REST_CUT)

@@ -202,9 +202,13 @@ static void changes_from(int root_or_jail)
 {
     char text[64], last[256];
     struct stat about;
+    struct inroot_error why;
     int at, dir = sure(inroot_open(root_or_jail, "a/b", 0), "a/b");
     sure(inroot_at_begin(root_or_jail, dir, &at), "inroot_at_begin");
     gives(inroot_mkdir(at, "d", 0755, 0), 0, "mkdir");
+    gives(inroot_mkdir(at, "./d", 0755, 0), -EEXIST, "mkdir of what is there");
+    gives(inroot_last_error(&why), 0, "mkdir of what is there");
+    gives_text(why.rest, "d", "mkdir of what is there: the rest");
     gives(inroot_mkfile(at, "d/x", 0600, 0), 0, "mkfile");
     gives(inroot_mknod(at, "p", S_IFIFO | 0600, 0, 0), 0, "mknod");
     gives(inroot_symlink(at, "../b/f", "s", 0), 0, "symlink");

@@ -320,6 +320,9 @@ static void why(void)
             gives_text(error.at, cases[one].at, "%s: where the walk was", cases[one].path);
         expect(memcmp(error.reserved, zeros, sizeof zeros) == 0, "%s: what is reserved isn't zero", cases[one].path);
     }
+    gives(inroot_mkdir(at, "n/b/.././b", 0700, 0), -EEXIST, "a directory that is there, behind `.`");
+    gives(inroot_last_error(&error), 0, "a directory that is there, behind `.`");
+    gives_text(error.rest, "b", "a directory that is there, behind `.`: the rest");
     sure(unlinkat(root, "n/b", AT_REMOVEDIR), "n/b");
     gives(sizeof error, 4496, "bytes of the structure of an error");
     gives(inroot_mkdir(at, "in/f", 0700, 0), -EEXIST, "a directory where a file is");
