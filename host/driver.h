@@ -543,8 +543,11 @@ bool inroot_mount_has(struct inroot_driver *d, int fd);
 int inroot_mount_stay(struct inroot_driver *d, int fd);
 
 /* own_root.c */
-/* Whether /proc can distinguish objects below the thread's own root directory from others. It is asked until it can. */
-bool inroot_own_root_tells(struct inroot_driver *d, int proc);
+/*
+ * Whether /proc can distinguish objects below the thread's own root directory from others. It is asked until it can: 0 then, or
+ * -errno, which is -EOPNOTSUPP where nobody can.
+ */
+int inroot_own_root_ask(struct inroot_driver *d, int proc);
 /* The same by the call's /proc: 0, or -errno and the call is left at INROOT_STEP_OWN_ROOT. */
 int inroot_own_root_check(struct inroot_driver *d);
 

@@ -12,15 +12,27 @@
 #include <sys/stat.h>
 #include <unistd.h>
 
+/* If no descriptor or no memory is left, that says nothing of the root: WANTS receives the error. */
+static int open_to_ask(int dir, const char *name, int how, int *wants)
+{
+    int fd;
+    do
+        fd = openat(dir, name, how | O_CLOEXEC);
+    while (fd < 0 && errno == EINTR);
+    if (fd < 0 && (errno == EMFILE || errno == ENFILE || errno == ENOMEM))
+        *wants = errno;
+    return fd;
+}
+
 /* What proc(5) has of a descriptor of the thread's root directory, with the number of its mount (Linux 3.15): how many bytes. */
-static size_t read_about_root(int proc, unsigned char *about, size_t size)
+static size_t read_about_root(int proc, unsigned char *about, size_t size, int *wants)
 {
     char name[INROOT_PROC_NAME];
-    int fd = open("/", O_PATH | O_DIRECTORY | O_CLOEXEC);
+    int fd = open_to_ask(AT_FDCWD, "/", O_PATH | O_DIRECTORY, wants);
     if (fd < 0)
         return 0;
     snprintf(name, sizeof name, "thread-self/fdinfo/%d", fd);
-    int info = openat(proc, name, O_RDONLY | O_CLOEXEC);
+    int info = open_to_ask(proc, name, O_RDONLY, wants);
     ssize_t got = info < 0 ? 0 : read(info, about, size);
     if (info >= 0)
         close(info);
@@ -41,7 +53,7 @@ static struct inroot_own_look look_at_root(void)
 }
 
 /* What statx(2) doesn't say, the mounts do that the thread sees (proc(5)). The library says which answer counts. */
-static bool is_mount_root(int proc)
+static bool is_mount_root(int proc, int *wants)
 {
     unsigned char about[256], part[1024];
     struct inroot_own_root own = {0};
@@ -53,8 +65,8 @@ static bool is_mount_root(int proc)
         ssize_t got;
         switch (own.next) {
         case INROOT_OWN_OPEN:
-            known = read_about_root(proc, about, sizeof about);
-            fd = openat(proc, "thread-self/mountinfo", O_RDONLY | O_CLOEXEC);
+            known = read_about_root(proc, about, sizeof about, wants);
+            fd = open_to_ask(proc, "thread-self/mountinfo", O_RDONLY, wants);
             got = fd < 0 ? fd : 0;
             break;
         case INROOT_OWN_READ: got = read(fd, part, sizeof part); break;
@@ -65,17 +77,19 @@ static bool is_mount_root(int proc)
     return own.next == INROOT_OWN_YES;
 }
 
-bool inroot_own_root_tells(struct inroot_driver *d, int proc)
+int inroot_own_root_ask(struct inroot_driver *d, int proc)
 {
+    int wants = 0;
     if (!d->told_apart)
-        d->told_apart = is_mount_root(proc);
-    return d->told_apart;
+        d->told_apart = is_mount_root(proc, &wants);
+    return d->told_apart ? 0 : wants != 0 ? -wants : -EOPNOTSUPP;
 }
 
 int inroot_own_root_check(struct inroot_driver *d)
 {
-    if (inroot_own_root_tells(d, d->proc))
+    int failed = inroot_own_root_ask(d, d->proc);
+    if (failed == 0)
         return 0;
     d->step = INROOT_STEP_OWN_ROOT;
-    return -EOPNOTSUPP;
+    return failed;
 }

@@ -81,6 +81,7 @@ bool inroot_look_first(struct inroot_driver *d, int root, struct inroot_slot *sl
 struct search {
     struct inroot_driver *d;
     int root, found;                         /* what the last look-up opened, or the root anew; or none */
+    int wants;                               /* why nobody could ask about the thread's own root, or zero */
     struct inroot_slot *slot;
     const struct inroot_kept_root *kept;
     struct inroot_place_facts facts;
@@ -149,10 +150,12 @@ static void read_root(struct search *s)
     s->path = s->above;
 }
 
-static bool tells_own_root(const struct search *s)
+static bool tells_own_root(struct search *s)
 {
     int proc = inroot_proc_for(s->d);
-    return proc >= 0 && inroot_own_root_tells(s->d, proc);
+    int failed = proc < 0 ? proc : inroot_own_root_ask(s->d, proc);
+    s->wants = failed == -EOPNOTSUPP ? 0 : -failed;
+    return failed == 0;
 }
 
 /* ---- getcwd(2) */
@@ -259,7 +262,7 @@ static void converse(struct search *s)
 static struct inroot_result tell(const struct search *s, size_t *length)
 {
     if (s->told.what == INROOT_PLACE_UNMADE)
-        return inroot_unmade(s->d, (int)s->told.error);
+        return inroot_unmade(s->d, s->wants != 0 ? s->wants : (int)s->told.error);
     *length = s->told.length;
     memmove(s->text, s->text + s->told.start, *length);
     s->text[*length] = 0;

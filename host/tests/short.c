@@ -1,11 +1,12 @@
 /*
  * short: each kind of call with so many descriptors left, from none on. It ends by EMFILE or as it does else, and leaves none
- * open.
+ * open; also without openat2(2) and statx(2).
  *
  * usage: short DIR. Exits 0 where that holds.
  */
 #define _GNU_SOURCE
 #include "each.h"
+#include "filter.h"
 
 #include <sys/resource.h>
 
@@ -51,6 +52,13 @@ static void each_call(void)
     gives_least(ran_short, CALLS + 1, "calls that ran short");
 }
 
+static void without_newer(void)
+{
+    refuse(SYS_openat2, ENOSYS);
+    refuse(SYS_statx, ENOSYS);
+    each_call();
+}
+
 int main(int count, char **words)
 {
     if (count != 2)
@@ -58,9 +66,11 @@ int main(int count, char **words)
     root = sure(open(words[1], O_PATH | O_DIRECTORY | O_CLOEXEC), words[1]);
     make_tree(root);
     apart(each_call);
+    apart(without_newer);
     jailed = true;
     if (may_jail(root)) {
         apart(each_call);
+        apart(without_newer);
         jail_flags = INROOT_TRUST_PROC;
         apart(each_call);
     }
