@@ -377,7 +377,10 @@ void inroot_proc_end(struct inroot_driver *d);
 /* The name in /proc of a descriptor of this thread, which is written into the room: its number, behind that of the table. */
 #define INROOT_PROC_TABLE "thread-self/fd/"
 const char *inroot_proc_name(int fd, char room[INROOT_PROC_NAME]);
-/* The error of a system call on such a name. If there is no such link at all, there is no such /proc. */
+/*
+ * The error of a system call on such a name. If there is no such link at all, or the number is another file's by now, there is no
+ * such /proc.
+ */
 int inroot_proc_error(int proc, const char *name, int error);
 /* Gives this thread a /proc that stays open: returns it, or -errno. And closes what the library keeps for the thread. */
 int inroot_proc_stay(void);

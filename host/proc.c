@@ -243,7 +243,12 @@ const char *inroot_proc_name(int fd, char room[INROOT_PROC_NAME])
 int inroot_proc_error(int proc, const char *name, int error)
 {
     char text[1];
-    return error == ENOENT && readlinkat(proc, name, text, sizeof text) < 0 && errno == ENOENT ? ENOSYS : error;
+    switch (error) {
+    case ENOENT: return readlinkat(proc, name, text, sizeof text) < 0 && errno == ENOENT ? ENOSYS : error;
+    /* No name may be looked up in it, or none is any more. */
+    case EACCES: case EPERM: case ESRCH: return inroot_proc_is_lost(proc) ? ENOSYS : error;
+    default: return error;
+    }
 }
 
 /* ---- what a thread keeps */
