@@ -106,10 +106,11 @@ static ssize_t link_of(struct inroot_driver *d, int fd, char *text)
 {
     char written[INROOT_PROC_NAME];
     int proc = inroot_proc_for(d);
-    if (proc >= 0)
-        return readlinkat(proc, inroot_proc_name(fd, written), text, INROOT_TEXT_MAX);
-    errno = -proc;
-    return -1;
+    const char *name = inroot_proc_name(fd, written);
+    ssize_t length = proc < 0 ? -1 : readlinkat(proc, name, text, INROOT_TEXT_MAX);
+    if (length < 0)
+        errno = proc < 0 ? -proc : inroot_proc_error(proc, name, errno);
+    return length;
 }
 
 /* By a directory of this thread's descriptors. */

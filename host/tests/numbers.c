@@ -12,6 +12,7 @@
 #include <fcntl.h>
 #include <linux/magic.h>
 #include <pthread.h>
+#include <signal.h>
 #include <string.h>
 #include <sys/stat.h>
 #include <sys/vfs.h>
@@ -21,8 +22,9 @@ enum { MOST = 64 };
 /* `root` holds the file `a/b/f`; `proc` is open, and none of the library's. */
 static int root, proc;
 
-/* What takes the number: a file of a proc(5), or a directory that isn't its top. */
+/* What takes the number: a file of a proc(5), or a directory that isn't its top; or NULL, the directory of a process that has ended. */
 static const char *taker;
+static struct stat taken;
 
 static bool is_proc(int fd)
 {
@@ -50,13 +52,30 @@ static void note(bool now[MOST])
 
 static bool is_taker(int fd)
 {
-    struct stat one, other;
-    return fstat(fd, &one) == 0 && fstatat(proc, taker, &other, 0) == 0 && one.st_ino == other.st_ino;
+    struct stat about;
+    return fstat(fd, &about) == 0 && about.st_ino == taken.st_ino;
+}
+
+/* There no name is looked up any more: ESRCH. */
+static int open_ended(void)
+{
+    char name[16];
+    pid_t child = sure(fork(), "fork");
+    if (child == 0) {
+        pause();
+        _exit(0);
+    }
+    snprintf(name, sizeof name, "%d", (int)child);
+    int fd = sure(openat(proc, name, O_RDONLY | O_CLOEXEC), name);
+    sure(kill(child, SIGKILL), "kill");
+    sure(waitpid(child, NULL, 0), "waitpid");
+    return fd;
 }
 
 static void take(int fd)
 {
-    int other = sure(openat(proc, taker, O_RDONLY | O_CLOEXEC), taker);
+    int other = taker == NULL ? open_ended() : sure(openat(proc, taker, O_RDONLY | O_CLOEXEC), taker);
+    sure(fstat(other, &taken), "fstat");
     sure(dup3(other, fd, O_CLOEXEC), "dup3");
     close(other);
 }
@@ -256,7 +275,7 @@ static void standard(void)
 
 int main(int count, char **words)
 {
-    static const char *const takers[] = {"self/status", "sys"};
+    static const char *const takers[] = {"self/status", "sys", NULL};
     if (count != 2)
         return 2;
     root = sure(open(words[1], O_PATH | O_DIRECTORY | O_CLOEXEC), words[1]);
