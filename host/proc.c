@@ -137,7 +137,10 @@ static int open_proc(struct inroot_own *own)
     uint64_t system;
     if (is_handed_in())
         return -ENOSYS;
-    int fd = open("/proc", O_PATH | O_DIRECTORY | O_NOFOLLOW | O_CLOEXEC);
+    int fd;
+    do
+        fd = open("/proc", O_PATH | O_DIRECTORY | O_NOFOLLOW | O_CLOEXEC);
+    while (fd < 0 && errno == EINTR);
     if (fd < 0)
         return errno == EMFILE || errno == ENFILE || errno == ENOMEM ? -errno : -ENOSYS;
     if (find_system(fd, &system))
