@@ -37,10 +37,15 @@ static int clone_mounted(void)
     return fd < 0 ? -errno : fd;
 }
 
-static bool has_threads(int proc)
+/* The link is read, since faccessat(2) takes no flags before Linux 5.8, and filters refuse faccessat2(2). */
+bool inroot_proc_has_threads(int proc)
 {
     char text[1];
-    return inroot_proc_is(proc) && readlinkat(proc, "thread-self", text, sizeof text) >= 0;
+    ssize_t length;
+    do
+        length = readlinkat(proc, "thread-self", text, sizeof text);
+    while (length < 0 && errno == EINTR);
+    return length >= 0;
 }
 
 /* Finds a proc(5) that has what the calls ask for: its descriptor, or -errno. The first error counts. */
@@ -52,7 +57,7 @@ static int find_one(void)
         fd = clone_mounted();
     if (fd < 0)
         return error;
-    if (has_threads(fd))
+    if (inroot_proc_is(fd) && inroot_proc_has_threads(fd))
         return fd;
     close(fd);
     return -ENOSYS;

@@ -215,15 +215,11 @@ static void forget(struct inroot_root *root)
 
 /* ---- the calls */
 
-/*
- * A /proc to ask, which stays open then: its descriptor or -errno, and whether it is the caller's. The link is read, since
- * faccessat(2) takes no flags before Linux 5.8, and filters refuse faccessat2(2).
- */
+/* A /proc to ask, which stays open then: its descriptor or -errno, and whether it is the caller's. */
 static int find_proc(bool *is_own)
 {
-    char text[1];
     int proc = inroot_proc_open(true, is_own);
-    if (proc < 0 || readlinkat(proc, "thread-self", text, sizeof text) >= 0)
+    if (proc < 0 || inroot_proc_has_threads(proc))
         return proc;
     if (*is_own)
         close(proc);

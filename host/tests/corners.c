@@ -1,7 +1,7 @@
 /*
  * corners: what seldom happens to a call. The C library or the kernel refuses what hardly ever is refused, a text is
  * too long in the midst of a call, or there is no /proc, or no number, as the first call is made. To be linked with
- * --wrap of fstatfs, madvise, pthread_setspecific, readlinkat and syscall.
+ * --wrap of fstatfs, madvise, open, pthread_setspecific, readlinkat and syscall.
  *
  * usage: corners DIR. Exits 0 where each call gives the error that inroot.h has for it, and leaves nothing open. 78:
  * no right to change a root, so that a part is left out.
@@ -29,6 +29,8 @@ static int no_advice, no_place, no_text, no_names, interrupts;
 /* Whether mounts have no numbers; and how often the question for one, or for a file system, is interrupted. */
 static bool no_numbers;
 static int number_interrupts, system_interrupts;
+/* The same of the opening of /proc, and of the first look into it. */
+static int open_interrupts, look_interrupts;
 
 /* The root, to be shut to others as a directory is asked where it stands; or -1. */
 static int to_shut = -1;
@@ -62,8 +64,21 @@ int __wrap_fstatfs(int fd, struct statfs *about)
     return system_interrupts > 0 ? system_interrupts--, refused(EINTR) : __real_fstatfs(fd, about);
 }
 
+int __real_open(const char *path, int flags, ...);
+int __wrap_open(const char *path, int flags, ...);
+
+/* The library makes nothing by open(2). */
+int __wrap_open(const char *path, int flags, ...)
+{
+    return strcmp(path, "/proc") == 0 && open_interrupts > 0 ? open_interrupts--, refused(EINTR) : __real_open(path, flags);
+}
+
 ssize_t __wrap_readlinkat(int dir, const char *name, char *text, size_t size)
 {
+    if (strcmp(name, "thread-self") == 0 && look_interrupts > 0) {
+        look_interrupts--;
+        return refused(EINTR);
+    }
     return no_text && strncmp(name, "thread-self/", 12) != 0 ? refused(no_text) : __real_readlinkat(dir, name, text, size);
 }
 
@@ -124,6 +139,16 @@ static void interrupted(void)
     gives_fd(fd, "a file in a jail whose /proc is known by %s", by);
     close(fd);
     gives(number_interrupts + system_interrupts, 0, "signals that are to come still, by %s", by);
+}
+
+/* As the library opens /proc, and looks into it, it is asked again. */
+static void interrupted_at_first(void)
+{
+    struct inroot_root *kept;
+    open_interrupts = look_interrupts = 8;
+    gives(inroot_root_open("/", 0, &kept), 0, "a root, opened while signals come");
+    gives(open_interrupts + look_interrupts, 0, "signals that are to come still at first");
+    inroot_root_close(kept);
 }
 
 static void interrupted_without_numbers(void)
@@ -262,7 +287,9 @@ static void without_proc(void)
 
 int main(int count, char **words)
 {
-    static void (*const parts[])(void) = {without_numbers, without_high_numbers, without_proc, unread, long_texts};
+    static void (*const parts[])(void) = {
+        without_numbers, without_high_numbers, without_proc, interrupted_at_first, unread, long_texts,
+    };
     int skipped = 0;
     if (count != 2)
         return 2;
