@@ -573,6 +573,18 @@ struct inroot_calling {
 void inroot_calling_begin(const struct inroot_calling_facts *facts, struct inroot_calling *calling);
 void inroot_calling_next(struct inroot_calling *calling, const struct inroot_calling_answer *answer);
 
+/*
+ * What is done as a call hands out what a handle is on. There is nothing, by an ERROR. The directory is opened ANEW, and what that gives
+ * is handed out; else it is the handle's own descriptor. That one is closed then, whatever the opening gave (CLOSES).
+ */
+struct inroot_taking {
+    uint32_t error;
+    bool anew, closes;
+};
+
+/* The handle's descriptor is the caller's own (SHARED), or a copy of that; and it wasn't let go. */
+void inroot_take(bool shared, bool copied, bool held, struct inroot_taking *taking);
+
 /* ---- which call comes next, as a file is opened, or made, or made where it is missing. These take no memory. */
 
 /*

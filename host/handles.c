@@ -1,7 +1,7 @@
 /*
  * handles.c: the handles of a proved call. Each has a slot with its descriptor. While a call removes a tree, the driver
  * closes the descriptor of a directory far above the one that is being cleared, and opens it again by `..` when its turn
- * comes. The proved library says which one, and whether that one is back.
+ * comes. The proved library says which one, whether that one is back, and which descriptor a call hands out.
  */
 #define _GNU_SOURCE
 #include "driver.h"
@@ -256,17 +256,17 @@ uint64_t inroot_handles_share(struct inroot_driver *d, uint64_t root)
 
 int inroot_handles_take(struct inroot_driver *d, uint64_t handle)
 {
-    struct inroot_slot *slot = inroot_handles_slot(d, handle);
-    int fd = slot->fd;
+    const struct inroot_slot *slot = inroot_handles_slot(d, handle);
+    const int fd = slot->fd;
+    struct inroot_taking taking;
     inroot_hints_find(d);
     if (d->asked->opened != NULL)
         *d->asked->opened = (enum inroot_kind)slot->kind;
-    /* No caller gets its own descriptor, or a copy: names that were left behind `..` may all have led back to the root. */
-    const bool is_copy = handle == d->from.copied;
-    int given = slot->is_shared || is_copy ? inroot_open_anew(d, handle) : fd >= 0 ? fd : -ENOMEM;
-    if (is_copy)
+    inroot_take(slot->is_shared, handle == d->from.copied, fd >= 0, &taking);
+    if (taking.error)
+        return -(int)taking.error;
+    const int given = taking.anew ? inroot_open_anew(d, handle) : fd;
+    if (taking.closes)
         close(fd);
-    if (!slot->is_shared)
-        slot->fd = INROOT_NONE;
     return given;
 }

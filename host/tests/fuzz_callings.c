@@ -4,7 +4,8 @@
  * all that is open in the end. It comes to an end within 32 tries and 19 milliseconds of pauses. A call that has changed an entry
  * isn't begun again. The thread is home in the end, or the call fails since it isn't. A walk by steps, and the question for a place,
  * come right behind a check of the thread's own root, which found openat2(2), or no /proc, or no error. In a jail and where the root is
- * held that isn't checked. A call that has failed before only makes this check, and fails by it or as before.
+ * held that isn't checked. A call that has failed before only makes this check, and fails by it or as before. What a call hands out is
+ * no descriptor that it shares with the caller, and each other one that it had is closed.
  *
  * For libFuzzer, or with fuzz_main.c for stored cases. A case is bytes: what is known of the call, and the answers.
  */
@@ -160,6 +161,19 @@ static void must_end(const struct inroot_calling *now, const struct seen *seen)
     }
 }
 
+/* A call hands out what a handle is on. The handle's descriptor is 1, and one that is opened anew 2. */
+static void take(unsigned what)
+{
+    const bool shared = what & 1, copied = what & 2, held = what & 4, works = what & 8;
+    struct inroot_taking taking;
+    inroot_take(shared, copied, held, &taking);
+    const int opened = taking.anew && works ? 2 : 0, given = taking.error ? 0 : taking.anew ? opened : 1;
+    MUST(given != 1 || (held && !shared && !copied));
+    MUST(opened == 0 || given == opened);
+    MUST(taking.closes == (held && !shared && given != 1));
+    MUST(taking.error == (shared || held ? 0 : ENOMEM));
+}
+
 int LLVMFuzzerTestOneInput(const uint8_t *data, size_t size)
 {
     struct input in = {data, size};
@@ -182,5 +196,6 @@ int LLVMFuzzerTestOneInput(const uint8_t *data, size_t size)
     const struct inroot_calling_answer none = {0};
     inroot_calling_next(&now, &none);
     MUST(now.next == end.next && now.error == end.error && now.value == end.value);
+    take(more);
     return 0;
 }

@@ -3,7 +3,7 @@
 use call_course::{
     ANOTHER_PROC, AT_ONCE, Answer, BEGIN, CLOSE, CLOSE_PROC, CONVERSE, Calling, ENDS, FAILS,
     FIND_PROC, Facts, GO_HOME, JOIN, LET_GO, LOOK_AT_PROC, LOOK_AT_ROOT, OWN_ROOT, PLACE, SECOND,
-    TAKE, begin, next,
+    TAKE, Taking, begin, next, take,
 };
 use std::test::Fail;
 
@@ -525,5 +525,36 @@ fn a_place_is_asked_for_and_paths_are_joined(rt: HostRuntime) -> Result<(), Fail
     let unknown = goes(from, fails(EACCES));
     assert!(rt; is(&unknown, LET_GO, EACCES));
     assert!(rt; is(&goes(unknown, fine()), FAILS, EACCES));
+    Ok(())
+}
+
+#[test]
+fn no_descriptor_of_the_callers_is_handed_out(rt: HostRuntime) -> Result<(), Fail> {
+    let own = Taking {
+        error: 0,
+        anew: false,
+        closes: false,
+    };
+    let anew = Taking { anew: true, ..own };
+    assert!(rt; take(false, false, true) == own);
+    assert!(rt; take(true, false, true) == anew);
+    assert!(rt;
+        take(false, true, true)
+            == (Taking {
+                closes: true,
+                ..anew
+            })
+    );
+    // One that was let go.
+    assert!(rt;
+        take(false, false, false)
+            == (Taking {
+                error: ENOMEM,
+                ..own
+            })
+    );
+    assert!(rt; take(false, true, false) == take(false, false, false));
+    // The caller's own is never closed. Of a jail's root there is none.
+    assert!(rt; take(true, true, true) == anew && take(true, false, false) == anew);
     Ok(())
 }

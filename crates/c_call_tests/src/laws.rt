@@ -4,6 +4,7 @@
 #[test]
 fn laws_of_whole_calls() {
     call_course::what_is_given_is_all_that_stays_open();
+    call_course::what_is_taken_is_the_calls_own();
     call_course::its_own_proc_is_closed();
     call_course::what_was_changed_is_not_begun_again();
     call_course::another_proc_is_tried_once();

@@ -1,9 +1,10 @@
-//! What says which thing comes next in a call, from its beginning to its result.
+//! What says which thing comes next in a call, from its beginning to its result, and which descriptor it hands out.
 ghost use Rattle.std.specs.Prelude.{◌≡◌, ◌∷◌, [], List, true, false};
 ghost use Rattle.call_course.specs.History.{exchange, is_question, Exchange, IsAt};
+ghost use Rattle.call_course.specs.Taking.{taken};
 ghost use Rattle.call_course.specs.declared.calling.Facts.{Facts as CallFacts};
 
-use call_course::{Answer, Calling, Facts};
+use call_course::{Answer, Calling, Facts, Taking};
 
 /// Begins a call: `call_course::begin`.
 #[unsafe(no_mangle)]
@@ -21,4 +22,12 @@ pub extern "C" fn inroot_calling_next(calling: &mut Calling, answer: &Answer)
     ensures over { is_question calling.old.next ≡ false → calling.new ≡ calling.old }
 {
     *calling = call_course::next(*calling, answer);
+}
+
+/// What is done as a call hands out what a handle is on: `call_course::take`.
+#[unsafe(no_mangle)]
+pub extern "C" fn inroot_take(shared: bool, copied: bool, held: bool, taking: &mut Taking)
+    ensures { taking.new ≡ taken shared copied held }
+{
+    *taking = call_course::take(shared, copied, held);
 }

@@ -1,9 +1,10 @@
 //! What holds of every call, as laws over its exchanges: each function's contract is one, and its body is empty.
-ghost use Rattle.std.specs.Prelude.{◌≡◌, ◌≢◌, ◌≤◌, ◌⊎◌, ◌++◌, ◌+◌, ◌*◌, ℕ, true, false, List, [], ◌∷◌, length};
-ghost use Rattle.system_calls.specs.Errors.{EAGAIN};
+ghost use Rattle.std.specs.Prelude.{◌≡◌, ◌≢◌, ◌≤◌, ◌⊎◌, ◌++◌, ◌+◌, ◌*◌, ℕ, Bool, true, false, List, [], ◌∷◌, length, Option, Some};
+ghost use Rattle.system_calls.specs.Errors.{EAGAIN, ENOMEM};
 ghost use Rattle.system_calls.specs.Tries.{TRIES};
 ghost use Rattle.call_course.specs.History.{next_after, Exchange, IsHistory};
 ghost use Rattle.call_course.specs.Promises.{away_after, begun_after, changed_after, check_error_after, checked_after, given, is_check, is_own_error, is_walk, last_error, open_after, others_after, owns_after, pauses_of, stepped_after, value_after, why_after, HomeFailed, IsChecked, IsNeeded, LastWas, RootHas};
+ghost use Rattle.call_course.specs.Taking.{closed_by, given_by, had, listed, opened_by, taken, IsOwn};
 ghost use Rattle.call_course.specs.Turns.{needs_no_check};
 ghost use Rattle.call_course.specs.declared.calling.Facts.{Facts};
 ghost use Rattle.call_course.specs.declared.calling.TheConstants.{BEGIN, OWN_ROOT, PLACE, CONVERSE, CLOSE, ANOTHER_PROC, CLOSE_PROC, LOOK_AT_ROOT, ENDS, FAILS};
@@ -22,6 +23,19 @@ pub fn what_is_given_is_all_that_stays_open()
         → (rest : List ℕ) × (open_after history ≡ rest ++ ((next_after facts history).about ∷ [])) }
     ensures again { (facts : Facts) (history : List Exchange) → IsHistory facts history
         → (next_after facts history).next ≡ BEGIN → open_after history ≡ [] }
+{}
+
+/// What a call takes out of a handle is the handle's descriptor, which is neither the caller's own nor a copy of that;
+/// or one that was opened anew. The handle's descriptor, unless it is the caller's own, and the one that was opened are
+/// each given or closed, once. There is no error but ENOMEM of a descriptor that was let go, and that of the opening.
+pub fn what_is_taken_is_the_calls_own()
+    ensures own { (shared copied held : Bool) (fd given : ℕ) (anew : Option ℕ)
+        → given_by (taken shared copied held) fd anew ≡ Some given → IsOwn shared copied held fd anew given }
+    ensures once { (shared copied held : Bool) (fd : ℕ) (anew : Option ℕ)
+        → opened_by (taken shared copied held) anew ++ had shared held fd
+        ≡ listed (given_by (taken shared copied held) fd anew) ++ closed_by (taken shared copied held) fd }
+    ensures fails { (shared copied held : Bool) → (taken shared copied held).error ≢ 0
+        → ((taken shared copied held).error ≡ ENOMEM) × (held ≡ false) }
 {}
 
 /// A /proc of the call's own is closed while it is open, and is closed in the end, and before another try.

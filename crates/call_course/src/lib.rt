@@ -1,4 +1,5 @@
-//! Which one thing comes next as a call of the library goes from its beginning to its result, by what was before.
+//! Which one thing comes next as a call of the library goes from its beginning to its result, by what was before; and
+//! which descriptor it hands out.
 //!
 //! A C driver does these things, one at a time: it makes a try of the call, goes home, closes what was opened. It hands
 //! over what a thing gave, and does what comes next. No function makes a system call or takes memory.
@@ -7,6 +8,7 @@
 mod calling;
 mod ending;
 mod laws;
+mod taking;
 mod turns;
 
 pub use calling::{
@@ -17,6 +19,7 @@ pub use calling::{
 pub use laws::{
     another_proc_is_tried_once, exchanges_are_few, its_own_proc_is_closed,
     the_own_root_is_checked_first, the_roots_errors_come_first, the_thread_goes_home,
-    tries_are_few, what_is_given_is_all_that_stays_open, what_was_changed_is_not_begun_again,
-    why_it_fails,
+    tries_are_few, what_is_given_is_all_that_stays_open, what_is_taken_is_the_calls_own,
+    what_was_changed_is_not_begun_again, why_it_fails,
 };
+pub use taking::{Taking, take};
