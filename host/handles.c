@@ -258,7 +258,7 @@ int inroot_handles_take(struct inroot_driver *d, uint64_t handle)
 {
     const struct inroot_slot *slot = inroot_handles_slot(d, handle);
     const int fd = slot->fd;
-    struct inroot_taking taking;
+    struct inroot_taking taking = {0};
     inroot_hints_find(d);
     if (d->asked->opened != NULL)
         *d->asked->opened = (enum inroot_kind)slot->kind;
