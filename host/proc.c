@@ -33,7 +33,7 @@ static atomic_bool was_handed_in;
  */
 enum { CLAIMED = -5, HANDED_IN = -6 };
 
-static bool is_handed_in(void)
+bool inroot_proc_is_handed_in(void)
 {
     return atomic_load(&kept) == HANDED_IN || atomic_load(&was_handed_in);
 }
@@ -135,7 +135,7 @@ static int own_top(int fd, uint64_t system, struct inroot_own *own)
 static int open_proc(struct inroot_own *own)
 {
     uint64_t system;
-    if (is_handed_in())
+    if (inroot_proc_is_handed_in())
         return -ENOSYS;
     int fd;
     do
@@ -203,7 +203,7 @@ int inroot_proc_open(bool surely, bool *is_callers)
     int fd = at_hand(surely);
     *is_callers = false;
     /* The kernel may have failed to say just then, and there is no other one. */
-    if (fd < 0 && is_handed_in())
+    if (fd < 0 && inroot_proc_is_handed_in())
         fd = at_hand(true);
     if (fd >= 0)
         return fd;
