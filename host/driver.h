@@ -367,8 +367,8 @@ void inroot_proc_close(struct inroot_own *own);
 int inroot_proc_open(bool surely, bool *is_callers);
 /* Whether the program has one already. */
 bool inroot_proc_is_kept(void);
-/* Whether it is one that is mounted nowhere; and whether one has what the calls ask for (private_proc.c). */
-bool inroot_proc_is_private(void);
+/* Whether the program has handed one in; and whether one has what the calls ask for (private_proc.c). */
+bool inroot_proc_is_handed_in(void);
 bool inroot_proc_has_threads(int proc);
 /* Whether somebody closed the library's own /proc, so that its number is another file of a proc(5). */
 bool inroot_proc_is_lost(int proc);

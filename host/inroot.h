@@ -483,7 +483,7 @@ int inroot_futimens(int fd, const struct timespec times[2]);
  *
  * EINVAL of other FLAGS; E2BIG of a value of more than 65,536 bytes; EBADF where FD isn't a descriptor; ENOSYS where
  * there is no proc(5) to go by, and before Linux 6.13 where the one that inroot_use_proc() handed in isn't the one at
- * /proc, or is a private one, unless in a jail; EMFILE; ENODATA where there is no such attribute, ERANGE where it
+ * /proc, or isn't known to be (before Linux 5.8), or is a private one, unless in a jail; EMFILE; ENODATA where there is no such attribute, ERANGE where it
  * doesn't fit, ERANGE of a name that is longer than 255 bytes or empty, EEXIST and ENODATA as the FLAGS have them,
  * EOPNOTSUPP where the file system has none, EPERM of `user.` attributes of what is neither a regular file nor a
  * directory, and what setxattr(2) has beside it.

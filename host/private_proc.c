@@ -8,7 +8,6 @@
 
 #include <errno.h>
 #include <fcntl.h>
-#include <stdatomic.h>
 #include <sys/syscall.h>
 #include <unistd.h>
 
@@ -63,21 +62,12 @@ static int find_one(void)
     return -ENOSYS;
 }
 
-static atomic_bool is_private;
-
-bool inroot_proc_is_private(void)
-{
-    return atomic_load(&is_private);
-}
-
 static int use_one(void)
 {
     int fd = find_one();
     if (fd < 0)
         return fd;
     int failed = inroot_use_proc(fd);
-    if (failed == 0)
-        atomic_store(&is_private, true);
     close(fd);
     return failed;
 }

@@ -1,7 +1,8 @@
 /*
  * xattr.c: the extended attributes of an object that was found. Linux 6.13 has system calls that take a name in a directory,
  * here in /proc. Before that all of them take a path. In a jail the driver makes /proc the thread's current directory, and the
- * path begins there. Elsewhere it begins at the top, if /proc there is the directory that the library has open, by the same mount.
+ * path begins there. Elsewhere it begins at the top, if /proc there is the directory that the library has open, by the same mount;
+ * where mounts have no numbers, if the library itself has opened it.
  */
 #define _GNU_SOURCE
 #include "driver.h"
@@ -68,12 +69,12 @@ static ssize_t from_jail(int proc, const char *name, const struct attribute *one
     return done;
 }
 
-/* One that is mounted nowhere may be of the same file system: its mount differs, where the kernel tells mounts. */
+/* One that was handed in may be of the same file system, and mounted elsewhere or nowhere: only the mount's number shows that. */
 static bool is_at_top(int proc)
 {
     struct inroot_which there, here;
-    return !inroot_proc_is_private() && inroot_find_which(AT_FDCWD, "/proc", &there) && inroot_find_which(proc, "", &here) &&
-           inroot_is_same_object(&there.object, &here.object, false);
+    return inroot_find_which(AT_FDCWD, "/proc", &there) && inroot_find_which(proc, "", &here) &&
+           (here.object.mount != 0 || !inroot_proc_is_handed_in()) && inroot_is_same_object(&there.object, &here.object, false);
 }
 
 static ssize_t from_top(int proc, const char *name, const struct attribute *one)

@@ -155,22 +155,33 @@ static void forked_meanwhile(void)
     reads("where a child was made meanwhile", 0);
 }
 
+static void sets_none(const char *what)
+{
+    char value[4], secret[4200];
+    int file = sure(inroot_open(box, "a/f", 0), "a/f");
+    gives(inroot_fsetxattr(file, "user.x", "x", 1, 0), -ENOSYS, "an attribute by a path, with %s", what);
+    snprintf(secret, sizeof secret, "%s/secret", where);
+    expect(getxattr(secret, "user.x", value, sizeof value) < 0, "a file outside has the attribute, with %s", what);
+    close(file);
+}
+
+static void set_by_paths(void)
+{
+    enum { SET_AT = 463, REMOVE_AT = 466 };
+    for (int number = SET_AT; number <= REMOVE_AT; number++)
+        refuse(number, ENOSYS);
+}
+
 /* A copy of /proc is of the same file system, and has what is at /proc not covered. Before Linux 6.13 attributes go by a path. */
 static void attribute(void)
 {
-    enum { FSOPEN = 430, SET_AT = 463, REMOVE_AT = 466 };
-    char value[4], secret[4200];
+    enum { FSOPEN = 430 };
     apart_from_others();
     cover_with_lies();
     refuse(FSOPEN, EPERM);
-    for (int number = SET_AT; number <= REMOVE_AT; number++)
-        refuse(number, ENOSYS);
+    set_by_paths();
     use_private();
-    int file = sure(inroot_open(box, "a/f", 0), "a/f");
-    gives(inroot_fsetxattr(file, "user.x", "x", 1, 0), -ENOSYS, "an attribute by a path, with a private one");
-    snprintf(secret, sizeof secret, "%s/secret", where);
-    expect(getxattr(secret, "user.x", value, sizeof value) < 0, "a file outside has the attribute");
-    close(file);
+    sets_none("a private one");
 }
 
 static uint64_t number_of(const char *path)
@@ -211,6 +222,22 @@ static void mount_other(const char *source, const char *kind, unsigned long flag
     sure(mkdir(other, 0755) == 0 || errno == EEXIST ? 0 : -1, other);
     if (mount(source, other, kind, flags, NULL) != 0)
         _exit(NO_RIGHT);
+}
+
+/* The program has handed another mount of /proc in, which isn't covered, and nobody can tell the two apart. */
+static void attribute_by_another(void)
+{
+    apart_from_others();
+    snprintf(other, sizeof other, "%s/proc", where);
+    sure(mkdir(other, 0755) == 0 || errno == EEXIST ? 0 : -1, other);
+    if (mount("/proc", other, NULL, MS_BIND, NULL) != 0)
+        _exit(NO_RIGHT);
+    int proc = sure(open(other, O_PATH | O_DIRECTORY | O_CLOEXEC), other);
+    cover_with_lies();
+    refuse(SYS_statx, ENOSYS);
+    set_by_paths();
+    gives(inroot_use_proc(proc), 0, "inroot_use_proc");
+    sets_none("another mount of /proc");
 }
 
 /* Another proc(5). Where the kernel doesn't number file systems of that kind, nobody can tell them apart. */
@@ -341,6 +368,8 @@ int main(int count, char **words)
         skipped = apart(forked_meanwhile);
     if (skipped == 0)
         skipped = apart(attribute);
+    if (skipped == 0)
+        skipped = apart(attribute_by_another);
     if (skipped == 0)
         skipped = apart(another);
     if (skipped == 0)
