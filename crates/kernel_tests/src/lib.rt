@@ -5,6 +5,8 @@
 #[cfg(test)]
 mod askings;
 #[cfg(test)]
+mod findings;
+#[cfg(test)]
 mod held;
 #[cfg(test)]
 mod mounts;

@@ -1,0 +1,32 @@
+-- What an answer shows of a descriptor.
+use Rattle.std.specs.Prelude.{ℕ, ◌==◌, Bool, not, ◌&&◌, bit_and}
+use Rattle.find_proc.specs.declared.believed.Answer.{Answer}
+use Rattle.find_proc.specs.declared.believed.Kept.{Kept}
+
+-- PROC_SUPER_MAGIC, the type of a proc(5) (statfs(2))
+abbrev pub PROC : ℕ
+PROC = 40864
+
+-- ST_NOSYMFOLLOW of statfs(2)
+abbrev pub NOSYMFOLLOW : ℕ
+NOSYMFOLLOW = 8192
+
+-- the mount has its links followed (mount(8), nosymfollow)
+abbrev pub has_followed : ℕ → Bool
+has_followed flags = not (bit_and flags NOSYMFOLLOW == NOSYMFOLLOW)
+
+-- fstatfs(2): it is of a proc(5), on a mount that follows links
+abbrev pub is_proc : Answer → Bool
+is_proc a = (a.error == 0) && ((a.kind == PROC) && has_followed a.flags)
+
+-- fstatfs(2): and of the one that is kept
+abbrev pub is_of_system : Kept → Answer → Bool
+is_of_system k a = is_proc a && (a.file.system == k.file.system)
+
+-- statx(2) of Linux 5.8: it is on the mount of what is kept
+abbrev pub is_on_mount : Kept → Answer → Bool
+is_on_mount k a = (a.file.mount == k.file.mount) && (a.file.device == k.file.device)
+
+-- fstat(2): it is the file that is kept
+abbrev pub is_file : Kept → Answer → Bool
+is_file k a = (a.error == 0) && ((a.file.device == k.file.device) && (a.file.inode == k.file.inode))

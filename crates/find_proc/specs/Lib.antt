@@ -1,0 +1,4 @@
+pub mod Believed
+pub mod Finding
+pub mod History
+pub mod Promises
