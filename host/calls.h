@@ -1,9 +1,9 @@
 /*
  * calls.h: the proved library's functions, and what passes between it and a driver. The numbers and bytes are those
  * of crates/c_protocol, step_calls, place_protocol, open_or_make, make_through_links, remove_by_calls, look_ups,
- * list_directory, walk_directory, call_course, ask_place, give_entry, open_partial, open_at_once, open_through_links,
- * enter_directory, begin_below, kernel_text and system_calls, whose contracts say what they stand for. A program that
- * makes calls includes inroot.h, and not this.
+ * list_directory, walk_directory, call_course, ask_place, give_entry, find_proc, open_partial, open_at_once,
+ * open_through_links, enter_directory, begin_below, kernel_text and system_calls, whose contracts say what they stand
+ * for. A program that makes calls includes inroot.h, and not this.
  *
  * Each function asks this of its caller, beside what stands at it. No pointer is NULL, not even one to no bytes. Each is
  * aligned, and leads to a value of its type: a bool is 0 or 1, also where the function only writes it; a number may be any.
@@ -887,6 +887,73 @@ void inroot_giving_begin(struct inroot_giving *giving);
 void inroot_giving_next(struct inroot_giving *giving, const struct inroot_giving_facts *facts,
                         const struct inroot_giving_answer *answer, const unsigned char *read, size_t read_length,
                         const unsigned char *text, size_t text_length);
+
+/* ---- which system call comes next, as a /proc is found, and which proc(5) is believed. These take no memory. */
+
+/*
+ * What is wanted: a /proc for a call, at hand or opened: FIND. One that is at hand: CHECK. A copy of what is handed in: TAKE. A
+ * number above those of the standard files for a descriptor that was opened: OWN. Whether a descriptor is of a proc(5) that
+ * follows links: TELL.
+ */
+enum inroot_wants { INROOT_WANTS_FIND = 1, INROOT_WANTS_CHECK, INROOT_WANTS_TAKE, INROOT_WANTS_OWN, INROOT_WANTS_TELL };
+
+/*
+ * Of one at hand, of the program or of the thread: its mount, by statx(2); its file system, by fstatfs(2); which file it is, by
+ * fstat(2). /proc is opened: open(2) with O_PATH, O_DIRECTORY, O_NOFOLLOW and O_CLOEXEC. A standard file's number is copied above
+ * those, by fcntl(2) with F_DUPFD_CLOEXEC, and then closed. The file system of what was opened or handed in: fstatfs(2). `.` is
+ * opened in what was handed in: openat(2) with O_PATH, O_DIRECTORY and O_CLOEXEC. Of what was opened: which file it is, and
+ * its mount. It is closed. In the end it is the program's, or the thread's, or what was opened; or there is an error.
+ */
+enum inroot_finding_next {
+    INROOT_FINDING_ASK_MOUNT = 1, INROOT_FINDING_ASK_SYSTEM, INROOT_FINDING_ASK_FILE, INROOT_FINDING_OPEN,
+    INROOT_FINDING_RAISE, INROOT_FINDING_CLOSE_LOW, INROOT_FINDING_LOOK, INROOT_FINDING_COPY, INROOT_FINDING_IDENTIFY,
+    INROOT_FINDING_NUMBER, INROOT_FINDING_CLOSE, INROOT_FINDING_PROGRAMS, INROOT_FINDING_THREADS, INROOT_FINDING_GIVES,
+    INROOT_FINDING_FAILS,
+};
+
+/* Which file of a proc(5) it is, on which mount, and of which file system; 0 where the kernel doesn't say. */
+struct inroot_proc_file {
+    uint64_t device, inode, mount, system;
+};
+
+/* What is kept of a descriptor, if one is THERE. */
+struct inroot_proc_kept {
+    struct inroot_proc_file file;
+    bool there;
+};
+
+/*
+ * What is kept of the PROGRAM's descriptor and of the THREAD's own. The DESCRIPTOR that is to be owned. What is WANTED. One was
+ * HANDED_IN; the thread is JAILED; and one at hand is to be SURELY the file that is kept, and not another one on its mount.
+ */
+struct inroot_finding_facts {
+    struct inroot_proc_kept program, thread;
+    uint32_t descriptor;
+    uint8_t wanted;
+    bool handed_in, jailed, surely;
+};
+
+/* What a system call gave, or 0: of fstatfs(2) also the type, and the flags of the mount; what was opened; an error. */
+struct inroot_finding_answer {
+    struct inroot_proc_file file;
+    uint64_t kind, flags;
+    uint32_t descriptor, error;
+};
+
+/*
+ * How far it has come. A driver reads what comes NEXT, whether that is about the THREAD's descriptor, the ERROR if it fails, and
+ * in the end what was FOUND out of what was opened. It leaves all of it alone between two turns.
+ */
+struct inroot_finding {
+    struct inroot_proc_file found;
+    uint32_t error;
+    uint8_t next;
+    bool thread, again;
+};
+
+void inroot_finding_begin(const struct inroot_finding_facts *facts, struct inroot_finding *finding);
+void inroot_finding_next(struct inroot_finding *finding, const struct inroot_finding_facts *facts,
+                         const struct inroot_finding_answer *answer);
 
 /* ---- which system call comes next, as one openat2(2) is made, or it is asked whether the thread has that. These take no memory. */
 

@@ -354,7 +354,7 @@ enum { INROOT_PROC_NAME = 48 };
  */
 struct inroot_own {
     int fd;
-    uint64_t device, inode, mount, system;
+    struct inroot_proc_file file;
 };
 /* Takes a descriptor over, by a number above those of the standard files: 0, or -errno and it is closed. */
 int inroot_proc_own(int fd, struct inroot_own *own);
@@ -538,9 +538,10 @@ int inroot_partial(int root, int from, char *text, int flags, bool follows, size
 /* mount.c */
 /*
  * The number of the mount that a descriptor is on, or 0 where the kernel doesn't say; and the device of its file system.
- * From Linux 6.8 on no other mount ever gets that number, and from 5.8 on none as long as this mount is there.
+ * From Linux 6.8 on no other mount ever gets that number, and from 5.8 on none as long as this mount is there. Gives 0, or the
+ * number of an error: ENOSYS where there is no statx(2).
  */
-uint64_t inroot_mount_number(int fd, uint64_t *device);
+uint32_t inroot_mount_number(int fd, uint64_t *mount, uint64_t *device);
 /* Whether an object is on the mount of the root, as far as the kernel shows it. */
 bool inroot_mount_has(struct inroot_driver *d, int fd);
 /* Returns the descriptor if it is on the mount of the root. Else closes it, and returns -1 with EXDEV. */

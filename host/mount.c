@@ -41,21 +41,19 @@ static struct inroot_mount ask(int dir, const char *path)
     return (struct inroot_mount){.is_known = is_known, .number = is_known ? about.st_dev : 0};
 }
 
-uint64_t inroot_mount_number(int fd, uint64_t *device)
+uint32_t inroot_mount_number(int fd, uint64_t *mount, uint64_t *device)
 {
 #ifdef SYS_statx
     struct told told;
-    long failed;
     const unsigned asked = TELLS_MOUNT | TELLS_UNIQUE;
-    do
-        failed = syscall(SYS_statx, fd, "", AT_EMPTY_PATH | DONT_SYNC, asked, &told);
-    while (failed != 0 && errno == EINTR);
-    if (failed == 0 && told.mask & asked) {
-        *device = makedev(told.major, told.minor);
-        return told.mount;
-    }
-#endif
+    if (syscall(SYS_statx, fd, "", AT_EMPTY_PATH | DONT_SYNC, asked, &told) != 0)
+        return (uint32_t)errno;
+    *mount = told.mask & asked ? told.mount : 0;
+    *device = makedev(told.major, told.minor);
     return 0;
+#else
+    return ENOSYS;
+#endif
 }
 
 /* Asks on which mount the root is: in a jail, the thread's own root. The first handle of a call is the root's. */

@@ -4,14 +4,14 @@
  * may be another file's in a thread's own table of descriptors. Another file of that proc(5) lacks the names that the
  * library looks for: then the library checks whether it is the one that it opened, and does without. Another mount of that
  * proc(5), as a container's, may be covered: the library doesn't go by it. A program that hands one in may know that /proc is
- * covered: so the library never goes by /proc in its place.
+ * covered: so the library never goes by /proc in its place. Which system call comes next, and what is believed, the proved
+ * library says (crates/find_proc).
  */
 #define _GNU_SOURCE
 #include "driver.h"
 
 #include <errno.h>
 #include <fcntl.h>
-#include <linux/magic.h>
 #include <pthread.h>
 #include <stdatomic.h>
 #include <string.h>
@@ -23,6 +23,7 @@
 static atomic_int kept = INROOT_NONE;
 static _Atomic uint64_t kept_device, kept_inode, kept_mount, kept_system;
 static _Thread_local struct inroot_own of_thread = {.fd = INROOT_NONE};
+static const struct inroot_own none = {.fd = INROOT_NONE};
 
 /* Whether the program has handed one in. */
 static atomic_bool was_handed_in;
@@ -43,76 +44,146 @@ static pthread_once_t key_once = PTHREAD_ONCE_INIT;
 static pthread_key_t key;
 static bool has_key;
 
-/* ST_NOSYMFOLLOW of statfs(2), Linux 5.10: the mount follows no link, and so none of those that the calls ask for. */
-enum { FOLLOWS_NONE = 0x2000 };
+/* ---- finding one */
 
-/* Whether it is of a proc(5) that follows links; and the number of that one, which is zero in old kernels (statfs(2)). */
-static bool find_system(int fd, uint64_t *system)
+/* What is being found. FD is what was handed in or opened, and ABOVE a copy of it. */
+struct finding {
+    struct inroot_finding_facts facts;
+    struct inroot_own program, thread;
+    int fd, above;
+    struct inroot_finding course;
+    struct inroot_finding_answer answer;
+};
+
+static uint32_t error_of(long failed)
+{
+    return failed < 0 ? (uint32_t)errno : 0;
+}
+
+/* The one at hand that is asked about. */
+static int at_hand(const struct finding *f)
+{
+    return f->course.thread ? f->thread.fd : f->program.fd;
+}
+
+static uint32_t ask_mount(struct finding *f, int fd)
+{
+    return inroot_mount_number(fd, &f->answer.file.mount, &f->answer.file.device);
+}
+
+static uint32_t ask_system(struct finding *f, int fd)
 {
     struct statfs about;
-    int failed;
-    _Static_assert(sizeof about.f_fsid == sizeof *system, "the number of a file system");
-    do
-        failed = fstatfs(fd, &about);
-    while (failed != 0 && errno == EINTR);
-    if (failed != 0 || about.f_type != PROC_SUPER_MAGIC)
-        return false;
-    memcpy(system, &about.f_fsid, sizeof *system);
-    return !((uint64_t)about.f_flags & FOLLOWS_NONE);
+    _Static_assert(sizeof about.f_fsid == sizeof f->answer.file.system, "the number of a file system");
+    if (fstatfs(fd, &about) != 0)
+        return (uint32_t)errno;
+    memcpy(&f->answer.file.system, &about.f_fsid, sizeof about.f_fsid);
+    f->answer.kind = (uint64_t)about.f_type;
+    f->answer.flags = (uint64_t)about.f_flags;
+    return 0;
 }
 
-/* Whether the number is that of a file on the mount of this one: 1 or 0, or -1 where the kernel doesn't say. */
-static int is_on_mount(const struct inroot_own *own)
+static uint32_t ask_file(struct finding *f, int fd)
 {
-    uint64_t device, found = 0;
-    errno = 0;
-    if (own->mount != 0)
-        found = inroot_mount_number(own->fd, &device);
-    if (found == 0)
-        return errno == EBADF ? 0 : -1;
-    return found == own->mount && device == own->device;
+    struct stat about;
+    if (fstat(fd, &about) != 0)
+        return (uint32_t)errno;
+    f->answer.file.device = about.st_dev;
+    f->answer.file.inode = about.st_ino;
+    return 0;
 }
 
-/* The same, and where that isn't known, whether it is one of that file system. */
-static bool is_in(const struct inroot_own *own)
+static uint32_t opened(struct finding *f, int fd)
 {
-    uint64_t system;
-    int known = own->fd < 0 ? 0 : is_on_mount(own);
-    return known >= 0 ? known : find_system(own->fd, &system) && system == own->system;
+    if (fd < 0)
+        return (uint32_t)errno;
+    f->fd = fd;
+    f->answer.descriptor = (uint32_t)fd;
+    return 0;
+}
+
+static uint32_t copy_above(struct finding *f)
+{
+    f->above = fcntl(f->fd, F_DUPFD_CLOEXEC, STDERR_FILENO + 1);
+    return error_of(f->above);
+}
+
+static uint32_t close_low(struct finding *f)
+{
+    const uint32_t error = error_of(close(f->fd));
+    f->fd = f->above;
+    return error;
+}
+
+/* Makes the system call that comes next. Gives 0 or an error's number. */
+static uint32_t turn(struct finding *f)
+{
+    switch (f->course.next) {
+    case INROOT_FINDING_ASK_MOUNT: return ask_mount(f, at_hand(f));
+    case INROOT_FINDING_ASK_SYSTEM: return ask_system(f, at_hand(f));
+    case INROOT_FINDING_ASK_FILE: return ask_file(f, at_hand(f));
+    case INROOT_FINDING_OPEN: return opened(f, open("/proc", O_PATH | O_DIRECTORY | O_NOFOLLOW | O_CLOEXEC));
+    case INROOT_FINDING_RAISE: return copy_above(f);
+    case INROOT_FINDING_CLOSE_LOW: return close_low(f);
+    case INROOT_FINDING_LOOK: return ask_system(f, f->fd);
+    case INROOT_FINDING_COPY: return opened(f, openat(f->fd, ".", O_PATH | O_DIRECTORY | O_CLOEXEC));
+    case INROOT_FINDING_IDENTIFY: return ask_file(f, f->fd);
+    case INROOT_FINDING_NUMBER: return ask_mount(f, f->fd);
+    default: return error_of(close(f->fd));
+    }
+}
+
+static struct inroot_proc_kept kept_as(const struct inroot_own *own)
+{
+    return (struct inroot_proc_kept){.file = own->file, .there = own->fd >= 0};
+}
+
+/* Gives its descriptor, or -errno; and a new one as OWN, too. */
+static int find(struct finding *f, struct inroot_own *own)
+{
+    f->facts.program = kept_as(&f->program);
+    f->facts.thread = kept_as(&f->thread);
+    inroot_finding_begin(&f->facts, &f->course);
+    while (f->course.next < INROOT_FINDING_PROGRAMS) {
+        f->answer = (struct inroot_finding_answer){0};
+        f->answer.error = turn(f);
+        inroot_finding_next(&f->course, &f->facts, &f->answer);
+    }
+    switch (f->course.next) {
+    case INROOT_FINDING_PROGRAMS: return f->program.fd;
+    case INROOT_FINDING_THREADS: return f->thread.fd;
+    case INROOT_FINDING_GIVES: *own = (struct inroot_own){.fd = f->fd, .file = f->course.found}; return f->fd;
+    default: return -(int)f->course.error;
+    }
+}
+
+/* The same of a descriptor alone. */
+static int find_by(int fd, enum inroot_wants wanted, struct inroot_own *own)
+{
+    struct finding f = {
+        .facts = {.descriptor = (uint32_t)fd, .wanted = (uint8_t)wanted}, .program = none, .thread = none, .fd = fd,
+    };
+    return find(&f, own);
 }
 
 bool inroot_proc_is(int fd)
 {
-    uint64_t unused;
-    return find_system(fd, &unused);
+    struct inroot_own unused;
+    return find_by(fd, INROOT_WANTS_TELL, &unused) >= 0;
 }
 
 int inroot_proc_own(int fd, struct inroot_own *own)
 {
-    struct stat about;
-    /* A program that began without its standard files may give those numbers to others, whatever stands there. */
-    int above = fd > STDERR_FILENO ? fd : fcntl(fd, F_DUPFD_CLOEXEC, STDERR_FILENO + 1);
-    bool is_held = above >= 0 && fstat(above, &about) == 0;
-    int error = errno;
-    if (above != fd)
-        close(fd);
-    if (!is_held) {
-        if (above >= 0)
-            close(above);
-        /* A limit of three descriptors leaves no number above those: EINVAL. */
-        return error > 0 && error != EINVAL ? -error : -EMFILE;
-    }
-    *own = (struct inroot_own){.fd = above, .device = about.st_dev, .inode = about.st_ino};
-    return 0;
+    int above = find_by(fd, INROOT_WANTS_OWN, own);
+    return above < 0 ? above : 0;
 }
 
 /* A child of fork(2), or the program, may have closed what it didn't open, so that the number is another file's. */
 static bool is_own(const struct inroot_own *own)
 {
-    struct stat about;
-    int known = own->fd < 0 ? 0 : is_on_mount(own);
-    const bool is_there = known >= 0 ? known : inroot_proc_is(own->fd);
-    return is_there && fstat(own->fd, &about) == 0 && about.st_dev == own->device && about.st_ino == own->inode;
+    struct inroot_own unused;
+    struct finding f = {.facts = {.wanted = INROOT_WANTS_CHECK, .surely = true}, .program = *own, .thread = none};
+    return find(&f, &unused) >= 0;
 }
 
 void inroot_proc_close(struct inroot_own *own)
@@ -122,45 +193,19 @@ void inroot_proc_close(struct inroot_own *own)
     own->fd = INROOT_NONE;
 }
 
-/* Takes the descriptor over, as the top of the proc(5) of this number: 0 or -errno. */
-static int own_top(int fd, uint64_t system, struct inroot_own *own)
-{
-    int failed = inroot_proc_own(fd, own);
-    if (failed == 0)
-        own->system = system;
-    return failed;
-}
-
-/* Opens /proc, if it is a proc(5): 0 or -errno. */
-static int open_proc(struct inroot_own *own)
-{
-    uint64_t system;
-    if (inroot_proc_is_handed_in())
-        return -ENOSYS;
-    int fd;
-    do
-        fd = open("/proc", O_PATH | O_DIRECTORY | O_NOFOLLOW | O_CLOEXEC);
-    while (fd < 0 && errno == EINTR);
-    if (fd < 0)
-        return errno == EMFILE || errno == ENFILE || errno == ENOMEM ? -errno : -ENOSYS;
-    if (find_system(fd, &system))
-        return own_top(fd, system, own);
-    close(fd);
-    return -ENOSYS;
-}
+/* ---- what the program keeps */
 
 /* Makes it the program's, as CLAIMED or as HANDED_IN, if the program has none yet. */
 static bool keep(const struct inroot_own *own, int as)
 {
-    int none = INROOT_NONE;
-    uint64_t unused;
-    if (!atomic_compare_exchange_strong(&kept, &none, as))
+    int nothing = INROOT_NONE;
+    if (!atomic_compare_exchange_strong(&kept, &nothing, as))
         return false;
     atomic_store(&was_handed_in, as == HANDED_IN);
-    kept_device = own->device;
-    kept_inode = own->inode;
-    kept_mount = inroot_mount_number(own->fd, &unused);
-    kept_system = own->system;
+    kept_device = own->file.device;
+    kept_inode = own->file.inode;
+    kept_mount = own->file.mount;
+    kept_system = own->file.system;
     atomic_store(&kept, own->fd);
     return true;
 }
@@ -170,7 +215,8 @@ static struct inroot_own of_program(void)
 {
     const int fd = atomic_load(&kept);
     return (struct inroot_own){
-        .fd = fd, .device = kept_device, .inode = kept_inode, .mount = kept_mount, .system = kept_system,
+        .fd = fd,
+        .file = {.device = kept_device, .inode = kept_inode, .mount = kept_mount, .system = kept_system},
     };
 }
 
@@ -185,34 +231,28 @@ bool inroot_proc_is_lost(int proc)
     return proc == own.fd && !is_own(&own);
 }
 
-/*
- * Gives a descriptor that is there, or INROOT_NONE. With SURELY it is the one that was opened; else any file on that mount will
- * do.
- */
-static int at_hand(bool surely)
+/* Finds one for a call, and says whether it is a new one. What is handed in is kept before that is known. */
+static int find_for_call(bool surely, struct inroot_own *own, bool *is_new)
 {
-    const struct inroot_own own = of_program();
-    if (surely ? is_own(&own) : is_in(&own))
-        return own.fd;
-    return (surely ? is_own(&of_thread) : is_in(&of_thread)) ? of_thread.fd : INROOT_NONE;
+    struct finding f = {
+        .facts = {
+            .wanted = INROOT_WANTS_FIND, .handed_in = inroot_proc_is_handed_in(), .jailed = inroot_is_jailed(), .surely = surely,
+        },
+    };
+    f.program = of_program();
+    f.thread = of_thread;
+    int fd = find(&f, own);
+    *is_new = f.course.next == INROOT_FINDING_GIVES;
+    return fd;
 }
 
 int inroot_proc_open(bool surely, bool *is_callers)
 {
-    struct inroot_own own = {.fd = INROOT_NONE};
-    int fd = at_hand(surely);
-    *is_callers = false;
-    /* The kernel may have failed to say just then, and there is no other one. */
-    if (fd < 0 && inroot_proc_is_handed_in())
-        fd = at_hand(true);
-    if (fd >= 0)
-        return fd;
-    /* Below the root of a jail anybody may have made what is called /proc. */
-    int failed = inroot_is_jailed() ? -ENOSYS : open_proc(&own);
-    if (failed)
-        return failed;
-    *is_callers = !keep(&own, CLAIMED);
-    return own.fd;
+    struct inroot_own own;
+    bool is_new;
+    int fd = find_for_call(surely, &own, &is_new);
+    *is_callers = is_new && !keep(&own, CLAIMED);
+    return fd;
 }
 
 int inroot_proc_for(struct inroot_driver *d)
@@ -282,21 +322,17 @@ bool inroot_proc_ends(void)
 
 int inroot_proc_stay(void)
 {
-    struct inroot_own own = {.fd = INROOT_NONE};
-    uint64_t unused;
-    int fd = at_hand(true);
-    int failed = fd >= 0 ? 0 : open_proc(&own);
-    if (failed || fd >= 0)
-        return failed ? failed : fd;
-    if (keep(&own, CLAIMED))
-        return own.fd;
+    struct inroot_own own;
+    bool is_new;
+    int fd = find_for_call(true, &own, &is_new);
+    if (!is_new || keep(&own, CLAIMED))
+        return fd;
     if (!inroot_proc_ends()) {
         close(own.fd);
         return -ENOMEM;
     }
-    own.mount = inroot_mount_number(own.fd, &unused);
     of_thread = own;
-    return own.fd;
+    return fd;
 }
 
 void inroot_proc_leave(void)
@@ -309,17 +345,10 @@ void inroot_proc_leave(void)
 
 static int take_over(int proc)
 {
-    struct inroot_own own = {.fd = INROOT_NONE};
-    struct statfs about;
-    uint64_t system;
-    if (fstatfs(proc, &about) != 0)
-        return -errno;
-    if (!find_system(proc, &system))
-        return -EINVAL;
-    int fd = openat(proc, ".", O_PATH | O_DIRECTORY | O_CLOEXEC);
-    int failed = fd < 0 ? -errno : own_top(fd, system, &own);
-    if (failed)
-        return failed;
+    struct inroot_own own;
+    int fd = find_by(proc, INROOT_WANTS_TAKE, &own);
+    if (fd < 0)
+        return fd;
     if (keep(&own, HANDED_IN))
         return 0;
     close(own.fd);

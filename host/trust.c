@@ -84,7 +84,7 @@ static int open_top(int root)
 static void close_top(void)
 {
     struct stat about;
-    if (top.fd >= 0 && fstat(top.fd, &about) == 0 && about.st_dev == top.device && about.st_ino == top.inode)
+    if (top.fd >= 0 && fstat(top.fd, &about) == 0 && about.st_dev == top.file.device && about.st_ino == top.file.inode)
         close(top.fd);
     top.fd = INROOT_NONE;
 }
