@@ -54,7 +54,7 @@ after_cwd facts error place =
     if error == ENOENT then Nowhere
     else (if not (error == 0) then Unmade error else (if is_slash place then Ask Slash else ask_path facts place))
 
--- Two answers are about the same object, by the same mount or by any.
+-- both objects were looked at, and are the same: by the same mount, or by any
 abbrev pub are_same : Answer → Bool → Bool
 are_same answer by_any_mount = (answer.error == 0) && is_same_object answer.held answer.found by_any_mount
 
