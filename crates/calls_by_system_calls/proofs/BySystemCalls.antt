@@ -6,11 +6,13 @@ use Rattle.path_text.specs.declared.errno.Errno.TheVariants.{NoMemory}
 use Rattle.path_text.specs.declared.errno.Errno.TheVariants as errors
 use Rattle.tree_model.specs.declared.answer.Answer.{Answer}
 use Rattle.tree_model.specs.declared.answer.Answer.TheVariants as answers
+use Rattle.tree_model.specs.declared.answer.Event.{Event}
 use Rattle.step_resolver.specs.Order.{Line, answered, no_room, not_made}
 use Rattle.root_ops.specs.declared.op.Op.{Op}
 use Rattle.root_ops.specs.declared.reply.Reply.{Reply}
 use Rattle.root_ops.specs.CallHistory.{IsCallInHistory}
-use Rattle.root_ops.specs.Renumbered.{Numbering}
+use Rattle.root_ops.specs.EachCall.{CallTells}
+use Rattle.root_ops.specs.Renumbered.{Numbering, told_by}
 use Rattle.c_protocol.specs.History.{Heard, Exchange, LinesOf, IsWantAtOnce}
 use Rattle.c_protocol.specs.Numbers.{answer_of, below_answer, errno_of, kind_of, listed_answer}
 use Rattle.c_protocol.specs.Outright.{ConversationsTell, IsCallThatTells}
@@ -19,7 +21,7 @@ use Rattle.c_protocol.specs.declared.numbers.Answered.{Answered}
 use Rattle.c_protocol.specs.declared.numbers.Asked.{Asked}
 use Rattle.calls_by_system_calls.specs.Linux.{Linux}
 use Rattle.calls_by_system_calls.specs.Lines.{Descriptors, AreMade, AllDiffer, number_opened, numbers_opened}
-use Rattle.calls_by_system_calls.specs.Joined.{ExchangesAreMade, AreMadeBySystemCalls, CallsTellBySystemCalls, ComesTo, called, descriptors_before, numbers_given}
+use Rattle.calls_by_system_calls.specs.Joined.{ExchangesAreMade, AreMadeBySystemCalls, CallsTellBySystemCalls, ComesTo, TellsInHistory, called, descriptors_before, numbers_given}
 use Rattle.calls_by_system_calls.specs.AtOnce.{LinesAreMade}
 use Rattle.calls_by_system_calls.specs.Runs.{CallsWithRunsTellBySystemCalls}
 use Rattle.calls_by_system_calls.proofs.AtMoment.{numbering}
@@ -105,6 +107,33 @@ numbers_are_given heard (e ∷ exchanges) (not_made error ∷ lines) of =
 
 -- ---- the call
 
+-- these lines are one in a history
+pub tells_in_history : (x : Linux) (asked : Asked) (op : Op) (room : Bool) (nodes : ℕ → ℕ) (root node : ℕ) (lines : List Line)
+    (counts : List ℕ) (reply : Reply) → LinesAreMade x asked nodes root node lines counts
+    → ((f : Numbering) (window : List Event) → IsCallInHistory (called x asked op room lines node f window)
+    → CallTells (called x asked op room lines node f window) (told_by f reply))
+    → TellsInHistory x asked op room nodes root node lines counts reply
+tells_in_history x asked op room nodes root node lines counts reply made tells =
+    let all = joined x asked nodes root node lines counts made in
+    let f : Numbering = numbering all.g nodes in
+    let is_call : IsCallInHistory (called x asked op room lines node f all.window) = record {
+      tree = made.linux.tree;
+      legal_before = tt;
+      legal = all.legal;
+      own = all.own;
+      root = root_held x asked nodes root node lines counts made;
+      root_is_dir = made.directory;
+    } in
+    record {
+      f = f;
+      by_nodes = refl;
+      by_root = root_is x asked nodes root node lines counts made;
+      window = all.window;
+      is_window = all.is_window;
+      is_call = is_call;
+      tells = tells f all.window is_call;
+    }
+
 module _ (asked : Asked) (op : Op) (heard : Heard) (exchanges : List Exchange) (reply : Reply) (x : Linux) (nodes : ℕ → ℕ)
     (root node : ℕ) (counts : List ℕ) (made : AreMadeBySystemCalls x asked nodes root node heard exchanges counts)
     (it : IsCallThatTells asked op heard exchanges reply) where
@@ -123,27 +152,11 @@ module _ (asked : Asked) (op : Op) (heard : Heard) (exchanges : List Exchange) (
   }
 
   comes_to : ComesTo x asked op nodes root node heard exchanges counts reply
-  comes_to =
-      let all = joined x asked nodes root node it.call.lines counts lines_made in
-      let f : Numbering = numbering all.g nodes in
-      let is_call : IsCallInHistory (called x asked op it.call.room it.call.lines node f all.window) = record {
-        tree = made.linux.tree;
-        legal_before = tt;
-        legal = all.legal;
-        own = all.own;
-        root = root_held x asked nodes root node it.call.lines counts lines_made;
-        root_is_dir = made.directory;
-      } in
-      record {
-        call = it.call;
-        f = f;
-        by_nodes = refl;
-        by_root = root_is x asked nodes root node it.call.lines counts lines_made;
-        window = all.window;
-        is_window = all.is_window;
-        is_call = is_call;
-        tells = it.tells_by f x.opening [] all.window node is_call;
-      }
+  comes_to = record {
+    call = it.call;
+    comes = tells_in_history x asked op it.call.room nodes root node it.call.lines counts reply lines_made
+        (λ f window is_call. it.tells_by f x.opening [] window node is_call);
+  }
 
 ends_so : (asked : Asked) (op : Op) (heard : Heard) (exchanges : List Exchange) (reply : Reply) (x : Linux) (nodes : ℕ → ℕ)
     (root node : ℕ) (counts : List ℕ) → AreMadeBySystemCalls x asked nodes root node heard exchanges counts

@@ -9,6 +9,7 @@ mod Joining
 mod JoiningLines
 mod LinesJoined
 mod BySystemCalls
+mod RunLines
 mod AtOnce
 mod SeenBelow
 mod Places

@@ -59,19 +59,23 @@ pub record AreMadeBySystemCalls (x : Linux) (asked : Asked) (nodes : ℕ → ℕ
 abbrev pub called : Linux → Asked → Op → Bool → List Line → ℕ → Numbering → List Event → CallInHistory
 called x asked op room lines node f window = renumbered f (call_in asked op room lines x.opening [] window node)
 
--- The exchanges are a call of the operation, to this reply. There is a history that begins with the tree as the call
--- did: its window is what others did, with the call's events among it, each at a moment of its own system calls. In it
--- the call tells what each call of root_ops tells.
-pub record ComesTo (x : Linux) (asked : Asked) (op : Op) (nodes : ℕ → ℕ) (root node : ℕ) (heard : Heard)
-    (exchanges : List Exchange) (counts : List ℕ) (reply : Reply) : Type 0 where
-  pub call : IsCall asked op heard exchanges reply
+-- There is a history that begins with the tree as the call did: its window is what others did, with the lines' events
+-- among it, each at a moment of its own system calls. In it the call tells what each call of root_ops tells.
+pub record TellsInHistory (x : Linux) (asked : Asked) (op : Op) (room : Bool) (nodes : ℕ → ℕ) (root node : ℕ)
+    (lines : List Line) (counts : List ℕ) (reply : Reply) : Type 0 where
   pub f : Numbering
   pub by_nodes : f.node ≡ nodes
   pub by_root : f.handle asked.root ≡ root
   pub window : List Event
-  pub is_window : IsWindow x f 0 x.opening call.lines counts window
-  pub is_call : IsCallInHistory (called x asked op call.room call.lines node f window)
-  pub tells : CallTells (called x asked op call.room call.lines node f window) (told_by f reply)
+  pub is_window : IsWindow x f 0 x.opening lines counts window
+  pub is_call : IsCallInHistory (called x asked op room lines node f window)
+  pub tells : CallTells (called x asked op room lines node f window) (told_by f reply)
+
+-- The exchanges are a call of the operation, to this reply, which tells so.
+pub record ComesTo (x : Linux) (asked : Asked) (op : Op) (nodes : ℕ → ℕ) (root node : ℕ) (heard : Heard)
+    (exchanges : List Exchange) (counts : List ℕ) (reply : Reply) : Type 0 where
+  pub call : IsCall asked op heard exchanges reply
+  pub comes : TellsInHistory x asked op call.room nodes root node call.lines counts reply
 
 -- So it is of each conversation of a C program with the library, from what `begin` and `next` say alone, unless there
 -- was no memory to begin with.

@@ -4,6 +4,7 @@ pub mod Lines
 pub mod Window
 pub mod Joined
 pub mod Runs
+pub mod RunLines
 pub mod AtOnce
 pub mod SeenBelow
 pub mod Places

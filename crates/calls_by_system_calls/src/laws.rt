@@ -2,6 +2,7 @@
 ghost use Rattle.calls_by_system_calls.specs.AtOnce.{FailsAtOnceBySystemCalls, OpensAtOnceBySystemCalls, OpensThroughBySystemCalls};
 ghost use Rattle.calls_by_system_calls.specs.Joined.{CallsTellBySystemCalls};
 ghost use Rattle.calls_by_system_calls.specs.Places.{AskedPlacesStood};
+ghost use Rattle.calls_by_system_calls.specs.RunLines.{LinesWithRunsTellBySystemCalls};
 ghost use Rattle.calls_by_system_calls.specs.Runs.{CallsWithRunsTellBySystemCalls};
 ghost use Rattle.calls_by_system_calls.specs.SeenBelow.{PlainSeenBelowBySystemCalls, ResolvesSeenBelowBySystemCalls};
 ghost use Rattle.calls_by_system_calls.specs.WorkedChange.{MkdirIsMade};
@@ -12,6 +13,7 @@ use c_protocol::{
     opens_through_tell, seen_below_tell,
 };
 use place_protocol::places_stood;
+use root_ops::calls_tell_by_any_numbers;
 
 /// A call of a C program, each of whose Opens, Parents and ReadLinks is a whole conversation of system calls by
 /// `step_calls`, and each change of an entry one system call, while others change the tree between any two of these.
@@ -35,6 +37,15 @@ pub fn calls_with_runs_tell_by_system_calls()
     ensures { CallsWithRunsTellBySystemCalls }
 {
     conversations_with_runs_tell();
+}
+
+/// The same, line by line: of a run the lines are an Open of each of its names and the Closes between, and then the
+/// step that opens the last part of its text, if that is due. Where these lines are made by system calls, there is a
+/// history in which the call tells what `conversations_tell` says.
+pub fn lines_with_runs_tell_by_system_calls()
+    ensures { LinesWithRunsTellBySystemCalls }
+{
+    calls_tell_by_any_numbers();
 }
 
 /// The same of a resolve, or of the making of all directories, that replies without its turns: its path is names
