@@ -13,5 +13,8 @@ mod RunLines
 mod AtOnce
 mod SeenBelow
 mod Places
+mod Passing
+mod FromDirectory
 mod WorkedRace
+mod WorkedReport
 mod WorkedChange

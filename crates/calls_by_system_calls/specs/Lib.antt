@@ -8,5 +8,7 @@ pub mod RunLines
 pub mod AtOnce
 pub mod SeenBelow
 pub mod Places
+pub mod FromDirectory
 pub mod WorkedRace
+pub mod WorkedReport
 pub mod WorkedChange

@@ -1,5 +1,6 @@
 //! What a C program's call tells whose steps are made by system calls.
 ghost use Rattle.calls_by_system_calls.specs.AtOnce.{FailsAtOnceBySystemCalls, OpensAtOnceBySystemCalls, OpensThroughBySystemCalls};
+ghost use Rattle.calls_by_system_calls.specs.FromDirectory.{CallsFromDirectoriesTellBySystemCalls, FoundNamesArePassed, ReportsAreLines};
 ghost use Rattle.calls_by_system_calls.specs.Joined.{CallsTellBySystemCalls};
 ghost use Rattle.calls_by_system_calls.specs.Places.{AskedPlacesStood};
 ghost use Rattle.calls_by_system_calls.specs.RunLines.{LinesWithRunsTellBySystemCalls};
@@ -7,6 +8,7 @@ ghost use Rattle.calls_by_system_calls.specs.Runs.{CallsWithRunsTellBySystemCall
 ghost use Rattle.calls_by_system_calls.specs.SeenBelow.{PlainSeenBelowBySystemCalls, ResolvesSeenBelowBySystemCalls};
 ghost use Rattle.calls_by_system_calls.specs.WorkedChange.{MkdirIsMade};
 ghost use Rattle.calls_by_system_calls.specs.WorkedRace.{RaceIsMade};
+ghost use Rattle.calls_by_system_calls.specs.WorkedReport.{ReportIsMade};
 
 use c_protocol::{
     conversations_tell, conversations_with_runs_tell, fails_at_once_tell, opens_at_once_tell,
@@ -46,6 +48,20 @@ pub fn lines_with_runs_tell_by_system_calls()
     ensures { LinesWithRunsTellBySystemCalls }
 {
     calls_tell_by_any_numbers();
+}
+
+/// The same of a call whose paths begin at a directory below the root. At its first step `begin_below` says that the
+/// names of this directory are reported, and the directory answers the step that opens the last of them. The program
+/// asked for its place: at a moment of those system calls the directory stood at these names, and the Opens of all of
+/// them are of that moment. So no look-up of them is supposed (path_resolution(7)). The call is one of the path that
+/// has these names before its own. Of each report, as that with which a rename's second walk begins: the run and the
+/// answer behind it are its lines, and these are made at a moment of the system calls by which the place was asked for.
+pub fn calls_from_directories_tell_by_system_calls()
+    ensures calls { CallsFromDirectoriesTellBySystemCalls }
+    ensures reports { ReportsAreLines }
+    ensures names { FoundNamesArePassed }
+{
+    lines_with_runs_tell_by_system_calls();
 }
 
 /// The same of a resolve, or of the making of all directories, that replies without its turns: its path is names
@@ -99,6 +115,12 @@ pub fn asked_places_stood()
 /// made by ten system calls.
 pub fn worked_race_is_made()
     ensures { RaceIsMade }
+{}
+
+/// The same of a call that begins at a directory: the walk along `..` from `a/b`, which another moves out of the root
+/// once its place was asked for.
+pub fn worked_report_is_made()
+    ensures { ReportIsMade }
 {}
 
 /// The same of a call that changes something: a directory is made in one that another moves out of the root between
