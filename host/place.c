@@ -81,7 +81,6 @@ bool inroot_look_first(struct inroot_driver *d, int root, struct inroot_slot *sl
 struct search {
     struct inroot_driver *d;
     int root, found;                         /* what the last look-up opened, or the root anew; or none */
-    int wants;                               /* why nobody could ask about the thread's own root, or zero */
     struct inroot_slot *slot;
     const struct inroot_kept_root *kept;
     struct inroot_place_facts facts;
@@ -151,12 +150,12 @@ static void read_root(struct search *s)
     s->path = s->above;
 }
 
-static bool tells_own_root(struct search *s)
+static void ask_own_root(struct search *s)
 {
     int proc = inroot_proc_for(s->d);
     int failed = proc < 0 ? proc : inroot_own_root_ask(s->d, proc);
-    s->wants = failed == -EOPNOTSUPP ? 0 : -failed;
-    return failed == 0;
+    s->answer.error = (uint32_t)-failed;
+    s->answer.yes = failed == 0;
 }
 
 /* ---- getcwd(2) */
@@ -235,7 +234,7 @@ static void ask(struct search *s)
     case INROOT_PLACE_KEPT_LINK: s->text_length = note(s, kept_link(s)); break;
     case INROOT_PLACE_ROOT_LINK: read_root(s); break;
     case INROOT_PLACE_OBJECT_LINK: s->text_length = note(s, object_link(s, s->text)); break;
-    case INROOT_PLACE_OWN_ROOT: s->answer.yes = tells_own_root(s); break;
+    case INROOT_PLACE_OWN_ROOT: ask_own_root(s); break;
     case INROOT_PLACE_ROOT_AGAIN: s->again_length = note(s, link_of(s->d, s->root, s->again)); break;
     case INROOT_PLACE_LOOK_UP: look_up(s); break;
     case INROOT_PLACE_LINK_AGAIN: s->again_length = note(s, object_link(s, s->again)); break;
@@ -263,7 +262,7 @@ static void converse(struct search *s)
 static struct inroot_result tell(const struct search *s, size_t *length)
 {
     if (s->told.what == INROOT_PLACE_UNMADE)
-        return inroot_unmade(s->d, s->wants != 0 ? s->wants : (int)s->told.error);
+        return inroot_unmade(s->d, (int)s->told.error);
     *length = s->told.length;
     memmove(s->text, s->text + s->told.start, *length);
     s->text[*length] = 0;

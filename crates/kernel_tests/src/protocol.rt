@@ -259,6 +259,7 @@ fn a_text_alone_is_read_between_two(rt: HostRuntime) -> Result<(), Fail> {
             )
         );
         assert!(rt; is_unmade(end_of(facts, "", &[ROOT, TEXT, (7, FINE, "")]), 95));
+        assert!(rt; is_unmade(end_of(facts, "", &[ROOT, TEXT, (7, fails(24), "")]), 24));
     }
     let gone = (6, FINE, "/srv/root/a (deleted)");
     assert!(rt;

@@ -11,7 +11,7 @@ use Rattle.kernel_text.specs.declared.place.Place.{Place}
 use Rattle.system_calls.specs.Objects.{is_same_object}
 use Rattle.place_protocol.specs.Conversation.{Conversation, Exchange, Goes, StandsAt, keep}
 use Rattle.place_protocol.specs.Texts.{Texts, Finds, bytes_of, path_of_root, place_before, place_of, texts_of, is_top}
-use Rattle.place_protocol.specs.Turns.{after_cwd, after_cwd_again, after_found, after_is_root, after_link_again, after_look_up, after_object, after_root_again, ask_there, confirm, confirm_alone, confirm_place, facts_after, first_link, has_found, has_path, in_jail, is_root, link_error, look_up_error, without_second, are_same, ask_path, is_slash}
+use Rattle.place_protocol.specs.Turns.{after_cwd, after_cwd_again, after_found, after_is_root, after_link_again, after_look_up, after_object, after_root_again, are_same, ask_path, ask_there, confirm, confirm_alone, confirm_place, facts_after, first_link, has_found, has_path, in_jail, is_root, is_slash, link_error, look_up_error, own_root_error, without_second}
 use Rattle.place_protocol.specs.Witness.{AgreeingWitnessesAreTold, FindsObject, FindsRoot, Worked, AsksSlash, AsksTop, FindsSame, IsOwnParent}
 use Rattle.place_protocol.specs.declared.questions.Answer.{Answer}
 use Rattle.place_protocol.specs.declared.questions.Facts.{Facts}
@@ -336,7 +336,7 @@ own_tells facts place t next own again last top jailed second q own_yes asks wor
     let g = subst (λ (n : Turn). Goes facts t n (own ∷ top ++ (again ∷ last ∷ [])) (Else place)) is h in
     let a = answered OwnRoot facts t own (top ++ (again ∷ last ∷ [])) (Else place) q g.1 in
     let e : a.0 ≡ cond (is_top t.root) (Ask Top) (Ask RootAgain) =
-    a.1 ∙ cond-false (not own.answer.yes) (Unmade EOPNOTSUPP) _ (ap not own_yes) in
+    a.1 ∙ cond-false (not own.answer.yes) (Unmade (own_root_error own.answer.error)) _ (ap not own_yes) in
     behind top asks a.0 e a.2
   where
     behind : (more : List Exchange) → AsksTop t.root more → (turn : Turn) → turn ≡ cond (is_top t.root) (Ask Top) (Ask RootAgain)

@@ -8,7 +8,7 @@ use Rattle.kernel_text.specs.declared.place.Place.{Place}
 use Rattle.system_calls.specs.Objects.{is_same_object}
 use Rattle.place_protocol.specs.Conversation.{Comes, Exchange, StandsAt, keep}
 use Rattle.place_protocol.specs.Texts.{Texts, Finds, bytes_of, place_before, place_of, is_top}
-use Rattle.place_protocol.specs.Turns.{after_dead, after_is_root, after_link_again, after_object, after_root_again, ask_there, confirm, confirm_alone, is_root, link_error, look_up_error, are_same}
+use Rattle.place_protocol.specs.Turns.{after_dead, after_is_root, after_link_again, after_object, after_root_again, are_same, ask_there, confirm, confirm_alone, is_root, link_error, look_up_error, own_root_error}
 use Rattle.place_protocol.specs.Witness.{FindsRoot, IsAlive, IsThere, NamedAgain, RootStayed, TextTells, Worked, IsOwnParent}
 use Rattle.place_protocol.specs.declared.questions.Facts.{Facts}
 use Rattle.place_protocol.specs.declared.questions.Question.TheVariants.{RootLink, ObjectLink, OwnRoot, RootAgain, LinkAgain, Dead, IsRoot, Top}
@@ -243,7 +243,8 @@ own place r facts t [] second jailed h = absurd h
 own place r facts t (e ∷ es) second jailed h =
     let a = asked OwnRoot facts t e es (StandsAt place r) h in
     let tops = cond (is_top t.root) (Ask Top) (Ask RootAgain) in
-    let n = if_not place r facts t (not e.answer.yes) tops EOPNOTSUPP es (turned place r facts t a.1.0 _ es a.1.1 a.1.2) in
+    let n = if_not place r facts t (not e.answer.yes) tops (own_root_error e.answer.error) es
+    (turned place r facts t a.1.0 _ es a.1.1 a.1.2) in
     let yes = not-false e.answer.yes n.0 in
     elim (either place r facts t (is_top t.root) (Ask Top) (Ask RootAgain) es n.1) [
       | inl c ↦ let p = top place r facts t es second jailed c.1 in inl (a.0, yes, inr p.0, p.1)

@@ -9,7 +9,7 @@ use Rattle.system_calls.specs.Objects.{is_same_object}
 use Rattle.system_calls.specs.declared.objects.Object.{Object}
 use Rattle.place_protocol.specs.Conversation.{Conversation, Exchange, Goes, keep}
 use Rattle.place_protocol.specs.Texts.{Texts, bytes_of, texts_of, is_top}
-use Rattle.place_protocol.specs.Turns.{after_dead, after_found, after_is_root, after_kept, after_link_again, after_look_up, after_object, ask_there, confirm, confirm_alone, confirm_place, facts_after, first, first_link, has_found, has_path, in_jail, is_root, link_error, look_up_error, without_second, Follows, are_same, ask_path, is_slash}
+use Rattle.place_protocol.specs.Turns.{after_dead, after_found, after_is_root, after_kept, after_link_again, after_look_up, after_object, are_same, ask_path, ask_there, confirm, confirm_alone, confirm_place, facts_after, first, first_link, has_found, has_path, in_jail, is_root, is_slash, link_error, look_up_error, own_root_error, without_second, Follows}
 use Rattle.place_protocol.specs.Witness.{QuestionsComeToAnEnd}
 use Rattle.place_protocol.specs.declared.questions.Answer.{Answer}
 use Rattle.place_protocol.specs.declared.questions.Facts.{Facts}
@@ -208,7 +208,7 @@ step ObjectLink facts a t next h =
     follows_below facts.second (cond facts.second 8 5) next _ h.2 (object_below facts.second facts (link_error a.error t.text) h.0 refl)
 step OwnRoot facts a t next h =
     follows_below facts.second (cond facts.second 10 4) next _ h
-    (cond_both (not a.yes) (Unmade EOPNOTSUPP) _ (Below facts.second (cond facts.second 10 4))
+    (cond_both (not a.yes) (Unmade (own_root_error a.error)) _ (Below facts.second (cond facts.second 10 4))
     (λ _. zero_below facts.second 10 4 (lit< tt) (lit< tt))
     (λ _. cond_both (is_top t.root) (Ask Top) (Ask RootAgain) (Below facts.second (cond facts.second 10 4))
     (λ _. top_below_own facts.second) (λ _. again_below_own facts.second)))

@@ -103,10 +103,14 @@ after_object facts error place =
     if not (error == 0) then Unmade error
     else (if facts.jailed || facts.second then confirm facts place else Ask OwnRoot)
 
+-- nobody could ask, or the answer is no
+abbrev pub own_root_error : ℕ → ℕ
+own_root_error error = if error == 0 then EOPNOTSUPP else error
+
 -- A root with a slash alone for its text is a top, or was moved out of its mount.
-abbrev pub after_own_root : Bool → List ℕ → Turn
-after_own_root tells root =
-    if not tells then Unmade EOPNOTSUPP else (if is_top root then Ask Top else Ask RootAgain)
+abbrev pub after_own_root : ℕ → Bool → List ℕ → Turn
+after_own_root error tells root =
+    if not tells then Unmade (own_root_error error) else (if is_top root then Ask Top else Ask RootAgain)
 
 -- a top is its own parent
 abbrev pub after_top : Answer → Turn
@@ -170,7 +174,7 @@ Follows facts KeptLink a t turn = WithPlace t.text (place_of facts t) (after_kep
 Follows facts RootLink a t turn = turn ≡ after_root (link_error a.error t.root)
 Follows facts ObjectLink a t turn =
     WithPlace t.text (place_of facts t) (after_object facts (link_error a.error t.text)) turn
-Follows facts OwnRoot a t turn = turn ≡ after_own_root a.yes t.root
+Follows facts OwnRoot a t turn = turn ≡ after_own_root a.error a.yes t.root
 Follows facts RootAgain a t turn =
     WithPlace t.text (place_of facts t) (after_root_again facts (link_error a.error t.again)) turn
 Follows facts LookUp a t turn = WithPlace t.text (place_of facts t) (after_look_up facts a) turn

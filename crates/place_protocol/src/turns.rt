@@ -1,7 +1,7 @@
 //! What follows from an answer.
 ghost use Rattle.std.specs.Prelude.{◌≡◌};
 ghost use Rattle.place_protocol.specs.Texts.{texts_of, IsWithin};
-ghost use Rattle.place_protocol.specs.Turns.{after_cwd, after_cwd_again, after_dead, after_enter, after_found, after_is_root, after_kept, after_link_again, after_look_up, after_object, after_own_root, after_root, after_root_again, after_slash, after_slash_again, after_top, are_same, ask_path, ask_there, confirm, confirm_alone, confirm_place, facts_after, first, first_link, has_found, has_path, in_jail, is_root, is_slash, link_error, look_up_error, without_second, Follows};
+ghost use Rattle.place_protocol.specs.Turns.{after_cwd, after_cwd_again, after_dead, after_enter, after_found, after_is_root, after_kept, after_link_again, after_look_up, after_object, after_own_root, after_root, after_root_again, after_slash, after_slash_again, after_top, are_same, ask_path, ask_there, confirm, confirm_alone, confirm_place, facts_after, first, first_link, has_found, has_path, in_jail, is_root, is_slash, link_error, look_up_error, own_root_error, without_second, Follows};
 
 use crate::questions::{Answer, Facts, Question};
 use crate::texts::{found, found_in_jail};
@@ -263,12 +263,18 @@ fn after_object(facts: &Facts, error: u32, place: Option<Place>) -> Turn
     }
 }
 
+fn own_root_error(error: u32) -> u32
+    ensures { result ≡ own_root_error error }
+{
+    if error == 0 { EOPNOTSUPP } else { error }
+}
+
 // A slash alone is the text of a top, and of a root that was moved out of its mount: that has no path.
-fn after_own_root(tells: bool, root: &[u8]) -> Turn
-    ensures { result ≡ after_own_root tells root.now }
+fn after_own_root(error: u32, tells: bool, root: &[u8]) -> Turn
+    ensures { result ≡ after_own_root error tells root.now }
 {
     if !tells {
-        Turn::Unmade(EOPNOTSUPP)
+        Turn::Unmade(own_root_error(error))
     } else if root.len() == 1 {
         Turn::Ask(Question::Top)
     } else {
@@ -414,7 +420,7 @@ pub(crate) fn follow(
                 found(facts, root, text, again),
             )
         }
-        Question::OwnRoot => after_own_root(answer.yes, root),
+        Question::OwnRoot => after_own_root(answer.error, answer.yes, root),
         Question::RootAgain => {
             after_root_again(
                 facts,
