@@ -574,8 +574,8 @@ void inroot_calling_begin(const struct inroot_calling_facts *facts, struct inroo
 void inroot_calling_next(struct inroot_calling *calling, const struct inroot_calling_answer *answer);
 
 /*
- * What is done as a call hands out what a handle is on. There is nothing, by an ERROR. The directory is opened ANEW, and what that gives
- * is handed out; else it is the handle's own descriptor. That one is closed then, whatever the opening gave (CLOSES).
+ * What is done as a call hands out what a handle is on. There is nothing, by an ERROR. The directory is opened ANEW, and what that
+ * gives is handed out; else it is the handle's own descriptor. That one is closed then, whatever the opening gave (CLOSES).
  */
 struct inroot_taking {
     uint32_t error;
@@ -779,14 +779,14 @@ struct inroot_asking_facts {
 
 /*
  * What a demand gave: 0, or an error. How many names has what was looked at. How long the names are that were found, or
- * 0. YES: what was looked at is a directory; the thread has openat2(2), as the names were found; what was looked up is the object;
- * or, the directory was removed.
+ * 0. YES: what was looked at is a directory; what was looked up is the object; or, the directory was removed. The thread has
+ * OPENAT2, as far as it is known once the names were found or looked up.
  */
 struct inroot_asking_answer {
     uint64_t links;
     size_t length;
     uint32_t error;
-    bool yes;
+    bool yes, openat2;
 };
 
 /*

@@ -204,7 +204,7 @@ struct inroot_result inroot_handles_close(struct inroot_driver *d, uint64_t hand
 uint64_t inroot_handles_share(struct inroot_driver *d, uint64_t root);
 /*
  * Takes the descriptor out of a handle, for the caller to keep, and notes its kind; or another one of the same directory, where that
- * one shares something with the caller's own. Returns it, or -errno. No other handle is of use then.
+ * one shares something with the caller's own. Returns it, or -errno. No handle is used after that.
  */
 int inroot_handles_take(struct inroot_driver *d, uint64_t handle);
 /* Closes the descriptor of one directory above this one, if one can be spared. */

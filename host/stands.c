@@ -48,7 +48,7 @@ static uint32_t find(struct asking *a)
     struct inroot_result result = inroot_find_place(a->d, a->root, a->slot, a->text, &a->length);
     uint32_t error = result.what == INROOT_ANSWER_NAMES ? 0 : (uint32_t)a->d->unmade;
     a->answer.length = a->length;
-    a->answer.yes = inroot_has_openat2();
+    a->answer.openat2 = inroot_has_openat2();
     a->d->unmade = 0;
     return error;
 }
@@ -88,11 +88,13 @@ static bool takes_held(struct asking *a)
 static uint32_t look_up(struct asking *a)
 {
     a->held = inroot_look_up(a->d, a->root, a->text + 1, O_NOFOLLOW, RESOLVE_BENEATH);
-    if (a->held < 0)
-        return (uint32_t)errno;
-    a->answer.yes = takes_held(a);
-    hold(a, a->root);
-    return 0;
+    const uint32_t error = a->held < 0 ? (uint32_t)errno : 0;
+    a->answer.openat2 = inroot_has_openat2();
+    if (!error) {
+        a->answer.yes = takes_held(a);
+        hold(a, a->root);
+    }
+    return error;
 }
 
 /* In a jail the names begin at the thread's own root: a path from there could lead out of it by a link of proc(5). */

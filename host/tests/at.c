@@ -222,6 +222,8 @@ static void changes_from(int root_or_jail)
     finds(inroot_openat(at, "d/y", O_RDWR | O_CREAT | O_EXCL, 0600, 0), "a/b/d/y", "openat");
     finds(inroot_mkdir_all(at, "d/1/2", 0755, 0), "a/b/d/1/2", "mkdir_all");
     finds(inroot_mkfile_all(at, "d/3/4", 0644, 0755, 0), "a/b/d/3/4", "mkfile_all");
+    sure(symlinkat("5", root, "a/b/d/next"), "a/b/d/next");
+    finds(inroot_mkfile_all(root_or_jail, "a/b/d/next", 0644, 0755, INROOT_FOLLOW), "a/b/d/5", "mkfile_all through a link");
     finds(inroot_open_parent(at, "d/none", 0, last), "a/b/d", "open_parent");
     finds(inroot_open_parent(at, "none", 0, last), "a/b", "open_parent of one name");
     finds(inroot_open_partial(at, "d/none/x", 0, text, sizeof text), "a/b/d", "open_partial");
@@ -238,7 +240,7 @@ static void changes_from(int root_or_jail)
     expect(inode_of(root, "a/b/x") == file, "another was renamed");
     gives(inroot_unlink(at, "x", 0), 0, "unlink");
     gives(inroot_rmdir(at, "d/1/2", 0), 0, "rmdir");
-    gives(inroot_remove_all(at, "d", 0), 6, "remove_all");
+    gives(inroot_remove_all(at, "d", 0), 8, "remove_all");
     gives(inroot_unlink(at, "p", 0), 0, "unlink");
     gives(inroot_unlink(at, "s", 0), 0, "unlink");
     gives(inroot_unlink(at, "../third", 0), 0, "unlink");

@@ -50,6 +50,19 @@ static void under_filter(void)
         each(INROOT_JAIL);
 }
 
+/* From now on: the thread has made the system call before, which is known to be there. */
+static void late(void)
+{
+    char text[PATH_MAX] = "";
+    int dir = sure(openat(root, "a", O_PATH | O_DIRECTORY | O_CLOEXEC), "a");
+    if (inroot_jail(root) != 0)
+        _exit(NO_RIGHT);
+    gives(inroot_place(INROOT_JAIL, dir, text, sizeof text), 2, "a place before");
+    refuse(refused, error);
+    gives(inroot_place(INROOT_JAIL, dir, text, sizeof text), 2, "system call %ld by %d, a place from now on", refused, error);
+    expect(strcmp(text, "/a") == 0, "the place is %s", text);
+}
+
 /* A descriptor of the library's own that got the number of a standard file can't be moved: the call gives the filter's error. */
 static void of_a_standard_file(void)
 {
@@ -78,6 +91,7 @@ int main(int count, char **words)
             refused = calls[at];
             error = errors[by];
             skipped |= apart(under_filter) == NO_RIGHT;
+            skipped |= apart(late) == NO_RIGHT;
         }
     skipped |= apart(of_a_standard_file) == NO_RIGHT;
     printf("filters: %d not as they are to be\n", wrong);

@@ -139,7 +139,8 @@ static bool is_raced(uint32_t error)
 static uint32_t answer_asking(struct input *in, const struct inroot_asking *now, struct placed *p)
 {
     const uint32_t error = some_error(in), lost = p->directory ? 0 : p->nameless ? ENOENT : EAGAIN;
-    p->answer = (struct inroot_asking_answer){.error = error, .yes = byte(in) & 1};
+    const unsigned bits = byte(in);
+    p->answer = (struct inroot_asking_answer){.error = error, .yes = bits & 1, .openat2 = bits & 2};
     p->exchanges++;
     MUST(p->is_open == (now->next > INROOT_ASKING_COPY));
     switch (now->next) {
@@ -155,12 +156,15 @@ static uint32_t answer_asking(struct input *in, const struct inroot_asking *now,
     case INROOT_ASKING_FIND:
         p->answer.length = byte(in) % 4;
         p->found = error == 0 && p->answer.length > 0;
-        p->has_openat2 = p->answer.yes;
+        p->has_openat2 = p->answer.openat2;
         p->alone = (!p->has_openat2 || (p->facts.jailed && p->facts.handed && p->directory)) &&
                    !(p->directory && p->answer.length == 1);
         return p->found ? 0 : error == 0 || error == EAGAIN ? lost : error;
     case INROOT_ASKING_LOOK_UP:
         MUST(p->found && p->alone && p->has_openat2);
+        p->has_openat2 = p->answer.openat2;
+        if (error != 0 && !p->has_openat2)
+            return 0;
         p->led = error == 0 && p->answer.yes;
         return p->led ? 0 : error == 0 || error == EAGAIN || is_raced(error) ? lost : error;
     case INROOT_ASKING_LEAD:
@@ -190,7 +194,7 @@ static void place(struct input *in)
         inroot_asking_next(&now, &p.facts, &p.answer);
     }
     const bool ends = now.next == INROOT_ASKING_ENDS;
-    MUST(p.exchanges <= 6 && now.error == p.error && ends == (p.error == 0));
+    MUST(p.exchanges <= 7 && now.error == p.error && ends == (p.error == 0));
     MUST(p.is_open == (ends && p.facts.keeps) && (!ends || (p.found && (!p.alone || p.led))));
     struct inroot_question question;
     uint32_t asked = byte(in) % 10;

@@ -3,8 +3,8 @@ use Rattle.std.proofs.Common.{◌≡◌, ◌≢◌, ◌≤◌, ◌+◌, ℕ, Lis
 use Rattle.std.specs.Prelude.{◌==◌, if◌then◌else◌}
 use Rattle.system_calls.specs.Errors.{EAGAIN}
 use Rattle.std.proofs.lemmas.Bool.{eqb-true, false≢true}
-use Rattle.ask_place.specs.History.{after_exchange, after_lead, asks, is_by_text, is_directory_after, is_nameless_after, is_question, leads, look_up_error, missing, next_after, told, Exchange, IsHistory, Next}
-use Rattle.ask_place.specs.Promises.{error_of, has_openat2_after, is_alone_after, is_found_after, is_led_after, is_led_by, is_open_after, is_over, latest, lead_error, missing_error, needs_open, open_by, why_after, IsFound}
+use Rattle.ask_place.specs.History.{after_exchange, after_lead, asks, is_by_text, is_directory_after, is_missing, is_nameless_after, is_question, leads, look_up_error, missing, next_after, told, Exchange, IsHistory, Next}
+use Rattle.ask_place.specs.Promises.{error_of, has_openat2_after, is_alone_after, is_found_after, is_led_after, is_led_by, is_open_after, is_over, latest, lead_error, missed_after, missed_by, missing_error, needs_open, open_by, why_after, IsFound}
 use Rattle.ask_place.specs.declared.asking.Answer.{Answer}
 use Rattle.ask_place.specs.declared.asking.Facts.{Facts}
 use Rattle.ask_place.specs.declared.asking.TheConstants.{LOOK, COPY, FIND, LOOK_UP, LEAD, DEAD, CLOSE, ENDS, FAILS}
@@ -61,7 +61,11 @@ abbrev is_absent : Answer → Bool
 is_absent gave = not (gave.error == 0) || (gave.length == 0)
 
 abbrev is_leading : Facts → Answer → Bool → Bool
-is_leading f gave directory = is_by_text f gave.yes directory && not (directory && (gave.length == 1))
+is_leading f gave directory = is_by_text f gave.openat2 directory && not (directory && (gave.length == 1))
+
+-- what comes after a look-up of all of them: it is missing, or they lead to the object or not
+abbrev look_to : Facts → Bool → ℕ → Bool → Bool → Next
+look_to f missing error directory nameless = if missing then leads false else after_lead f error directory nameless
 
 refused_is : (error : ℕ) → is_refused error ≡ true → (error == 0) ≡ false
 refused_is error h = grind (arith, h)
@@ -89,6 +93,11 @@ open_find f error false false false openat2 directory nameless h = grind arith
 open_lead : (f : Facts) (error : ℕ) (directory nameless : Bool) → Opens f (after_lead f error directory nameless) true
 open_lead f error directory nameless = grind arith
 
+open_look : (f : Facts) (missing : Bool) (error : ℕ) (directory nameless : Bool)
+    → Opens f (look_to f missing error directory nameless) true
+open_look f true error directory nameless = grind arith
+open_look f false error directory nameless = open_lead f error directory nameless
+
 open_step : (f : Facts) (e : Exchange) (directory nameless : Bool) (why : ℕ) (was : Bool)
     → was ≡ needs_open f (asks e.asked why) → is_kept_late f (asks e.asked why) ≡ true → is_question e.asked ≡ true
     → Opens f (after_exchange f e directory nameless why) (open_by e was)
@@ -102,11 +111,11 @@ open_step f e directory nameless why was is late question =
           subst opens_at (sym at)
           (subst (Opens f (after_exchange f (gave_at FIND e.gave) directory nameless why)) (sym was_open)
           (open_find f e.gave.error (is_refused e.gave.error) (is_absent e.gave) (is_leading f e.gave directory)
-          e.gave.yes directory nameless (refused_is e.gave.error)))
+          e.gave.openat2 directory nameless (refused_is e.gave.error)))
       | look_them_up at ↦ let was_open : was ≡ true = grind (arith, at, is) in
           subst opens_at (sym at)
           (subst (Opens f (after_exchange f (gave_at LOOK_UP e.gave) directory nameless why)) (sym was_open)
-          (open_lead f (look_up_error e.gave.error e.gave.yes) directory nameless))
+          (open_look f (is_missing e.gave) (look_up_error e.gave.error e.gave.yes) directory nameless))
       | lead_it at ↦ grind (arith, at)
       | ask_dead at ↦ grind (arith, at)
       | close_it at ↦ grind (arith, at)
@@ -164,7 +173,7 @@ found_is f (e ∷ older) h now =
 
 abbrev alone_by : Facts → Exchange → Bool → Bool → Bool
 alone_by f e directory was =
-    if e.asked == FIND then is_by_text f e.gave.yes directory && not (directory && (e.gave.length == 1)) else was
+    if e.asked == FIND then is_by_text f e.gave.openat2 directory && not (directory && (e.gave.length == 1)) else was
 
 abbrev led_by : Exchange → Bool → Bool
 led_by e was = if e.asked == FIND then false else (if is_led_next e.asked then is_led_by e else was)
@@ -182,6 +191,11 @@ told_lead : (f : Facts) (error : ℕ) (directory nameless : Bool)
     → is_told (after_lead f error directory nameless) ≡ true → error ≡ 0
 told_lead f error directory nameless now = grind (arith, now)
 
+told_look : (f : Facts) (missing : Bool) (error : ℕ) (directory nameless : Bool)
+    → is_told (look_to f missing error directory nameless) ≡ true → error ≡ 0
+told_look f true error directory nameless now = absurd (grind (arith, now))
+told_look f false error directory nameless now = told_lead f error directory nameless now
+
 led_step : (f : Facts) (e : Exchange) (directory nameless : Bool) (why : ℕ) (alone led : Bool)
     → (is_told (asks e.asked why) ≡ true → alone ≡ true → led ≡ true) → is_question e.asked ≡ true
     → is_told (after_exchange f e directory nameless why) ≡ true → alone_by f e directory alone ≡ true
@@ -195,11 +209,12 @@ led_step f e directory nameless why alone led before question now by_text =
       | copy_it at ↦ grind (arith, at, before)
       | find_it at ↦ subst is_led_at (sym at)
           (led_find f e.gave.error (is_refused e.gave.error) (is_absent e.gave) (is_leading f e.gave directory)
-          e.gave.yes directory nameless (refused_is e.gave.error) (subst is_told_at at now)
+          e.gave.openat2 directory nameless (refused_is e.gave.error) (subst is_told_at at now)
           (subst is_alone_at at by_text))
       | look_them_up at ↦ subst is_led_at (sym at)
           (found_all e.gave.error e.gave.yes
-          (told_lead f (look_up_error e.gave.error e.gave.yes) directory nameless (subst is_told_at at now)))
+          (told_look f (is_missing e.gave) (look_up_error e.gave.error e.gave.yes) directory nameless
+          (subst is_told_at at now)))
       | lead_it at ↦ grind (arith, at, before)
       | ask_dead at ↦ grind (arith, at, before)
       | close_it at ↦ grind (arith, at, before)
@@ -235,8 +250,18 @@ led_ends : (f : Facts) (error : ℕ) (directory nameless : Bool)
     → is_led_next (after_lead f error directory nameless).next ≡ true → false ≡ true
 led_ends f error directory nameless now = grind (arith, now)
 
+missing_is : (gave : Answer) → is_missing gave ≡ true → gave.openat2 ≡ false
+missing_is gave h = grind (arith, h)
+
+way_look : (f : Facts) (missing openat2 : Bool) (error : ℕ) (directory nameless : Bool)
+    → (missing ≡ true → openat2 ≡ false) → is_led_next (look_to f missing error directory nameless).next ≡ true
+    → openat2 ≡ ((look_to f missing error directory nameless).next == LOOK_UP)
+way_look f true openat2 error directory nameless h now = h refl
+way_look f false openat2 error directory nameless h now =
+    absurd (false≢true (led_ends f error directory nameless now))
+
 abbrev openat2_by : Exchange → Bool → Bool
-openat2_by e had = if e.asked == FIND then e.gave.yes else had
+openat2_by e had = if (e.asked == FIND) || (e.asked == LOOK_UP) then e.gave.openat2 else had
 
 -- it is asked for right behind the names
 way_step : (f : Facts) (e : Exchange) (directory nameless : Bool) (why : ℕ) (had : Bool) → is_question e.asked ≡ true
@@ -251,9 +276,10 @@ way_step f e directory nameless why had question now =
       | copy_it at ↦ grind (arith, at, now)
       | find_it at ↦ subst is_way_at (sym at)
           (way_find f e.gave.error (is_refused e.gave.error) (is_absent e.gave) (is_leading f e.gave directory)
-          e.gave.yes directory nameless (subst is_led_at at now))
-      | look_them_up at ↦ absurd (false≢true
-          (led_ends f (look_up_error e.gave.error e.gave.yes) directory nameless (subst is_led_at at now)))
+          e.gave.openat2 directory nameless (subst is_led_at at now))
+      | look_them_up at ↦ subst is_way_at (sym at)
+          (way_look f (is_missing e.gave) e.gave.openat2 (look_up_error e.gave.error e.gave.yes) directory nameless
+          (missing_is e.gave) (subst is_led_at at now))
       | lead_it at ↦ grind (arith, at, now)
       | ask_dead at ↦ grind (arith, at, now)
       | close_it at ↦ grind (arith, at, now)
@@ -297,6 +323,12 @@ keeps_lead : (f : Facts) (error : ℕ) (directory nameless : Bool)
     → Keeps (after_lead f error directory nameless) (latest (lead_error error directory nameless) 0)
 keeps_lead f error directory nameless = grind arith
 
+keeps_look : (f : Facts) (missing : Bool) (error : ℕ) (directory nameless : Bool)
+    → Keeps (look_to f missing error directory nameless)
+    (latest (if missing then 0 else lead_error error directory nameless) 0)
+keeps_look f true error directory nameless = grind arith
+keeps_look f false error directory nameless = keeps_lead f error directory nameless
+
 keeps_by : (f : Facts) (e : Exchange) (directory nameless : Bool) (why : ℕ) → ((e.asked == CLOSE) ≡ false → why ≡ 0)
     → is_question e.asked ≡ true
     → Keeps (after_exchange f e directory nameless why) (latest (error_of e directory nameless) why)
@@ -310,11 +342,11 @@ keeps_by f e directory nameless why none question =
           subst (λ k. keeps_at k why) (sym at)
           (subst (keeps_at FIND) (sym fresh)
           (keeps_find f e.gave.error (is_refused e.gave.error) (is_absent e.gave) (is_leading f e.gave directory)
-          e.gave.yes directory nameless (refused_is e.gave.error)))
+          e.gave.openat2 directory nameless (refused_is e.gave.error)))
       | look_them_up at ↦ let fresh : why ≡ 0 = none (grind (arith, at)) in
           subst (λ k. keeps_at k why) (sym at)
           (subst (keeps_at LOOK_UP) (sym fresh)
-          (keeps_lead f (look_up_error e.gave.error e.gave.yes) directory nameless))
+          (keeps_look f (is_missing e.gave) (look_up_error e.gave.error e.gave.yes) directory nameless))
       | lead_it at ↦ grind (arith, at, none)
       | ask_dead at ↦ grind (arith, at, none)
       | close_it at ↦ grind (arith, at, none)
@@ -327,6 +359,11 @@ Fresh n = is_question n.next ≡ true → (n.next == CLOSE) ≡ false → n.erro
 fresh_lead : (f : Facts) (error : ℕ) (directory nameless : Bool) → Fresh (after_lead f error directory nameless)
 fresh_lead f error directory nameless more early = grind (arith, more, early)
 
+fresh_look : (f : Facts) (missing : Bool) (error : ℕ) (directory nameless : Bool)
+    → Fresh (look_to f missing error directory nameless)
+fresh_look f true error directory nameless more early = refl
+fresh_look f false error directory nameless more early = fresh_lead f error directory nameless more early
+
 fresh_step : (f : Facts) (e : Exchange) (directory nameless : Bool) (why : ℕ) → is_question e.asked ≡ true
     → Fresh (after_exchange f e directory nameless why)
 fresh_step f e directory nameless why question =
@@ -335,7 +372,7 @@ fresh_step f e directory nameless why question =
       | copy_it at ↦ λ more early. grind (arith, at)
       | find_it at ↦ λ more early. grind (arith, at)
       | look_them_up at ↦ subst (λ k. Fresh (after_exchange f (gave_at k e.gave) directory nameless why)) (sym at)
-          (fresh_lead f (look_up_error e.gave.error e.gave.yes) directory nameless)
+          (fresh_look f (is_missing e.gave) (look_up_error e.gave.error e.gave.yes) directory nameless)
       | lead_it at ↦ λ more early. grind (arith, at)
       | ask_dead at ↦ λ more early. grind (arith, at)
       | close_it at ↦ λ more early. grind (arith, at)
@@ -378,7 +415,7 @@ tells f history h end none =
 
 -- ---- how many
 
--- so many at most come before this
+-- so many at most come before this, but for a look-up by which openat2(2) is missing
 abbrev rank : ℕ → ℕ
 rank next =
     if next == LOOK then 0
@@ -386,35 +423,73 @@ rank next =
     else (if next == FIND then 2
     else (if is_led_next next then 3 else (if next == DEAD then 4 else (if next == CLOSE then 5 else 6)))))
 
+-- and so many with it
+abbrev rank_with : ℕ → ℕ
+rank_with next =
+    if next == LOOK then 0
+    else (if next == COPY then 1
+    else (if next == FIND then 2
+    else (if next == LOOK_UP then 3
+    else (if next == LEAD then 4 else (if next == DEAD then 5 else (if next == CLOSE then 6 else 7))))))
+
+abbrev Ranks : ℕ → ℕ → Next → Type 0
+Ranks asked missed n = (rank asked + 1 ≤ rank n.next + missed) × (rank_with asked + 1 ≤ rank_with n.next)
+
 rank_lead : (f : Facts) (error : ℕ) (directory nameless : Bool) → 4 ≤ rank (after_lead f error directory nameless).next
 rank_lead f error directory nameless = grind arith
 
+rank_look : (f : Facts) (missing : Bool) (error : ℕ) (directory nameless : Bool)
+    → Ranks LOOK_UP (if missing then 1 else 0) (look_to f missing error directory nameless)
+rank_look f true error directory nameless = (grind arith, grind arith)
+rank_look f false error directory nameless =
+    let far = rank_lead f error directory nameless in
+    (omega (arith, far), grind (arith, far))
+
+rank_find : (f : Facts) (error : ℕ) (refused absent leading openat2 directory nameless : Bool)
+    → Ranks FIND 0 (find_to f error refused absent leading openat2 directory nameless)
+rank_find f error true absent leading openat2 directory nameless = (grind arith, grind arith)
+rank_find f error false true leading openat2 directory nameless = (grind arith, grind arith)
+rank_find f error false false true openat2 directory nameless = (grind arith, grind arith)
+rank_find f error false false false openat2 directory nameless = (grind arith, grind arith)
+
 rank_step : (f : Facts) (e : Exchange) (directory nameless : Bool) (why : ℕ) → is_question e.asked ≡ true
-    → rank e.asked + 1 ≤ rank (after_exchange f e directory nameless why).next
+    → Ranks e.asked (missed_by e) (after_exchange f e directory nameless why)
 rank_step f e directory nameless why question =
+    let ranks_at : ℕ → Type 0 = λ k. Ranks k (missed_by (gave_at k e.gave))
+    (after_exchange f (gave_at k e.gave) directory nameless why) in
     elim (asked_is e.asked question) [
-      | look_at_it at ↦ grind (arith, at)
-      | copy_it at ↦ grind (arith, at)
-      | find_it at ↦ grind (arith, at)
-      | look_them_up at ↦ subst
-          (λ k. rank k + 1 ≤ rank (after_exchange f (gave_at k e.gave) directory nameless why).next) (sym at)
-          (rank_lead f (look_up_error e.gave.error e.gave.yes) directory nameless)
-      | lead_it at ↦ grind (arith, at)
-      | ask_dead at ↦ grind (arith, at)
-      | close_it at ↦ grind (arith, at)
+      | look_at_it at ↦ (grind (arith, at), grind (arith, at))
+      | copy_it at ↦ (grind (arith, at), grind (arith, at))
+      | find_it at ↦ subst ranks_at (sym at)
+          (rank_find f e.gave.error (is_refused e.gave.error) (is_absent e.gave) (is_leading f e.gave directory)
+          e.gave.openat2 directory nameless)
+      | look_them_up at ↦ subst ranks_at (sym at)
+          (rank_look f (is_missing e.gave) (look_up_error e.gave.error e.gave.yes) directory nameless)
+      | lead_it at ↦ (grind (arith, at), grind (arith, at))
+      | ask_dead at ↦ (grind (arith, at), grind (arith, at))
+      | close_it at ↦ (grind (arith, at), grind (arith, at))
     ]
 
 rank_most : (next : ℕ) → rank next ≤ 6
 rank_most next = grind arith
 
-ranked : (f : Facts) (history : List Exchange) → IsHistory f history → length history ≤ rank (next_after f history).next
-ranked f [] h = omega arith
+rank_with_most : (next : ℕ) → rank_with next ≤ 7
+rank_with_most next = grind arith
+
+ranked : (f : Facts) (history : List Exchange) → IsHistory f history
+    → (length history ≤ rank (next_after f history).next + missed_after history)
+    × (length history ≤ rank_with (next_after f history).next)
+ranked f [] h = (omega arith, omega arith)
 ranked f (e ∷ older) h =
     let ih = ranked f older h.1 in
     let step = rank_step f e (is_directory_after f older)
     (is_nameless_after older) (next_after f older).error h.0.question in
     let same = ap rank h.0.due in
-    omega (arith, ih, step, same)
+    let same_with = ap rank_with h.0.due in
+    (omega (arith, ih.0, step.0, same), omega (arith, ih.1, step.1, same_with))
 
-pub few : (f : Facts) (history : List Exchange) → IsHistory f history → length history ≤ 6
-few f history h = omega (arith, ranked f history h, rank_most (next_after f history).next)
+pub few : (f : Facts) (history : List Exchange) → IsHistory f history → length history ≤ 6 + missed_after history
+few f history h = omega (arith, (ranked f history h).0, rank_most (next_after f history).next)
+
+pub most : (f : Facts) (history : List Exchange) → IsHistory f history → length history ≤ 7
+most f history h = omega (arith, (ranked f history h).1, rank_with_most (next_after f history).next)

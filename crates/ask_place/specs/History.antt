@@ -84,13 +84,21 @@ abbrev pub look_up_error : ℕ → Bool → ℕ
 look_up_error error same =
     if (is_elsewhere error && not (error == EACCES)) || ((error == 0) && not same) then EAGAIN else error
 
+-- it failed, and the thread turned out not to have openat2(2)
+abbrev pub is_missing : Answer → Bool
+is_missing gave = not (gave.error == 0) && not gave.openat2
+
+abbrev pub after_look_up : Facts → Answer → Bool → Bool → Next
+after_look_up f gave directory nameless =
+    if is_missing gave then leads false else after_lead f (look_up_error gave.error gave.yes) directory nameless
+
 -- after this exchange, before which that was seen, and it would have failed by this error
 abbrev pub after_exchange : Facts → Exchange → Bool → Bool → ℕ → Next
 after_exchange f e directory nameless why =
     if e.asked == LOOK then after_look e.gave.error
     else (if e.asked == COPY then after_copy e.gave.error
-    else (if e.asked == FIND then after_find f e.gave.error e.gave.length e.gave.yes directory nameless
-    else (if e.asked == LOOK_UP then after_lead f (look_up_error e.gave.error e.gave.yes) directory nameless
+    else (if e.asked == FIND then after_find f e.gave.error e.gave.length e.gave.openat2 directory nameless
+    else (if e.asked == LOOK_UP then after_look_up f e.gave directory nameless
     else (if e.asked == LEAD then after_lead f e.gave.error directory nameless
     else (if e.asked == DEAD then lost (e.gave.yes || nameless) else over why)))))
 

@@ -1,7 +1,8 @@
 -- What holds of every history.
-use Rattle.std.specs.Prelude.{◌≡◌, ℕ, List, [], ◌∷◌, ◌==◌, Bool, true, false, not, ◌&&◌, ◌||◌, if◌then◌else◌}
+use Rattle.std.specs.Prelude.{◌≡◌, ℕ, ◌+◌, List, [], ◌∷◌, ◌==◌, Bool, true, false, not, ◌&&◌, ◌||◌, if◌then◌else◌}
 use Rattle.system_calls.specs.Errors.{ENOENT, EAGAIN}
-use Rattle.ask_place.specs.History.{is_by_text, is_directory_after, is_nameless_after, look_up_error, Exchange, Next}
+use Rattle.ask_place.specs.History.{is_by_text, is_directory_after, is_missing, is_nameless_after, look_up_error, Exchange, Next}
+use Rattle.ask_place.specs.declared.asking.Answer.{Answer}
 use Rattle.ask_place.specs.declared.asking.Facts.{Facts}
 use Rattle.ask_place.specs.declared.asking.TheConstants.{LOOK, COPY, FIND, LOOK_UP, LEAD, DEAD, CLOSE, ENDS, FAILS}
 
@@ -31,17 +32,26 @@ is_found_after [] = false
 is_found_after (e ∷ older) =
     if e.asked == FIND then (e.gave.error == 0) && not (e.gave.length == 0) else is_found_after older
 
--- the thread had openat2(2) as they were found
+-- the thread had openat2(2) as they were found, or looked up
 abbrev pub has_openat2_after : List Exchange → Bool
 has_openat2_after [] = false
-has_openat2_after (e ∷ older) = if e.asked == FIND then e.gave.yes else has_openat2_after older
+has_openat2_after (e ∷ older) =
+    if (e.asked == FIND) || (e.asked == LOOK_UP) then e.gave.openat2 else has_openat2_after older
+
+-- so many look-ups have shown that it hasn't
+abbrev pub missed_by : Exchange → ℕ
+missed_by e = if (e.asked == LOOK_UP) && is_missing e.gave then 1 else 0
+
+abbrev pub missed_after : List Exchange → ℕ
+missed_after [] = 0
+missed_after (e ∷ older) = missed_after older + missed_by e
 
 -- a text alone has told them, of what isn't the root itself: that is a directory, at a slash alone
 abbrev pub is_alone_after : Facts → List Exchange → Bool
 is_alone_after f [] = false
 is_alone_after f (e ∷ older) =
     if e.asked == FIND
-    then is_by_text f e.gave.yes (is_directory_after f older)
+    then is_by_text f e.gave.openat2 (is_directory_after f older)
     && not (is_directory_after f older && (e.gave.length == 1))
     else is_alone_after f older
 
@@ -77,11 +87,16 @@ find_error error length directory nameless =
 abbrev pub lead_error : ℕ → Bool → Bool → ℕ
 lead_error error directory nameless = if error == EAGAIN then missing_error directory nameless else error
 
+-- that openat2(2) is missing is none of the call
+abbrev pub looked_error : Answer → Bool → Bool → ℕ
+looked_error gave directory nameless =
+    if is_missing gave then 0 else lead_error (look_up_error gave.error gave.yes) directory nameless
+
 abbrev pub error_of : Exchange → Bool → Bool → ℕ
 error_of e directory nameless =
     if (e.asked == LOOK) || (e.asked == COPY) then e.gave.error
     else (if e.asked == FIND then find_error e.gave.error e.gave.length directory nameless
-    else (if e.asked == LOOK_UP then lead_error (look_up_error e.gave.error e.gave.yes) directory nameless
+    else (if e.asked == LOOK_UP then looked_error e.gave directory nameless
     else (if e.asked == LEAD then lead_error e.gave.error directory nameless
     else (if e.asked == DEAD then gone_error (e.gave.yes || nameless) else 0))))
 

@@ -1,6 +1,6 @@
 //! How far a question for an object's place has come, and what comes next.
 ghost use Rattle.std.specs.Prelude.{◌≡◌, List, [], ◌∷◌, ◌==◌, true, false};
-ghost use Rattle.ask_place.specs.History.{after_copy, after_find, after_lead, after_look, is_by_text, is_question, leads, look_up_error, lost, missing, over, told, Exchange};
+ghost use Rattle.ask_place.specs.History.{after_copy, after_find, after_lead, after_look, after_look_up, is_by_text, is_missing, is_question, leads, look_up_error, lost, missing, over, told, Exchange};
 ghost use Rattle.ask_place.specs.Asking.{due_of, exchange, IsAt, Same};
 
 use system_calls::errors::{EACCES, EAGAIN, ENOENT};
@@ -59,9 +59,10 @@ pub struct Answer {
     pub length: usize,
     /// 0, or the number of an error (errno(3)).
     pub error: u32,
-    /// At LOOK: it is a directory. At FIND: the thread has openat2(2), by what is known then. At LOOK_UP: what was
-    /// opened is the object. At DEAD: it was removed.
+    /// At LOOK: it is a directory. At LOOK_UP: what was opened is the object. At DEAD: it was removed.
     pub yes: bool,
+    /// At FIND and LOOK_UP: the thread has openat2(2), by what is known then.
+    pub openat2: bool,
 }
 
 /// How far it has come. C keeps it.
@@ -171,17 +172,17 @@ fn leads(asking: Asking, openat2: bool) -> Asking
 
 fn after_find(asking: Asking, facts: &Facts, answer: &Answer) -> Asking
     ensures due { due_of result
-        ≡ after_find facts.now answer.now.error answer.now.length answer.now.yes asking.directory asking.nameless }
+        ≡ after_find facts.now answer.now.error answer.now.length answer.now.openat2 asking.directory asking.nameless }
     ensures same { Same asking result }
 {
     if answer.error != 0 && answer.error != EAGAIN {
         asks(asking, CLOSE, answer.error)
     } else if answer.error != 0 || answer.length == 0 {
         missing(asking)
-    } else if is_by_text(facts, answer.yes, asking.directory)
+    } else if is_by_text(facts, answer.openat2, asking.directory)
         && !(asking.directory && answer.length == 1)
     {
-        leads(asking, answer.yes)
+        leads(asking, answer.openat2)
     } else {
         told(asking, facts)
     }
@@ -211,6 +212,24 @@ fn look_up_error(error: u32, same: bool) -> u32
     }
 }
 
+// It failed, and the driver has learnt by that that the thread doesn't have it.
+fn is_missing(answer: &Answer) -> bool
+    ensures { result ≡ is_missing answer.now }
+{
+    answer.error != 0 && !answer.openat2
+}
+
+fn after_look_up(asking: Asking, facts: &Facts, answer: &Answer) -> Asking
+    ensures due { due_of result ≡ after_look_up facts.now answer.now asking.directory asking.nameless }
+    ensures same { Same asking result }
+{
+    if is_missing(answer) {
+        leads(asking, false)
+    } else {
+        after_lead(asking, facts, look_up_error(answer.error, answer.yes))
+    }
+}
+
 /// Begins to ask for an object's place. Takes no memory.
 pub fn begin(facts: &Facts) -> Asking
     ensures { IsAt facts.now [] result }
@@ -230,7 +249,8 @@ pub fn begin(facts: &Facts) -> Asking
 /// It looks at the object, unless that is known to be a directory, copies the descriptor, and asks for the names. A
 /// text alone has told them without openat2(2), and in a jail those of a directory that the program has handed in.
 /// They must lead to this object then, but for a directory that is the root itself: with openat2(2) all are looked up
-/// at once, and without it each is opened in the one before it.
+/// at once, and without it each is opened in the one before it; so it is after a look-up that failed since openat2(2)
+/// turned out to be missing.
 ///
 /// Errors: ENOENT (2) of what has no place and was removed; EAGAIN (11) of anything else that has none, which is so if
 /// LOOK_UP opens another object or gives ENOENT, ENOTDIR (20), ELOOP (40) or EXDEV (18); any other one of the last
@@ -244,7 +264,7 @@ pub fn next(asking: Asking, facts: &Facts, answer: &Answer) -> Asking
         LOOK => after_look(asking, answer),
         COPY => after_copy(asking, answer.error),
         FIND => after_find(asking, facts, answer),
-        LOOK_UP => after_lead(asking, facts, look_up_error(answer.error, answer.yes)),
+        LOOK_UP => after_look_up(asking, facts, answer),
         LEAD => after_lead(asking, facts, answer.error),
         DEAD => lost(asking, answer.yes || asking.nameless),
         CLOSE => over(asking, asking.error),

@@ -3,7 +3,7 @@ ghost use Rattle.std.specs.Prelude.{◌≡◌, ◌≢◌, ◌<◌, ◌≤◌, �
 ghost use Rattle.system_calls.specs.Errors.{EAGAIN};
 ghost use Rattle.ask_place.specs.History.{next_after, Exchange, IsHistory};
 ghost use Rattle.ask_place.specs.Leading.{answered_after, leading_after, misled_after, AreTurns, IsLed, Turn};
-ghost use Rattle.ask_place.specs.Promises.{has_openat2_after, is_open_after, is_over, needs_open, why_after, IsFound};
+ghost use Rattle.ask_place.specs.Promises.{has_openat2_after, is_open_after, is_over, missed_after, needs_open, why_after, IsFound};
 ghost use Rattle.ask_place.specs.Questions.{next_question};
 ghost use Rattle.ask_place.specs.declared.asking.Facts.{Facts};
 ghost use Rattle.ask_place.specs.declared.asking.TheConstants.{ENDS, FAILS, LEAD, LOOK_UP};
@@ -17,7 +17,8 @@ pub fn what_is_told_was_found()
         → IsFound f history }
 {}
 
-/// Names are looked up at once only where the thread has openat2(2), and opened one in another only where it hasn't.
+/// Names are looked up at once only where the thread has openat2(2), and opened one in another only where it hasn't, by
+/// what was known last.
 pub fn names_lead_by_the_threads_way()
     ensures at_once { (f : Facts) (history : List Exchange) → IsHistory f history
         → (next_after f history).next ≡ LOOK_UP → has_openat2_after history ≡ true }
@@ -47,9 +48,11 @@ pub fn what_is_there_is_told()
         → why_after f history ≡ 0 → (next_after f history).next ≡ ENDS }
 {}
 
-/// There are six exchanges at most.
+/// There are six exchanges at most, and one more where a look-up shows that openat2(2) is missing.
 pub fn calls_are_few()
-    ensures { (f : Facts) (history : List Exchange) → IsHistory f history → length history ≤ 6 }
+    ensures few { (f : Facts) (history : List Exchange) → IsHistory f history
+        → length history ≤ 6 + missed_after history }
+    ensures most { (f : Facts) (history : List Exchange) → IsHistory f history → length history ≤ 7 }
 {}
 
 /// Names lead to an object only if all of them were opened, each in what the one before it had led to, by an openat(2)

@@ -68,6 +68,7 @@ fn gave(error: u32) -> Answer {
         length: 0,
         error,
         yes: false,
+        openat2: true,
     }
 }
 
@@ -79,7 +80,8 @@ fn says(yes: bool) -> Answer {
 fn found(length: usize, openat2: bool) -> Answer {
     Answer {
         length,
-        ..says(openat2)
+        openat2,
+        ..gave(0)
     }
 }
 
@@ -200,6 +202,29 @@ fn what_is_not_at_its_names_was_moved(rt: HostRuntime) -> Result<(), Fail> {
     );
     assert!(rt; is(&looked_up(EACCES, false), CLOSE, EACCES));
     assert!(rt; is(&looked_up(ENOSYS, false), CLOSE, ENOSYS));
+    Ok(())
+}
+
+// A filter was put in force since openat2(2) was last made.
+fn refused(error: u32) -> Answer {
+    Answer {
+        openat2: false,
+        ..gave(error)
+    }
+}
+
+#[test]
+fn where_openat2_is_gone_each_name_is_opened(rt: HostRuntime) -> Result<(), Fail> {
+    let asked = cwd_of(&JAILED, 4, true);
+    let led = next(asked, &JAILED, &refused(ENOSYS));
+    assert!(rt; is(&led, LEAD, 0) && is(&next(asked, &JAILED, &refused(ENOENT)), LEAD, 0));
+    assert!(rt; is(&next(led, &JAILED, &gave(0)), CLOSE, 0));
+    assert!(rt; is(&next(led, &JAILED, &gave(EAGAIN)), DEAD, 0));
+    let there = Answer {
+        yes: true,
+        ..refused(0)
+    };
+    assert!(rt; is(&next(asked, &JAILED, &there), CLOSE, 0));
     Ok(())
 }
 
