@@ -195,19 +195,31 @@ void inroot_proc_close(struct inroot_own *own)
 
 /* ---- what the program keeps */
 
-/* Makes it the program's, as CLAIMED or as HANDED_IN, if the program has none yet. */
-static bool keep(const struct inroot_own *own, int as)
+/* Claims the program's place, as CLAIMED or as HANDED_IN, if the program has none yet. */
+static bool claim(int as)
 {
     int nothing = INROOT_NONE;
-    if (!atomic_compare_exchange_strong(&kept, &nothing, as))
-        return false;
-    atomic_store(&was_handed_in, as == HANDED_IN);
+    return atomic_compare_exchange_strong(&kept, &nothing, as);
+}
+
+/* Makes it the program's, whose place was claimed. */
+static void keep_claimed(const struct inroot_own *own, bool handed_in)
+{
+    atomic_store(&was_handed_in, handed_in);
     kept_device = own->file.device;
     kept_inode = own->file.inode;
     kept_mount = own->file.mount;
     kept_system = own->file.system;
     atomic_store(&kept, own->fd);
-    return true;
+}
+
+/* Makes it the program's, if the program has none yet. */
+static bool keep(const struct inroot_own *own)
+{
+    const bool is_first = claim(CLAIMED);
+    if (is_first)
+        keep_claimed(own, false);
+    return is_first;
 }
 
 /* The program's, or none. */
@@ -251,7 +263,7 @@ int inroot_proc_open(bool surely, bool *is_callers)
     struct inroot_own own;
     bool is_new;
     int fd = find_for_call(surely, &own, &is_new);
-    *is_callers = is_new && !keep(&own, CLAIMED);
+    *is_callers = is_new && !keep(&own);
     return fd;
 }
 
@@ -325,7 +337,7 @@ int inroot_proc_stay(void)
     struct inroot_own own;
     bool is_new;
     int fd = find_for_call(true, &own, &is_new);
-    if (!is_new || keep(&own, CLAIMED))
+    if (!is_new || keep(&own))
         return fd;
     if (!inroot_proc_ends()) {
         close(own.fd);
@@ -343,16 +355,19 @@ void inroot_proc_leave(void)
 
 /* ---- what a program hands in */
 
+/* The place is claimed first: a child that is made from then on never goes by /proc. */
 static int take_over(int proc)
 {
     struct inroot_own own;
+    const bool is_first = claim(HANDED_IN);
     int fd = find_by(proc, INROOT_WANTS_TAKE, &own);
-    if (fd < 0)
-        return fd;
-    if (keep(&own, HANDED_IN))
-        return 0;
-    close(own.fd);
-    return -EBUSY;
+    if (fd >= 0 && is_first)
+        keep_claimed(&own, true);
+    else if (is_first)
+        atomic_store(&kept, INROOT_NONE);
+    else if (fd >= 0)
+        close(fd);
+    return fd < 0 ? fd : is_first ? 0 : -EBUSY;
 }
 
 int inroot_use_proc(int proc)
