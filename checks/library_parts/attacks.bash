@@ -92,7 +92,7 @@ fi
 
 # What comes twice is as tar(1) leaves it: a file, which is a link to itself then, and a directory of other modes, by other names of
 # it, too. A global header is no entry.
-again=$work/again
+again=$work/twice
 mkdir -p "$again/tree/d" "$again/tar" && echo file >"$again/tree/a"
 # appended MODE NAME..: adds entries of that mode.
 appended() {
