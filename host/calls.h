@@ -415,7 +415,10 @@ struct inroot_object {
 /* Whether two answers are about one object, while it is open; by the same mount, unless that doesn't count. */
 bool inroot_is_same_object(const struct inroot_object *one, const struct inroot_object *other, bool by_any_mount);
 
-/* Which directory it is, where no descriptor pins it: no inode, where that can't be asked; no birth, where none is kept. */
+/*
+ * Which directory it is, where no descriptor pins it: no inode, where that can't be asked; no birth, where none is kept. To the
+ * birth's SECONDS the driver adds by which handle the file system calls the directory (name_to_handle_at(2)).
+ */
 struct inroot_birth {
     uint64_t device, inode, seconds;
     uint32_t nanoseconds;
