@@ -82,7 +82,7 @@ static int set_times(int fd, struct timespec *times)
     return errno == EINVAL ? (int)inroot_by_proc(fd, change_times, times) : -errno;
 }
 
-int inroot_futimens(int fd, const struct timespec times[2])
+int inroot_futimens(int fd, const struct timespec *times)
 {
     const struct timespec now = {.tv_nsec = UTIME_NOW};
     struct timespec own[2] = {times == NULL ? now : times[0], times == NULL ? now : times[1]};

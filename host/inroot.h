@@ -470,9 +470,10 @@ void inroot_walk_close(struct inroot_walk *walk);
  * what chmod(2), chown(2) and utimensat(2) have beside it. The kernel takes the bits for set-user-ID and set-group-ID
  * off where the owner changes: set the owner first.
  */
+struct timespec;        /* <time.h> of strict C99 hasn't it */
 int inroot_fchmod(int fd, mode_t mode);
 int inroot_fchown(int fd, uid_t user, gid_t group);
-int inroot_futimens(int fd, const struct timespec times[2]);
+int inroot_futimens(int fd, const struct timespec *times);
 
 /*
  * The extended attributes of the object that FD is open on (xattr(7)), in the same way; for a link, those of the link

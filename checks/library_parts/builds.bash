@@ -34,6 +34,8 @@ if ! lacks clang 'thin link-time optimization'; then
     fi
 fi
 
+built_by hidden CFLAGS='-O1 -fvisibility=hidden'
+
 # Options of the environment reach the library and the tool: a guard on the stack and calls that look at sizes are asked for.
 if compiles cc -fstack-protector-strong -O1 -D_FORTIFY_SOURCE=2; then
     built_by hardened CFLAGS='-O1 -fstack-protector-strong' CPPFLAGS=-D_FORTIFY_SOURCE=2 LDFLAGS=-Wl,--no-undefined
@@ -57,6 +59,17 @@ if compiles cc -fcf-protection && [[ $(cc -dumpmachine) = x86_64-* ]]; then
     verdict $? "an archive for no shadow stack: $(notes "$work/plain.a")"
 fi
 has 'a compiler with an option' make_host OUT="$work/by-option" LIBRARY="$library" CC='cc -fno-common' CFLAGS=-O0 "$work/by-option/libinroot.a"
+
+# Of a path with a blank in it, no rule takes the first part for a path.
+mkdir "$work/first" && echo kept >"$work/first/a"
+for target in all install uninstall clean; do
+    for place in PREFIX DESTDIR LIBDIR OUT; do
+        ! make_host LIBRARY="$library" "$place=$work/first/a b" "$target" >"$work/printed" 2>&1 &&
+            grep -qF "host: $place has a blank in it: '$work/first/a b'" "$work/printed" &&
+            [ "$(cat "$work/first/a")" = kept ] && [ "$(ls "$work/first")" = a ] && [ ! -e host/b ]
+        verdict $? "make $target with a blank in $place: $(cat "$work/printed"), and there is: $(ls "$work/first")"
+    done
+done
 
 # For a machine that no archive fits nothing is built, and a line says so. One that names itself so is enough.
 # refused_for MACHINE
