@@ -3,7 +3,10 @@ package inroot
 // #include <inroot.h>
 import "C"
 
-import "syscall"
+import (
+	"runtime"
+	"syscall"
+)
 
 // Flags restrict a call. Each function takes any number of them behind its other arguments.
 type Flags int
@@ -56,6 +59,9 @@ type Cause struct {
 // thread: one that asks calls runtime.LockOSThread before the call that may fail. After a call that succeeded it says
 // nothing of that call.
 func LastError() (Cause, bool) {
+	// At lies in the thread's own memory, which its next call writes.
+	runtime.LockOSThread()
+	defer runtime.UnlockOSThread()
 	var told C.struct_inroot_error
 	if C.inroot_last_error(&told) != 0 {
 		return Cause{}, false

@@ -7,7 +7,9 @@ import (
 	"path/filepath"
 	"reflect"
 	"runtime"
+	"strconv"
 	"strings"
+	"sync"
 	"sync/atomic"
 	"syscall"
 	"testing"
@@ -299,6 +301,38 @@ func TestLastError(t *testing.T) {
 	if wanted := (Cause{syscall.ENOENT, "Open", "none", "none/x", "/a/b"}); !is || cause != wanted {
 		t.Errorf("%v, and not %v", cause, wanted)
 	}
+}
+
+// Also where goroutines change threads, what is said is of one call.
+func TestLastErrorIsOfOneCall(t *testing.T) {
+	top, root := tree(t)
+	var ends atomic.Bool
+	var calls sync.WaitGroup
+	for i := 0; i < 64; i++ {
+		must(t, os.Mkdir(filepath.Join(top, "box", strconv.Itoa(i)), 0o755))
+		calls.Add(1)
+		go func(name string) {
+			defer calls.Done()
+			for n := 0; n < 500; n++ {
+				_, err := OpenatInRoot(root, name+"/"+name+"gone/x")
+				fails(t, err, syscall.ENOENT)
+				if cause, is := LastError(); is && strings.HasSuffix(cause.Name, "gone") && cause.At+"gone" != "/"+cause.Name {
+					t.Errorf("of two calls: %v", cause)
+					return
+				}
+			}
+		}(strconv.Itoa(i))
+	}
+	ended := make(chan bool)
+	go func() {
+		for !ends.Load() {
+			runtime.GC()
+		}
+		ended <- true
+	}()
+	calls.Wait()
+	ends.Store(true)
+	<-ended
 }
 
 func TestRemoving(t *testing.T) {

@@ -13,6 +13,7 @@ use std::path::Path;
 use std::time::{SystemTime, UNIX_EPOCH};
 
 const UTIME_OMIT: i64 = (1 << 30) - 2;
+const EINVAL: i32 = 22;
 const ERANGE: i32 = 34;
 /// All ones: it changes nothing.
 const STAYS: u32 = u32::MAX;
@@ -40,8 +41,11 @@ impl Handle {
         done(unsafe { ffi::inroot_fchmod(self.number(), mode.mode() & 0o7777) })
     }
 
-    /// Sets the owner and the group; `None` leaves it.
+    /// Sets the owner and the group; `None` leaves it. EINVAL of the number of all ones, which is nobody's.
     pub fn chown(&self, user: Option<u32>, group: Option<u32>) -> io::Result<()> {
+        if user == Some(STAYS) || group == Some(STAYS) {
+            return Err(io::Error::from_raw_os_error(EINVAL));
+        }
         let (user, group) = (user.unwrap_or(STAYS), group.unwrap_or(STAYS));
         // SAFETY: it takes numbers alone.
         done(unsafe { ffi::inroot_fchown(self.number(), user, group) })

@@ -6,6 +6,7 @@ use std::os::unix::fs::{symlink, MetadataExt, PermissionsExt};
 use std::path::PathBuf;
 use std::time::{Duration, UNIX_EPOCH};
 
+const EINVAL: i32 = 22;
 const EOPNOTSUPP: i32 = 95;
 const ENODATA: i32 = 61;
 const EEXIST: i32 = 17;
@@ -39,6 +40,9 @@ fn what_was_found_is_changed() {
     assert_eq!(fs::metadata(tree.0.join("box/file")).unwrap().mode() & 0o7777, 0o4751);
     let owner = file.metadata().unwrap().uid();
     file.chown(Some(owner), None).unwrap();
+    for (user, group) in [(Some(u32::MAX), None), (None, Some(u32::MAX))] {
+        assert_eq!(file.chown(user, group).unwrap_err().raw_os_error(), Some(EINVAL));
+    }
     let (accessed, modified) = (UNIX_EPOCH + Duration::new(5, 6), UNIX_EPOCH - Duration::new(1, 250_000_000));
     file.set_times(Some(accessed), Some(modified)).unwrap();
     file.set_times(None, None).unwrap();
