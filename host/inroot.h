@@ -14,8 +14,8 @@
  * and the call goes on with the descriptor that it gives. So the kernel itself has seen below the root each object that
  * a call goes on from or opens, whoever renames the root or a directory above it.
  *
- * Without openat2(2) (before Linux 5.6, or where a filter refuses it) the text is the only witness. Then the calls
- * promise nothing if somebody renames the root or a directory above it meanwhile, unless in a jail. In a jail, if
+ * Without openat2(2) (before Linux 5.6, or where a filter refuses it by ENOSYS or EPERM) the text is the only witness. Then
+ * the calls promise nothing if somebody renames the root or a directory above it meanwhile, unless in a jail. In a jail, if
  * somebody moves a non-directory out of the root, to just the path from the top that it had from the root, a call takes
  * it for one inside. And if ROOT is a descriptor, each call gives EOPNOTSUPP in a thread whose own root directory isn't
  * that of a mount, as after chroot(2): there the text looks the same for an object inside and for one outside.
@@ -177,8 +177,9 @@ enum { INROOT_PLAIN = 0, INROOT_NOREPLACE = 1, INROOT_EXCHANGE = 2, INROOT_WHITE
  * from there on, and no call goes by /proc.
  *
  * Gives 0; -EBADF where PROC isn't a descriptor, -EINVAL where it is of another file system or on a mount with nosymfollow
- * (mount(8)), -EMFILE, -EBUSY where there is one already. The call doesn't check whether PROC is the topmost directory:
- * later calls give ENOSYS where it isn't.
+ * (mount(8)), -ENOTDIR where it isn't a directory, -EACCES where it may not be searched, -EMFILE, -EBUSY where there is
+ * one already. The call doesn't check whether PROC is the topmost directory: what needs a proc(5) gives ENOSYS where it
+ * isn't.
  */
 int inroot_use_proc(int proc);
 

@@ -63,6 +63,19 @@ static void late(void)
     expect(strcmp(text, "/a") == 0, "the place is %s", text);
 }
 
+/* By an error that the kernel gives of a path, too, nobody knows that it is missing: no call goes on. */
+static void by_another_error(void)
+{
+    char text[PATH_MAX];
+    int file = sure(openat(root, "a/f", O_PATH | O_CLOEXEC), "a/f");
+    refuse(OPENAT2, EACCES);
+    gives(inroot_open(root, "a/f", 0), -EAGAIN, "a file where openat2(2) gives EACCES");
+    gives(inroot_openat(root, "a/f", O_RDWR | O_TRUNC, 0, 0), -EAGAIN, "a file to be used there");
+    gives(inroot_mkdir(root, "a/new", 0755, 0), -EAGAIN, "a directory there");
+    gives(faccessat(root, "a/new", F_OK, 0), -1, "that directory");
+    gives(inroot_place(root, file, text, sizeof text), -EXDEV, "a place there");
+}
+
 /* A descriptor of the library's own that got the number of a standard file can't be moved: the call gives the filter's error. */
 static void of_a_standard_file(void)
 {
@@ -93,6 +106,7 @@ int main(int count, char **words)
             skipped |= apart(under_filter) == NO_RIGHT;
             skipped |= apart(late) == NO_RIGHT;
         }
+    skipped |= apart(by_another_error) == NO_RIGHT;
     skipped |= apart(of_a_standard_file) == NO_RIGHT;
     printf("filters: %d not as they are to be\n", wrong);
     return wrong != 0 ? 1 : skipped ? NO_RIGHT : 0;

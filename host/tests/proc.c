@@ -110,6 +110,9 @@ static void handed_in(void)
     cover(true);
     gives(inroot_use_proc(999), -EBADF, "a /proc that isn't open");
     gives(inroot_use_proc(root), -EINVAL, "a /proc that is another directory");
+    int file = sure(openat(good, "version", O_PATH | O_CLOEXEC), "version");
+    gives(inroot_use_proc(file), -ENOTDIR, "a file of a /proc");
+    close(file);
     gives(inroot_use_proc(good), 0, "a /proc");
     gives(inroot_use_proc(good), -EBUSY, "a second /proc");
     close(good);
