@@ -120,7 +120,7 @@ static ssize_t act(int fd, struct attribute one)
 
 int inroot_fsetxattr(int fd, const char *name, const void *value, size_t size, int flags)
 {
-    if (flags & ~(XATTR_CREATE | XATTR_REPLACE))
+    if (flags != 0 && flags != XATTR_CREATE && flags != XATTR_REPLACE)
         return inroot_error_alone(EINVAL, "", "");
     if (size > MOST_BYTES)
         return inroot_error_alone(E2BIG, "", "");

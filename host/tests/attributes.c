@@ -251,6 +251,7 @@ static void try_errors(int by)
     gives(inroot_fchmod(fd, S_IFREG | 0600), -EINVAL, "a mode with a kind");
     gives(inroot_fchmod(-1, 010000), -EINVAL, "a mode that is none comes first");
     gives(inroot_fsetxattr(fd, "user.x", "x", 1, 4), -EINVAL, "a flag that is none");
+    gives(inroot_fsetxattr(fd, "user.x", "x", 1, XATTR_CREATE | XATTR_REPLACE), -EINVAL, "two flags that exclude each other");
     gives(inroot_fsetxattr(-1, "user.x", large, sizeof large, 0), -E2BIG, "a value that is too large");
     gives(inroot_fgetxattr(fd, "none.x", value, 4), -EOPNOTSUPP, "a kind of attributes that is none");
     gives(inroot_fgetxattr(fd, "", value, 4), -ERANGE, "a name that is empty");
