@@ -427,16 +427,16 @@ ssize_t inroot_readlink(int root, const char *path, int flags, char *text, size_
  * inroot_walk_next() gives 1 and an ENTRY; 0 behind the last; or -errno where the rest of a directory's entries isn't
  * given, whose PATH is in ENTRY then, and the next turn goes on behind it: EAGAIN where it was moved meanwhile, EIO
  * where a name has no bytes or a slash, ENAMETOOLONG where one of over 1,024 bytes doesn't fit, and what
- * getdents64(2) has. What is in ENTRY stays until the next turn. inroot_walk_skip() has the walk leave out what is
- * below
+ * getdents64(2) has. What is in ENTRY stays until the next turn. inroot_walk_skip() has the walk leave out what is below
  * the directory that was given last. inroot_walk_close() ends it, where it isn't NULL.
  *
- * The walk promises, whoever renames meanwhile: it follows no link below PATH. It opens each directory that it enters
- * by its name in the directory that has it; and that directory was below the root then, at that PATH, since a call of
- * its own led to the same one, and the walk reads what that call opened. If that call led elsewhere, by as many tries as any call makes, ERROR is EAGAIN, and the
- * walk doesn't enter the directory. It doesn't promise that an entry is still there, that it gives each entry that was
- * made, removed or moved meanwhile, or that none comes twice; nor that nobody moves a directory out of the root while
- * the walk reads its entries. Whoever makes entries without end can keep a walk from ending.
+ * The walk promises, whoever renames meanwhile: it enters nothing through a link below PATH. It opens each directory
+ * that it enters by its name in the directory that has it; and that directory was below the root then, at that PATH,
+ * since a call of its own led to the same one, and the walk reads what that call opened. (That call follows a link that
+ * somebody has put in the place of a directory above.) If it led elsewhere, by as many tries as any call makes, ERROR is
+ * EAGAIN, and the walk doesn't enter the directory. It doesn't promise that an entry is still there, that it gives each
+ * entry that was made, removed or moved meanwhile, or that none comes twice; nor that nobody moves a directory out of
+ * the root while the walk reads its entries. Whoever makes entries without end can keep a walk from ending.
  *
  * An entry is opened by inroot_open(ENTRY.directory, ENTRY.name, INROOT_NOFOLLOW), below the directory that has it.
  */

@@ -437,6 +437,23 @@ static void replaced(void)
     inroot_walk_close(it);
 }
 
+/* A link to a directory in that one's place: what is below it is the same, and the walk goes on with what it has open. */
+static void linked(void)
+{
+    struct inroot_walk *it;
+    struct inroot_walk_entry entry;
+    gives(inroot_walk_open(place, "a", 0, 0, &it), 0, "a walk");
+    gives(up_to(it, &entry, "b"), 1, "a/b");
+    sure(renameat(root, "a/b", root, "x/moved"), "a/b is moved");
+    sure(symlinkat("/x/moved", root, "a/b"), "a/b leads there");
+    gives(up_to(it, &entry, "b/c"), 1, "a/b/c");
+    gives(entry.error, 0, "its error");
+    gives_object(entry.opened, root, "x/moved/c", "what is gone into");
+    inroot_walk_close(it);
+    sure(unlinkat(root, "a/b", 0), "a/b");
+    sure(renameat(root, "x/moved", root, "a/b"), "a/b comes back");
+}
+
 /* A directory that is gone before its entries are read has none; one that another stands in the place of isn't gone into. */
 static void gone(void)
 {
@@ -484,6 +501,7 @@ static void all(int by)
     moved_out(0);
     moved_out(INROOT_NO_RETRY);
     replaced();
+    linked();
     gone();
 }
 
