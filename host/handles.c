@@ -5,6 +5,7 @@
  */
 #define _GNU_SOURCE
 #include "driver.h"
+#include "statx.h"
 
 #include <errno.h>
 #include <fcntl.h>

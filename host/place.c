@@ -6,6 +6,7 @@
 #define _GNU_SOURCE
 #include "driver.h"
 #include "openat2.h"
+#include "statx.h"
 
 #include <errno.h>
 #include <fcntl.h>
