@@ -276,8 +276,8 @@ void inroot_root_close(struct inroot_root *root);
  * Gives a number that calls take in place of ROOT, so that their paths begin at the directory DIR below ROOT. ROOT
  * stays the root: `..` and absolute links stop there, and a path that begins with a slash begins there. DIR is a
  * descriptor of a directory that was found below ROOT (O_PATH is enough); both stay open until inroot_at_end(). Any
- * thread with the same table of descriptors may use the number. ROOT may be INROOT_JAIL, or such a number: then it is
- * that one's root.
+ * thread with the same table of descriptors may use the number. ROOT may be INROOT_JAIL, which is the root of the thread
+ * that makes the call: EBADF in one that wasn't moved. Or it is such a number: then it is that one's root.
  *
  * Each call asks both witnesses anew for DIR's path below the root. Then it walks from the root by these names, whose
  * last one is DIR itself, and by its own path. So it begins at DIR, wherever somebody moved that below the root. If DIR

@@ -10,6 +10,7 @@
 #include "filter.h"
 
 #include <limits.h>
+#include <pthread.h>
 #include <stdarg.h>
 #include <string.h>
 #include <sys/stat.h>
@@ -450,6 +451,30 @@ static void make_tree(void)
     sure(symlinkat(text, root, "out"), "out");
 }
 
+static void *open_by(void *number)
+{
+    int *at = number;
+    *at = inroot_open(*at, ".", 0);
+    return NULL;
+}
+
+/* A number of a jail is of use in a jail alone; any other one in each thread. */
+static void in_another_thread(int root_or_jail)
+{
+    pthread_t other;
+    int number, dir = sure(inroot_open(root_or_jail, "a/b", 0), "a/b");
+    sure(inroot_at_begin(root_or_jail, dir, &number), "inroot_at_begin");
+    int found = number;
+    sure(-pthread_create(&other, NULL, open_by, &found), "a thread");
+    pthread_join(other, NULL);
+    if (root_or_jail == INROOT_JAIL)
+        fails(found, EBADF, "a jail's number in a thread that wasn't moved");
+    else
+        finds(found, "a/b", "a number in another thread");
+    inroot_at_end(number);
+    close(dir);
+}
+
 static void each(void)
 {
     if (is_old)
@@ -466,6 +491,7 @@ static void each(void)
     if (!is_old)
         exchanged(at);
     numbers(at);
+    in_another_thread(at);
     places(at);
     parts(at);
     expect(open_descriptors() == before, "%d descriptors are left", open_descriptors() - before);
