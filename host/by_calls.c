@@ -27,6 +27,17 @@ static uint32_t open_entry(struct inroot_work *w, int flags)
     return error_of(w->fd);
 }
 
+/*
+ * The kernel says ENOENT of `..`, too, where somebody moved the directory out of the mount by which it was opened. Such a one isn't
+ * removed: others are in the way.
+ */
+static uint32_t open_directory(struct inroot_work *w)
+{
+    const uint32_t error = open_entry(w, O_DIRECTORY);
+    const bool has_left = error == ENOENT && w->facts.what == INROOT_STEP_PARENT && !inroot_is_dead(w->looks);
+    return has_left ? EAGAIN : error;
+}
+
 static uint32_t take_root(struct inroot_driver *d, struct inroot_work *w)
 {
     if (w->facts.what == INROOT_STEP_PARENT && !inroot_above_is_root(d->root, w->at))
@@ -103,7 +114,7 @@ static uint32_t close_opened(struct inroot_driver *d, const struct inroot_work *
 static uint32_t turn(struct inroot_driver *d, struct inroot_work *w, struct inroot_step_answer *answer)
 {
     switch (w->course.next) {
-    case INROOT_CALL_OPEN_DIRECTORY: return open_entry(w, O_DIRECTORY);
+    case INROOT_CALL_OPEN_DIRECTORY: return open_directory(w);
     case INROOT_CALL_OPEN_ANY: return open_entry(w, 0);
     case INROOT_CALL_SPARE: return inroot_handles_spare(d, w->dir) ? 0 : EMFILE;
     case INROOT_CALL_MOUNT: return inroot_mount_has(d, w->fd) ? 0 : EXDEV;

@@ -41,12 +41,15 @@ static size_t read_about_root(int proc, unsigned char *about, size_t size, int *
     return got > 0 ? (size_t)got : 0;
 }
 
-/* Asks statx(2), where the headers have it (Linux 5.8). */
+/*
+ * Asks statx(2), where the headers have it (Linux 5.8). A C library that does so without the system call may leave the attributes
+ * alone.
+ */
 static struct inroot_own_look look_at_root(void)
 {
 #ifdef STATX_ATTR_MOUNT_ROOT
     _Static_assert(STATX_ATTR_MOUNT_ROOT == 0x2000, "the number of crates/kernel_text");
-    struct statx about;
+    struct statx about = {0};
     if (statx(AT_FDCWD, "/", AT_NO_AUTOMOUNT, STATX_TYPE, &about) == 0)
         return (struct inroot_own_look){.mask = about.stx_attributes_mask, .attributes = about.stx_attributes};
 #endif

@@ -23,18 +23,21 @@ static struct inroot_result names(void)
 
 /* ---- which object it is */
 
-/* Nothing is asked of a server. A filter may refuse statx(2). */
+/*
+ * Nothing is asked of a server. A filter may refuse statx(2). A C library may then give what fstat(2) says, and leave alone what
+ * that doesn't say: the mask shows it.
+ */
 bool inroot_find_which(int fd, const char *name, struct inroot_which *which)
 {
     const int how = AT_EMPTY_PATH | AT_SYMLINK_NOFOLLOW | AT_NO_AUTOMOUNT;
     struct stat about;
 #ifdef STATX_MNT_ID
-    struct statx more;
+    struct statx more = {0};
     if (statx(fd, name, how | AT_STATX_DONT_SYNC, STATX_TYPE | STATX_INO | STATX_NLINK | STATX_MNT_ID, &more) == 0) {
         *which = (struct inroot_which){
             .object.device = (uint64_t)more.stx_dev_major << 32 | more.stx_dev_minor,
             .object.inode = more.stx_ino,
-            .object.mount = more.stx_mnt_id,
+            .object.mount = more.stx_mask & STATX_MNT_ID ? more.stx_mnt_id : 0,
             .links = more.stx_nlink,
             .device = makedev(more.stx_rdev_major, more.stx_rdev_minor),
             .mode = more.stx_mode,

@@ -18,7 +18,8 @@
  */
 struct asking {
     struct inroot_driver *d;
-    int root, fd, copied, held;
+    int root, fd, held;
+    bool is_copy;                  /* what the slot has is that copy */
     char *text;
     size_t length;
     struct inroot_slot *slot;
@@ -39,13 +40,17 @@ static uint32_t look(struct asking *a)
 
 static uint32_t copy(struct asking *a)
 {
-    a->slot->fd = a->copied = fcntl(a->fd, F_DUPFD_CLOEXEC, 0);
-    return a->slot->fd < 0 ? (uint32_t)errno : 0;
+    a->slot->fd = fcntl(a->fd, F_DUPFD_CLOEXEC, 0);
+    a->is_copy = a->slot->fd >= 0;
+    return a->is_copy ? 0 : (uint32_t)errno;
 }
 
 static uint32_t find(struct asking *a)
 {
+    const int copied = a->slot->fd;
     struct inroot_result result = inroot_find_place(a->d, a->root, a->slot, a->text, &a->length);
+    /* A look-up is made while the copy is open, so what it opens has another number. Behind that one the number is free. */
+    a->is_copy = a->slot->fd == copied;
     uint32_t error = result.what == INROOT_ANSWER_NAMES ? 0 : (uint32_t)a->d->unmade;
     a->answer.length = a->length;
     a->answer.openat2 = inroot_has_openat2();
@@ -81,6 +86,7 @@ static bool takes_held(struct asking *a)
         return false;
     close(a->slot->fd);
     a->slot->fd = a->held;
+    a->is_copy = false;
     a->held = a->root;
     return true;
 }
@@ -142,8 +148,7 @@ ssize_t inroot_ask_place(struct inroot_driver *d, int root, int fd, bool begin, 
         a.answer.error = turn(&a);
         inroot_asking_next(&a.course, &facts, &a.answer);
     }
-    /* A look-up was made while the copy was open, so it has another number. */
-    slot->is_shared = slot->fd == a.copied;
+    slot->is_shared = a.is_copy;
     return a.course.next == INROOT_ASKING_ENDS ? (ssize_t)a.length : -(ssize_t)a.course.error;
 }
 

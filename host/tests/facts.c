@@ -1,0 +1,252 @@
+/*
+ * facts: what the driver tells the proved library is so. A C library that has no statx(2) gives what fstat(2) says, and leaves the
+ * rest alone: nobody takes that for a mount. `..` of a directory that somebody moved out of its mount is ENOENT: nobody takes it for
+ * removed; and of the top of a mount that was taken off it is that top itself: nobody goes on there. What a look-up has opened is
+ * no copy of the program's descriptor, though it may get the number of one that was closed.
+ *
+ * usage: facts DIR. Exits 0 where that holds. 77: no openat2(2) here. 78: no right to do what it takes. To be linked with
+ * --wrap=statx, --wrap=openat and --wrap=fstat.
+ */
+#define _GNU_SOURCE
+#include "filter.h"
+#include "wraps.h"
+
+#include <sched.h>
+#include <sys/mount.h>
+#include <sys/sysmacros.h>
+
+static int base, root;
+static char where[PATH_MAX];
+
+/* ---- a C library without statx(2) */
+
+static bool is_emulated;
+
+int __real_statx(int dir, const char *name, int flags, unsigned what, struct statx *about);
+int __wrap_statx(int dir, const char *name, int flags, unsigned what, struct statx *about);
+
+/* What isn't told is left alone. That the mount's number is another one each time shows who reads it all the same. */
+int __wrap_statx(int dir, const char *name, int flags, unsigned what, struct statx *about)
+{
+    static uint64_t left;
+    struct stat told;
+    if (!is_emulated)
+        return __real_statx(dir, name, flags, what, about);
+    if (fstatat(dir, name, &told, flags & (AT_EMPTY_PATH | AT_SYMLINK_NOFOLLOW | AT_NO_AUTOMOUNT)) != 0)
+        return -1;
+    about->stx_mask = STATX_BASIC_STATS;
+    about->stx_mode = (uint16_t)told.st_mode;
+    about->stx_ino = told.st_ino;
+    about->stx_nlink = (uint32_t)told.st_nlink;
+    about->stx_dev_major = major(told.st_dev);
+    about->stx_dev_minor = minor(told.st_dev);
+    about->stx_mnt_id = ++left;
+    return 0;
+}
+
+/* What a function then finds on the stack that it hasn't set. */
+__attribute__((noinline)) static void fill_stack(void)
+{
+    volatile unsigned char bytes[65536];
+    for (size_t at = 0; at < sizeof bytes; at++)
+        bytes[at] = 0xff;
+}
+
+static void opens(int at, const char *path, int flags, const char *wanted)
+{
+    fill_stack();
+    int fd = inroot_open(at, path, flags);
+    gives_object(fd, root, wanted, "%s, flags %d", path, flags);
+    if (fd >= 0)
+        close(fd);
+}
+
+static void emulated(void)
+{
+    static const int flags[] = {0, INROOT_ONE_BY_ONE, INROOT_BELOW};
+    char place[PATH_MAX];
+    is_emulated = true;
+    for (size_t one = 0; one < sizeof flags / sizeof *flags; one++) {
+        opens(root, "d/e/f", flags[one], "d/e/f");
+        opens(root, "d/e/up", flags[one], "d");
+        opens(root, "d/e/../e/f", flags[one], "d/e/f");
+    }
+    int fd = sure(openat(root, "d/e/f", O_PATH | O_CLOEXEC), "f");
+    gives(inroot_place(root, fd, place, sizeof place), 6, "the place of a file");
+}
+
+/* The thread's own root directory is no mount's, and no call goes on that has openat2(2) no more. */
+static void emulated_in_chroot(void)
+{
+    if (fchdir(root) != 0 || chroot(".") != 0)
+        _exit(NO_RIGHT);
+    refuse(SYS_openat2, ENOSYS);
+    is_emulated = true;
+    fill_stack();
+    gives(inroot_open(root, "d/e/f", 0), -EOPNOTSUPP, "in a root directory that is no mount's");
+}
+
+/* ---- `..` of what has left its mount */
+
+/* What somebody does right before `..` is opened, and right behind it. */
+static void (*act)(void), (*undo)(void);
+/* A directory whose `..` is ENOENT, or -1; and whether it was asked for its links then. */
+static int without_parent = -1;
+static bool is_asked;
+
+static int my_openat(int dir, const char *name, int flags, mode_t mode)
+{
+    void (*now)(void) = strcmp(name, "..") == 0 ? act : NULL;
+    if (now != NULL) {
+        act = NULL;
+        now();
+    }
+    int fd = __real_openat(dir, name, flags, mode);
+    const int error = errno;
+    if (now != NULL && fd < 0 && error == ENOENT)
+        without_parent = dir;
+    if (now != NULL && undo != NULL)
+        undo();
+    errno = error;
+    return fd;
+}
+
+INSTEAD_OF_OPENAT(my_openat)
+
+int __real_fstat(int fd, struct stat *about);
+int __wrap_fstat(int fd, struct stat *about);
+
+int __wrap_fstat(int fd, struct stat *about)
+{
+    is_asked |= fd == without_parent;
+    return __real_fstat(fd, about);
+}
+
+static void move_out(void)
+{
+    sure(renameat(base, "tree/d/e", base, "e"), "out");
+}
+
+static void move_in(void)
+{
+    sure(renameat(base, "e", base, "tree/d/e"), "in");
+}
+
+static void remove_it(void)
+{
+    sure(unlinkat(base, "tree/d/empty", AT_REMOVEDIR), "empty");
+}
+
+static void take_off(void)
+{
+    sure(umount2("box/d/e", MNT_DETACH), "umount");
+}
+
+/* In a mount namespace of its own. */
+static void mount_over(const char *from, const char *name)
+{
+    if (unshare(CLONE_NEWNS) != 0 || mount(NULL, "/", NULL, MS_REC | MS_PRIVATE, NULL) != 0)
+        _exit(NO_RIGHT);
+    sure(chdir(where), where);
+    base = sure(open(".", O_PATH | O_DIRECTORY | O_CLOEXEC), where);
+    if (mount(from, name, NULL, MS_BIND, NULL) != 0)
+        _exit(NO_RIGHT);
+    root = sure(openat(base, "box", O_PATH | O_DIRECTORY | O_CLOEXEC), "box");
+}
+
+static int opened_while(void (*is_done)(void), void (*is_undone)(void), int at, const char *path, int flags)
+{
+    act = is_done;
+    undo = is_undone;
+    int fd = inroot_open(at, path, flags | INROOT_ONE_BY_ONE);
+    gives(act == NULL, 1, "%s, flags %d: somebody acted", path, flags);
+    return fd;
+}
+
+/* A walk that is led up to what was removed meanwhile begins again, as one does whose directory has no parent. */
+static void parents_of(int at)
+{
+    gives(opened_while(move_out, move_in, at, "d/e/../f", INROOT_NO_RETRY), -EAGAIN, "a directory that left its mount");
+    gives(without_parent >= 0, true, "the kernel has no `..` of it");
+    gives(is_asked, true, "it is asked whether it was removed");
+    without_parent = -1;
+    int fd = opened_while(move_out, move_in, at, "d/e/../f", 0);
+    gives_object(fd, base, "tree/d/f", "a directory that left its mount, and is back");
+    gives(opened_while(remove_it, NULL, at, "d/empty/../f", INROOT_NO_RETRY), -EAGAIN, "a directory that was removed");
+    sure(mkdirat(base, "tree/d/empty", 0755), "empty");
+}
+
+static void parents_by_proc(void)
+{
+    mount_over("tree", "box");
+    parents_of(root);
+}
+
+static void parents_in_jail(void)
+{
+    mount_over("tree", "box");
+    parents_of(root_or_jail(root, 0));
+}
+
+/* `..` of the top leads to that itself, since it stands in nothing any more. */
+static void top_that_is_taken_off(void)
+{
+    mount_over("tree/d", "box/d/e");
+    gives(opened_while(take_off, NULL, root, "d/e/../f", INROOT_NO_RETRY), -EAGAIN, "the top of a mount that is taken off");
+}
+
+/* ---- a descriptor that is no copy */
+
+/* Of a directory that may not be searched a look-up from the root opens another descriptor, and `.` can't be opened. */
+static void copies(int flags)
+{
+    int at = INROOT_JAIL, dir = sure(openat(root, "shut", O_PATH | O_DIRECTORY | O_CLOEXEC), "shut");
+    const int above = root_or_jail(root, flags);
+    if (!may_be_nobody())
+        _exit(NO_RIGHT);
+    sure(seteuid(65534), "nobody");
+    gives(inroot_at_begin(above, dir, &at), 0, "a number for a directory that may not be searched");
+    int fd = inroot_open(at, ".", 0);
+    gives(is_same_object(fd, dir), true, "a directory that may not be searched, flags %d", flags);
+}
+
+static void no_copy(void) { copies(-1); }
+static void no_copy_in_jail(void) { copies(0); }
+static void no_copy_in_trust(void) { copies(INROOT_TRUST_PROC); }
+
+/* ---- */
+
+static void make_tree(const char *name)
+{
+    static const char *const dirs[] = {"d", "d/e", "d/empty"};
+    int top = sure(openat(base, name, O_PATH | O_DIRECTORY | O_CLOEXEC), name);
+    for (size_t one = 0; one < sizeof dirs / sizeof *dirs; one++)
+        sure(mkdirat(top, dirs[one], 0755), dirs[one]);
+    sure(mkdirat(top, "shut", 0700), "shut");
+    sure(mknodat(top, "d/f", S_IFREG | 0600, 0), "f");
+    sure(mknodat(top, "d/e/f", S_IFREG | 0600, 0), "f");
+    sure(symlinkat("..", top, "d/e/up"), "up");
+    close(top);
+}
+
+int main(int count, char **words)
+{
+    static void (*const parts[])(void) = {
+        emulated, emulated_in_chroot, parents_by_proc, parents_in_jail, top_that_is_taken_off, no_copy, no_copy_in_jail,
+        no_copy_in_trust,
+    };
+    int skipped = 0;
+    begin_in_box(count, words, &base, &root);
+    if (realpath(words[1], where) == NULL)
+        return 1;
+    sure(mkdirat(base, "tree", 0755), "tree");
+    make_tree("box");
+    make_tree("tree");
+    open_proc();
+    for (size_t one = 0; one < sizeof parts / sizeof *parts; one++) {
+        const int status = apart(parts[one]);
+        skipped = skipped ? skipped : status;
+    }
+    printf("facts: %d not as they are to be\n", wrong);
+    return wrong != 0 ? 1 : skipped;
+}
