@@ -8,6 +8,7 @@
 #include "../calls.h"
 
 #include <errno.h>
+#include <limits.h>
 #include <signal.h>
 #include <stdio.h>
 #include <string.h>
@@ -105,6 +106,29 @@ static void change_the_last(void)
 
 static void begin_steps_again(void) { take_steps(); memset(&last, 0, sizeof last); take_steps(); }
 
+/* A descriptor that isn't open; the error as a system call of the kernel gives it. */
+static void try(uint32_t error, uint32_t descriptor)
+{
+    struct inroot_search search = {0};
+    inroot_search_begin(text, 4, &search);
+    inroot_search_next(&search, error, descriptor);
+}
+static void give_what_is_closed(void) { try(0, INT_MAX); }
+static void give_what_is_open(void) { try(0, STDOUT_FILENO); }
+static void give_no_number(void) { try((uint32_t)-ENOENT, 0); }
+static void give_an_error(void) { try(ENOENT, 0); }
+
+static void answer_opened(uint8_t kind, uint8_t error)
+{
+    const struct inroot_answered opened = {.what = INROOT_ANSWER_OPENED, .handle = 2, .node = 2, .kind = kind, .error = error};
+    begin();
+    inroot_next(&kept, &opened, text, 0, &told, room, ROOM);
+}
+static void open_no_kind(void) { answer_opened(0, 0); }
+static void open_by_an_error(void) { answer_opened(INROOT_KIND_DIR, ENOENT); }
+static void open_a_directory(void) { answer_opened(INROOT_KIND_DIR, 0); }
+
+static void let_go_of_what_is_closed(void) { slots[1].fd = INT_MAX; inroot_let_go(slots, 2, 0, 0); }
 static void let_go(void) { inroot_let_go(slots, 2, 0, 0); }
 static void let_go_oddly(void) { memset(&slots[1].is_above, 2, 1); let_go(); }
 
@@ -156,6 +180,14 @@ static const struct {
     {"two steps", take_steps, false},
     {"a last step that isn't left alone", change_the_last, true},
     {"steps of another call", begin_steps_again, false},
+    {"a descriptor that isn't open", give_what_is_closed, true},
+    {"one that is", give_what_is_open, false},
+    {"a negative error", give_no_number, true},
+    {"an error", give_an_error, false},
+    {"an object of no kind", open_no_kind, true},
+    {"an object, and an error", open_by_an_error, true},
+    {"an object", open_a_directory, false},
+    {"a slot whose descriptor isn't open", let_go_of_what_is_closed, true},
     {"slots", let_go, false},
     {"a bool that is none, in a second slot", let_go_oddly, true},
 };

@@ -7,11 +7,15 @@
 
 #include "../calls.h"
 
+#include <errno.h>
+#include <fcntl.h>
+#include <limits.h>
 #include <sanitizer/asan_interface.h>
 #include <stdatomic.h>
 #include <stdio.h>
 #include <stdlib.h>
 #include <string.h>
+#include <sys/stat.h>
 
 /* What an argument points to; whether it is written. */
 struct span {
@@ -63,6 +67,28 @@ static void must_be_bool(const char *call, const void *at)
     unsigned char byte;
     memcpy(&byte, at, sizeof byte);
     must(byte <= 1, call, "a bool of 0 or 1");
+}
+
+/* ---- what an answer says */
+
+/* The kernel has no error of a higher number: a negative one would be higher. */
+static void must_be_error(const char *call, uint32_t error)
+{
+    must(error <= 4095, call, "0, or an error's number");
+}
+
+static bool is_kind(uint64_t kind)
+{
+    return kind == INROOT_KIND_DIR || kind == INROOT_KIND_FILE || kind == INROOT_KIND_LINK;
+}
+
+/* By a name that no test puts its own function in the place of. */
+static bool is_open(uint64_t fd)
+{
+    const int error = errno;
+    const bool is = fd <= INT_MAX && fcntl64((int)fd, F_GETFD) >= 0;
+    errno = error;
+    return is;
 }
 
 /* ---- what is left alone between two turns */
