@@ -1,6 +1,6 @@
 /*
  * filters: a filter refuses system calls that newer kernels and C libraries have, by EPERM as sandboxes do or by
- * ENOSYS as older kernels do. The calls go on. And a filter's error is given as it is where the library keeps a descriptor.
+ * ENOSYS as older kernels do. The calls go on. By another error they fail. And a filter's error is given as it is where the library keeps a descriptor.
  *
  * usage: filters DIR. Exits 0 where that holds. 78: no right to be filtered here.
  */
@@ -63,17 +63,20 @@ static void late(void)
     expect(strcmp(text, "/a") == 0, "the place is %s", text);
 }
 
-/* By an error that the kernel gives of a path, too, nobody knows that it is missing: no call goes on. */
+/* By another error it isn't taken for missing: nothing is opened by the text alone. */
 static void by_another_error(void)
 {
     char text[PATH_MAX];
     int file = sure(openat(root, "a/f", O_PATH | O_CLOEXEC), "a/f");
-    refuse(OPENAT2, EACCES);
-    gives(inroot_open(root, "a/f", 0), -EAGAIN, "a file where openat2(2) gives EACCES");
-    gives(inroot_openat(root, "a/f", O_RDWR | O_TRUNC, 0, 0), -EAGAIN, "a file to be used there");
-    gives(inroot_mkdir(root, "a/new", 0755, 0), -EAGAIN, "a directory there");
+    const bool is_of_names = error == EACCES || error == ENOENT;
+    refuse(OPENAT2, error);
+    gives(inroot_open(root, "a/f", 0), is_of_names ? -EAGAIN : -error, "refused by %d, plain names", error);
+    gives(inroot_open(root, "a/../l", 0), is_of_names ? -EAGAIN : -error, "refused by %d, a link", error);
+    gives(inroot_openat(root, "a/f", O_RDWR | O_TRUNC, 0, 0), is_of_names ? -EAGAIN : -error, "refused by %d, a file to be used", error);
+    gives(inroot_mkdir(root, "a/new", 0755, 0), is_of_names ? -EAGAIN : -error, "refused by %d, a directory", error);
     gives(faccessat(root, "a/new", F_OK, 0), -1, "that directory");
-    gives(inroot_place(root, file, text, sizeof text), -EXDEV, "a place there");
+    gives(inroot_place(root, file, text, sizeof text), is_of_names ? -EXDEV : -error, "refused by %d, a place", error);
+    gives(inroot_open(root, "a/f", INROOT_BELOW), is_of_names ? -EAGAIN : -error, "refused by %d, by the kernel's word", error);
 }
 
 /* A descriptor of the library's own that got the number of a standard file can't be moved: the call gives the filter's error. */
@@ -90,7 +93,7 @@ static void of_a_standard_file(void)
 int main(int count, char **words)
 {
     static const long calls[] = {FACCESSAT2, SYS_statx, OPENAT2};
-    static const int errors[] = {EPERM, ENOSYS};
+    static const int errors[] = {EPERM, ENOSYS}, others[] = {EACCES, ENOENT, EINVAL, EOPNOTSUPP};
     int skipped = 0;
     if (count != 2)
         return 2;
@@ -106,7 +109,10 @@ int main(int count, char **words)
             skipped |= apart(under_filter) == NO_RIGHT;
             skipped |= apart(late) == NO_RIGHT;
         }
-    skipped |= apart(by_another_error) == NO_RIGHT;
+    for (size_t by = 0; by < sizeof others / sizeof *others; by++) {
+        error = others[by];
+        skipped |= apart(by_another_error) == NO_RIGHT;
+    }
     skipped |= apart(of_a_standard_file) == NO_RIGHT;
     printf("filters: %d not as they are to be\n", wrong);
     return wrong != 0 ? 1 : skipped ? NO_RIGHT : 0;
