@@ -1,6 +1,7 @@
 /*
  * filters: a filter refuses system calls that newer kernels and C libraries have, by EPERM as sandboxes do or by
- * ENOSYS as older kernels do. The calls go on. By another error they fail. And a filter's error is given as it is where the library keeps a descriptor.
+ * ENOSYS as older kernels do. The calls go on. By another error they fail. And a filter's error is given as it is where
+ * the library keeps a descriptor.
  *
  * usage: filters DIR. Exits 0 where that holds. 78: no right to be filtered here.
  */
@@ -72,7 +73,7 @@ static void by_another_error(void)
     refuse(OPENAT2, error);
     gives(inroot_open(root, "a/f", 0), is_of_names ? -EAGAIN : -error, "refused by %d, plain names", error);
     gives(inroot_open(root, "a/../l", 0), is_of_names ? -EAGAIN : -error, "refused by %d, a link", error);
-    gives(inroot_openat(root, "a/f", O_RDWR | O_TRUNC, 0, 0), is_of_names ? -EAGAIN : -error, "refused by %d, a file to be used", error);
+    gives(inroot_openat(root, "a/f", O_RDWR | O_TRUNC, 0, 0), is_of_names ? -EAGAIN : -error, "refused by %d, to be used", error);
     gives(inroot_mkdir(root, "a/new", 0755, 0), is_of_names ? -EAGAIN : -error, "refused by %d, a directory", error);
     gives(faccessat(root, "a/new", F_OK, 0), -1, "that directory");
     gives(inroot_place(root, file, text, sizeof text), is_of_names ? -EXDEV : -error, "refused by %d, a place", error);
