@@ -11,12 +11,12 @@
  * A call asks two witnesses for an object's path below the root. The first is a text: that of the object's link in
  * /proc/thread-self/fd (proc(5)), or in a jail, for a directory, the answer of getcwd(2). The second is openat2(2): it
  * looks up the names of that text from the root, through no link and not out of the root. It must find the same object,
- * and the call goes on with the descriptor that it gives. So the kernel itself has seen below the root each object that
- * a call goes on from or opens, whoever renames the root or a directory above it.
+ * and the call goes on with the descriptor that it gives. So whoever renames the root or a directory above it, the
+ * kernel itself has seen below the root each object that a call goes on from or opens.
  *
  * Without openat2(2) (before Linux 5.6, or where a filter refuses it by ENOSYS or EPERM) the text is the only witness. Then
- * the calls promise nothing if somebody renames the root or a directory above it meanwhile, unless in a jail. In a jail, if
- * somebody moves a non-directory out of the root, to just the path from the top that it had from the root, a call takes
+ * the calls promise nothing if somebody renames the root or a directory above it meanwhile, unless in a jail. In a jail,
+ * somebody may move a non-directory out of the root, to just the path from the top that it had from the root: then a call takes
  * it for one inside. And if ROOT is a descriptor, each call gives EOPNOTSUPP in a thread whose own root directory isn't
  * that of a mount, as after chroot(2): there the text looks the same for an object inside and for one outside.
  *
@@ -47,13 +47,16 @@
  * A call with INROOT_BELOW promises less than one without it: somebody may have moved the object to other names below
  * the root, between the moment when the path led to it and the check. And you trust the kernel with more: the library
  * doesn't learn the texts of the links through which openat2(2) went, so it takes the kernel's word that these were the
- * steps of a walk of this path. If openat2(2) fails, the call makes the steps, and each error is theirs; after `..` they
- * ask for the names as without the flag. But if PATH has names alone, and an openat2(2) that follows no link, as under
- * INROOT_NO_LINKS, finds one of them missing, the call gives ENOENT without a step. The flag says nothing of the directory in which O_CREAT makes an entry: the
- * call finds that as without it. Without openat2(2) the flag changes nothing. A call may open an object whose entry
- * somebody removes just while the kernel looks it up, as openat2(2) itself may: to the kernel a removed entry is below
- * the directory that had it, and if that was outside meanwhile, the object never was below the root by a name. A call
- * without the flag refuses what the kernel says was removed.
+ * steps of a walk of this path. If openat2(2) fails, the call makes the steps, and each error is theirs; after `..`
+ * they ask for the names as without the flag. There is one exception: if PATH has names alone, and an openat2(2) that
+ * follows no link, as under INROOT_NO_LINKS, finds one of them missing, the call gives ENOENT without a step. The flag
+ * says nothing of the directory in which O_CREAT makes an entry: the call finds that as without it. Without openat2(2)
+ * the flag changes nothing.
+ *
+ * A call with the flag may open an object whose entry somebody removes just while the kernel looks it up, as openat2(2)
+ * itself may. To the kernel a removed entry is below the directory that had it. If that directory was outside
+ * meanwhile, the object never was below the root by a name. A call without the flag refuses what the kernel says was
+ * removed.
  *
  * INROOT_TRUST_PROC is of inroot_jail_with() and inroot_root_open(), INROOT_ROOT_STAYS of the latter alone.
  * INROOT_NOFOLLOW is also of inroot_open_partial().
@@ -62,10 +65,10 @@
  * RESOLVE_IN_ROOT refuses it. Without openat2(2) the flag refuses each link of a proc(5) and of securityfs.
  *
  * Without INROOT_NO_XDEV a path crosses mounts. With it no part of the path may be a mount point, not the last one
- * either. The name of an entry that is made, renamed or removed isn't walked: if that is a mount point, the call gives
- * what its system call has, as EEXIST or EBUSY. A call that looks up names one by one, for INROOT_ONE_BY_ONE or want of
- * openat2(2), knows a mount by its number (statx(2), Linux 5.8). Before that kernel it knows the device alone, and
- * doesn't see a bind mount of the root's own file system.
+ * either. A call doesn't walk the name of an entry that it makes, renames or removes: if that is a mount point, the
+ * call gives what its system call has, as EEXIST or EBUSY. A call that looks up names one by one, for INROOT_ONE_BY_ONE
+ * or want of openat2(2), knows a mount by its number (statx(2), Linux 5.8). Before that kernel it knows the device
+ * alone, and doesn't see a bind mount of the root's own file system.
  *
  * MODE is what the kernel takes for a new entry, less the umask: bits of 07777. The kernel may drop some, as
  * mkdirat(2) does with those for set-user-ID.
@@ -73,8 +76,8 @@
  * If a call finds that others moved or removed the object that it had reached, it begins again. It makes up to
  * INROOT_TRIES tries, the first eight one after another. Before each other one it waits, 10 microseconds at first and
  * twice as long each time up to a millisecond, some 20 milliseconds in all. Then it gives EAGAIN. Whoever renames
- * without end can make it fail like this: in the races of docs/HOST-TESTED.md up to four of a hundred calls ended so
- * with one try, and none of twenty million with all.
+ * without end can make it fail like this. In the races of docs/HOST-TESTED.md up to four of a hundred calls ended so
+ * with one try, and none of twenty million with all tries.
  *
  * Every call gives -errno where it fails, and then leaves no descriptor open. In this order:
  *
@@ -99,15 +102,15 @@
  *   EMFILE        no descriptor is left
  *   any other     that a system call of a step gave, as EACCES, EIO, ENFILE or ESTALE
  *
- * and then those of the one step on the last name, which each call lists. EINTR comes from two kinds of steps only. One
- * changes an entry, on a file system that lets signals interrupt it: then nobody knows whether the entry was changed.
- * The other opens for use, as a FIFO. A file system that lets signals interrupt fstat(2), as one of FUSE may, has a call
- * end by EINTR there as well: it has changed nothing then, but that inroot_mkdir_all() and its kin leave what they made.
+ * and then those of the one step on the last name, which each call lists. EINTR comes from three kinds of steps only.
+ * One changes an entry, on a file system that lets signals interrupt it: then nobody knows whether the entry was
+ * changed. One opens for use, as a FIFO. And one is fstat(2), on a file system that lets signals interrupt it, as one
+ * of FUSE may: then the call has changed nothing, but inroot_mkdir_all() and its kin leave what they made.
  *
- * If the name of a non-directory ends in ` (deleted)`, nobody can say that it wasn't removed: the kernel writes just this
- * behind the path of a removed object. So a call that opens it or looks at it gives EAGAIN, at every try, but for one with
- * INROOT_BELOW where there is openat2(2). It is made, renamed and removed as any other. A directory of such a name on
- * overlayfs, on btrfs or in a cgroup gives the same, if it may not be read.
+ * If the name of a non-directory ends in ` (deleted)`, nobody can say that it wasn't removed: the kernel writes just
+ * this behind the path of a removed object. So a call that opens it or looks at it gives EAGAIN, at every try. Only a
+ * call with INROOT_BELOW doesn't, where there is openat2(2). Calls make, rename and remove such an entry as any other.
+ * A directory of such a name on overlayfs, on btrfs or in a cgroup gives the same, if it may not be read.
  *
  * A call follows no link on a mount with nosymfollow (mount(8)): ELOOP. The protection of fs.protected_symlinks
  * (proc_sys_fs(5)) doesn't apply: a call follows a link in a sticky directory that all may write to, whoever made it,
@@ -171,10 +174,10 @@ enum { INROOT_TRIES = 32 };
 enum { INROOT_PLAIN = 0, INROOT_NOREPLACE = 1, INROOT_EXCHANGE = 2, INROOT_WHITEOUT = 4 };
 
 /*
- * PROC is a descriptor of the topmost directory of a proc(5): the calls ask that one in place of /proc. The call may
- * be made once, and before the first other call, which opens /proc otherwise. PROC may be closed afterwards. The library
- * keeps a descriptor of its own. If the program closes that, as a child of fork(2) may, what needs a proc(5) gives ENOSYS
- * from there on, and no call goes by /proc.
+ * PROC is a descriptor of the topmost directory of a proc(5): the calls ask that one in place of /proc. The call may be
+ * made once, and before the first other call, which opens /proc otherwise. PROC may be closed afterwards. The library
+ * keeps a descriptor of its own. If the program closes that one, as a child of fork(2) may, each call that needs a
+ * proc(5) gives ENOSYS from then on, and no call goes by /proc.
  *
  * Gives 0; -EBADF where PROC isn't a descriptor, -EINVAL where it is of another file system or on a mount with nosymfollow
  * (mount(8)), -ENOTDIR where it isn't a directory, -EACCES where it may not be searched, -EMFILE, -EBUSY where there is
@@ -199,24 +202,24 @@ int inroot_use_private_proc(void);
 /*
  * Gives the calling thread a root directory, a current directory and a umask of its own (unshare(2), CLONE_FS) and
  * changes the first two to ROOT (chroot(2)), so that its calls may be given INROOT_JAIL. Other threads keep theirs. A
- * thread that was moved can't be moved back. Its current directory is that root after each call. Only if the thread may not
- * search the root any more, a call gives EACCES, and the current directory may be another. Needs CAP_SYS_CHROOT, which
- * unshare(2) with CLONE_NEWUSER gives, and a /proc to ask for a non-directory.
+ * thread that was moved can't be moved back. Its current directory is that root after each call. There is one
+ * exception: if the thread may not search the root any more, a call gives EACCES, and the current directory may be
+ * another. Needs CAP_SYS_CHROOT, which unshare(2) with CLONE_NEWUSER gives, and a /proc to ask for a non-directory.
  *
  * Leave alone in such a thread, and in each that it makes: the root directory, by chroot(2), pivot_root(2) or
  * setns(2). A thread that it makes shares that with it, and isn't a moved one: it gives a descriptor as ROOT.
  *
  * Gives 0; -EBUSY in a thread that was moved already, -EBADF or -ENOTDIR where ROOT isn't a descriptor of a directory,
- * -EPERM without the capability, -ENOSYS without /proc, -EMFILE, -ENOMEM, -EACCES where ROOT may not be searched.
- * After an error the thread is as before. Only where chroot(2) itself was refused, as by a security module, its
- * current directory, still the same, is its own from there on.
+ * -EPERM without the capability, -ENOSYS without /proc, -EMFILE, -ENOMEM, -EACCES where ROOT may not be searched. After
+ * an error the thread is as before, unless chroot(2) itself was refused, as by a security module: then its current
+ * directory is still the same, but is its own from then on.
  */
 int inroot_jail(int root);
 
 /*
  * The same, by FLAGS: 0, or INROOT_TRUST_PROC. By this one the thread keeps two descriptors open, of its
- * /proc/thread-self/fd and of the root. Its calls read the link of a non-directory in the first, and look names
- * up from the second, without looking first whether they are still these. This saves two system calls, and a longer
+ * /proc/thread-self/fd and of the root. Its calls read the link of a non-directory in the first, and look names up from
+ * the second. They don't check first whether the numbers still are these two. This saves two system calls, and a longer
  * path. The program promises in return that it
  *
  *   leaves these descriptors alone: it closes none that it didn't open, and puts no other in the place of these
@@ -297,16 +300,23 @@ int inroot_at_end(int at);
  * Why the thread's last call failed. STEP is the last step that it made, by its name in docs/HOST.md, or empty if it
  * failed before the first. Beside the model's steps there are `Reopen`, which opens for use, `Stat`, `Attribute`, which
  * changes an object that was found, and `Give`, which opens a new entry. NAME is the name that the step was about, or
- * empty. REST is the rest of PATH at that step, with links replaced by their texts: it begins with NAME if the call
- * could not open or make that; at `Parent` and `ReadLink` it is what comes behind the `..` and the link. Once the walk
- * has begun REST has one slash between two names, and `.` behind a slash at the end of PATH. AT is the place that the
- * walk had reached: the names below the root by which it went, with a slash before each, or a slash for the root itself.
- * Others may have moved these since. A link that the call follows is none of them. AT is empty if the call made no step,
- * and where the library doesn't keep the names: if they have more than 3,071 bytes, or some behind a `..` that led to the
- * root. For a rename, and for a tree that is removed, REST and AT are empty. REST is also empty if memory was missing
- * for the walk. Where one openat2(2) found that a name is missing (INROOT_BELOW), it didn't say which: STEP is `Open`,
- * NAME and AT are empty, and REST is all of PATH. The texts end with a NUL, and are cut off where they don't fit. A later version may use the reserved
- * bytes, which are zero: the structure doesn't get larger while the library's soname stays.
+ * empty.
+ *
+ * REST is the rest of PATH at that step, with links replaced by their texts. It begins with NAME if the call could not
+ * open or make that; at `Parent` and `ReadLink` it is what comes behind the `..` and the link. Once the walk has begun
+ * REST has one slash between two names, and `.` behind a slash at the end of PATH.
+ *
+ * AT is the place that the walk had reached: the names below the root by which it went, with a slash before each, or a
+ * slash for the root itself. Others may have moved these since. A link that the call follows is none of them. AT is
+ * empty if the call made no step, and where the library doesn't keep the names: if they have more than 3,071 bytes, or
+ * some behind a `..` that led to the root.
+ *
+ * For a rename, and for a tree that is removed, REST and AT are empty. REST is also empty if memory was missing for the
+ * walk. Where one openat2(2) found that a name is missing (INROOT_BELOW), it didn't say which: STEP is `Open`, NAME and
+ * AT are empty, and REST is all of PATH.
+ *
+ * The texts end with a NUL, and are cut off where they don't fit. A later version may use the reserved bytes, which are
+ * zero: the structure doesn't get larger while the library's soname stays.
  */
 struct inroot_error {
     int error;          /* its number, as ENOENT */
@@ -339,12 +349,12 @@ int inroot_open(int root, const char *path, int flags);
 int inroot_open_parent(int root, const char *path, int flags, char last[256]);
 
 /*
- * Opens as much of PATH as is there. Where all of it is there, gives what inroot_open() gives, and REST is empty. Else
- * it gives the directory that the longest beginning of PATH means that leads to one, and writes the rest of PATH to
- * REST, with a NUL. The first name of REST isn't there, or isn't a directory where the path needs one, or is a link
- * that leads to a missing object. A part of PATH is tried by ENOENT and ENOTDIR alone; every other error is the call's.
- * ERANGE where REST doesn't fit into SIZE bytes, behind all others. The call may make several walks, so it saw the
- * descriptor's object and the rest at moments of the call, one after another.
+ * Opens as much of PATH as is there. If all of it is there, the call gives what inroot_open() gives, and REST is empty.
+ * Otherwise it takes the longest beginning of PATH that leads to a directory, gives that directory, and writes the rest
+ * of PATH to REST, with a NUL. The first name of REST isn't there, or isn't a directory where the path needs one, or is
+ * a link that leads to a missing object. The call tries a shorter beginning only after ENOENT and ENOTDIR; every other
+ * error is the call's. ERANGE where REST doesn't fit into SIZE bytes, behind all others. The call may make several
+ * walks, so it saw the descriptor's object and the rest at moments of the call, one after another.
  */
 int inroot_open_partial(int root, const char *path, int flags, char *rest, size_t size);
 
@@ -426,17 +436,19 @@ ssize_t inroot_readlink(int root, const char *path, int flags, char *text, size_
  *
  * inroot_walk_next() gives 1 and an ENTRY; 0 behind the last; or -errno where the rest of a directory's entries isn't
  * given, whose PATH is in ENTRY then, and the next turn goes on behind it: EAGAIN where it was moved meanwhile, EIO
- * where a name has no bytes or a slash, ENAMETOOLONG where one of over 1,024 bytes doesn't fit, and what
- * getdents64(2) has. What is in ENTRY stays until the next turn. inroot_walk_skip() has the walk leave out what is below
- * the directory that was given last. inroot_walk_close() ends it, where it isn't NULL.
+ * where a name has no bytes or a slash, ENAMETOOLONG where one of over 1,024 bytes doesn't fit, and what getdents64(2)
+ * has. What is in ENTRY stays until the next turn. inroot_walk_skip() has the walk leave out what is below the
+ * directory that it gave last. inroot_walk_close() ends the walk, where it isn't NULL.
  *
- * The walk promises, whoever renames meanwhile: it enters nothing through a link below PATH. It opens each directory
- * that it enters by its name in the directory that has it; and that directory was below the root then, at that PATH,
- * since a call of its own led to the same one, and the walk reads what that call opened. (That call follows a link that
- * somebody has put in the place of a directory above.) If it led elsewhere, by as many tries as any call makes, ERROR is
- * EAGAIN, and the walk doesn't enter the directory. It doesn't promise that an entry is still there, that it gives each
- * entry that was made, removed or moved meanwhile, or that none comes twice; nor that nobody moves a directory out of
- * the root while the walk reads its entries. Whoever makes entries without end can keep a walk from ending.
+ * The walk promises this, whoever renames meanwhile. It enters nothing through a link below PATH. It opens each
+ * directory that it enters by its name, in the directory that has it. That directory was below the root then, at that
+ * PATH: a call of its own led to the same one, and the walk reads what that call opened. (That call follows a link that
+ * somebody has put in the place of a directory above.) If that call led elsewhere, by as many tries as any call makes,
+ * ERROR is EAGAIN, and the walk doesn't enter the directory.
+ *
+ * It doesn't promise that an entry is still there, that it gives each entry that was made, removed or moved meanwhile,
+ * or that none comes twice. Nor does it promise that nobody moves a directory out of the root while the walk reads its
+ * entries. Whoever makes entries without end can keep a walk from ending.
  *
  * An entry is opened by inroot_open(ENTRY.directory, ENTRY.name, INROOT_NOFOLLOW), below the directory that has it.
  */
@@ -458,9 +470,9 @@ void inroot_walk_close(struct inroot_walk *walk);
 
 /*
  * Change the mode, the owner and the times of the object that FD is open on, wherever that is: any object that
- * inroot_open() found, under INROOT_NOFOLLOW a link as well, a device, a FIFO or a socket, none of which they open for
- * it. They walk no path, so they change the object that was found. Each gives 0. They ask the /proc of the program,
- * also in a jail.
+ * inroot_open() found, also a device, a FIFO or a socket, and under INROOT_NOFOLLOW a link. The calls open none of
+ * these for it. They walk no path, so they change the object that was found. Each gives 0. They ask the /proc of the
+ * program, also in a jail.
  *
  * MODE is bits of 07777 as chmod(2) has them. A USER or a GROUP of all ones stays (chown(2)). TIMES are those of the
  * last access and of the last change of the contents, as utimensat(2) has them, with UTIME_NOW and UTIME_OMIT; NULL
@@ -484,11 +496,11 @@ int inroot_futimens(int fd, const struct timespec *times);
  * inroot_fremovexattr() give 0.
  *
  * EINVAL of other FLAGS; E2BIG of a value of more than 65,536 bytes; EBADF where FD isn't a descriptor; ENOSYS where
- * there is no proc(5) to go by, and before Linux 6.13 where the one that inroot_use_proc() handed in isn't the one at
- * /proc, or isn't known to be (before Linux 5.8), or is a private one, unless in a jail; EMFILE; ENODATA where there is no such attribute, ERANGE where it
- * doesn't fit, ERANGE of a name that is longer than 255 bytes or empty, EEXIST and ENODATA as the FLAGS have them,
- * EOPNOTSUPP where the file system has none, EPERM of `user.` attributes of what is neither a regular file nor a
- * directory, and what setxattr(2) has beside it.
+ * there is no proc(5) to go by; before Linux 6.13, unless in a jail, also where it is a private one, or where
+ * inroot_use_proc() handed in one that isn't the one at /proc, or isn't known to be (before Linux 5.8); EMFILE; ENODATA
+ * where there is no such attribute, ERANGE where it doesn't fit, ERANGE of a name that is longer than 255 bytes or
+ * empty, EEXIST and ENODATA as the FLAGS have them, EOPNOTSUPP where the file system has none, EPERM of `user.`
+ * attributes of what is neither a regular file nor a directory, and what setxattr(2) has beside it.
  */
 int inroot_fsetxattr(int fd, const char *name, const void *value, size_t size, int flags);
 ssize_t inroot_fgetxattr(int fd, const char *name, void *value, size_t size);
@@ -499,12 +511,12 @@ int inroot_fremovexattr(int fd, const char *name);
  * The calls that make an entry, from here to inroot_link_fd(), give 0. Under INROOT_GIVE they give a descriptor of what
  * they made (O_PATH and O_CLOEXEC), for its owner, mode, times and attributes. They open it by its name, in the
  * directory in which they made it and through no link, and look at it. A file is the very one that the call made, and a
- * second name's object is the very one that got it; a link has the text, a device its number, and all have the kind.
+ * second name's object is the very one that got it. A link has the text, a device its number, and all have the kind.
  * Whoever may rename in that directory may have put another directory, FIFO, socket, link or device of just that kind
- * there meanwhile: then the call gives this one, which was there. If the entry was moved, removed or replaced
- * otherwise, the call gives EAGAIN and doesn't try again: it made the entry. It also made the entry if EMFILE, ENFILE,
- * ENOMEM or EACCES come from this opening, or EIO from the look at it, and EXDEV under INROOT_NO_XDEV, where something is
- * mounted over the entry. The step of such an error is `Give`.
+ * there meanwhile: then the call gives that one. If the entry was moved, removed or replaced otherwise, the call gives
+ * EAGAIN. It doesn't try again, since it made the entry. It also made the entry if EMFILE, ENFILE, ENOMEM or EACCES
+ * come from this opening, or EIO from the look at it, and EXDEV under INROOT_NO_XDEV, where something is mounted over
+ * the entry. The step of such an error is `Give`.
  */
 
 /*
@@ -561,9 +573,9 @@ int inroot_rmdir(int root, const char *path, int flags);
  * the errors of renameat2(2); EINVAL of another MODE.
  *
  * With INROOT_WHITEOUT the kernel puts a node of the character device 0 in FROM's place in the same moment, which
- * overlayfs takes for an entry that is removed (RENAME_WHITEOUT). EINVAL comes where the file system has none, too, and
- * EPERM before Linux 5.8 without CAP_MKNOD. The proved library asks for a plain rename then and knows nothing of that
- * node: the node counts as an entry that somebody else makes there right afterwards.
+ * overlayfs takes for an entry that is removed (RENAME_WHITEOUT). The call also gives EINVAL where the file system has
+ * no whiteouts, and EPERM before Linux 5.8 without CAP_MKNOD. The proved library asks for a plain rename then and knows
+ * nothing of that node: the node counts as an entry that somebody else makes there right afterwards.
  */
 int inroot_rename(int root, const char *from, const char *to, int mode, int flags);
 
@@ -575,7 +587,8 @@ int inroot_rename(int root, const char *from, const char *to, int mode, int flag
  *
  * Under INROOT_FOLLOW the call follows a link whose text leads to a missing object, and makes that, below the root: it
  * reads the link and walks its text, with what comes behind the link, from the directory in which it found it, for at
- * most 40 such links (ELOOP) and 4,095 bytes (ENAMETOOLONG). It makes several walks then. EAGAIN where others are in their way at each try.
+ * most 40 such links (ELOOP) and 4,095 bytes (ENAMETOOLONG). It makes several walks then. EAGAIN where others are in
+ * the way of these at each try.
  */
 int inroot_mkdir_all(int root, const char *path, mode_t mode, int flags);
 
