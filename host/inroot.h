@@ -39,10 +39,10 @@
  *   INROOT_GIVE        of the calls that make an entry: what was made is given by a descriptor
  *   INROOT_DIRECTORY   of inroot_open_parent() alone: PATH may end in a slash
  *   INROOT_BELOW       of inroot_open(), inroot_open_parent(), inroot_openat(), inroot_stat() and EXISTING of
- *                      inroot_link() alone: the path is walked by one openat2(2) with RESOLVE_IN_ROOT (RESOLVE_BENEATH
- *                      under INROOT_BENEATH), where that succeeds on the root's own mount, and else by steps, whose last
+ *                      inroot_link() alone: one openat2(2) walks the path, with RESOLVE_IN_ROOT (RESOLVE_BENEATH under
+ *                      INROOT_BENEATH). If that doesn't succeed on the root's own mount, steps walk it, and their last
  *                      check is openat2(2)'s with RESOLVE_BENEATH. What is opened was reached by the path's parts at
- *                      rising moments and stood below the root at the last check; at which names is not said
+ *                      rising moments and stood below the root at the last check. The call doesn't say at which names
  *
  * A call with INROOT_BELOW promises less than one without it: somebody may have moved the object to other names below
  * the root, between the moment when the path led to it and the check. And you trust the kernel with more: the library
@@ -84,8 +84,8 @@
  *   EINVAL        a flag that is unknown, or that the call doesn't take; a MODE with bits that it doesn't take
  *   EBADF         ROOT isn't a descriptor; INROOT_JAIL in a thread that wasn't moved; a number that was ended
  *   ENOTDIR       ROOT isn't a directory
- *   EOPNOTSUPP    there is no openat2(2), ROOT is a descriptor, and the thread's root directory isn't that of a mount; or ROOT was
- *                 moved out of its own mount
+ *   EOPNOTSUPP    there is no openat2(2), ROOT is a descriptor, and the thread's root directory isn't that of a mount;
+ *                 or ROOT was moved out of its own mount
  *   ENOMEM        no memory for the call, here or at any step
  *   ENOENT        PATH is empty
  *   ENAMETOOLONG  PATH is longer than 4,095 bytes
@@ -179,10 +179,10 @@ enum { INROOT_PLAIN = 0, INROOT_NOREPLACE = 1, INROOT_EXCHANGE = 2, INROOT_WHITE
  * keeps a descriptor of its own. If the program closes that one, as a child of fork(2) may, each call that needs a
  * proc(5) gives ENOSYS from then on, and no call goes by /proc.
  *
- * Gives 0; -EBADF where PROC isn't a descriptor, -EINVAL where it is of another file system or on a mount with nosymfollow
- * (mount(8)), -ENOTDIR where it isn't a directory, -EACCES where it may not be searched, -EMFILE, -EBUSY where there is
- * one already. The call doesn't check whether PROC is the topmost directory: what needs a proc(5) gives ENOSYS where it
- * isn't.
+ * Gives 0; -EBADF where PROC isn't a descriptor, -EINVAL where it is of another file system or on a mount with
+ * nosymfollow (mount(8)), -ENOTDIR where it isn't a directory, -EACCES where it may not be searched, -EMFILE, -EBUSY
+ * where there is one already. The call doesn't check whether PROC is the topmost directory: what needs a proc(5) gives
+ * ENOSYS where it isn't.
  */
 int inroot_use_proc(int proc);
 
