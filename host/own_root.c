@@ -34,9 +34,13 @@ static size_t read_about_root(int proc, unsigned char *about, size_t size, int *
         return 0;
     snprintf(name, sizeof name, "thread-self/fdinfo/%d", fd);
     int info = open_to_ask(proc, name, O_RDONLY, wants);
-    ssize_t got = info < 0 ? 0 : read(info, about, size);
-    if (info >= 0)
+    ssize_t got = 0;
+    if (info >= 0) {
+        do
+            got = read(info, about, size);
+        while (got < 0 && errno == EINTR);
         close(info);
+    }
     close(fd);
     return got > 0 ? (size_t)got : 0;
 }

@@ -1,11 +1,12 @@
 /*
- * facts: what the driver tells the proved library is so. A C library that has no statx(2) gives what fstat(2) says, and leaves the
- * rest alone: nobody takes that for a mount. `..` of a directory that somebody moved out of its mount is ENOENT: nobody takes it for
- * removed; and of the top of a mount that was taken off it is that top itself: nobody goes on there. What a look-up has opened is
- * no copy of the program's descriptor, though it may get the number of one that was closed.
+ * facts: what the driver tells the proved library is so. A C library that has no statx(2) gives what fstat(2) says, and leaves
+ * the rest alone: nobody takes that for a mount. What a signal interrupts is read again. `..` of a directory that somebody moved
+ * out of its mount is ENOENT: nobody takes it for removed; and of the top of a mount that was taken off it is that top itself:
+ * nobody goes on there. What a look-up has opened is no copy of the program's descriptor, though it may get the number of one that was
+ * closed.
  *
  * usage: facts DIR. Exits 0 where that holds. 77: no openat2(2) here. 78: no right to do what it takes. To be linked with
- * --wrap=statx, --wrap=openat and --wrap=fstat.
+ * --wrap=statx, --wrap=openat, --wrap=fstat and --wrap=read.
  */
 #define _GNU_SOURCE
 #include "filter.h"
@@ -84,6 +85,33 @@ static void emulated_in_chroot(void)
     is_emulated = true;
     fill_stack();
     gives(inroot_open(root, "d/e/f", 0), -EOPNOTSUPP, "in a root directory that is no mount's");
+}
+
+/* So many reads are interrupted from here on. */
+static int interrupts;
+
+ssize_t __real_read(int fd, void *bytes, size_t size);
+ssize_t __wrap_read(int fd, void *bytes, size_t size);
+
+ssize_t __wrap_read(int fd, void *bytes, size_t size)
+{
+    if (interrupts == 0)
+        return __real_read(fd, bytes, size);
+    interrupts--;
+    errno = EINTR;
+    return -1;
+}
+
+/* What a signal interrupts is read again: whether the thread's own root directory is a mount's, is known then as before. */
+static void interrupted(void)
+{
+    refuse(SYS_openat2, ENOSYS);
+    is_emulated = true;
+    int before = inroot_open(root, "d/e/f", 0);
+    interrupts = 3;
+    int behind = inroot_open(root, "d/e/f", 0);
+    gives(interrupts, 0, "reads that are to be interrupted");
+    expect(is_same_object(before, behind), "a read that was interrupted has a call give %d, and not %d", behind, before);
 }
 
 /* ---- `..` of what has left its mount */
@@ -192,7 +220,8 @@ static void parents_in_jail(void)
 static void top_that_is_taken_off(void)
 {
     mount_over("tree/d", "box/d/e");
-    gives(opened_while(take_off, NULL, root, "d/e/../f", INROOT_NO_RETRY), -EAGAIN, "the top of a mount that is taken off");
+    const int got = opened_while(take_off, NULL, root, "d/e/../f", INROOT_NO_RETRY);
+    gives(got, -EAGAIN, "the top of a mount that is taken off");
 }
 
 /* ---- a descriptor that is no copy */
@@ -232,8 +261,8 @@ static void make_tree(const char *name)
 int main(int count, char **words)
 {
     static void (*const parts[])(void) = {
-        emulated, emulated_in_chroot, parents_by_proc, parents_in_jail, top_that_is_taken_off, no_copy, no_copy_in_jail,
-        no_copy_in_trust,
+        emulated, emulated_in_chroot, interrupted, parents_by_proc, parents_in_jail, top_that_is_taken_off,
+        no_copy, no_copy_in_jail, no_copy_in_trust,
     };
     int skipped = 0;
     begin_in_box(count, words, &base, &root);
