@@ -2,8 +2,8 @@
  * facts: what the driver tells the proved library is so. A C library that has no statx(2) gives what fstat(2) says, and leaves
  * the rest alone: nobody takes that for a mount. What a signal interrupts is read again. `..` of a directory that somebody moved
  * out of its mount is ENOENT: nobody takes it for removed; and of the top of a mount that was taken off it is that top itself:
- * nobody goes on there. What a look-up has opened is no copy of the program's descriptor, though it may get the number of one that was
- * closed.
+ * nobody goes on there. What a look-up has opened is no copy of the program's descriptor, though it may get the number of one
+ * that was closed.
  *
  * usage: facts DIR. Exits 0 where that holds. 77: no openat2(2) here. 78: no right to do what it takes. To be linked with
  * --wrap=statx, --wrap=openat, --wrap=fstat and --wrap=read.
