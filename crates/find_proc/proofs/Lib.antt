@@ -5,3 +5,4 @@ pub mod GivenLemmas
 pub mod HandLemmas
 pub mod OpenLemmas
 pub mod ShownLemmas
+pub mod PassedOver

@@ -1,11 +1,11 @@
 -- What holds of every history.
 use Rattle.std.specs.Prelude.{◌≡◌, ℕ, ◌+◌, List, [], ◌∷◌, ◌==◌, Bool, true, false, not, ◌&&◌, ◌||◌, if◌then◌else◌}
-use Rattle.system_calls.specs.Errors.{EINTR, EINVAL, ENOSYS}
+use Rattle.system_calls.specs.Errors.{EINTR, EBADF, EINVAL, ENOSYS}
 use Rattle.find_proc.specs.Believed.{is_file, is_of_system, is_on_mount, is_proc}
 use Rattle.find_proc.specs.History.{is_short, kept_of, raise_error, Exchange}
 use Rattle.find_proc.specs.declared.believed.Kept.{Kept}
 use Rattle.find_proc.specs.declared.finding.Facts.{Facts}
-use Rattle.find_proc.specs.declared.finding.TheConstants.{FIND, OWN, TELL, ASK_MOUNT, ASK_SYSTEM, ASK_FILE, OPEN, RAISE, CLOSE_LOW, LOOK, COPY, IDENTIFY, NUMBER, CLOSE, GIVES}
+use Rattle.find_proc.specs.declared.finding.TheConstants.{FIND, CHECK, OWN, TELL, ASK_MOUNT, ASK_SYSTEM, ASK_FILE, OPEN, RAISE, CLOSE_LOW, LOOK, COPY, IDENTIFY, NUMBER, CLOSE, PROGRAMS, THREADS, GIVES}
 
 -- ---- one at hand
 
@@ -53,6 +53,29 @@ pub record IsBelieved (f : Facts) (thread : Bool) (history : List Exchange) : Ty
   pub there : is_there_after f thread history ≡ true
   pub kept : is_kept_after f thread history ≡ true
   pub surely : f.surely ≡ true → is_file_after f thread history ≡ true
+
+-- The answer says that it isn't the one: there is no such descriptor (EBADF), or it is on another mount; it is of
+-- no proc(5), of another one, or on a mount that follows no links; or it is another file. A signal says nothing.
+abbrev pub denies : Kept → Exchange → Bool
+denies k e =
+    not (e.gave.error == EINTR)
+    && (((e.asked == ASK_MOUNT) && ((e.gave.error == EBADF) || ((e.gave.error == 0) && not (is_on_mount k e.gave))))
+    || (((e.asked == ASK_SYSTEM) && not (is_of_system k e.gave)) || ((e.asked == ASK_FILE) && not (is_file k e.gave))))
+
+-- an answer about it said so
+abbrev pub is_denied_after : Facts → Bool → List Exchange → Bool
+is_denied_after f thread [] = false
+is_denied_after f thread (e ∷ older) =
+    (is_about thread e && denies (kept_of f thread) e) || is_denied_after f thread older
+
+abbrev pub looks_at_hand : Facts → Bool
+looks_at_hand f = (f.wanted == FIND) || (f.wanted == CHECK)
+
+-- a question about one at hand, or such a one is it
+abbrev pub is_at_hand : ℕ → Bool
+is_at_hand next =
+    (next == ASK_MOUNT)
+    || ((next == ASK_SYSTEM) || ((next == ASK_FILE) || ((next == PROGRAMS) || (next == THREADS))))
 
 -- ---- a new one
 

@@ -1,7 +1,7 @@
 //! What holds of every history, as laws over its exchanges: each function's contract is one, and its body is empty.
-ghost use Rattle.std.specs.Prelude.{◌≡◌, ◌≢◌, ◌≤◌, ◌+◌, ◌==◌, true, false, List, length};
-ghost use Rattle.find_proc.specs.History.{next_after, Exchange, IsHistory};
-ghost use Rattle.find_proc.specs.Promises.{is_identified_after, is_low_after, is_open_after, is_proc_after, needs_open, signals, why_after, IsBelieved};
+ghost use Rattle.std.specs.Prelude.{◌≡◌, ◌≢◌, ◌≤◌, ◌+◌, ◌==◌, true, false, Bool, List, length};
+ghost use Rattle.find_proc.specs.History.{kept_of, next_after, Exchange, IsHistory};
+ghost use Rattle.find_proc.specs.Promises.{is_at_hand, is_denied_after, is_identified_after, is_low_after, is_open_after, is_proc_after, looks_at_hand, needs_open, signals, why_after, IsBelieved};
 ghost use Rattle.find_proc.specs.declared.finding.Facts.{Facts};
 ghost use Rattle.find_proc.specs.declared.finding.TheConstants.{FIND, OWN, TELL, OPEN, CLOSE_LOW, PROGRAMS, THREADS, GIVES, FAILS};
 
@@ -13,6 +13,15 @@ pub fn what_is_at_hand_was_shown()
         → (next_after f history).next ≡ PROGRAMS → IsBelieved f false history }
     ensures thread { (f : Facts) (history : List Exchange) → IsHistory f history
         → (next_after f history).next ≡ THREADS → IsBelieved f true history }
+{}
+
+/// No descriptor that is kept is passed over unasked: neither the program's nor the thread's own. Where one at hand is
+/// looked for, /proc is opened, a new one is given, or it fails, only once an answer about each of them that is there
+/// has said that it isn't the one.
+pub fn no_kept_one_is_passed_over()
+    ensures { (f : Facts) (history : List Exchange) → IsHistory f history → looks_at_hand f ≡ true
+        → is_at_hand (next_after f history).next ≡ false → (thread : Bool) → (kept_of f thread).there ≡ true
+        → is_denied_after f thread history ≡ true }
 {}
 
 /// What was opened, copied from what was handed in, or found to be one, was seen to be of a proc(5), on a mount that

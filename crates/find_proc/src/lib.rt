@@ -15,6 +15,6 @@ pub use finding::{
     GIVES, IDENTIFY, LOOK, NUMBER, OPEN, OWN, PROGRAMS, RAISE, TAKE, TELL, THREADS, begin, next,
 };
 pub use laws::{
-    calls_are_few, each_descriptor_is_closed_once_or_given, nothing_is_opened_in_a_jail,
-    what_is_at_hand_was_shown, what_is_given_is_a_proc, why_it_fails,
+    calls_are_few, each_descriptor_is_closed_once_or_given, no_kept_one_is_passed_over,
+    nothing_is_opened_in_a_jail, what_is_at_hand_was_shown, what_is_given_is_a_proc, why_it_fails,
 };

@@ -3,7 +3,8 @@ use find_proc::{
     ASK_FILE, ASK_MOUNT, ASK_SYSTEM, Answer, CHECK, CLOSE, CLOSE_LOW, COPY, FAILS, FIND, Facts,
     File, Finding, GIVES, IDENTIFY, Kept, LOOK, NUMBER, OPEN, OWN, PROGRAMS, RAISE, TAKE, TELL,
     THREADS, begin, calls_are_few, each_descriptor_is_closed_once_or_given, next,
-    nothing_is_opened_in_a_jail, what_is_at_hand_was_shown, what_is_given_is_a_proc, why_it_fails,
+    no_kept_one_is_passed_over, nothing_is_opened_in_a_jail, what_is_at_hand_was_shown,
+    what_is_given_is_a_proc, why_it_fails,
 };
 use std::test::Fail;
 
@@ -417,6 +418,7 @@ fn what_is_handed_in_is_copied(rt: HostRuntime) -> Result<(), Fail> {
 fn laws_of_a_proc_are_at_hand() {
     calls_are_few();
     each_descriptor_is_closed_once_or_given();
+    no_kept_one_is_passed_over();
     nothing_is_opened_in_a_jail();
     what_is_at_hand_was_shown();
     what_is_given_is_a_proc();
