@@ -39,6 +39,7 @@ fn laws_of_single_steps() {
 fn laws_of_calls_from_c() {
     c_protocol::conversations_are_calls();
     c_protocol::conversations_tell();
+    c_protocol::steps_told_whole_are_one();
     c_protocol::conversations_with_runs_tell();
     c_protocol::opens_at_once_tell();
     c_protocol::fails_at_once_tell();

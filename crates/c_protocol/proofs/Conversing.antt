@@ -39,10 +39,10 @@ wanting answer = none (λ e. cc (e))
 -- ---- one exchange
 
 -- the line of an exchange, by which the turn is led on to the next one
-record Step (below : Below) (doing : Doing) (heard : Heard) (x : Exchange) (next : call.CallTurn) : Type 0 where
-  line : Line
-  line_of : LineOf heard x line
-  leads : (lines : List Line) (end : call.CallTurn) → LeadsTo below next lines end → LeadsTo below (call.more doing) (line ∷ lines) end
+pub record Step (below : Below) (doing : Doing) (heard : Heard) (x : Exchange) (next : call.CallTurn) : Type 0 where
+  pub line : Line
+  pub line_of : LineOf heard x line
+  pub leads : (lines : List Line) (end : call.CallTurn) → LeadsTo below next lines end → LeadsTo below (call.more doing) (line ∷ lines) end
 
 module _ (below : Below) (doing : Doing) (heard : Heard) (x : Exchange) (next : call.CallTurn) where
   left_out : (room : Bool) (answer : Answer) → next ≡ take below room doing answer → answer ≡ Refused NoMemory → Spells x answer
@@ -81,7 +81,7 @@ module _ (below : Below) (doing : Doing) (heard : Heard) (x : Exchange) (next : 
       on (want is) = left_out room answer taken is spells told stays
       on (none isnt) = made room answer taken (told, (spells, λ is. absurd (isnt is)))
 
-  stepped : (room : Bool) (answer : Answer) → next ≡ take below room doing answer → Spells x answer
+  pub stepped : (room : Bool) (answer : Answer) → next ≡ take below room doing answer → Spells x answer
       → IsDueTold (due below doing) heard.told heard.before heard.after → Step below doing heard x next
   stepped room answer taken spells told = spelled room answer taken spells told (is_close (due below doing)) refl
 
@@ -96,7 +96,7 @@ record Led (below : Below) (turn : call.CallTurn) (heard : Heard) (xs : List Exc
   leads : LeadsTo below turn lines (ends (reply_view reply))
 
 -- the call that is kept was answered so, and then this was heard
-abbrev Follows : Exchange → CallView → Type 0
+abbrev pub Follows : Exchange → CallView → Type 0
 Follows x at = (turn : CallTurn) × (IsNext at x.answer x.bytes turn × Hears turn x.heard)
 
 joined : (below : Below) (now : CallView) (heard : Heard) (x : Exchange) (xs : List Exchange) (turn : CallTurn) → now.below ≡ below

@@ -25,3 +25,4 @@ mod PassingWalks
 mod AheadStates
 mod LeftStates
 mod RunConversing
+mod ToldWhole

@@ -1,6 +1,8 @@
 -- A conversation with runs is one of single turns.
-use Rattle.std.specs.Prelude.{◌≡◌, List, [], ◌∷◌, ◌++◌, Option, Some, None, refl}
-use Rattle.std.proofs.Common.{sym, ◌∙◌, ap, subst}
+use Rattle.std.specs.Prelude.{◌≡◌, ℕ, List, [], ◌∷◌, ◌++◌, Option, Some, None, refl}
+use Rattle.std.proofs.Common.{sym, ◌∙◌, ap, subst, arith}
+use Rattle.std.proofs.lemmas.Bool.{le-leb}
+use Rattle.tree_model.specs.StepWith.{StepWith}
 use Rattle.root_ops.specs.declared.call.CallTurn.{CallTurn}
 use Rattle.root_ops.specs.declared.call.CallTurn.TheVariants.{More, Done}
 use Rattle.root_ops.specs.Order.{due}
@@ -9,9 +11,9 @@ use Rattle.c_protocol.specs.History.{Heard, Hears, RepliesLast}
 use Rattle.c_protocol.specs.History as plain
 use Rattle.c_protocol.specs.Numbers.{step_told, step_bytes}
 use Rattle.c_protocol.specs.Outright.{ConversationsTell}
-use Rattle.c_protocol.specs.RunHistory.{Exchange, single, run, Conversation, last_heard, AreAnswers, StandFor, ConversationsWithRunsTell}
+use Rattle.c_protocol.specs.RunHistory.{Exchange, single, run, Conversation, last_heard, AreAnswers, HearsWhole, StandFor, ConversationsWithRunsTell}
 use Rattle.c_protocol.specs.Runs.{Made, Makes, steps_of}
-use Rattle.c_protocol.specs.Turns.{call_of, fits, laid, IsNext}
+use Rattle.c_protocol.specs.Turns.{call_of, fits, laid, IsDueTold, IsNext}
 use Rattle.c_protocol.specs.declared.kept.Held.{Held}
 
 -- ---- what would have been heard between
@@ -24,20 +26,31 @@ keeps_call : (kept : Option Held) (before call : CallView) → call_of kept ≡ 
 keeps_call (Some held) before call e = refl
 keeps_call None before call e = cc (e)
 
+-- the step that is due, in a room that has just its bytes
 abbrev heard_of : Option Held → CallView → Heard
-heard_of kept call = record {
-  kept = with_call kept call;
-  told = record (step_told (due call.below call.doing)) { whole = fits (step_bytes (due call.below call.doing)) [] };
-  before = [];
-  after = laid (step_bytes (due call.below call.doing)) [];
-}
+heard_of kept call =
+    let bytes = step_bytes (due call.below call.doing) in
+    record {
+      kept = with_call kept call;
+      told = record (step_told (due call.below call.doing)) { whole = fits bytes bytes };
+      before = bytes;
+      after = laid bytes bytes;
+    }
+
+heard_whole : (kept : Option Held) (call : CallView) (step : StepWith ℕ) → due call.below call.doing ≡ step
+    → HearsWhole step (heard_of kept call)
+heard_whole kept call step is =
+    let heard = heard_of kept call in (
+      subst (λ (s : StepWith ℕ). IsDueTold s heard.told heard.before heard.after) is (refl, refl),
+      le-leb _ _ (omega arith),
+    )
 
 -- ---- a run
 
 -- turns that answer the steps, behind which a conversation goes on as behind the run
 record Told (ms : List Made) (heard last : Heard) : Type 0 where
   turns : List plain.Exchange
-  answers : AreAnswers ms turns
+  answers : AreAnswers ms last turns
   on : (ys : List plain.Exchange) → plain.Conversation last ys
       → plain.Conversation heard (turns ++ ys) × (plain.last_heard heard (turns ++ ys) ≡ plain.last_heard last ys)
 
@@ -53,7 +66,7 @@ one : (m : Made) (heard last : Heard) (call : CallView) (turn : CallTurn) → ca
     → Hears turn last → Told (m ∷ []) heard last
 one m heard last call turn kept is_next hears = record {
   turns = record { answer = m.answer; bytes = []; heard = last } ∷ [];
-  answers = (refl, (refl, refl));
+  answers = (refl, refl, refl, refl);
   on = λ ys onward. (((call, (kept, (turn, (is_next, hears)))), onward), refl);
 }
 
@@ -66,7 +79,7 @@ joined m n ms heard last call (More then) turn kept is_next makes rest =
     let more = rest then here makes in
     record {
       turns = record { answer = m.answer; bytes = []; heard = heard_of heard.kept then } ∷ more.turns;
-      answers = (refl, (refl, more.answers));
+      answers = (refl, refl, heard_whole heard.kept then n.step makes.0, more.answers);
       on = λ ys onward. let goes = more.on ys onward in (((call, (kept, (More then, (is_next, (here, (refl, refl)))))), goes.0), goes.1);
     }
 joined m n ms heard last call (Done reply) turn kept is_next makes rest = absurd makes
@@ -102,7 +115,7 @@ singles (run x ∷ xs) heard onward =
     let on = first.on rest.turns rest.is in
     record {
       turns = first.turns ++ rest.turns;
-      stand = (first.turns, (rest.turns, (refl, ((is_run.entered, (is_run.names, first.answers)), rest.stand))));
+      stand = (first.turns, (rest.turns, (refl, ((is_run.entered, is_run.names, is_run.shut, first.answers), rest.stand))));
       is = on.0;
       last = on.1 ∙ rest.last;
     }

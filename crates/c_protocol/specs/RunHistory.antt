@@ -1,7 +1,8 @@
 -- Conversations in which names are passed by one system call, as the contract of `pass_names` has it. To the proved
 -- call these are turns as any other: each such conversation is one of single turns, of which the laws speak.
-use Rattle.std.specs.Prelude.{◌≡◌, ◌⊎◌, ℕ, List, [], ◌∷◌, ◌++◌, Some, None, take}
+use Rattle.std.specs.Prelude.{◌≡◌, ◌⊎◌, ℕ, List, [], ◌∷◌, ◌++◌, true, Some, None, take}
 use Rattle.path_text.specs.Text.{between_slashes}
+use Rattle.tree_model.specs.StepWith.{StepWith}
 use Rattle.root_ops.specs.declared.call.CallTurn.{CallTurn}
 use Rattle.root_ops.specs.declared.op.Op.{Op}
 use Rattle.root_ops.specs.declared.reply.Reply.{Reply}
@@ -10,8 +11,8 @@ use Rattle.c_protocol.specs.History.{Heard, Hears, Begins, RepliesLast, IsWantAt
 use Rattle.c_protocol.specs.History as plain
 use Rattle.c_protocol.specs.Numbers.{op_of}
 use Rattle.c_protocol.specs.Outright.{IsCallThatTells}
-use Rattle.c_protocol.specs.Runs.{Made, Entered, steps_of, names_of, IsRun}
-use Rattle.c_protocol.specs.Turns.{call_of}
+use Rattle.c_protocol.specs.Runs.{Made, Entered, is_shut, steps_of, names_of, IsRun}
+use Rattle.c_protocol.specs.Turns.{call_of, IsDueTold}
 use Rattle.c_protocol.specs.declared.numbers.Asked.{Asked}
 use Rattle.c_protocol.specs.declared.runs.Ran.{Ran}
 
@@ -54,19 +55,30 @@ last_heard heard (x ∷ xs) = last_heard (heard_in x) xs
 
 -- ---- the single turns of it
 
--- the answers to these steps
-abbrev pub AreAnswers : List Made → List plain.Exchange → Type 0
-AreAnswers [] xs = xs ≡ []
-AreAnswers (m ∷ ms) [] = ⊥
-AreAnswers (m ∷ ms) (x ∷ xs) = (x.answer ≡ m.answer) × ((x.bytes ≡ []) × AreAnswers ms xs)
+-- the step was told, and the room had a place for all of its bytes
+abbrev pub HearsWhole : StepWith ℕ → Heard → Type 0
+HearsWhole step heard = IsDueTold step heard.told heard.before heard.after × (heard.told.whole ≡ true)
+
+-- what is heard before these steps: the first of them; where none is left, what the run gave in the end
+abbrev pub HearsFirst : List Made → Heard → Heard → Type 0
+HearsFirst [] last heard = heard ≡ last
+HearsFirst (m ∷ ms) last heard = HearsWhole m.step heard
+
+-- The answers to these steps. After each of them the next one is heard whole, and after the last what the run gave.
+abbrev pub AreAnswers : List Made → Heard → List plain.Exchange → Type 0
+AreAnswers [] last xs = xs ≡ []
+AreAnswers (m ∷ ms) last [] = ⊥
+AreAnswers (m ∷ ms) last (x ∷ xs) =
+    (x.answer ≡ m.answer) × (x.bytes ≡ []) × HearsFirst ms last x.heard × AreAnswers ms last xs
 
 -- The turns that a run stands for: the first names of its text, so many as count, were opened one in another, and each
--- was a directory.
+-- was a directory. The directory in which the first one was opened is closed as the run says.
 abbrev pub AreOfRun : Run → List plain.Exchange → Type 0
 AreOfRun x turns =
     (entered : List Entered)
-    × ((names_of entered ≡ take x.ran.names (between_slashes x.text))
-    × AreAnswers (steps_of x.dir x.number entered) turns)
+    × (names_of entered ≡ take x.ran.names (between_slashes x.text))
+    × (x.ran.shut ≡ is_shut entered)
+    × AreAnswers (steps_of x.dir x.number entered) x.heard turns
 
 abbrev pub StandFor : List Exchange → List plain.Exchange → Type 0
 StandFor [] turns = turns ≡ []

@@ -38,6 +38,12 @@ LaidOut numbers bytes told old new = (told ≡ record numbers { whole = fits byt
 abbrev pub IsDueTold : StepWith ℕ → Told → List ℕ → List ℕ → Type 0
 IsDueTold step told old new = LaidOut (step_told step) (step_bytes step) told old new
 
+-- What is told whole is one step: these numbers and bytes tell no other.
+abbrev pub StepsToldWholeAreOne : Type 0
+StepsToldWholeAreOne =
+    (step other : StepWith ℕ) (told : Told) (before after : List ℕ) → told.whole ≡ true
+    → IsDueTold step told before after → IsDueTold other told before after → step ≡ other
+
 -- What is told of a turn, and held after it: the step that is due, and the call; or the reply, and nothing.
 abbrev pub IsTold : CallTurn → Option Held → Told → List ℕ → List ℕ → Type 0
 IsTold (More call) held told old new = (call_of held ≡ Some call) × IsDueTold (due call.below call.doing) told old new

@@ -12,6 +12,7 @@ ghost use Rattle.c_protocol.specs.RunHistory.{ConversationsWithRunsTell};
 ghost use Rattle.c_protocol.specs.SeenBelow.{PlainSeenBelow, ResolvesSeenBelow};
 ghost use Rattle.c_protocol.specs.Through.{comes_up, OpensThroughTell, Stand};
 ghost use Rattle.c_protocol.specs.ThroughAhead.{count_in, leads_on, look_ahead};
+ghost use Rattle.c_protocol.specs.Turns.{StepsToldWholeAreOne};
 
 use root_ops::{calls_tell, calls_tell_by_any_numbers, each_call_tells, opened_are_closed};
 
@@ -44,10 +45,17 @@ pub fn conversations_tell()
     calls_tell_by_any_numbers();
 }
 
+/// Where the room had a place for the bytes of the step that is due (`whole`), its numbers and bytes tell this step and
+/// no other: which it is, its handles, its names and its text.
+pub fn steps_told_whole_are_one()
+    ensures { StepsToldWholeAreOne }
+{}
+
 /// A conversation in which names are passed by one system call, where `names_ahead` says that they come next and
 /// `pass_names` how many of them count: each run stands for the turns of these names, each opened as a directory in the
-/// one before it. With these turns in the place of the runs it is a conversation of single turns to the same reply, so
-/// that all other laws of conversations speak of it, and `conversations_tell` holds of its call.
+/// one before it. Between two of these turns the next step is heard whole. With them in the place of the runs it is a
+/// conversation of single turns to the same reply, so that all other laws of conversations speak of it, and
+/// `conversations_tell` holds of its call.
 pub fn conversations_with_runs_tell()
     ensures { ConversationsWithRunsTell }
 {

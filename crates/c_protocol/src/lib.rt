@@ -41,7 +41,8 @@ pub use last_name::{Parted, split};
 pub use laws::{
     conversations_are_calls, conversations_close, conversations_tell, conversations_with_runs_tell,
     fails_at_once_tell, links_seen_below_tell, opens_at_once_tell, opens_through_tell,
-    paths_that_lead_on, seen_below_tell, steps_are_refused_so, unmade_steps_end_calls,
+    paths_that_lead_on, seen_below_tell, steps_are_refused_so, steps_told_whole_are_one,
+    unmade_steps_end_calls,
 };
 pub use left::{Left, parts_ahead};
 pub use numbers::{Answered, Asked, Told};

@@ -17,4 +17,5 @@ mod Passing
 mod FromDirectory
 mod WorkedRace
 mod WorkedReport
+mod WorkedRun
 mod WorkedChange

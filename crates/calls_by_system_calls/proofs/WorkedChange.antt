@@ -1,8 +1,8 @@
 -- The race with a change, computed.
 use Rattle.std.proofs.Common.{◌≡◌, ◌≢◌, inl, inr, ℕ, zero, suc, ◌+◌, ◌≤◌, ◌⊎◌, ⊎_elim, Bool, true, false, if◌then◌else◌, List, [], ◌∷◌, ◌++◌, length, Option, Some, None, refl, sym, ap, ◌∙◌, subst, ne_eqb, arith}
-use Rattle.std.specs.Prelude.{◌==◌, codes}
+use Rattle.std.specs.Prelude.{codes}
 use Rattle.std.specs.List.{AllByRecursion}
-use Rattle.std.proofs.lemmas.Bool.{eqb-true, false≢true}
+use Rattle.std.proofs.lemmas.Bool.{false≢true}
 use Rattle.tree_model.specs.declared.answer.Answer.TheVariants.{Opened, Names, Done}
 use Rattle.tree_model.specs.declared.answer.Event.{Event}
 use Rattle.tree_model.specs.declared.step.Kind.TheVariants as kind
@@ -29,14 +29,7 @@ use Rattle.calls_by_system_calls.specs.Lines.{OpenIsMade}
 use Rattle.calls_by_system_calls.specs.Places.{place_world, PlaceIsAsked}
 use Rattle.calls_by_system_calls.specs.WorkedChange.{mkdir, mkdir_race, MkdirIsMade}
 use Rattle.calls_by_system_calls.specs.WorkedRace.{move, race_nodes, race_opening}
-use Rattle.calls_by_system_calls.proofs.WorkedRace.{facts_of}
-
-others_at : (P : ℕ → List Event → Type 0) → P 6 (move ∷ []) → ((n : ℕ) → P n []) → (n : ℕ) → P n (mkdir_race.others n)
-others_at P at_six else_none n = by (n == 6) refl
-  where
-    by : (b : Bool) → (n == 6) ≡ b → P n (if b then move ∷ [] else [])
-    by true e = subst (λ (i : ℕ). P i (move ∷ [])) (sym (eqb-true n 6 e)) at_six
-    by false e = else_none n
+use Rattle.calls_by_system_calls.proofs.WorkedRace.{facts_of, others_at}
 
 kept : (s : State) (own : Option Change) → length (with_change s own).handles ≡ length s.handles
 kept s None = refl
@@ -46,15 +39,15 @@ three : (n : ℕ) → length (state_at mkdir_race n).handles ≡ 3
 three zero = refl
 three (suc n) =
     kept (found_behind mkdir_race n) (mkdir_race.own (suc n))
-    ∙ others_at (λ i events. length (state_at mkdir_race i).handles ≡ 3
+    ∙ others_at 6 move (λ i events. length (state_at mkdir_race i).handles ≡ 3
     → length (after_events (state_at mkdir_race i) events).handles ≡ 3)
     (λ e. refl) (λ i e. e) n (three n)
 
 linux : IsLinux mkdir_race 0
 linux = record {
   tree = IsState-from_test race_opening refl;
-  legal = others_at (λ n events. IsLegal (state_at mkdir_race n) events) (refl, tt) (λ n. tt);
-  by_others = others_at (λ n events. AllByRecursion (λ (event : Event). event.actor ≢ 0) events)
+  legal = others_at 6 move (λ n events. IsLegal (state_at mkdir_race n) events) (refl, tt) (λ n. tt);
+  by_others = others_at 6 move (λ n events. AllByRecursion (λ (event : Event). event.actor ≢ 0) events)
       ((λ e. absurd (omega (arith, e))), tt) (λ n. tt);
 }
 

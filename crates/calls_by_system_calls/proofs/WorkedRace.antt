@@ -38,24 +38,26 @@ facts_of what = record {
   second_name = false;
 }
 
-others_at : (P : ℕ → List Event → Type 0) → P 2 (move ∷ []) → ((n : ℕ) → P n []) → (n : ℕ) → P n (race.others n)
-others_at P at_two else_none n = by (n == 2) refl
+-- what others do, where that is one event, between one moment and the next
+pub others_at : (at : ℕ) (event : Event) (P : ℕ → List Event → Type 0) → P at (event ∷ []) → ((n : ℕ) → P n [])
+    → (n : ℕ) → P n (if n == at then event ∷ [] else [])
+others_at at event P there else_none n = by (n == at) refl
   where
-    by : (b : Bool) → (n == 2) ≡ b → P n (if b then move ∷ [] else [])
-    by true e = subst (λ (i : ℕ). P i (move ∷ [])) (sym (eqb-true n 2 e)) at_two
+    by : (b : Bool) → (n == at) ≡ b → P n (if b then event ∷ [] else [])
+    by true e = subst (λ (i : ℕ). P i (event ∷ [])) (sym (eqb-true n at e)) there
     by false e = else_none n
 
 three : (n : ℕ) → length (state_at race n).handles ≡ 3
 three zero = refl
 three (suc n) =
-    others_at (λ i events. length (state_at race i).handles ≡ 3 → length (after_events (state_at race i) events).handles ≡ 3)
+    others_at 2 move (λ i events. length (state_at race i).handles ≡ 3 → length (after_events (state_at race i) events).handles ≡ 3)
     (λ e. refl) (λ i e. e) n (three n)
 
 linux : IsLinux race 0
 linux = record {
   tree = IsState-from_test race_opening refl;
-  legal = others_at (λ n events. IsLegal (state_at race n) events) (refl, tt) (λ n. tt);
-  by_others = others_at (λ n events. AllByRecursion (λ (event : Event). event.actor ≢ 0) events) ((λ e. absurd (omega (arith, e))), tt) (λ n. tt);
+  legal = others_at 2 move (λ n events. IsLegal (state_at race n) events) (refl, tt) (λ n. tt);
+  by_others = others_at 2 move (λ n events. AllByRecursion (λ (event : Event). event.actor ≢ 0) events) ((λ e. absurd (omega (arith, e))), tt) (λ n. tt);
 }
 
 opens_a : OpenIsMade race race_nodes 0 1 1 (codes "a") (Opened 51 51 kind.Dir)

@@ -11,4 +11,5 @@ pub mod Places
 pub mod FromDirectory
 pub mod WorkedRace
 pub mod WorkedReport
+pub mod WorkedRun
 pub mod WorkedChange

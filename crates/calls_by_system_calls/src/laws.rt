@@ -8,11 +8,13 @@ ghost use Rattle.calls_by_system_calls.specs.Runs.{CallsWithRunsTellBySystemCall
 ghost use Rattle.calls_by_system_calls.specs.SeenBelow.{PlainSeenBelowBySystemCalls, ResolvesSeenBelowBySystemCalls};
 ghost use Rattle.calls_by_system_calls.specs.WorkedChange.{MkdirIsMade};
 ghost use Rattle.calls_by_system_calls.specs.WorkedRace.{RaceIsMade};
+ghost use Rattle.c_protocol.specs.declared.kept.Held.{Held};
 ghost use Rattle.calls_by_system_calls.specs.WorkedReport.{ReportIsMade};
+ghost use Rattle.calls_by_system_calls.specs.WorkedRun.{RunIsMade};
 
 use c_protocol::{
     conversations_tell, conversations_with_runs_tell, fails_at_once_tell, opens_at_once_tell,
-    opens_through_tell, seen_below_tell,
+    opens_through_tell, seen_below_tell, steps_told_whole_are_one,
 };
 use place_protocol::places_stood;
 use root_ops::calls_tell_by_any_numbers;
@@ -122,6 +124,16 @@ pub fn worked_race_is_made()
 pub fn worked_report_is_made()
     ensures { ReportIsMade }
 {}
+
+/// What is supposed of a call with runs can be met, too: a walk along `a/b/..`, whose three parts one openat2(2) passes
+/// while another moves `a` out of the root right after it. Whichever single turns this run of two names stands for, by
+/// whatever box keeps the call, they are made by system calls. So the call tells in a history that it fails by EAGAIN.
+pub fn worked_run_is_made()
+    ensures { (held : Held) → RunIsMade held }
+{
+    steps_told_whole_are_one();
+    calls_with_runs_tell_by_system_calls();
+}
 
 /// The same of a call that changes something: a directory is made in one that another moves out of the root between
 /// two of the call's system calls.
