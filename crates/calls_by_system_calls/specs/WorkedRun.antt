@@ -1,6 +1,6 @@
 -- One call with a run, computed, as a program might make it: a resolve of `a/b/..` below /c of the base tree, whose
--- three parts one openat2(2) passed. Another moves /c/a to /secret/a right after it. So what the walk came to isn't below
--- the root, and the call fails by EAGAIN. It shows that what is supposed of a call with runs can be met.
+-- three parts one openat2(2) passed. Another moves /c/a to /secret/a right after it. So what the walk came to isn't
+-- below the root, and the call fails by EAGAIN. It shows that what is supposed of a call with runs can be met.
 use Rattle.std.specs.Prelude.{◌≡◌, ℕ, List, [], ◌∷◌, ◌==◌, if◌then◌else◌, true, false, Some, None, codes}
 use Rattle.path_text.specs.declared.errno.Errno.TheVariants.{Raced}
 use Rattle.tree_model.specs.declared.answer.Answer.{Answer}
