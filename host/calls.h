@@ -1,9 +1,9 @@
 /*
  * calls.h: the proved library's functions, and what passes between it and a driver. The numbers and bytes are those
  * of crates/c_protocol, step_calls, place_protocol, open_or_make, make_through_links, remove_by_calls, look_ups,
- * list_directory, walk_directory, call_course, ask_place, give_entry, find_proc, open_partial, open_at_once,
- * open_through_links, enter_directory, begin_below, kernel_text and system_calls, whose contracts say what they stand
- * for. A program that makes calls includes inroot.h, and not this.
+ * list_directory, walk_directory, walk_tree, call_course, ask_place, give_entry, find_proc, open_partial,
+ * open_at_once, open_through_links, enter_directory, begin_below, kernel_text and system_calls, whose contracts say
+ * what they stand for. A program that makes calls includes inroot.h, and not this.
  *
  * Each function asks this of its caller, beside what stands at it. No pointer is NULL, not even one to no bytes. Each is
  * aligned, and leads to a value of its type: a bool is 0 or 1, also where the function only writes it; a number may be any.
@@ -1176,6 +1176,58 @@ void inroot_level_below(const struct inroot_level *above, struct inroot_level *l
  */
 void inroot_level_next(struct inroot_level *level, const struct inroot_level_answer *answer, const unsigned char *records,
                        size_t records_length, unsigned char *path, size_t path_size);
+
+/* ---- which thing comes next in a walk over all entries, from its opening to its close. These take no memory. */
+
+/*
+ * The first directory is opened by turns with inroot_entering_next(); so is that of the entry which the directory on top is about.
+ * Memory is taken for what was opened last. That is gone into: it is on top then, by inroot_level_begin() or inroot_level_below(). The
+ * directory on top takes a turn: it makes the call that it asks for, or none behind an entry that was given, and is told by
+ * inroot_level_next() what that gave. It has its ANSWER the same way, by the error, where the directory of its entry was opened or
+ * not. The program is told that the rest of the directory on top isn't given, and that directory is closed (TELL). The directory on
+ * top is closed (LEAVE). What was opened last is closed, and wasn't gone into (DROP).
+ *
+ * The call of the program is DONE, and has nothing to give; or it GIVES an entry of the directory on top; or it is TOLD the error by
+ * which the rest of a directory isn't given; or the walk is OVER. Then the program calls for something. If the walk FAILS, it couldn't
+ * be opened, and nothing comes; nor once it is CLOSED.
+ */
+enum inroot_walking_next {
+    INROOT_WALKING_OPEN_FIRST = 1, INROOT_WALKING_OPEN_ENTRY, INROOT_WALKING_TAKE_ROOM, INROOT_WALKING_GO_IN, INROOT_WALKING_TURN,
+    INROOT_WALKING_ANSWER, INROOT_WALKING_TELL, INROOT_WALKING_LEAVE, INROOT_WALKING_DROP, INROOT_WALKING_DONE, INROOT_WALKING_GIVES,
+    INROOT_WALKING_TOLD, INROOT_WALKING_OVER, INROOT_WALKING_FAILS, INROOT_WALKING_CLOSED,
+};
+
+/* The program opens the walk; calls for the next entry; passes over what is below the directory that was given last; closes the walk. */
+enum inroot_walking_call {
+    INROOT_WALKING_CALL_OPEN = 1, INROOT_WALKING_CALL_NEXT, INROOT_WALKING_CALL_SKIP, INROOT_WALKING_CALL_CLOSE,
+};
+
+/*
+ * What a thing gave: of an opening and of memory, an error, or 0; of a turn, what the directory on top says comes next (CAME), and its
+ * error; where a call of the program is done, what it CALLs for.
+ */
+struct inroot_walking_answer {
+    uint32_t error;
+    uint8_t came, call;
+};
+
+/*
+ * How far a walk has come. A driver reads what comes NEXT; how many directories are listed (DEPTH), which is how deep an entry stands
+ * that is given, and how deep the directory stands that was broken off; the ERROR: at ANSWER and where it FAILS, why nothing was
+ * opened, or 0, and where it is TOLD, why the rest isn't given; and whether what was opened last is HELD. It leaves all of it alone
+ * between two turns.
+ */
+struct inroot_walking {
+    uint32_t depth, error;
+    uint8_t call, next;
+    bool held;
+};
+
+/* Begins as the program opens a walk. */
+void inroot_walking_begin(struct inroot_walking *walking);
+
+/* Takes what the last thing gave. */
+void inroot_walking_next(struct inroot_walking *walking, const struct inroot_walking_answer *answer);
 
 /* ---- how a call begins whose paths begin at a directory below the root. These take no memory. A PLACE has a slash before each name. */
 

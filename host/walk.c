@@ -21,20 +21,24 @@ enum { RECORDS = 8192, NAME_ROOM = 1024 };
 /* A directory that is gone into has a path that fits, and takes two bytes of it at least: so the number of its level is no large one. */
 _Static_assert(PATH_MAX / 2 < INT_MAX, "a level's number is an int");
 
-/* A directory that is being listed: which call comes next, the proved library says (crates/walk_directory). */
+/* A directory that is listed: which call comes next, the proved library says (crates/walk_directory). */
 struct level {
-    struct level *above;
+    struct level *above;   /* the one that has it */
     int fd;
     size_t got;            /* so many bytes of records were read last */
     struct inroot_level course;
     unsigned char records[RECORDS];
 };
 
+/* Which thing comes next, and so which directories are open, the proved library says (crates/walk_tree). */
 struct inroot_walk {
-    int root, flags;
+    int root, levels, flags;
     int first;             /* INROOT_NOFOLLOW where PATH itself may be no link, else 0 */
-    struct level *top;
-    struct level *entered; /* the directory that was given last, where it is gone into */
+    struct inroot_walking course;
+    struct level *top;     /* of those that are listed */
+    struct level *room;    /* for what was opened last, where there is memory for it */
+    int opened;            /* what was opened last */
+    uint8_t ended;         /* how that went: what inroot_entering_next() said */
     size_t begin;          /* where the names begin behind PATH and a slash */
     char text[PATH_MAX + NAME_ROOM + 2];
 };
@@ -114,23 +118,8 @@ static uint32_t turn(struct entering *e, struct inroot_entering_answer *answer)
     }
 }
 
-/* Of a directory that is open to be read. If there is no memory, it is closed. */
-static struct level *new_level(int fd)
-{
-    struct level *level = malloc(sizeof *level);
-    if (level == NULL) {
-        close(fd);
-        return NULL;
-    }
-    level->above = NULL;
-    level->fd = fd;
-    level->got = 0;
-    level->course = (struct inroot_level){0};
-    return level;
-}
-
-/* Opens the directory that the text names; the first one of a walk has no NAME in another. Gives how that ended. */
-static uint8_t open_level(struct inroot_walk *walk, const char *name, struct level **level, uint32_t *error)
+/* Opens the directory that the text names; the first one of a walk has no NAME in another. Gives 0 or an error's number. */
+static uint32_t open_directory(struct inroot_walk *walk, const char *name)
 {
     struct entering e = {.walk = walk, .name = name};
     inroot_entering_begin(name == NULL, &e.course);
@@ -140,51 +129,66 @@ static uint8_t open_level(struct inroot_walk *walk, const char *name, struct lev
         answer.error = turn(&e, &answer);
         inroot_entering_next(&e.course, !(walk->flags & INROOT_NO_RETRY), &answer);
     }
-    const bool enters = e.course.next == INROOT_ENTERING_ENTERS;
-    *level = enters ? new_level(e.reads) : NULL;
-    *error = enters && *level == NULL ? ENOMEM : e.course.error;
-    return e.course.next;
+    walk->opened = e.reads;
+    walk->ended = e.course.next;
+    return e.course.error;
 }
 
-/* ---- levels */
+/* ---- the table of directories */
 
-static void drop(struct level *level)
+static uint32_t take_room(struct inroot_walk *walk)
 {
-    if (level == NULL)
-        return;
-    close(level->fd);
-    free(level);
+    walk->room = malloc(sizeof *walk->room);
+    if (walk->room == NULL)
+        return ENOMEM;
+    walk->room->course = (struct inroot_level){0};
+    return 0;
+}
+
+/* What was opened last is on top. */
+static void go_in(struct inroot_walk *walk)
+{
+    struct level *level = walk->room;
+    level->above = walk->top;
+    level->fd = walk->opened;
+    level->got = 0;
+    if (walk->top == NULL)
+        inroot_level_begin((uint32_t)walk->levels, strlen(walk->text), &level->course);
+    else
+        inroot_level_below(&walk->top->course, &level->course);
+    walk->top = level;
+    walk->room = NULL;
 }
 
 static void leave(struct inroot_walk *walk)
 {
     struct level *level = walk->top;
     walk->top = level->above;
-    drop(level);
+    close(level->fd);
+    free(level);
 }
 
-/* Goes into the directory that was given last, unless it is passed over. */
-static void go_into(struct inroot_walk *walk)
+/* Of the first directory the path is empty. */
+static void cut_and_leave(struct inroot_walk *walk)
 {
-    if (walk->entered == NULL)
-        return;
-    walk->entered->above = walk->top;
-    walk->top = walk->entered;
-    walk->entered = NULL;
+    walk->text[walk->top->above == NULL ? walk->begin : walk->top->course.length] = 0;
+    leave(walk);
 }
 
-/* Opens it for the turns to come. Gives 0 or why it isn't gone into. */
-static uint32_t enter(struct inroot_walk *walk, bool *is_lost)
+static void drop(struct inroot_walk *walk)
 {
-    uint32_t error;
-    const char *name = walk->text + walk->top->course.length + 1;
-    *is_lost = open_level(walk, name, &walk->entered, &error) == INROOT_ENTERING_LOSES;
-    if (error == 0)
-        inroot_level_below(&walk->top->course, &walk->entered->course);
-    return error;
+    close(walk->opened);
+    free(walk->room);
+    walk->room = NULL;
 }
 
 /* ---- entries */
+
+/* The name of an entry of the directory on top; where there is none, the end of an empty path. */
+static const char *name_of(const struct inroot_walk *walk)
+{
+    return walk->text + (walk->top == NULL ? walk->begin : walk->top->course.length + 1);
+}
 
 static uint32_t read_records(struct level *level)
 {
@@ -197,81 +201,88 @@ static uint32_t read_records(struct level *level)
 static uint32_t look(const struct inroot_walk *walk, uint32_t *mode)
 {
     struct stat about;
-    const char *name = walk->text + walk->top->course.length + 1;
-    if (fstatat(walk->top->fd, name, &about, AT_SYMLINK_NOFOLLOW | AT_NO_AUTOMOUNT) < 0)
+    if (fstatat(walk->top->fd, name_of(walk), &about, AT_SYMLINK_NOFOLLOW | AT_NO_AUTOMOUNT) < 0)
         return (uint32_t)errno;
     *mode = about.st_mode;
     return 0;
 }
 
-/* Makes the call that comes next; there is none behind an entry that was given. Gives what comes then. */
-static uint8_t go_on(struct inroot_walk *walk)
+/* The directory on top takes a turn, or has its answer. Behind an entry that was given there is no call. */
+static void go_on(struct inroot_walk *walk, struct inroot_walking_answer *came)
 {
     struct level *top = walk->top;
-    struct inroot_level_answer answer = {0};
+    struct inroot_level_answer answer = {.error = walk->course.error, .lost = walk->ended == INROOT_ENTERING_LOSES};
     if (top->course.next == INROOT_LEVEL_READ)
         answer.error = read_records(top);
     else if (top->course.next == INROOT_LEVEL_LOOK)
         answer.error = look(walk, &answer.mode);
-    else if (top->course.next == INROOT_LEVEL_ENTER)
-        answer.error = enter(walk, &answer.lost);
     inroot_level_next(&top->course, &answer, top->records, top->got, (unsigned char *)walk->text, sizeof walk->text);
-    return top->course.next;
+    came->came = top->course.next;
+    came->error = top->course.error;
 }
 
 static int give(const struct inroot_walk *walk, struct inroot_walk_entry *entry)
 {
     const struct level *top = walk->top;
     *entry = (struct inroot_walk_entry){
-        .path = walk->text + walk->begin, .name = walk->text + top->course.length + 1, .directory = top->fd,
-        .opened = walk->entered == NULL ? -1 : walk->entered->fd, .kind = top->course.kind, .depth = (int)top->course.depth,
+        .path = walk->text + walk->begin, .name = name_of(walk), .directory = top->fd,
+        .opened = walk->course.held ? walk->opened : -1, .kind = top->course.kind, .depth = (int)walk->course.depth,
         .error = (int)top->course.error,
     };
     return 1;
 }
 
-/* Tells of the directory the rest of whose entries isn't given. Of the first one the path is empty. */
-static int break_off(struct inroot_walk *walk, struct inroot_walk_entry *entry)
+/* Tells of the directory the rest of whose entries isn't given. It is closed. */
+static int tell(const struct inroot_walk *walk, struct inroot_walk_entry *entry)
 {
-    const struct level *top = walk->top;
-    const int error = (int)top->course.error;
-    walk->text[top->course.length] = 0;
-    if (top->above == NULL)
-        walk->text[walk->begin] = 0;
     *entry = (struct inroot_walk_entry){
-        .path = walk->text + walk->begin,
-        .name = walk->text + (top->above == NULL ? walk->begin : top->above->course.length + 1),
-        .directory = -1, .opened = -1, .kind = S_IFDIR, .depth = (int)top->course.depth - 1,
+        .path = walk->text + walk->begin, .name = name_of(walk), .directory = -1, .opened = -1, .kind = S_IFDIR,
+        .depth = (int)walk->course.depth,
     };
-    leave(walk);
-    return inroot_error_alone(error, "List", entry->path);
-}
-
-static int next(struct inroot_walk *walk, struct inroot_walk_entry *entry)
-{
-    go_into(walk);
-    while (walk->top != NULL)
-        switch (go_on(walk)) {
-        case INROOT_LEVEL_GIVE: return give(walk, entry);
-        case INROOT_LEVEL_BREAKS_OFF: return break_off(walk, entry);
-        case INROOT_LEVEL_ENDS: leave(walk);
-        }
-    return 0;
+    return inroot_error_alone((int)walk->course.error, "List", entry->path);
 }
 
 /* ---- the calls */
 
-/* Opens the directory with which it begins: 0 or -errno. A call that misses it has said why. */
-static int begin(struct inroot_walk *walk, int levels)
+/* Does what comes next. */
+static struct inroot_walking_answer step(struct inroot_walk *walk)
 {
-    uint32_t error;
-    if (open_level(walk, NULL, &walk->top, &error) == INROOT_ENTERING_MISSES)
-        return -(int)error;
-    if (error)
-        return inroot_error_alone((int)error, "List", walk->text);
-    inroot_level_begin((uint32_t)levels, strlen(walk->text), &walk->top->course);
-    walk->begin = walk->top->course.length + 1;
-    return 0;
+    struct inroot_walking_answer answer = {0};
+    switch (walk->course.next) {
+    case INROOT_WALKING_OPEN_FIRST: answer.error = open_directory(walk, NULL); break;
+    case INROOT_WALKING_OPEN_ENTRY: answer.error = open_directory(walk, name_of(walk)); break;
+    case INROOT_WALKING_TAKE_ROOM: answer.error = take_room(walk); break;
+    case INROOT_WALKING_GO_IN: go_in(walk); break;
+    case INROOT_WALKING_TURN: case INROOT_WALKING_ANSWER: go_on(walk, &answer); break;
+    case INROOT_WALKING_TELL: cut_and_leave(walk); break;
+    case INROOT_WALKING_LEAVE: leave(walk); break;
+    default: drop(walk);
+    }
+    return answer;
+}
+
+static void carry_out(struct inroot_walk *walk)
+{
+    while (walk->course.next < INROOT_WALKING_DONE) {
+        const struct inroot_walking_answer answer = step(walk);
+        inroot_walking_next(&walk->course, &answer);
+    }
+}
+
+/* What the program calls for. Gives what came of it. */
+static uint8_t call_for(struct inroot_walk *walk, enum inroot_walking_call call)
+{
+    const struct inroot_walking_answer answer = {.call = (uint8_t)call};
+    inroot_walking_next(&walk->course, &answer);
+    carry_out(walk);
+    return walk->course.next;
+}
+
+/* Why the walk couldn't be opened. A call that missed its first directory has said why. */
+static int not_opened(const struct inroot_walk *walk)
+{
+    const int error = (int)walk->course.error;
+    return walk->ended == INROOT_ENTERING_MISSES ? -error : inroot_error_alone(error, "List", walk->text);
 }
 
 int inroot_walk_open(int root, const char *path, int levels, int flags, struct inroot_walk **walk)
@@ -280,10 +291,15 @@ int inroot_walk_open(int root, const char *path, int levels, int flags, struct i
     struct inroot_walk *new = levels < 0 ? NULL : malloc(sizeof *new);
     if (new == NULL)
         return inroot_error_alone(levels < 0 ? EINVAL : ENOMEM, "", "");
-    *new = (struct inroot_walk){.root = root, .flags = flags & ~INROOT_NOFOLLOW, .first = flags & INROOT_NOFOLLOW};
+    *new = (struct inroot_walk){
+        .root = root, .levels = levels, .flags = flags & ~INROOT_NOFOLLOW, .first = flags & INROOT_NOFOLLOW,
+    };
     inroot_copy(new->text, path);
+    new->begin = strlen(new->text) + 1;
     INROOT_UNCANCELLED;
-    int failed = begin(new, levels);
+    inroot_walking_begin(&new->course);
+    carry_out(new);
+    int failed = new->course.next == INROOT_WALKING_FAILS ? not_opened(new) : 0;
     if (failed)
         free(new);
     else
@@ -294,23 +310,24 @@ int inroot_walk_open(int root, const char *path, int levels, int flags, struct i
 int inroot_walk_next(struct inroot_walk *walk, struct inroot_walk_entry *entry)
 {
     INROOT_UNCANCELLED;
-    return next(walk, entry);
+    switch (call_for(walk, INROOT_WALKING_CALL_NEXT)) {
+    case INROOT_WALKING_GIVES: return give(walk, entry);
+    case INROOT_WALKING_TOLD: return tell(walk, entry);
+    default: return 0;
+    }
 }
 
 void inroot_walk_skip(struct inroot_walk *walk)
 {
     INROOT_UNCANCELLED;
-    drop(walk->entered);
-    walk->entered = NULL;
+    call_for(walk, INROOT_WALKING_CALL_SKIP);
 }
 
 void inroot_walk_close(struct inroot_walk *walk)
 {
     if (walk == NULL)
         return;
-    inroot_walk_skip(walk);
     INROOT_UNCANCELLED;
-    while (walk->top != NULL)
-        leave(walk);
+    call_for(walk, INROOT_WALKING_CALL_CLOSE);
     free(walk);
 }

@@ -1,12 +1,16 @@
-//! Which call comes next as a walk goes into a directory, and as it gives the entries of one.
+//! Which call comes next as a walk goes into a directory, as it gives the entries of one, and from its opening to its
+//! close.
 ghost use Rattle.std.specs.Prelude.{◌≡◌, ◌≤◌, ◌<◌, ◌+◌, ◌-◌, ◌^◌, ◌∷◌, [], ℕ, List, Bool, true, false, length};
 ghost use Rattle.enter_directory.specs.Entering.{exchange, IsAt};
 ghost use Rattle.enter_directory.specs.History.{is_question, Exchange};
 ghost use Rattle.walk_directory.specs.History.{is_question as is_level_question, next_after, Exchange as LevelExchange, Facts};
 ghost use Rattle.walk_directory.specs.Level.{exchange as level_exchange, facts_of, IsAt as IsLevelAt, Keeps};
+ghost use Rattle.walk_tree.specs.History.{is_question as is_walking_question, Exchange as WalkingExchange};
+ghost use Rattle.walk_tree.specs.Walking.{exchange as walking_exchange, IsAt as IsWalkingAt};
 
 use enter_directory::{Answer, Entering};
 use walk_directory::Level;
+use walk_tree::Walking;
 
 /// Begins to go into a directory: `enter_directory::begin`.
 #[unsafe(no_mangle)]
@@ -68,4 +72,23 @@ pub extern "C" fn inroot_level_next(
     ensures over { is_level_question level.old.next ≡ false → (level.new ≡ level.old) × (path.new ≡ path.old) }
 {
     *level = walk_directory::next(*level, answer, records, path);
+}
+
+/// Begins as the program opens a walk over all entries: `walk_tree::begin`.
+#[unsafe(no_mangle)]
+pub extern "C" fn inroot_walking_begin(walking: &mut Walking)
+    ensures { IsWalkingAt [] walking.new }
+{
+    *walking = walk_tree::begin();
+}
+
+/// Takes what the last thing gave, and says what comes next: `walk_tree::next`.
+#[unsafe(no_mangle)]
+pub extern "C" fn inroot_walking_next(walking: &mut Walking, answer: &walk_tree::Answer)
+    ensures goes { (history : List WalkingExchange) → IsWalkingAt history walking.old
+        → is_walking_question walking.old.next ≡ true
+        → IsWalkingAt (walking_exchange walking.old answer.now ∷ history) walking.new }
+    ensures over { is_walking_question walking.old.next ≡ false → walking.new ≡ walking.old }
+{
+    *walking = walk_tree::next(*walking, answer);
 }

@@ -63,6 +63,13 @@ fn laws_of_walks() {
     walk_directory::directories_are_gone_into_to_the_depth();
     walk_directory::a_signal_ends_nothing();
     walk_directory::calls_are_few();
+    walk_tree::a_directory_is_opened_first_or_in_one_that_is_listed();
+    walk_tree::each_directory_is_closed_once();
+    walk_tree::nothing_but_closing_comes_of_a_close();
+    walk_tree::the_one_opened_last_is_listed();
+    walk_tree::what_is_asked_for_can_be_done();
+    walk_tree::what_is_skipped_is_not_gone_into();
+    walk_tree::why_it_fails();
 }
 
 #[test]

@@ -18,3 +18,5 @@ mod listings;
 mod makings;
 #[cfg(test)]
 mod removals;
+#[cfg(test)]
+mod walkings;
