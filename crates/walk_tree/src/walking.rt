@@ -70,8 +70,8 @@ pub const CALL_CLOSE: u8 = 4;
 #[repr(C)]
 #[derive(Clone, Copy, Debug, PartialEq, Eq)]
 pub struct Answer {
-    /// Of OPEN_FIRST, OPEN_ENTRY and TAKE_ROOM, 0 or the number of the error (errno(3)). Of TURN, if the directory breaks
-    /// off, its error.
+    /// Of OPEN_FIRST, OPEN_ENTRY and TAKE_ROOM, 0 or the number of the error (errno(3)). Of TURN, if the directory
+    /// breaks off, its error.
     pub error: u32,
     /// Of TURN, what the directory on top says comes next: one of the numbers of `walk_directory`.
     pub came: u8,
@@ -255,8 +255,8 @@ pub fn begin() -> Walking
 ///
 /// A walk opens its first directory, and goes into it. As the program calls for the next entry, it goes into the
 /// directory that it gave last, unless that was passed over; then the directory on top takes its turns, until it gives
-/// an entry, ends or breaks off. If it has ended, it is closed, and the one below it goes on. A directory that is opened
-/// and for which there is no memory is closed. As the program closes the walk, all directories are.
+/// an entry, ends or breaks off. If it has ended, it is closed, and the one below it goes on. A directory that is
+/// opened and for which there is no memory is closed. As the program closes the walk, all directories are.
 ///
 /// Errors: at FAILS, that of OPEN_FIRST or TAKE_ROOM. At ANSWER, that of OPEN_ENTRY or TAKE_ROOM, or EMFILE (24) if
 /// 2^32 - 1 directories are listed. At TELL and TOLD, that of TURN.
