@@ -367,6 +367,35 @@ static int up_to(struct inroot_walk *it, struct inroot_walk_entry *entry, const 
     return found;
 }
 
+/* What is passed over is closed, and nothing else: not before the first entry, twice, or behind the last. */
+static void passed_over(void)
+{
+    struct inroot_walk *it;
+    struct inroot_walk_entry entry;
+    const int before = open_descriptors();
+    int found;
+    gives(inroot_walk_open(place, "/", 0, 0, &it), 0, "a walk");
+    inroot_walk_skip(it);
+    gives(up_to(it, &entry, "a"), 1, "a");
+    expect(entry.opened >= 0 && open_descriptors() == before + 2, "a is open: %d", open_descriptors() - before);
+    inroot_walk_skip(it);
+    gives(open_descriptors(), before + 1, "descriptors where a is passed over");
+    inroot_walk_skip(it);
+    gives(open_descriptors(), before + 1, "and passed over once more");
+    while ((found = inroot_walk_next(it, &entry)) == 1)
+        expect(entry.depth == 1, "%s is given", entry.path);
+    gives(found, 0, "the end");
+    gives(open_descriptors(), before, "descriptors behind it");
+    inroot_walk_skip(it);
+    gives(inroot_walk_next(it, &entry), 0, "behind the end");
+    gives(open_descriptors(), before, "descriptors then");
+    inroot_walk_close(it);
+    gives(inroot_walk_open(place, "/", 0, 0, &it), 0, "another walk");
+    gives(up_to(it, &entry, "a"), 1, "a");
+    inroot_walk_close(it);
+    gives(open_descriptors(), before, "descriptors after it was closed at an entry that it had open");
+}
+
 /* Turns to the end. None is gone into that stands outside; gives how many broke off. */
 static int rest_of(struct inroot_walk *it, struct inroot_walk_entry *entry)
 {
@@ -496,6 +525,7 @@ static void all(int by)
     errors();
     holds();
     skips();
+    passed_over();
     large();
     few();
     moved_out(0);
