@@ -1,7 +1,7 @@
 /*
  * calls.h: the proved library's functions, and what passes between it and a driver. The numbers and bytes are those
  * of crates/c_protocol, step_calls, place_protocol, open_or_make, make_through_links, remove_by_calls, look_ups,
- * list_directory, walk_directory, walk_tree, call_course, ask_place, give_entry, find_proc, open_partial,
+ * list_directory, walk_directory, walk_tree, call_course, ask_place, give_entry, find_proc, keep_open, open_partial,
  * open_at_once, open_through_links, enter_directory, begin_below, kernel_text and system_calls, whose contracts say
  * what they stand for. A program that makes calls includes inroot.h, and not this.
  *
@@ -957,6 +957,140 @@ struct inroot_finding {
 void inroot_finding_begin(const struct inroot_finding_facts *facts, struct inroot_finding *finding);
 void inroot_finding_next(struct inroot_finding *finding, const struct inroot_finding_facts *facts,
                          const struct inroot_finding_answer *answer);
+
+/* ---- what is kept of a root, and of a thread in a jail that trusts. These take no memory. */
+
+/*
+ * Memory is taken for what is kept: ROOM. The root is opened: open(2) with O_PATH, O_DIRECTORY and O_CLOEXEC. It is asked which
+ * directory that is: fstat(2). A /proc is found (inroot_finding_begin, inroot_owning_begin), and it is asked whether it has
+ * THREADS: readlinkat(2) of thread-self. A page is made, by mmap(2), which a child of fork(2) is to find empty: WIPE, by madvise(2)
+ * with MADV_WIPEONFORK. If that succeeds, the driver marks the page. It is given back: munmap(2). The root's LINK is read in
+ * thread-self/fd. The TABLE of descriptors is opened: openat(2) of self/fd with O_PATH, O_DIRECTORY and O_CLOEXEC. Its link of the
+ * root TELLs a path. It is LOOKed at whether it is a directory of a proc(5); and it is given a number above those of the standard
+ * files: OWN, which closes it if that fails. It is closed; the /proc is, which is the caller's; the root is. Or the root is open:
+ * GIVES.
+ */
+enum inroot_keeping_next {
+    INROOT_KEEPING_ROOM = 1, INROOT_KEEPING_OPEN, INROOT_KEEPING_IDENTIFY, INROOT_KEEPING_PROC, INROOT_KEEPING_THREADS,
+    INROOT_KEEPING_MAP, INROOT_KEEPING_WIPE, INROOT_KEEPING_UNMAP, INROOT_KEEPING_LINK, INROOT_KEEPING_TABLE, INROOT_KEEPING_TELL,
+    INROOT_KEEPING_LOOK, INROOT_KEEPING_OWN, INROOT_KEEPING_CLOSE_TABLE, INROOT_KEEPING_CLOSE_PROC, INROOT_KEEPING_CLOSE,
+    INROOT_KEEPING_GIVES, INROOT_KEEPING_FAILS,
+};
+
+/* An error or 0; and at PROC, that it is the CALLER'S to close. */
+struct inroot_keeping_answer {
+    uint32_t error;
+    bool callers;
+};
+
+/*
+ * A driver reads what comes NEXT, and the ERROR if it fails. In the end it is UNKNOWN by an error which directory the root is, or
+ * that is 0; there is a PAGE with its mark; and the PATH and the TABLE are kept. It leaves all of it alone between two turns.
+ */
+struct inroot_keeping {
+    uint32_t error, unknown;
+    uint8_t next;
+    bool callers, page, path, table;
+};
+
+/* By the flags of inroot_root_open(). */
+void inroot_keeping_begin(uint32_t flags, struct inroot_keeping *keeping);
+/* Takes also the texts that were read at LINK and at TELL, or no bytes before. */
+void inroot_keeping_next(struct inroot_keeping *keeping, uint32_t flags, const struct inroot_keeping_answer *answer,
+                         const unsigned char *path, size_t path_length, const unsigned char *told, size_t told_length);
+
+/*
+ * A page is made, as above. The thread is to let go of what it keeps as it ENDS: pthread_setspecific(3). Its TABLE is opened:
+ * openat(2) of thread-self/fd. LOOK and OWN as above. `.` is opened in the root: TOP, and owned. The table is closed; the page is
+ * given back. Both are kept, and the driver marks the page: KEEPS. Or the calls DO WITHOUT; or the jail FAILS.
+ */
+enum inroot_trusting_next {
+    INROOT_TRUSTING_MAP = 1, INROOT_TRUSTING_WIPE, INROOT_TRUSTING_ENDS, INROOT_TRUSTING_TABLE, INROOT_TRUSTING_LOOK,
+    INROOT_TRUSTING_OWN, INROOT_TRUSTING_TOP, INROOT_TRUSTING_OWN_TOP, INROOT_TRUSTING_CLOSE_TABLE, INROOT_TRUSTING_UNMAP,
+    INROOT_TRUSTING_KEEPS, INROOT_TRUSTING_DOES_WITHOUT, INROOT_TRUSTING_FAILS,
+};
+
+/* A driver reads what comes NEXT, and the ERROR if it fails. It leaves all of it alone. */
+struct inroot_trusting {
+    uint32_t error;
+    uint8_t next;
+    bool page, table;
+};
+
+void inroot_trusting_begin(struct inroot_trusting *trusting);
+void inroot_trusting_next(struct inroot_trusting *trusting, uint32_t error);
+
+/* Which file a descriptor is of; and what fstat(2) gave: an error, or 0. */
+struct inroot_file {
+    uint64_t device, inode;
+};
+struct inroot_file_answer {
+    struct inroot_file file;
+    uint32_t error;
+};
+
+/*
+ * It is CHECKed whether the table's number is still the table's: by an error, or 0. It is closed. It is ASKed which file the root's
+ * number is of: fstat(2). It is closed. The page is given back: munmap(2).
+ */
+enum inroot_letting_next {
+    INROOT_LETTING_CHECK_TABLE = 1, INROOT_LETTING_CLOSE_TABLE, INROOT_LETTING_ASK, INROOT_LETTING_CLOSE, INROOT_LETTING_UNMAP,
+    INROOT_LETTING_OVER,
+};
+
+/*
+ * What is kept: a TABLE, a PAGE, and a root, if it is THERE and isn't lost. It is KNOWN which FILE that is. It is closed only if it
+ * is SURELY still that one. Else also if nobody can say.
+ */
+struct inroot_letting_facts {
+    struct inroot_file file;
+    bool table, page, there, known, surely;
+};
+
+struct inroot_letting {
+    uint8_t next;
+};
+
+void inroot_letting_begin(const struct inroot_letting_facts *facts, struct inroot_letting *letting);
+void inroot_letting_next(struct inroot_letting *letting, const struct inroot_letting_facts *facts,
+                         const struct inroot_file_answer *asked);
+
+/* What is kept counts: ALL of it, the FLAG INROOT_BELOW alone, or NOTHING. Or it is ASKed first which file it is: fstat(2). */
+enum inroot_believes { INROOT_BELIEVES_ALL = 1, INROOT_BELIEVES_ASK, INROOT_BELIEVES_FLAG, INROOT_BELIEVES_NOTHING };
+
+/* Something is kept, and is THERE. The page is MARKED. The flag INROOT_BELOW was given, and it is known of which file. */
+struct inroot_believing_facts {
+    bool there, marked, below;
+};
+
+uint8_t inroot_believe(const struct inroot_believing_facts *facts);
+uint8_t inroot_believe_by(const struct inroot_file *file, const struct inroot_file_answer *asked);
+
+/* ---- whose a /proc is. These take no memory. */
+
+/* A call has found it, or a thread that moves below a root and STAYs there; or the program is to HAND one IN. */
+enum inroot_for { INROOT_FOR_CALL = 1, INROOT_FOR_STAY, INROOT_FOR_HAND_IN };
+
+/*
+ * The program's place is CLAIMed, or another error than 0 says that the program has one. The thread is to let go of it as it ENDS:
+ * pthread_setspecific(3). What is handed in is copied: TAKE (inroot_finding_begin). The program's place is free again. What was opened
+ * is closed. In the end it was AT HAND; or it is the program's, the thread's, or the caller's to close; or there is an error.
+ */
+enum inroot_owning_next {
+    INROOT_OWNING_CLAIM = 1, INROOT_OWNING_ENDS, INROOT_OWNING_TAKE, INROOT_OWNING_RELEASE, INROOT_OWNING_CLOSE,
+    INROOT_OWNING_AT_HAND, INROOT_OWNING_PROGRAMS, INROOT_OWNING_THREADS, INROOT_OWNING_CALLERS, INROOT_OWNING_FAILS,
+};
+
+/* A driver reads what comes NEXT, and the ERROR if it fails. It leaves all of it alone between two turns. */
+struct inroot_owning {
+    uint32_t error;
+    uint8_t wanted, next;
+    bool claimed;
+};
+
+/* Begins with one that is wanted so: IS_NEW if it was just opened. */
+void inroot_owning_begin(uint8_t wanted, bool is_new, struct inroot_owning *owning);
+void inroot_owning_next(struct inroot_owning *owning, uint32_t error);
 
 /* ---- which system call comes next, as one openat2(2) is made, or it is asked whether the thread has that. These take no memory. */
 

@@ -1,0 +1,4 @@
+pub mod KeepingLemmas
+pub mod LettingLemmas
+pub mod OwningLemmas
+pub mod TrustingLemmas

@@ -1,0 +1,5 @@
+use Rattle.keep_open.proofs.KeepingLemmas.{why_fails}
+use Rattle.keep_open.proofs.laws.why_no_root_is_kept.Goals as goal
+
+pub returns : goal.returns
+returns c = why_fails

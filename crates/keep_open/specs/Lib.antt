@@ -1,0 +1,10 @@
+pub mod Believing
+pub mod File
+pub mod Keeping
+pub mod KeepingPromises
+pub mod Letting
+pub mod LettingPromises
+pub mod Owning
+pub mod OwningPromises
+pub mod Trusting
+pub mod TrustingPromises
