@@ -358,8 +358,8 @@ struct inroot_own {
 };
 /* Takes a descriptor over, by a number above those of the standard files: 0, or -errno and it is closed. */
 int inroot_proc_own(int fd, struct inroot_own *own);
-/* Closes it, where the number is still that directory's, and forgets it. */
-void inroot_proc_close(struct inroot_own *own);
+/* Whether the number is still that directory's. */
+bool inroot_proc_is_own(const struct inroot_own *own);
 /*
  * A /proc that is one, or -errno; IS_CALLERS where the caller is to close it. One that is at hand is any file of that proc(5), or
  * SURELY the directory that was opened. If the program has handed one in, there is no other.
@@ -389,6 +389,26 @@ void inroot_proc_leave(void);
 /* Whether what is kept for this thread will be let go of as it ends; and whether a descriptor is of a proc(5). */
 bool inroot_proc_ends(void);
 bool inroot_proc_is(int fd);
+
+/* keep.c */
+/* What is kept for a program: a table of descriptors in /proc, a root, which file that is, where it is KNOWN, and a page. */
+struct inroot_keeps {
+    struct inroot_own table;
+    int fd;                        /* the root, or INROOT_NONE */
+    bool is_known;
+    struct inroot_file file;
+    unsigned char *page;           /* or NULL */
+};
+/* A page, which a child of fork(2) is to find empty; and gives it back. Each gives 0, or an error's number. */
+uint32_t inroot_page_map(unsigned char **page);
+uint32_t inroot_page_wipe(unsigned char *page);
+uint32_t inroot_page_unmap(unsigned char **page);
+/* Whether it begins with 1. */
+bool inroot_page_is_marked(const unsigned char *page);
+/* Which file a descriptor is of: 0, or an error's number. */
+uint32_t inroot_ask_file(int fd, struct inroot_file *file);
+/* Lets go of all of it. The root isn't closed if it IS_LOST, and SURELY only if its number is seen to be still that file's. */
+void inroot_keeps_end(struct inroot_keeps *keeps, bool is_lost, bool surely);
 
 /* by_proc.c */
 /* What is done by an object's name in a /proc: what that gave, or -1 with errno. */

@@ -5,7 +5,7 @@
  * library looks for: then the library checks whether it is the one that it opened, and does without. Another mount of that
  * proc(5), as a container's, may be covered: the library doesn't go by it. A program that hands one in may know that /proc is
  * covered: so the library never goes by /proc in its place. Which system call comes next, and what is believed, the proved
- * library says (crates/find_proc).
+ * library says (crates/find_proc); and whose what was found is, too (crates/keep_open).
  */
 #define _GNU_SOURCE
 #include "driver.h"
@@ -179,18 +179,11 @@ int inroot_proc_own(int fd, struct inroot_own *own)
 }
 
 /* A child of fork(2), or the program, may have closed what it didn't open, so that the number is another file's. */
-static bool is_own(const struct inroot_own *own)
+bool inroot_proc_is_own(const struct inroot_own *own)
 {
     struct inroot_own unused;
     struct finding f = {.facts = {.wanted = INROOT_WANTS_CHECK, .surely = true}, .program = *own, .thread = none};
     return find(&f, &unused) >= 0;
-}
-
-void inroot_proc_close(struct inroot_own *own)
-{
-    if (is_own(own))
-        close(own->fd);
-    own->fd = INROOT_NONE;
 }
 
 /* ---- what the program keeps */
@@ -213,15 +206,6 @@ static void keep_claimed(const struct inroot_own *own, bool handed_in)
     atomic_store(&kept, own->fd);
 }
 
-/* Makes it the program's, if the program has none yet. */
-static bool keep(const struct inroot_own *own)
-{
-    const bool is_first = claim(CLAIMED);
-    if (is_first)
-        keep_claimed(own, false);
-    return is_first;
-}
-
 /* The program's, or none. */
 static struct inroot_own of_program(void)
 {
@@ -240,7 +224,7 @@ bool inroot_proc_is_kept(void)
 bool inroot_proc_is_lost(int proc)
 {
     const struct inroot_own own = of_program();
-    return proc == own.fd && !is_own(&own);
+    return proc == own.fd && !inroot_proc_is_own(&own);
 }
 
 /* Finds one for a call, and says whether it is a new one. What is handed in is kept before that is known. */
@@ -258,12 +242,39 @@ static int find_for_call(bool surely, struct inroot_own *own, bool *is_new)
     return fd;
 }
 
+/* Does what comes next until it is known whose it is. FD is what is handed in, or else what was found. Gives 0 or an error's number. */
+static uint32_t turn_to_own(struct inroot_own *own, int fd, const struct inroot_owning *course)
+{
+    const bool is_handed_in = course->wanted == INROOT_FOR_HAND_IN;
+    switch (course->next) {
+    case INROOT_OWNING_CLAIM: return claim(is_handed_in ? HANDED_IN : CLAIMED) ? 0 : EBUSY;
+    case INROOT_OWNING_ENDS: return inroot_proc_ends() ? 0 : ENOMEM;
+    case INROOT_OWNING_TAKE: fd = find_by(fd, INROOT_WANTS_TAKE, own); return fd < 0 ? (uint32_t)-fd : 0;
+    case INROOT_OWNING_RELEASE: atomic_store(&kept, INROOT_NONE); return 0;
+    default: return error_of(close(own->fd));
+    }
+}
+
+/* Says whose it is, and makes it so. */
+static struct inroot_owning own_it(struct inroot_own *own, int fd, enum inroot_for wanted, bool is_new)
+{
+    struct inroot_owning course;
+    inroot_owning_begin((uint8_t)wanted, is_new, &course);
+    while (course.next < INROOT_OWNING_AT_HAND)
+        inroot_owning_next(&course, turn_to_own(own, fd, &course));
+    if (course.next == INROOT_OWNING_PROGRAMS)
+        keep_claimed(own, wanted == INROOT_FOR_HAND_IN);
+    else if (course.next == INROOT_OWNING_THREADS)
+        of_thread = *own;
+    return course;
+}
+
 int inroot_proc_open(bool surely, bool *is_callers)
 {
     struct inroot_own own;
     bool is_new;
     int fd = find_for_call(surely, &own, &is_new);
-    *is_callers = is_new && !keep(&own);
+    *is_callers = own_it(&own, fd, INROOT_FOR_CALL, is_new).next == INROOT_OWNING_CALLERS;
     return fd;
 }
 
@@ -337,42 +348,25 @@ int inroot_proc_stay(void)
     struct inroot_own own;
     bool is_new;
     int fd = find_for_call(true, &own, &is_new);
-    if (!is_new || keep(&own))
-        return fd;
-    if (!inroot_proc_ends()) {
-        close(own.fd);
-        return -ENOMEM;
-    }
-    of_thread = own;
-    return fd;
+    const struct inroot_owning course = own_it(&own, fd, INROOT_FOR_STAY, is_new);
+    return course.next == INROOT_OWNING_FAILS ? -(int)course.error : fd;
 }
 
 void inroot_proc_leave(void)
 {
+    struct inroot_keeps keeps = {.table = of_thread, .fd = INROOT_NONE};
     inroot_trust_end();
-    inroot_proc_close(&of_thread);
+    inroot_keeps_end(&keeps, true, true);
+    of_thread = keeps.table;
 }
 
 /* ---- what a program hands in */
 
-/* The place is claimed first: a child that is made from then on never goes by /proc. */
-static int take_over(int proc)
-{
-    struct inroot_own own;
-    const bool is_first = claim(HANDED_IN);
-    int fd = find_by(proc, INROOT_WANTS_TAKE, &own);
-    if (fd >= 0 && is_first)
-        keep_claimed(&own, true);
-    else if (is_first)
-        atomic_store(&kept, INROOT_NONE);
-    else if (fd >= 0)
-        close(fd);
-    return fd < 0 ? fd : is_first ? 0 : -EBUSY;
-}
-
 int inroot_use_proc(int proc)
 {
+    struct inroot_own own;
     INROOT_UNCANCELLED;
-    int failed = take_over(proc);
-    return failed ? inroot_error_alone(-failed, "", "") : 0;
+    /* The place is claimed first: a child that is made from then on never goes by /proc. */
+    const struct inroot_owning course = own_it(&own, proc, INROOT_FOR_HAND_IN, false);
+    return course.next == INROOT_OWNING_FAILS ? inroot_error_alone((int)course.error, "", "") : 0;
 }

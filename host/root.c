@@ -1,29 +1,23 @@
-/* root.c: a root that a program keeps, and what the library keeps of it. */
+/*
+ * root.c: a root that a program keeps, and what the library keeps of it. Which system call comes next as it is opened and closed, and
+ * what counts of it, the proved library says (crates/keep_open).
+ */
 #define _GNU_SOURCE
 #include "driver.h"
 
 #include <errno.h>
 #include <fcntl.h>
+#include <pthread.h>
 #include <stdatomic.h>
 #include <stdlib.h>
 #include <string.h>
-#include <sys/mman.h>
-#include <sys/stat.h>
 #include <unistd.h>
 
-/* Of Linux 4.14; the headers may be older. */
-#ifndef MADV_WIPEONFORK
-#define MADV_WIPEONFORK 18
-#endif
-
 struct inroot_root {
+    /* The number of the root's descriptor, also once that is closed. */
     int fd;
-    struct inroot_own table;
-    /* A page that begins with 1, and with 0 in a child of fork(2): what is kept isn't the child's. */
-    unsigned char *mark;
-    /* Which directory it is. A file system may not say. */
-    uint64_t device, inode;
-    bool is_known;
+    /* Its page begins with 1, and with 0 in a child of fork(2): what is kept isn't the child's. */
+    struct inroot_keeps keeps;
     /* A child has closed the descriptor by itself: the number is another root's. */
     atomic_bool is_lost;
     struct inroot_kept_root kept;
@@ -85,15 +79,63 @@ static struct inroot_root *find(int fd)
     return NULL;
 }
 
-/* The kernel writes to the page, too: it empties a child's. */
-static bool is_of_parent(const struct inroot_root *root)
+/* ---- who opens, and who closes */
+
+/*
+ * Who opens a root may find an older one by its number, which a thread may be closing. So nobody lets a root go while another looks
+ * at one. And in a child of fork(2) nobody closes its parent's root while another opens one: by the number that the child has closed
+ * itself. So many threads open a root; or one closes one.
+ */
+enum { CLOSES = -1, MOMENT = 1000 };
+static atomic_int turns;
+/* The process is a child, which may have its parent's roots. */
+static atomic_bool is_child;
+static pthread_once_t fork_once = PTHREAD_ONCE_INIT;
+
+/* The threads that had turns aren't there. */
+static void in_child(void)
 {
-    return root->mark != NULL && *(const volatile unsigned char *)root->mark != 1;
+    atomic_store(&turns, 0);
+    atomic_store(&is_child, true);
 }
 
-static bool is_root(const struct inroot_root *root, const struct stat *about)
+static void look_for_forks(void)
 {
-    return about->st_dev == root->device && about->st_ino == root->inode;
+    pthread_atfork(NULL, NULL, in_child);
+}
+
+static void begin_opening(void)
+{
+    for (int now = atomic_load(&turns);;) {
+        if (now == CLOSES) {
+            inroot_wait(MOMENT);
+            now = atomic_load(&turns);
+        } else if (atomic_compare_exchange_weak(&turns, &now, now + 1)) {
+            return;
+        }
+    }
+}
+
+static void end_opening(void)
+{
+    atomic_fetch_sub(&turns, 1);
+}
+
+static void begin_closing(void)
+{
+    for (int none = 0; !atomic_compare_exchange_weak(&turns, &none, CLOSES); none = 0)
+        inroot_wait(MOMENT);
+}
+
+static void end_closing(void)
+{
+    atomic_store(&turns, 0);
+}
+
+/* A page that isn't there says nothing of a child. */
+static bool is_of_parent(const struct inroot_root *root)
+{
+    return root->keeps.page != NULL && !inroot_page_is_marked(root->keeps.page);
 }
 
 /* A new root has this number. So a child has closed its parent's root that had it, of which nothing counts any more. */
@@ -106,172 +148,156 @@ static void replace(int fd)
     }
 }
 
-/* A child may have closed the root and opened another directory by its number. */
-static bool is_there(const struct inroot_root *root)
-{
-    struct stat about;
-    return fstat(root->fd, &about) == 0 && is_root(root, &about);
-}
-
-/* Whether that is seen. */
-static bool is_another(const struct inroot_root *root)
-{
-    struct stat about;
-    return root->is_known && fstat(root->fd, &about) == 0 && !is_root(root, &about);
-}
-
 const struct inroot_kept_root *inroot_root_kept(int fd)
 {
     static const struct inroot_kept_root flag_alone = {.flags = INROOT_BELOW, .table = INROOT_NONE};
     const struct inroot_root *root = find(fd);
-    if (root == NULL || !is_of_parent(root))
-        return root == NULL ? NULL : &root->kept;
-    return root->kept.flags & INROOT_BELOW && is_there(root) ? &flag_alone : NULL;
-}
-
-/* ---- what is kept */
-
-static size_t page_size(void)
-{
-    return (size_t)sysconf(_SC_PAGESIZE);
-}
-
-/* Makes the page: 0 or -errno. Where the kernel has no such pages, nothing is kept. */
-static int make_mark(struct inroot_root *root)
-{
-    unsigned char *page = mmap(NULL, page_size(), PROT_READ | PROT_WRITE, MAP_PRIVATE | MAP_ANONYMOUS, -1, 0);
-    if (page == MAP_FAILED)
-        return -ENOMEM;
-    if (madvise(page, page_size(), MADV_WIPEONFORK) != 0) {
-        munmap(page, page_size());
-        return 0;
+    const struct inroot_believing_facts facts = {
+        .there = root != NULL, .marked = root != NULL && inroot_page_is_marked(root->keeps.page),
+        .below = root != NULL && root->keeps.is_known && root->kept.flags & INROOT_BELOW,
+    };
+    uint8_t counts = inroot_believe(&facts);
+    while (counts == INROOT_BELIEVES_ASK) {
+        struct inroot_file_answer asked = {0};
+        asked.error = inroot_ask_file(fd, &asked.file);
+        counts = inroot_believe_by(&root->keeps.file, &asked);
     }
-    *page = 1;
-    root->mark = page;
+    return counts == INROOT_BELIEVES_ALL ? &root->kept : counts == INROOT_BELIEVES_FLAG ? &flag_alone : NULL;
+}
+
+/* ---- opening */
+
+/* What is being opened: the root, a /proc, its directory of descriptors; and what was read of links. */
+struct opening {
+    const char *directory;
+    struct inroot_root *root;
+    struct inroot_keeping_answer answer;
+    int proc, table;
+    size_t path_length, told_length;
+    char path[INROOT_TEXT_MAX], told[INROOT_TEXT_MAX];
+};
+
+static uint32_t error_of(long failed)
+{
+    return failed < 0 ? (uint32_t)errno : 0;
+}
+
+static uint32_t take_room(struct opening *o)
+{
+    o->root = calloc(1, sizeof *o->root);
+    if (o->root == NULL)
+        return ENOMEM;
+    o->root->fd = o->root->keeps.fd = o->root->keeps.table.fd = o->root->kept.table = INROOT_NONE;
     return 0;
 }
 
-/* The path that a link tells, where it is one from the top; or zero. */
-static size_t path_of(int dir, const char *name, char path[INROOT_TEXT_MAX])
+static uint32_t open_directory(struct opening *o)
 {
-    ssize_t length = readlinkat(dir, name, path, INROOT_TEXT_MAX);
-    return length > 0 && length < INROOT_TEXT_MAX && path[0] == '/' ? (size_t)length : 0;
+    const bool waits = atomic_load(&is_child);
+    if (waits)
+        begin_opening();
+    const int fd = open(o->directory, O_PATH | O_DIRECTORY | O_CLOEXEC);
+    const uint32_t error = error_of(fd);
+    if (!waits)
+        begin_opening();
+    if (fd >= 0)
+        replace(fd);
+    end_opening();
+    o->root->fd = o->root->keeps.fd = fd;
+    return error;
 }
 
-/*
- * Keeps the process's directory of descriptors: 0 or -errno. It is the first thread's. If that thread has another table than
- * this one, or has ended, nothing is kept.
- */
-static int keep_table(struct inroot_root *root, int proc)
+static uint32_t find_proc(struct opening *o)
 {
-    char written[INROOT_PROC_NAME], told[INROOT_TEXT_MAX], own[INROOT_TEXT_MAX];
-    const char *name = inroot_proc_name(root->fd, written);
-    int fd = openat(proc, "self/fd", O_PATH | O_DIRECTORY | O_CLOEXEC);
-    if (fd < 0)
-        return errno == EMFILE || errno == ENFILE || errno == ENOMEM ? -errno : 0;
-    size_t length = path_of(fd, name + sizeof INROOT_PROC_TABLE - 1, told);
-    bool is_own = length > 0 && path_of(proc, name, own) == length && memcmp(told, own, length) == 0;
-    if (!is_own || !inroot_proc_is(fd)) {
-        close(fd);
-        return 0;
-    }
-    int failed = inroot_proc_own(fd, &root->table);
-    root->kept.table = root->table.fd;
-    return failed;
+    o->proc = inroot_proc_open(true, &o->answer.callers);
+    return o->proc < 0 ? (uint32_t)-o->proc : 0;
 }
 
-static int keep(struct inroot_root *root, int flags, int proc)
+static uint32_t wipe(struct opening *o)
+{
+    const uint32_t error = inroot_page_wipe(o->root->keeps.page);
+    if (error == 0)
+        *o->root->keeps.page = 1;
+    return error;
+}
+
+static uint32_t read_link(int dir, const char *name, char text[INROOT_TEXT_MAX], size_t *length)
+{
+    const ssize_t got = readlinkat(dir, name, text, INROOT_TEXT_MAX);
+    *length = got < 0 ? 0 : (size_t)got;
+    return error_of(got);
+}
+
+static uint32_t open_table(struct opening *o)
+{
+    o->table = openat(o->proc, "self/fd", O_PATH | O_DIRECTORY | O_CLOEXEC);
+    return error_of(o->table);
+}
+
+/* Makes the system call that comes next. Gives 0 or an error's number. */
+static uint32_t turn(struct opening *o, enum inroot_keeping_next next)
 {
     char written[INROOT_PROC_NAME];
-    root->kept.flags = flags;
-    int failed = make_mark(root);
-    if (failed || root->mark == NULL || flags == 0)
-        return failed;
-    if (flags & INROOT_ROOT_STAYS)
-        root->kept.length = path_of(proc, inroot_proc_name(root->fd, written), root->kept.path);
-    return flags & INROOT_TRUST_PROC ? keep_table(root, proc) : 0;
-}
-
-/* Notes which directory it is: 0 or -errno. */
-static int identify(struct inroot_root *root)
-{
-    struct stat about;
-    if (fstat(root->fd, &about) != 0)
-        return -errno;
-    root->device = about.st_dev;
-    root->inode = about.st_ino;
-    root->is_known = true;
-    return 0;
-}
-
-/* Lets go of it. A child closes the table of its parent if its number is still that directory's. */
-static void forget(struct inroot_root *root)
-{
-    leave(root);
-    inroot_proc_close(&root->table);
-    if (root->mark != NULL)
-        munmap(root->mark, page_size());
-}
-
-/* ---- the calls */
-
-/* A /proc to ask, which stays open then: its descriptor or -errno, and whether it is the caller's. */
-static int find_proc(bool *is_own)
-{
-    int proc = inroot_proc_open(true, is_own);
-    if (proc < 0 || inroot_proc_has_threads(proc))
-        return proc;
-    if (*is_own)
-        close(proc);
-    return -ENOSYS;
-}
-
-static int open_directory(const char *directory)
-{
-    int fd;
-    do
-        fd = open(directory, O_PATH | O_DIRECTORY | O_CLOEXEC);
-    while (fd < 0 && errno == EINTR);
-    return fd < 0 ? -errno : fd;
-}
-
-static int open_root(const char *directory, int flags, struct inroot_root *root)
-{
-    bool is_own;
-    root->fd = open_directory(directory);
-    if (root->fd < 0)
-        return root->fd;
-    replace(root->fd);
-    int unknown = identify(root), proc = find_proc(&is_own);
-    int failed = proc < 0 ? proc : flags != 0 && unknown ? unknown : keep(root, flags, proc);
-    if (proc >= 0 && is_own)
-        close(proc);
-    if (failed) {
-        forget(root);
-        close(root->fd);
-        return failed;
+    const char *name = inroot_proc_name(o->root == NULL ? 0 : o->root->fd, written);
+    switch (next) {
+    case INROOT_KEEPING_ROOM: return take_room(o);
+    case INROOT_KEEPING_OPEN: return open_directory(o);
+    case INROOT_KEEPING_IDENTIFY: return inroot_ask_file(o->root->fd, &o->root->keeps.file);
+    case INROOT_KEEPING_PROC: return find_proc(o);
+    case INROOT_KEEPING_THREADS: return inroot_proc_has_threads(o->proc) ? 0 : ENOSYS;
+    case INROOT_KEEPING_MAP: return inroot_page_map(&o->root->keeps.page);
+    case INROOT_KEEPING_WIPE: return wipe(o);
+    case INROOT_KEEPING_UNMAP: return inroot_page_unmap(&o->root->keeps.page);
+    case INROOT_KEEPING_LINK: return read_link(o->proc, name, o->path, &o->path_length);
+    case INROOT_KEEPING_TABLE: return open_table(o);
+    case INROOT_KEEPING_TELL: return read_link(o->table, name + sizeof INROOT_PROC_TABLE - 1, o->told, &o->told_length);
+    case INROOT_KEEPING_LOOK: return inroot_proc_is(o->table) ? 0 : ENOSYS;
+    case INROOT_KEEPING_OWN: return (uint32_t)-inroot_proc_own(o->table, &o->root->keeps.table);
+    case INROOT_KEEPING_CLOSE_TABLE: return error_of(close(o->table));
+    case INROOT_KEEPING_CLOSE_PROC: return error_of(close(o->proc));
+    default: return error_of(close(o->root->fd));
     }
+}
+
+static void keep(struct opening *o, const struct inroot_keeping *course, int flags)
+{
+    struct inroot_root *root = o->root;
+    root->keeps.is_known = course->unknown == 0;
+    root->kept.flags = flags;
+    root->kept.table = course->table ? root->keeps.table.fd : INROOT_NONE;
+    root->kept.length = course->path ? o->path_length : 0;
+    memcpy(root->kept.path, o->path, root->kept.length);
     enter(root);
-    return 0;
+}
+
+/* Makes the system calls that the library says. Gives 0 or an error's number. */
+static uint32_t open_root(struct opening *o, int flags)
+{
+    struct inroot_keeping course;
+    inroot_keeping_begin((uint32_t)flags, &course);
+    while (course.next < INROOT_KEEPING_GIVES) {
+        o->answer = (struct inroot_keeping_answer){0};
+        o->answer.error = turn(o, (enum inroot_keeping_next)course.next);
+        inroot_keeping_next(&course, (uint32_t)flags, &o->answer, (const unsigned char *)o->path, o->path_length,
+                            (const unsigned char *)o->told, o->told_length);
+    }
+    if (course.next == INROOT_KEEPING_GIVES)
+        keep(o, &course, flags);
+    else
+        free(o->root);
+    return course.next == INROOT_KEEPING_GIVES ? 0 : course.error;
 }
 
 int inroot_root_open(const char *directory, int flags, struct inroot_root **root)
 {
+    struct opening o = {.directory = directory, .proc = INROOT_NONE, .table = INROOT_NONE};
     *root = NULL;
-    bool trusts_alone = flags & INROOT_TRUST_PROC && !(flags & INROOT_ROOT_STAYS);
-    if (trusts_alone || flags & ~(INROOT_ROOT_STAYS | INROOT_TRUST_PROC | INROOT_BELOW))
-        return inroot_error_alone(EINVAL, "", directory);
-    struct inroot_root *new = calloc(1, sizeof *new);
-    if (new == NULL)
-        return inroot_error_alone(ENOMEM, "", directory);
-    new->table.fd = new->kept.table = INROOT_NONE;
     INROOT_UNCANCELLED;
-    int failed = open_root(directory, flags, new);
-    if (failed) {
-        free(new);
-        return inroot_error_alone(-failed, "", directory);
-    }
-    *root = new;
+    pthread_once(&fork_once, look_for_forks);
+    const uint32_t error = open_root(&o, flags);
+    if (error != 0)
+        return inroot_error_alone((int)error, "", directory);
+    *root = o.root;
     return 0;
 }
 
@@ -280,13 +306,21 @@ int inroot_root_fd(const struct inroot_root *root)
     return root->fd;
 }
 
+/* ---- closing */
+
 void inroot_root_close(struct inroot_root *root)
 {
     if (root == NULL)
         return;
     INROOT_UNCANCELLED;
-    forget(root);
-    if (!atomic_load(&root->is_lost) && !is_another(root))
-        close(root->fd);
+    const bool waits = is_of_parent(root);
+    begin_closing();
+    leave(root);
+    const bool is_lost = atomic_load(&root->is_lost);
+    if (!waits)
+        end_closing();
+    inroot_keeps_end(&root->keeps, is_lost, false);
+    if (waits)
+        end_closing();
     free(root);
 }

@@ -4,145 +4,112 @@
  * these two: the program promises that they are.
  *
  * A child of fork(2) has both descriptors, too, and its first one leads to its parent's table. So the thread has a page that the
- * kernel fills with zeros for a child (MADV_WIPEONFORK). A child finds zeros there, and forgets both descriptors.
+ * kernel fills with zeros for a child (MADV_WIPEONFORK). A child finds zeros there, and forgets both descriptors. Which system
+ * call comes next, and what counts, the proved library says (crates/keep_open).
  */
 #define _GNU_SOURCE
 #include "driver.h"
 
 #include <errno.h>
 #include <fcntl.h>
-#include <sys/mman.h>
-#include <sys/stat.h>
 #include <unistd.h>
 
-/* Of Linux 4.14; the headers may be older. */
-#ifndef MADV_WIPEONFORK
-#define MADV_WIPEONFORK 18
-#endif
+#define NOTHING {.table = {.fd = INROOT_NONE}, .fd = INROOT_NONE}
 
-static _Thread_local struct inroot_own table = {.fd = INROOT_NONE}, top = {.fd = INROOT_NONE};
-/* That page. It begins with 1 in the thread that made it, and with 0 in a child. */
-static _Thread_local unsigned char *mark;
+static _Thread_local struct inroot_keeps kept = NOTHING;
 
-static size_t page_size(void)
+/* What is kept so far; and the descriptor that was opened last. */
+struct trusting {
+    struct inroot_keeps keeps;
+    int proc, root, fd;
+};
+
+static uint32_t opened(struct trusting *t, int fd)
 {
-    return (size_t)sysconf(_SC_PAGESIZE);
+    t->fd = fd;
+    return fd < 0 ? (uint32_t)errno : 0;
 }
 
-/* volatile: the kernel empties the page, which no compiler sees. */
-static bool is_marked(void)
+static uint32_t own(struct trusting *t, struct inroot_own *as)
 {
-    return *(const volatile unsigned char *)mark == 1;
+    const int failed = inroot_proc_own(t->fd, as);
+    t->fd = failed ? INROOT_NONE : as->fd;
+    return (uint32_t)-failed;
 }
 
-/* Running short is an error of the jail. If the kernel refuses for another reason, the calls do without what is kept. */
-static int told(int error)
+static uint32_t own_top(struct trusting *t)
 {
-    switch (error) {
-    case EMFILE: case ENFILE: case ENOMEM:
-        return -error;
-    case EAGAIN:
-        return -ENOMEM;
-    default:
-        return 0;
+    struct inroot_own top;
+    const uint32_t error = own(t, &top);
+    if (error == 0) {
+        t->keeps.fd = top.fd;
+        t->keeps.file = (struct inroot_file){.device = top.file.device, .inode = top.file.inode};
     }
+    return error;
 }
 
-/* Makes the page: 0 or -errno. Until its first byte is 1, the thread takes itself for a child. */
-static int make_mark(void)
+/* The table is there before the root is. */
+static uint32_t close_table(struct trusting *t)
 {
-    unsigned char *page = mmap(NULL, page_size(), PROT_READ | PROT_WRITE, MAP_PRIVATE | MAP_ANONYMOUS, -1, 0);
-    if (page == MAP_FAILED)
-        return -errno;
-    if (madvise(page, page_size(), MADV_WIPEONFORK) != 0) {
-        int error = errno;
-        munmap(page, page_size());
-        return -error;
-    }
-    mark = page;
+    close(t->keeps.table.fd >= 0 ? t->keeps.table.fd : t->fd);
+    t->keeps.table.fd = INROOT_NONE;
     return 0;
 }
 
-/* Opens the directory of this thread's descriptors: 0 or -errno. */
-static int open_table(int proc)
+/* Makes the system call that comes next. Gives 0 or an error's number. */
+static uint32_t turn(struct trusting *t, enum inroot_trusting_next next)
 {
-    int fd = openat(proc, INROOT_PROC_TABLE, O_PATH | O_DIRECTORY | O_CLOEXEC);
-    if (fd < 0 || inroot_proc_is(fd))
-        return fd < 0 ? -errno : inroot_proc_own(fd, &table);
-    close(fd);
-    return -ENOSYS;
-}
-
-/* Opens the root: 0 or -errno. */
-static int open_top(int root)
-{
-    int fd = openat(root, ".", O_PATH | O_DIRECTORY | O_CLOEXEC);
-    return fd < 0 ? -errno : inroot_proc_own(fd, &top);
-}
-
-/* Closes the root, if the number is still that directory's. */
-static void close_top(void)
-{
-    struct stat about;
-    if (top.fd >= 0 && fstat(top.fd, &about) == 0 && about.st_dev == top.file.device && about.st_ino == top.file.inode)
-        close(top.fd);
-    top.fd = INROOT_NONE;
+    switch (next) {
+    case INROOT_TRUSTING_MAP: return inroot_page_map(&t->keeps.page);
+    case INROOT_TRUSTING_WIPE: return inroot_page_wipe(t->keeps.page);
+    case INROOT_TRUSTING_ENDS: return inroot_proc_ends() ? 0 : ENOMEM;
+    case INROOT_TRUSTING_TABLE: return opened(t, openat(t->proc, INROOT_PROC_TABLE, O_PATH | O_DIRECTORY | O_CLOEXEC));
+    case INROOT_TRUSTING_LOOK: return inroot_proc_is(t->fd) ? 0 : ENOSYS;
+    case INROOT_TRUSTING_OWN: return own(t, &t->keeps.table);
+    case INROOT_TRUSTING_TOP: return opened(t, openat(t->root, ".", O_PATH | O_DIRECTORY | O_CLOEXEC));
+    case INROOT_TRUSTING_OWN_TOP: return own_top(t);
+    case INROOT_TRUSTING_CLOSE_TABLE: return close_table(t);
+    default: return inroot_page_unmap(&t->keeps.page);
+    }
 }
 
 int inroot_trust_begin(int proc, int root)
 {
-    int failed = make_mark();
-    if (failed)
-        return told(-failed);
-    if (!inroot_proc_ends()) {
-        inroot_trust_end();
-        return -ENOMEM;
+    struct trusting t = {.keeps = NOTHING, .proc = proc, .root = root, .fd = INROOT_NONE};
+    struct inroot_trusting course;
+    inroot_trusting_begin(&course);
+    while (course.next < INROOT_TRUSTING_KEEPS)
+        inroot_trusting_next(&course, turn(&t, (enum inroot_trusting_next)course.next));
+    if (course.next == INROOT_TRUSTING_KEEPS) {
+        t.keeps.is_known = true;
+        kept = t.keeps;
+        *kept.page = 1;
     }
-    failed = open_table(proc);
-    if (failed == 0)
-        failed = open_top(root);
-    if (failed) {
-        inroot_trust_end();
-        return told(-failed);
-    }
-    *mark = 1;
-    return 0;
+    return course.next == INROOT_TRUSTING_FAILS ? -(int)course.error : 0;
 }
 
-/*
- * Whether this is a child of fork(2): it has its parent's numbers, and no mark. It may have another file by the root's number
- * since, so nobody closes that one here.
- */
-static bool is_of_parent(void)
-{
-    return table.fd >= 0 && !is_marked();
-}
-
+/* A child of fork(2) may have another file by the root's number since, so nobody closes that one there. */
 void inroot_trust_end(void)
 {
-    if (is_of_parent())
-        top.fd = INROOT_NONE;
-    inroot_proc_close(&table);
-    close_top();
-    if (mark != NULL)
-        munmap(mark, page_size());
-    mark = NULL;
+    inroot_keeps_end(&kept, !inroot_page_is_marked(kept.page), true);
 }
 
-static void look_at_mark(void)
+/* Lets go of what doesn't count. */
+static bool counts(void)
 {
-    if (is_of_parent())
+    const struct inroot_believing_facts facts = {.there = kept.table.fd >= 0, .marked = inroot_page_is_marked(kept.page)};
+    const bool is_so = inroot_believe(&facts) == INROOT_BELIEVES_ALL;
+    if (!is_so && facts.there)
         inroot_trust_end();
+    return is_so;
 }
 
 int inroot_trust_table(void)
 {
-    look_at_mark();
-    return table.fd;
+    return counts() ? kept.table.fd : INROOT_NONE;
 }
 
 int inroot_trust_root(void)
 {
-    look_at_mark();
-    return top.fd;
+    return counts() ? kept.fd : INROOT_NONE;
 }

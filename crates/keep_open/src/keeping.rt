@@ -355,7 +355,13 @@ pub fn begin(flags: u32) -> Keeping
 /// Errors, in order: ENOMEM (12) of calloc(3); those of open(2); those of finding a /proc; ENOSYS (38) if that has no
 /// thread-self; with flags that of fstat(2); ENOMEM of mmap(2); EMFILE (24), ENFILE (23) and ENOMEM of openat(2) of the
 /// directory of the descriptors; those of owning that.
-pub fn next(keeping: Keeping, flags: u32, answer: &KeepingAnswer, path: &[u8], told: &[u8]) -> Keeping
+pub fn next(
+    keeping: Keeping,
+    flags: u32,
+    answer: &KeepingAnswer,
+    path: &[u8],
+    told: &[u8],
+) -> Keeping
     ensures goes { (history : List Exchange) → IsAt flags history keeping → is_question keeping.next ≡ true
         → IsAt flags (exchange keeping answer.now path.now told.now ∷ history) result }
     ensures over { is_question keeping.next ≡ false → result ≡ keeping }

@@ -1,0 +1,96 @@
+/*
+ * keep.c: what the library keeps open for a program: pages of which a child of fork(2) finds none of what its parent wrote, and how
+ * what is kept is let go. What is closed, and which system call comes next, the proved library says (crates/keep_open).
+ */
+#define _GNU_SOURCE
+#include "driver.h"
+
+#include <errno.h>
+#include <sys/mman.h>
+#include <sys/stat.h>
+#include <unistd.h>
+
+/* Of Linux 4.14; the headers may be older. */
+#ifndef MADV_WIPEONFORK
+#define MADV_WIPEONFORK 18
+#endif
+
+/* ---- pages */
+
+static size_t page_size(void)
+{
+    return (size_t)sysconf(_SC_PAGESIZE);
+}
+
+uint32_t inroot_page_map(unsigned char **page)
+{
+    void *made = mmap(NULL, page_size(), PROT_READ | PROT_WRITE, MAP_PRIVATE | MAP_ANONYMOUS, -1, 0);
+    if (made == MAP_FAILED)
+        return (uint32_t)errno;
+    *page = made;
+    return 0;
+}
+
+uint32_t inroot_page_wipe(unsigned char *page)
+{
+    return madvise(page, page_size(), MADV_WIPEONFORK) != 0 ? (uint32_t)errno : 0;
+}
+
+uint32_t inroot_page_unmap(unsigned char **page)
+{
+    munmap(*page, page_size());
+    *page = NULL;
+    return 0;
+}
+
+/* volatile: the kernel empties the page, which no compiler sees. */
+bool inroot_page_is_marked(const unsigned char *page)
+{
+    return page != NULL && *(const volatile unsigned char *)page == 1;
+}
+
+/* ---- letting go */
+
+uint32_t inroot_ask_file(int fd, struct inroot_file *file)
+{
+    struct stat about;
+    if (fstat(fd, &about) != 0)
+        return (uint32_t)errno;
+    *file = (struct inroot_file){.device = about.st_dev, .inode = about.st_ino};
+    return 0;
+}
+
+static uint32_t close_one(int *fd)
+{
+    close(*fd);
+    *fd = INROOT_NONE;
+    return 0;
+}
+
+/* Makes the system call that comes next. Gives 0 or an error's number. */
+static uint32_t turn(struct inroot_keeps *k, enum inroot_letting_next next, struct inroot_file *file)
+{
+    switch (next) {
+    case INROOT_LETTING_CHECK_TABLE: return inroot_proc_is_own(&k->table) ? 0 : EBADF;
+    case INROOT_LETTING_CLOSE_TABLE: return close_one(&k->table.fd);
+    case INROOT_LETTING_ASK: return inroot_ask_file(k->fd, file);
+    case INROOT_LETTING_CLOSE: return close_one(&k->fd);
+    default: return inroot_page_unmap(&k->page);
+    }
+}
+
+void inroot_keeps_end(struct inroot_keeps *k, bool is_lost, bool surely)
+{
+    const struct inroot_letting_facts facts = {
+        .file = k->file, .table = k->table.fd >= 0, .page = k->page != NULL, .there = k->fd >= 0 && !is_lost,
+        .known = k->is_known, .surely = surely,
+    };
+    struct inroot_letting course;
+    inroot_letting_begin(&facts, &course);
+    while (course.next < INROOT_LETTING_OVER) {
+        struct inroot_file_answer asked = {0};
+        asked.error = turn(k, (enum inroot_letting_next)course.next, &asked.file);
+        inroot_letting_next(&course, &facts, &asked);
+    }
+    k->table.fd = k->fd = INROOT_NONE;
+}
