@@ -85,7 +85,7 @@ void inroot_keeps_end(struct inroot_keeps *k, bool is_lost, bool surely)
         .file = k->file, .table = k->table.fd >= 0, .page = k->page != NULL, .there = k->fd >= 0 && !is_lost,
         .known = k->is_known, .surely = surely,
     };
-    struct inroot_letting course;
+    struct inroot_letting course = {0};
     inroot_letting_begin(&facts, &course);
     while (course.next < INROOT_LETTING_OVER) {
         struct inroot_file_answer asked = {0};

@@ -258,7 +258,7 @@ static uint32_t turn_to_own(struct inroot_own *own, int fd, const struct inroot_
 /* Says whose it is, and makes it so. */
 static struct inroot_owning own_it(struct inroot_own *own, int fd, enum inroot_for wanted, bool is_new)
 {
-    struct inroot_owning course;
+    struct inroot_owning course = {0};
     inroot_owning_begin((uint8_t)wanted, is_new, &course);
     while (course.next < INROOT_OWNING_AT_HAND)
         inroot_owning_next(&course, turn_to_own(own, fd, &course));

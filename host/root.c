@@ -273,7 +273,7 @@ static void keep(struct opening *o, const struct inroot_keeping *course, int fla
 /* Makes the system calls that the library says. Gives 0 or an error's number. */
 static uint32_t open_root(struct opening *o, int flags)
 {
-    struct inroot_keeping course;
+    struct inroot_keeping course = {0};
     inroot_keeping_begin((uint32_t)flags, &course);
     while (course.next < INROOT_KEEPING_GIVES) {
         o->answer = (struct inroot_keeping_answer){0};

@@ -76,7 +76,7 @@ static uint32_t turn(struct trusting *t, enum inroot_trusting_next next)
 int inroot_trust_begin(int proc, int root)
 {
     struct trusting t = {.keeps = NOTHING, .proc = proc, .root = root, .fd = INROOT_NONE};
-    struct inroot_trusting course;
+    struct inroot_trusting course = {0};
     inroot_trusting_begin(&course);
     while (course.next < INROOT_TRUSTING_KEEPS)
         inroot_trusting_next(&course, turn(&t, (enum inroot_trusting_next)course.next));

@@ -178,7 +178,7 @@ static void a_root(struct input *in)
     const bool refused = (flags & ~(uint32_t)(STAYS | TRUSTS | BELOW)) != 0 || (flags & TRUSTS && !(flags & STAYS));
     struct text path = {0}, told = {0};
     struct seen seen = {.error = refused ? EINVAL : 0};
-    struct inroot_keeping now;
+    struct inroot_keeping now = {0};
     inroot_keeping_begin(flags, &now);
     while (now.next < INROOT_KEEPING_GIVES) {
         const struct inroot_keeping_answer answer = {.error = some_error(in), .callers = byte(in) & 1};
@@ -223,7 +223,7 @@ static void trust(uint8_t next, uint32_t error, struct seen *seen)
 static void a_thread(struct input *in)
 {
     struct seen seen = {0};
-    struct inroot_trusting now;
+    struct inroot_trusting now = {0};
     inroot_trusting_begin(&now);
     while (now.next < INROOT_TRUSTING_KEEPS) {
         const uint32_t error = some_error(in);
@@ -289,7 +289,7 @@ static void a_letting(struct input *in)
         .file = some_file(in), .table = bits & 1, .page = bits & 2, .there = bits & 4, .known = bits & 8, .surely = bits & 16,
     };
     struct let let = {0};
-    struct inroot_letting now;
+    struct inroot_letting now = {0};
     inroot_letting_begin(&facts, &now);
     while (now.next < INROOT_LETTING_OVER) {
         const struct inroot_file_answer asked = {.error = some_error(in), .file = some_file(in)};
@@ -326,7 +326,7 @@ static void a_proc(struct input *in)
     const bool is_new = byte(in) & 1, hands_in = wanted == INROOT_FOR_HAND_IN;
     bool open = is_new && !hands_in, claimed = false, ends = false;
     uint32_t last = 0, exchanges = 0;
-    struct inroot_owning now;
+    struct inroot_owning now = {0};
     inroot_owning_begin(wanted, is_new, &now);
     while (now.next < INROOT_OWNING_AT_HAND) {
         const uint32_t error = some_error(in);

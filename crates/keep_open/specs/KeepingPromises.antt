@@ -109,8 +109,8 @@ but_signal error = if error == EINTR then 0 else error
 abbrev pub as_this : ℕ → ℕ → ℕ
 as_this this error = if error == 0 then 0 else this
 
--- With flags it must be known which directory the root is. A link that can't be read is no error, nor a table that can't
--- be opened, unless it ran short.
+-- With flags it must be known which directory the root is. A link that can't be read is no error, nor a table that
+-- can't be opened, unless it ran short.
 abbrev pub error_of : ℕ → Exchange → ℕ → ℕ
 error_of flags e unknown =
     if (e.asked == ROOM) || (e.asked == MAP) then as_this ENOMEM e.gave.error

@@ -20,9 +20,10 @@ ghost use Rattle.keep_open.specs.declared.letting.TheConstants.{CLOSE as CLOSES,
 ghost use Rattle.keep_open.specs.declared.owning.TheConstants.{AT_HAND, CALLERS, FAILS as FAILS_OWNING, PROGRAMS, STAY, THREADS};
 ghost use Rattle.keep_open.specs.declared.trusting.TheConstants.{DOES_WITHOUT, FAILS as FAILS_TRUSTING, KEEPS};
 
-/// A root's path is kept only by INROOT_ROOT_STAYS, with a page that a child of fork(2) finds empty, and if its link gave
-/// a path from the top that had room. The directory of the descriptors is kept only by INROOT_TRUST_PROC, with the path,
-/// if the link in it told the same path, and it is of a proc(5). A page that stays is one that a child finds empty.
+/// A root's path is kept only by INROOT_ROOT_STAYS, with a page that a child of fork(2) finds empty, and if its link
+/// gave a path from the top that had room. The directory of the descriptors is kept only by INROOT_TRUST_PROC, with the
+/// path, if the link in it told the same path, and it is of a proc(5). A page that stays is one that a child finds
+/// empty.
 pub fn what_is_kept_was_shown()
     ensures path { (flags : ℕ) (history : List Exchange) → IsHistory flags history
         → (next_after flags history).path ≡ true → IsPathShown flags history }
@@ -98,7 +99,8 @@ pub fn trusted_calls_are_few()
 /// closed only if the last answer said that of it; or, unless it is to be closed surely, if nobody can say which
 /// directory it is. A number that is nobody's is never closed.
 pub fn only_what_is_still_it_is_closed()
-    ensures table { (f : LettingFacts) (history : List Let) → IsLetting f history → (next_let f history).next ≡ CLOSES_TABLE
+    ensures table { (f : LettingFacts) (history : List Let) → IsLetting f history
+        → (next_let f history).next ≡ CLOSES_TABLE
         → (f.table ≡ true) × (is_table_still history ≡ true) }
     ensures root { (f : LettingFacts) (history : List Let) → IsLetting f history → (next_let f history).next ≡ CLOSES
         → IsRootClosed f history }

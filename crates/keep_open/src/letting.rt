@@ -114,8 +114,8 @@ pub fn begin(facts: &LettingFacts) -> Letting
     }
 }
 
-/// Takes what the last system call gave, and says what comes next. Of CLOSE_TABLE, CLOSE and UNMAP nothing is looked at.
-/// Where nothing comes any more, nothing changes. Takes no memory.
+/// Takes what the last system call gave, and says what comes next. Of CLOSE_TABLE, CLOSE and UNMAP nothing is looked
+/// at. Where nothing comes any more, nothing changes. Takes no memory.
 ///
 /// A number that is another file's by now, or nobody's (EBADF), isn't closed. If the kernel doesn't say which file it
 /// is, the root is closed, unless it is to be closed surely. EINTR (4) has a call made again.

@@ -134,8 +134,8 @@ pub fn begin(wanted: u8, new: bool) -> Owning
 }
 
 /// Takes what the last one gave: 0, or the number of an error (errno(3)); at CLAIM any, if the program has one already.
-/// Says what comes next. Of RELEASE and CLOSE nothing is looked at. Where nothing comes any more, nothing changes. Takes
-/// no memory.
+/// Says what comes next. Of RELEASE and CLOSE nothing is looked at. Where nothing comes any more, nothing changes.
+/// Takes no memory.
 ///
 /// Errors: ENOMEM (12) if the thread can't let go of it as it ends; of what is handed in those of finding it, and then
 /// EBUSY (16) if the program has one already.

@@ -219,8 +219,8 @@ pub fn begin() -> Trusting
 /// Both are kept only if the page is one that a child finds empty, the thread lets go of them as it ends, and the table
 /// is of a proc(5). Else nothing is kept, and the calls do without. EINTR (4) has a call made again.
 ///
-/// Errors: EMFILE (24), ENFILE (23) and ENOMEM (12) of any call, and ENOMEM for EAGAIN (11), and if the thread can't let
-/// go of what it keeps.
+/// Errors: EMFILE (24), ENFILE (23) and ENOMEM (12) of any call, and ENOMEM for EAGAIN (11), and if the thread can't
+/// let go of what it keeps.
 pub fn next(trusting: Trusting, error: u32) -> Trusting
     ensures goes { (history : List Exchange) → IsAt history trusting → is_question trusting.next ≡ true
         → IsAt (exchange trusting error ∷ history) result }
