@@ -1,0 +1,4 @@
+pub mod Jail
+pub mod JailPromises
+pub mod Place
+pub mod PlacePromises

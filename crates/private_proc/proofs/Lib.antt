@@ -1,0 +1,4 @@
+pub mod Asked
+pub mod CountLemmas
+pub mod GivenLemmas
+pub mod OpenLemmas

@@ -1,0 +1,5 @@
+use Rattle.private_proc.proofs.CountLemmas.{few}
+use Rattle.private_proc.proofs.laws.calls_are_few.Goals as goal
+
+pub returns : goal.returns
+returns c = few

@@ -1,0 +1,5 @@
+use Rattle.private_proc.proofs.OpenLemmas.{why_fails}
+use Rattle.private_proc.proofs.laws.why_it_fails.Goals as goal
+
+pub returns : goal.returns
+returns c = why_fails
