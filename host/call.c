@@ -138,12 +138,13 @@ static void let_go(struct work *w)
 /* The thread stays where it is. */
 static int open_another_proc(struct work *w)
 {
-    bool is_own, moved = w->d->moved;
+    bool is_own;
+    const struct inroot_whereabouts where = w->d->where;
     int proc = inroot_proc_open(true, &is_own);
     if (proc < 0)
         return proc;
     begin(w);
-    w->d->moved = moved;
+    w->d->where = where;
     w->d->proc = proc;
     w->d->proc_is_own = is_own;
     return 0;
@@ -171,7 +172,7 @@ static void note(struct work *w)
     const struct inroot_driver *d = w->d;
     w->answer.stepped = d->steps > 0;
     w->answer.changed = d->changed;
-    w->answer.moved = d->moved;
+    w->answer.moved = d->where.moved;
     w->answer.has_proc = d->proc >= 0;
     w->answer.owns_proc = d->proc_is_own;
 }
@@ -217,7 +218,7 @@ static void turn(struct work *w)
         note(w);
         break;
     case INROOT_CALLING_CLOSE_PROC: inroot_proc_end(w->d); break;
-    case INROOT_CALLING_GO_HOME: tell(w, chdir("/") != 0 ? -errno : 0); break;
+    case INROOT_CALLING_GO_HOME: tell(w, inroot_jail_return(w->d) ? 0 : -errno); break;
     case INROOT_CALLING_LOOK_AT_ROOT: look_at_root(w); break;
     default: walk(w);
     }

@@ -1,9 +1,9 @@
 /*
  * calls.h: the proved library's functions, and what passes between it and a driver. The numbers and bytes are those
  * of crates/c_protocol, step_calls, place_protocol, open_or_make, make_through_links, remove_by_calls, look_ups,
- * list_directory, walk_directory, walk_tree, call_course, ask_place, give_entry, find_proc, keep_open, open_partial,
- * open_at_once, open_through_links, enter_directory, begin_below, kernel_text and system_calls, whose contracts say
- * what they stand for. A program that makes calls includes inroot.h, and not this.
+ * list_directory, walk_directory, walk_tree, call_course, ask_place, give_entry, find_proc, keep_open, begin_jail,
+ * private_proc, open_partial, open_at_once, open_through_links, enter_directory, begin_below, kernel_text and
+ * system_calls, whose contracts say what they stand for. A program that makes calls includes inroot.h, and not this.
  *
  * Each function asks this of its caller, beside what stands at it. No pointer is NULL, not even one to no bytes. Each is
  * aligned, and leads to a value of its type: a bool is 0 or 1, also where the function only writes it; a number may be any.
@@ -1091,6 +1091,106 @@ struct inroot_owning {
 /* Begins with one that is wanted so: IS_NEW if it was just opened. */
 void inroot_owning_begin(uint8_t wanted, bool is_new, struct inroot_owning *owning);
 void inroot_owning_next(struct inroot_owning *owning, uint32_t error);
+
+/* ---- which system call comes next, as a thread is given a root directory of its own. These take no memory. */
+
+/* The flag by which the thread keeps what its calls ask. */
+enum { INROOT_JAILING_TRUST_PROC = 64 };
+
+/*
+ * What the root is: fstat(2). Whether the thread has CAP_SYS_CHROOT: capget(2). A /proc is found that stays open, and what the
+ * thread trusts. The current directory is opened, and `.` in the root: with O_PATH, O_DIRECTORY and O_CLOEXEC. unshare(2) with
+ * CLONE_FS. fchdir(2) to what was opened in the root; chroot(2) of `.`; fchdir(2) back. Both are closed. What was found, and what
+ * is trusted, is closed. In the end the thread is in a jail, or there is an error.
+ */
+enum inroot_jailing_next {
+    INROOT_JAILING_LOOK = 1, INROOT_JAILING_CAPABLE, INROOT_JAILING_STAY, INROOT_JAILING_TRUST, INROOT_JAILING_OPEN_HERE,
+    INROOT_JAILING_OPEN_ROOT, INROOT_JAILING_UNSHARE, INROOT_JAILING_ENTER, INROOT_JAILING_CHANGE, INROOT_JAILING_GO_BACK,
+    INROOT_JAILING_CLOSE_ROOT, INROOT_JAILING_CLOSE_HERE, INROOT_JAILING_LEAVE, INROOT_JAILING_JAILS, INROOT_JAILING_FAILS,
+};
+
+/* The flags of inroot.h; and whether the thread is JAILED already. */
+struct inroot_jailing_facts {
+    uint32_t flags;
+    bool jailed;
+};
+
+/* What it gave: 0 or an error's number. YES: the root is a directory; the thread has the capability. */
+struct inroot_jailing_answer {
+    uint32_t error;
+    bool yes;
+};
+
+/*
+ * How far it has come. A driver reads what comes NEXT, the ERROR if it fails, and then whether the thread's current directory is
+ * the root, since it could not go back (AWAY). It leaves all of it alone between two turns.
+ */
+struct inroot_jailing {
+    uint32_t error;
+    uint8_t next;
+    bool away;
+};
+
+void inroot_jailing_begin(const struct inroot_jailing_facts *facts, struct inroot_jailing *jailing);
+void inroot_jailing_next(struct inroot_jailing *jailing, const struct inroot_jailing_facts *facts,
+                         const struct inroot_jailing_answer *answer);
+
+/* ---- which system call comes next, as a call in a jail changes the thread's current directory. These take no memory. */
+
+/* The root is to be named in a look-up; another directory is to be the current one; or the thread is to return to the root. */
+enum inroot_where_wants { INROOT_WHERE_STARTS = 1, INROOT_WHERE_ENTERS, INROOT_WHERE_RETURNS };
+
+/*
+ * unshare(2) with CLONE_FS; fchdir(2) to the directory; chdir(2) of `/`. In the end the root has a descriptor, which is KEPT; or
+ * it is the current directory, HERE; the thread is in the other directory, THERE; it is BACK, or hasn't left; or there is an error.
+ */
+enum inroot_where_next {
+    INROOT_WHERE_APART = 1, INROOT_WHERE_GO, INROOT_WHERE_HOME, INROOT_WHERE_KEPT, INROOT_WHERE_HERE, INROOT_WHERE_THERE,
+    INROOT_WHERE_BACK, INROOT_WHERE_STUCK,
+};
+
+/*
+ * Where the thread is, as far as the call knows. All of it is 0 as the call begins. A driver reads what comes NEXT, the ERROR if
+ * it is stuck, and whether the thread may be elsewhere than at its root (MOVED). It leaves all of it alone.
+ */
+struct inroot_whereabouts {
+    uint32_t error;
+    uint8_t next, wants;
+    bool alone, moved;
+};
+
+void inroot_where_wants(struct inroot_whereabouts *place, uint8_t wanted, bool kept);
+void inroot_where_went(struct inroot_whereabouts *place, uint32_t error);
+
+/* ---- which system call comes next, as a proc(5) of the library's own is made. These take no memory. */
+
+/*
+ * fsopen(2) of `proc`; fsconfig(2) of `subset` and `pid`; fsconfig(2), which creates it; fsmount(2); what fsopen(2) gave is
+ * closed. open_tree(2) of /proc, as a copy. Whether what was opened is a proc(5) that follows links; whether `thread-self` can be read
+ * in it, by readlinkat(2). What is none is closed. What is one is handed in, and closed. In the end it is kept, or there is an
+ * error.
+ */
+enum inroot_mounting_next {
+    INROOT_MOUNTING_MAKE = 1, INROOT_MOUNTING_RESTRICT, INROOT_MOUNTING_CREATE, INROOT_MOUNTING_MOUNT, INROOT_MOUNTING_CLOSE_MADE,
+    INROOT_MOUNTING_COPY, INROOT_MOUNTING_LOOK, INROOT_MOUNTING_THREADS, INROOT_MOUNTING_REFUSE, INROOT_MOUNTING_HAND_IN,
+    INROOT_MOUNTING_CLOSE, INROOT_MOUNTING_GIVES, INROOT_MOUNTING_FAILS,
+};
+
+/* What it gave: 0 or an error's number. YES: it is a proc(5). */
+struct inroot_mounting_answer {
+    uint32_t error;
+    bool yes;
+};
+
+/* A driver reads what comes NEXT, and the ERROR if it fails. It leaves all of it alone between two turns. */
+struct inroot_mounting {
+    uint32_t error;
+    uint8_t next;
+    bool copied;
+};
+
+void inroot_mounting_begin(bool kept, struct inroot_mounting *mounting);
+void inroot_mounting_next(struct inroot_mounting *mounting, const struct inroot_mounting_answer *answer);
 
 /* ---- which system call comes next, as one openat2(2) is made, or it is asked whether the thread has that. These take no memory. */
 

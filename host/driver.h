@@ -120,7 +120,7 @@ enum { INROOT_FEW = 8 };
 /* A call under way. */
 struct inroot_driver {
     uint64_t steps, removed;       /* the first are those that have made a system call, but for Close */
-    bool alone, moved;             /* the thread's current directory is its own; and isn't its root */
+    struct inroot_whereabouts where; /* of a thread in a jail, by its current directory */
     bool counts, begun;            /* a tree is removed; and its first entry's turn has come */
     bool too_deep;                 /* a directory was not entered for its depth */
     bool proc_is_own;              /* `proc` is closed at the call's end */
@@ -428,6 +428,8 @@ int inroot_trust_root(void);
 bool inroot_is_jailed(void);
 /* In a jail: makes a directory the thread's current one, which other threads no longer share. Returns whether it could. */
 bool inroot_jail_enter(struct inroot_driver *d, int fd);
+/* If the call may have left the thread elsewhere, makes the root its current directory again. Returns whether it could. */
+bool inroot_jail_return(struct inroot_driver *d);
 /*
  * The descriptor of a directory as a system call takes it. Of a jail's root that is the one that the thread keeps, or its current
  * directory, which is made that root. Whether it could.

@@ -212,7 +212,9 @@ int inroot_use_private_proc(void);
  * Gives 0; -EBUSY in a thread that was moved already, -EBADF or -ENOTDIR where ROOT isn't a descriptor of a directory,
  * -EPERM without the capability, -ENOSYS without /proc, -EMFILE, -ENOMEM, -EACCES where ROOT may not be searched. After
  * an error the thread is as before, unless chroot(2) itself was refused, as by a security module: then its current
- * directory is still the same, but is its own from then on.
+ * directory is still the same, but is its own from then on. If it can't go back there either, as it may no longer
+ * search it, its current directory is ROOT: then the call gives the error of that fchdir(2), and inroot_last_error() has
+ * the step `Return`.
  */
 int inroot_jail(int root);
 
@@ -299,8 +301,8 @@ int inroot_at_end(int at);
 /*
  * Why the thread's last call failed. STEP is the last step that it made, by its name in docs/HOST.md, or empty if it
  * failed before the first. Beside the model's steps there are `Reopen`, which opens for use, `Stat`, `Attribute`, which
- * changes an object that was found, and `Give`, which opens a new entry. NAME is the name that the step was about, or
- * empty.
+ * changes an object that was found, `Give`, which opens a new entry, and `Return` of inroot_jail(). NAME is the name that
+ * the step was about, or empty.
  *
  * REST is the rest of PATH at that step, with links replaced by their texts. It begins with NAME if the call could not
  * open or make that; at `Parent` and `ReadLink` it is what comes behind the `..` and the link. Once the walk has begun

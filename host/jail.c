@@ -1,4 +1,7 @@
-/* jail.c: a thread with a root directory of its own. */
+/*
+ * jail.c: a thread with a root directory of its own. Which system call comes next, as the thread gets there, and as a call changes
+ * its current directory, the proved library says (crates/begin_jail).
+ */
 #define _GNU_SOURCE
 #include "driver.h"
 
@@ -6,8 +9,11 @@
 #include <fcntl.h>
 #include <linux/capability.h>
 #include <sched.h>
+#include <sys/stat.h>
 #include <sys/syscall.h>
 #include <unistd.h>
+
+_Static_assert((int)INROOT_TRUST_PROC == (int)INROOT_JAILING_TRUST_PROC, "the flag of crates/begin_jail");
 
 static _Thread_local bool jailed;
 
@@ -23,112 +29,136 @@ void inroot_jail_done(void)
     inroot_proc_leave();
 }
 
+static uint32_t error_of(long failed)
+{
+    return failed < 0 ? (uint32_t)errno : 0;
+}
+
 /* ---- the current directory of a thread in a jail */
 
 /*
- * Threads that this one made since it moved share its current directory, and may have changed it. From here to the end of the
- * call it is this thread's own. Its path wouldn't say whether it is the root: what is mounted over that has the same one.
+ * Threads that this one made since it moved share its current directory, and may have changed it. Its path wouldn't say whether it
+ * is the root: what is mounted over that has the same one.
  */
-static bool be_alone(struct inroot_driver *d)
+static uint32_t move(const struct inroot_whereabouts *where, int fd)
 {
-    if (!d->alone && unshare(CLONE_FS) != 0)
-        return false;
-    d->moved |= !d->alone;
-    d->alone = true;
-    return true;
+    switch (where->next) {
+    case INROOT_WHERE_APART: return error_of(unshare(CLONE_FS));
+    case INROOT_WHERE_GO: return error_of(fchdir(fd));
+    default: return error_of(chdir("/"));
+    }
+}
+
+/* Makes the system calls for what is wanted. Whether it could; else errno says why. */
+static bool go(struct inroot_driver *d, enum inroot_where_wants wanted, bool kept, int fd)
+{
+    struct inroot_whereabouts *where = &d->where;
+    inroot_where_wants(where, (uint8_t)wanted, kept);
+    while (where->next < INROOT_WHERE_KEPT)
+        inroot_where_went(where, move(where, fd));
+    if (where->next == INROOT_WHERE_STUCK)
+        errno = (int)where->error;
+    return where->next != INROOT_WHERE_STUCK;
 }
 
 bool inroot_jail_enter(struct inroot_driver *d, int fd)
 {
-    if (!be_alone(d))
-        return false;
-    d->moved = true;
-    return fchdir(fd) == 0;
+    return go(d, INROOT_WHERE_ENTERS, false, fd);
+}
+
+bool inroot_jail_return(struct inroot_driver *d)
+{
+    return go(d, INROOT_WHERE_RETURNS, false, INROOT_NONE);
 }
 
 bool inroot_jail_start(struct inroot_driver *d, int *dir)
 {
-    int kept = *dir == INROOT_JAILED ? inroot_trust_root() : *dir;
-    if (kept >= 0) {
-        *dir = kept;
-        return true;
-    }
-    if (!be_alone(d) || (d->moved && chdir("/") != 0))
+    const int kept = *dir == INROOT_JAILED ? inroot_trust_root() : *dir;
+    if (!go(d, INROOT_WHERE_STARTS, kept >= 0, INROOT_NONE))
         return false;
-    d->moved = false;
-    *dir = AT_FDCWD;
+    *dir = d->where.next == INROOT_WHERE_KEPT ? kept : AT_FDCWD;
     return true;
 }
 
 /* ---- how it comes there */
 
-/* Asks before anything changes. */
-static bool may_change_root(void)
+/* A jail that is begun: the root; what was found to stay; where the thread was; and the root once more, as it was opened. */
+struct jail {
+    int root, proc, from, own;
+    struct inroot_jailing course;
+    struct inroot_jailing_answer answer;
+};
+
+static uint32_t look(struct jail *j)
+{
+    struct stat about = {0};
+    const uint32_t error = error_of(fstat(j->root, &about));
+    j->answer.yes = S_ISDIR(about.st_mode);
+    return error;
+}
+
+static uint32_t ask_capability(struct jail *j)
 {
     struct __user_cap_header_struct head = {.version = _LINUX_CAPABILITY_VERSION_3};
     struct __user_cap_data_struct sets[_LINUX_CAPABILITY_U32S_3] = {{0}};
-    return syscall(SYS_capget, &head, sets) == 0 && sets[CAP_SYS_CHROOT / 32].effective & 1U << CAP_SYS_CHROOT % 32;
+    const uint32_t error = error_of(syscall(SYS_capget, &head, sets));
+    j->answer.yes = sets[CAP_SYS_CHROOT / 32].effective & 1U << CAP_SYS_CHROOT % 32;
+    return error;
 }
 
-/* Whether the root is a directory, and the thread may have it as its root: 0 or -errno. */
-static int check(int root)
+static uint32_t stay(struct jail *j)
 {
-    int failed = inroot_check_directory(root);
-    return failed != 0 || may_change_root() ? failed : -EPERM;
+    j->proc = inroot_proc_stay();
+    return j->proc < 0 ? (uint32_t)-j->proc : 0;
 }
 
-/* unshare(2) first: other threads don't see the current directory change. */
-static int move(int root, int from)
+static uint32_t open_in(int dir, int *fd)
 {
-    if (unshare(CLONE_FS) != 0)
-        return -errno;
-    if (fchdir(root) == 0 && chroot(".") == 0)
-        return 0;
-    int error = errno;
-    /* The thread may search that directory, since it could open it: so it may go back there. */
-    if (fchdir(from) != 0)
-        error = errno;
-    return -error;
+    *fd = openat(dir, ".", O_PATH | O_DIRECTORY | O_CLOEXEC);
+    return error_of(*fd);
 }
 
-/* Moves the thread. If that fails, the thread stays where it is. */
-static int move_from_here(int root)
+static uint32_t leave(void)
 {
-    int from = open(".", O_PATH | O_DIRECTORY | O_CLOEXEC);
-    if (from < 0)
-        return -errno;
-    /* If the thread may not search the root, this fails before anything changes. */
-    int own = openat(root, ".", O_PATH | O_DIRECTORY | O_CLOEXEC);
-    int failed = own < 0 ? -errno : move(own, from);
-    if (own >= 0)
-        close(own);
-    close(from);
-    return failed;
+    inroot_proc_leave();
+    return 0;
 }
 
-static int move_below(int root, bool trusts)
+/* Does what comes next. Gives 0 or an error's number. */
+static uint32_t turn(struct jail *j)
 {
-    int failed = check(root);
-    int proc = failed ? failed : inroot_proc_stay();
-    if (proc < 0)
-        failed = proc;
-    if (failed == 0 && trusts)
-        failed = inroot_trust_begin(proc, root);
-    if (failed == 0)
-        failed = move_from_here(root);
-    if (failed)
-        inroot_proc_leave();
-    jailed = failed == 0;
-    return failed;
+    switch (j->course.next) {
+    case INROOT_JAILING_LOOK: return look(j);
+    case INROOT_JAILING_CAPABLE: return ask_capability(j);
+    case INROOT_JAILING_STAY: return stay(j);
+    case INROOT_JAILING_TRUST: return (uint32_t)-inroot_trust_begin(j->proc, j->root);
+    case INROOT_JAILING_OPEN_HERE: return open_in(AT_FDCWD, &j->from);
+    case INROOT_JAILING_OPEN_ROOT: return open_in(j->root, &j->own);
+    case INROOT_JAILING_UNSHARE: return error_of(unshare(CLONE_FS));
+    case INROOT_JAILING_ENTER: return error_of(fchdir(j->own));
+    case INROOT_JAILING_CHANGE: return error_of(chroot("."));
+    case INROOT_JAILING_GO_BACK: return error_of(fchdir(j->from));
+    case INROOT_JAILING_CLOSE_ROOT: return error_of(close(j->own));
+    case INROOT_JAILING_CLOSE_HERE: return error_of(close(j->from));
+    default: return leave();
+    }
 }
 
 int inroot_jail_with(int root, int flags)
 {
-    int failed = flags & ~INROOT_TRUST_PROC ? -EINVAL : jailed ? -EBUSY : 0;
     INROOT_UNCANCELLED;
-    if (failed == 0)
-        failed = move_below(root, flags & INROOT_TRUST_PROC);
-    return failed ? inroot_error_alone(-failed, "", "") : 0;
+    struct jail j = {.root = root, .proc = INROOT_NONE, .from = INROOT_NONE, .own = INROOT_NONE};
+    const struct inroot_jailing_facts facts = {.flags = (uint32_t)flags, .jailed = jailed};
+    inroot_jailing_begin(&facts, &j.course);
+    while (j.course.next < INROOT_JAILING_JAILS) {
+        j.answer.yes = false;
+        j.answer.error = turn(&j);
+        inroot_jailing_next(&j.course, &facts, &j.answer);
+    }
+    if (j.course.next == INROOT_JAILING_FAILS)
+        return inroot_error_alone((int)j.course.error, j.course.away ? "Return" : "", "");
+    jailed = true;
+    return 0;
 }
 
 int inroot_jail(int root)

@@ -1,7 +1,8 @@
 /*
  * private_proc.c: a proc(5) of the library's own, which is mounted nowhere: nobody can mount over anything below it. It is a
- * new one (fsopen(2)); or if the kernel allows none, as in a container's user namespace, the one at /proc without the mounts
- * below that (open_tree(2)).
+ * new one (fsopen(2)); or if the kernel allows none, as in a container's user namespace, or the thread isn't in that, the one at
+ * /proc without the mounts below that (open_tree(2)). Which system call comes next, the proved library says
+ * (crates/private_proc).
  */
 #define _GNU_SOURCE
 #include "driver.h"
@@ -17,64 +18,79 @@ enum { FSOPEN_CLOSES = 1, FSMOUNT_CLOSES = 1, TREE_CLONES = 1, SETS_STRING = 1, 
 /* MOUNT_ATTR_NOSUID, MOUNT_ATTR_NODEV and MOUNT_ATTR_NOEXEC. */
 enum { ATTRIBUTES = 2 | 4 | 8 };
 
-/* Only what is of processes, where the kernel has that (Linux 5.8). Without it the rest is there as well, and isn't asked for. */
-static int mount_new(void)
+/* One that is being made: what fsopen(2) gave, and what is to be handed in. */
+struct mounting {
+    int made, fd;
+    struct inroot_mounting course;
+    struct inroot_mounting_answer answer;
+};
+
+static uint32_t error_of(long failed)
 {
-    int made = (int)syscall(FSOPEN, "proc", FSOPEN_CLOSES);
-    if (made < 0)
-        return -errno;
-    syscall(FSCONFIG, made, SETS_STRING, "subset", "pid", 0);
-    int fd = syscall(FSCONFIG, made, CREATES, NULL, NULL, 0) == 0 ? (int)syscall(FSMOUNT, made, FSMOUNT_CLOSES, ATTRIBUTES) : -1;
-    int error = errno;
-    close(made);
-    return fd < 0 ? -error : fd;
+    return failed < 0 ? (uint32_t)errno : 0;
 }
 
-static int clone_mounted(void)
+static uint32_t opened(int *fd, long given)
 {
-    int fd = (int)syscall(OPEN_TREE, AT_FDCWD, "/proc", TREE_CLONES | O_CLOEXEC | AT_SYMLINK_NOFOLLOW);
-    return fd < 0 ? -errno : fd;
+    *fd = (int)given;
+    return error_of(given);
+}
+
+/* Only what is of processes, where the kernel has that (Linux 5.8). Without it the rest is there as well, and isn't asked for. */
+static uint32_t restrict_to_processes(const struct mounting *m)
+{
+    return error_of(syscall(FSCONFIG, m->made, SETS_STRING, "subset", "pid", 0));
+}
+
+static uint32_t look(struct mounting *m)
+{
+    m->answer.yes = inroot_proc_is(m->fd);
+    return 0;
 }
 
 /* The link is read, since faccessat(2) takes no flags before Linux 5.8, and filters refuse faccessat2(2). */
-bool inroot_proc_has_threads(int proc)
+static uint32_t ask_for_thread(int proc)
 {
     char text[1];
-    ssize_t length;
+    return error_of(readlinkat(proc, "thread-self", text, sizeof text));
+}
+
+bool inroot_proc_has_threads(int proc)
+{
+    uint32_t error;
     do
-        length = readlinkat(proc, "thread-self", text, sizeof text);
-    while (length < 0 && errno == EINTR);
-    return length >= 0;
+        error = ask_for_thread(proc);
+    while (error == EINTR);
+    return error == 0;
 }
 
-/* Finds a proc(5) that has what the calls ask for: its descriptor, or -errno. The first error counts. */
-static int find_one(void)
+/* Does what comes next. Gives 0 or an error's number. */
+static uint32_t turn(struct mounting *m)
 {
-    int fd = mount_new();
-    int error = fd;
-    if (fd < 0)
-        fd = clone_mounted();
-    if (fd < 0)
-        return error;
-    if (inroot_proc_is(fd) && inroot_proc_has_threads(fd))
-        return fd;
-    close(fd);
-    return -ENOSYS;
-}
-
-static int use_one(void)
-{
-    int fd = find_one();
-    if (fd < 0)
-        return fd;
-    int failed = inroot_use_proc(fd);
-    close(fd);
-    return failed;
+    switch (m->course.next) {
+    case INROOT_MOUNTING_MAKE: return opened(&m->made, syscall(FSOPEN, "proc", FSOPEN_CLOSES));
+    case INROOT_MOUNTING_RESTRICT: return restrict_to_processes(m);
+    case INROOT_MOUNTING_CREATE: return error_of(syscall(FSCONFIG, m->made, CREATES, NULL, NULL, 0));
+    case INROOT_MOUNTING_MOUNT: return opened(&m->fd, syscall(FSMOUNT, m->made, FSMOUNT_CLOSES, ATTRIBUTES));
+    case INROOT_MOUNTING_CLOSE_MADE: return error_of(close(m->made));
+    case INROOT_MOUNTING_COPY:
+        return opened(&m->fd, syscall(OPEN_TREE, AT_FDCWD, "/proc", TREE_CLONES | O_CLOEXEC | AT_SYMLINK_NOFOLLOW));
+    case INROOT_MOUNTING_LOOK: return look(m);
+    case INROOT_MOUNTING_THREADS: return ask_for_thread(m->fd);
+    case INROOT_MOUNTING_HAND_IN: return (uint32_t)-inroot_use_proc(m->fd);
+    default: return error_of(close(m->fd));
+    }
 }
 
 int inroot_use_private_proc(void)
 {
     INROOT_UNCANCELLED;
-    int failed = inroot_proc_is_kept() ? -EBUSY : use_one();
-    return failed ? inroot_error_alone(-failed, "", "") : 0;
+    struct mounting m = {.made = INROOT_NONE, .fd = INROOT_NONE};
+    inroot_mounting_begin(inroot_proc_is_kept(), &m.course);
+    while (m.course.next < INROOT_MOUNTING_GIVES) {
+        m.answer.yes = false;
+        m.answer.error = turn(&m);
+        inroot_mounting_next(&m.course, &m.answer);
+    }
+    return m.course.next == INROOT_MOUNTING_GIVES ? 0 : inroot_error_alone((int)m.course.error, "", "");
 }

@@ -60,10 +60,10 @@ static ssize_t by_path(const char *path, const struct attribute *one)
 
 static ssize_t from_jail(int proc, const char *name, const struct attribute *one)
 {
-    struct inroot_driver d = {.alone = false};
+    struct inroot_driver d = {.steps = 0};
     ssize_t done = inroot_jail_enter(&d, proc) ? by_path(name, one) : -1;
     int error = errno;
-    if (d.moved && chdir("/") != 0)
+    if (!inroot_jail_return(&d))
         return -1;
     errno = error;
     return done;

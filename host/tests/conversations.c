@@ -640,6 +640,87 @@ static void errors(void)
     refuses(INROOT_STEP_OPEN, 0, 0, UINT32_MAX, false);
 }
 
+/* ---- a jail, a thread's current directory, and a private proc(5): what comes next, as the numbers of calls.h */
+
+static void comes(const char *what, unsigned turn, unsigned got, unsigned due)
+{
+    rows++;
+    if (got == due)
+        return;
+    wrong++;
+    printf("not so: %s, turn %u: %u is to be %u\n", what, turn, got, due);
+}
+
+/* Each thing works, but for one of this number, which gives EPERM. */
+static void jails(uint32_t flags, uint8_t fails, const uint8_t *due)
+{
+    const struct inroot_jailing_facts facts = {.flags = flags};
+    struct inroot_jailing now;
+    unsigned turn = 0;
+    inroot_jailing_begin(&facts, &now);
+    for (; now.next < INROOT_JAILING_JAILS; turn++) {
+        comes("a jail", turn, now.next, due[turn]);
+        inroot_jailing_next(&now, &facts, &(struct inroot_jailing_answer){.error = now.next == fails ? EPERM : 0, .yes = true});
+    }
+    comes("a jail", turn, now.next, due[turn]);
+    comes("a jail's error", turn, now.error, now.next == INROOT_JAILING_FAILS ? EPERM : 0);
+}
+
+static void mounts(uint8_t fails, const uint8_t *due)
+{
+    struct inroot_mounting now;
+    unsigned turn = 0;
+    inroot_mounting_begin(false, &now);
+    for (; now.next < INROOT_MOUNTING_GIVES; turn++) {
+        comes("a private proc(5)", turn, now.next, due[turn]);
+        inroot_mounting_next(&now, &(struct inroot_mounting_answer){.error = now.next == fails ? EPERM : 0, .yes = true});
+    }
+    comes("a private proc(5)", turn, now.next, due[turn]);
+}
+
+static void goes(struct inroot_whereabouts *place, uint8_t wants, const uint8_t *due)
+{
+    unsigned turn = 0;
+    inroot_where_wants(place, wants, false);
+    for (; place->next < INROOT_WHERE_KEPT; turn++) {
+        comes("a place", turn, place->next, due[turn]);
+        inroot_where_went(place, 0);
+    }
+    comes("a place", turn, place->next, due[turn]);
+}
+
+#define DUE (const uint8_t[])
+
+static void threads(void)
+{
+    struct inroot_whereabouts place = {0};
+    jails(0, 0, DUE{1, 2, 3, 5, 6, 7, 8, 9, 11, 12, 14});
+    jails(INROOT_JAILING_TRUST_PROC, 0, DUE{1, 2, 3, 4, 5, 6, 7, 8, 9, 11, 12, 14});
+    jails(0, INROOT_JAILING_LOOK, DUE{1, 15});
+    jails(0, INROOT_JAILING_CAPABLE, DUE{1, 2, 15});
+    jails(0, INROOT_JAILING_STAY, DUE{1, 2, 3, 15});
+    jails(INROOT_JAILING_TRUST_PROC, INROOT_JAILING_TRUST, DUE{1, 2, 3, 4, 13, 15});
+    jails(0, INROOT_JAILING_OPEN_HERE, DUE{1, 2, 3, 5, 13, 15});
+    jails(0, INROOT_JAILING_OPEN_ROOT, DUE{1, 2, 3, 5, 6, 12, 13, 15});
+    jails(0, INROOT_JAILING_UNSHARE, DUE{1, 2, 3, 5, 6, 7, 11, 12, 13, 15});
+    jails(0, INROOT_JAILING_ENTER, DUE{1, 2, 3, 5, 6, 7, 8, 11, 12, 13, 15});
+    jails(0, INROOT_JAILING_CHANGE, DUE{1, 2, 3, 5, 6, 7, 8, 9, 10, 11, 12, 13, 15});
+    mounts(0, DUE{1, 2, 3, 4, 5, 7, 8, 10, 11, 12});
+    mounts(INROOT_MOUNTING_MAKE, DUE{1, 6, 7, 8, 10, 11, 12});
+    mounts(INROOT_MOUNTING_RESTRICT, DUE{1, 2, 3, 4, 5, 7, 8, 10, 11, 12});
+    mounts(INROOT_MOUNTING_CREATE, DUE{1, 2, 3, 5, 6, 7, 8, 10, 11, 12});
+    mounts(INROOT_MOUNTING_MOUNT, DUE{1, 2, 3, 4, 5, 6, 7, 8, 10, 11, 12});
+    mounts(INROOT_MOUNTING_THREADS, DUE{1, 2, 3, 4, 5, 7, 8, 9, 6, 7, 8, 9, 13});
+    mounts(INROOT_MOUNTING_HAND_IN, DUE{1, 2, 3, 4, 5, 7, 8, 10, 11, 13});
+    goes(&place, INROOT_WHERE_RETURNS, DUE{7});
+    goes(&place, INROOT_WHERE_STARTS, DUE{1, 3, 5});
+    goes(&place, INROOT_WHERE_STARTS, DUE{5});
+    goes(&place, INROOT_WHERE_ENTERS, DUE{2, 6});
+    goes(&place, INROOT_WHERE_STARTS, DUE{3, 5});
+    goes(&place, INROOT_WHERE_ENTERS, DUE{2, 6});
+    goes(&place, INROOT_WHERE_RETURNS, DUE{3, 7});
+}
+
 int main(void)
 {
     for (size_t size = 0; size <= ROOM; size++) {
@@ -654,6 +735,7 @@ int main(void)
     walked_at_once();
     paths_taken_apart();
     errors();
+    threads();
     printf("conversations: %u of %u rows not as they are to be\n", wrong, rows);
     return wrong != 0;
 }

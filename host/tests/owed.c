@@ -32,6 +32,10 @@ static struct inroot_opening opening;
 static struct inroot_course course;
 static struct inroot_last_step last;
 static struct inroot_slot slots[2];
+static struct inroot_jailing jailing;
+static struct inroot_jailing_facts jail_facts;
+static struct inroot_whereabouts where;
+static struct inroot_mounting mounting;
 
 static void begin(void)
 {
@@ -132,6 +136,23 @@ static void let_go_of_what_is_closed(void) { slots[1].fd = INT_MAX; inroot_let_g
 static void let_go(void) { inroot_let_go(slots, 2, 0, 0); }
 static void let_go_oddly(void) { memset(&slots[1].is_above, 2, 1); let_go(); }
 
+static void begin_jail(void) { inroot_jailing_begin(&jail_facts, &jailing); }
+static void go_on_with_it(void) { inroot_jailing_next(&jailing, &jail_facts, &(struct inroot_jailing_answer){.yes = true}); }
+static void jail(void) { begin_jail(); while (jailing.next < INROOT_JAILING_JAILS) go_on_with_it(); }
+static void change_a_jail(void) { begin_jail(); jailing.next = INROOT_JAILING_CHANGE; go_on_with_it(); }
+static void change_its_flags(void) { begin_jail(); jail_facts.flags = INROOT_JAILING_TRUST_PROC; go_on_with_it(); }
+static void go_home(void) { inroot_where_wants(&where, INROOT_WHERE_STARTS, false); inroot_where_went(&where, 0); }
+static void forget_to_be_alone(void) { go_home(); where.alone = false; go_home(); }
+static void move_oneself(void) { go_home(); where.moved = false; inroot_where_went(&where, 0); }
+static void begin_places_again(void) { go_home(); memset(&where, 0, sizeof where); go_home(); }
+
+static void hand_in_unseen(void)
+{
+    inroot_mounting_begin(false, &mounting);
+    mounting.next = INROOT_MOUNTING_HAND_IN;
+    inroot_mounting_next(&mounting, &(struct inroot_mounting_answer){.error = 0});
+}
+
 /* Whether the call ends its process, in a child, whose words aren't shown. */
 static bool is_refused(void (*call)(void))
 {
@@ -190,6 +211,14 @@ static const struct {
     {"a slot whose descriptor isn't open", let_go_of_what_is_closed, true},
     {"slots", let_go, false},
     {"a bool that is none, in a second slot", let_go_oddly, true},
+    {"a jail", jail, false},
+    {"a jail that isn't left alone", change_a_jail, true},
+    {"flags that aren't those of its beginning", change_its_flags, true},
+    {"a place in a call", go_home, false},
+    {"a place that isn't left alone, for what is wanted next", forget_to_be_alone, true},
+    {"a place that isn't left alone", move_oneself, true},
+    {"the place of another call", begin_places_again, false},
+    {"a private proc(5) that isn't left alone", hand_in_unseen, true},
 };
 
 int main(void)

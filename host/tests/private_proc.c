@@ -2,10 +2,12 @@
  * private_proc: in a mount namespace whose /proc is covered, calls by inroot_use_private_proc() go on as they should: /proc as a
  * whole, and the directory of this thread's descriptors, by one with links that lead elsewhere. Where the program has closed it,
  * no call goes by another one. Nor does any by a proc(5) that the program has opened by the number of the one that it closed, be it
- * another mount of the same one; nor in a child that another thread made in the midst of inroot_use_private_proc().
+ * another mount of the same one; nor in a child that another thread made in the midst of inroot_use_private_proc(). Each system
+ * call by which it makes one fails by some errors: a copy of /proc takes the place of a new one, or the first error is given, and
+ * nothing stays open. A new one that doesn't have the calling thread, as after unshare(2) with CLONE_NEWPID, is none.
  *
  * usage: private_proc DIR. Exits 0 where that holds. 78: no right to mount here, so that nothing was tried. To be linked with
- * --wrap=syscall.
+ * --wrap of readlinkat and syscall.
  */
 #define _GNU_SOURCE
 #include "filter.h"
@@ -24,8 +26,40 @@ static int box;
 /* What is done before the next statx(2) of the library. */
 static void (*act)(void);
 
+enum { OPEN_TREE = 428, FSOPEN = 430, FSCONFIG = 431, FSMOUNT = 432 };
+
+/* By which error each fails, and how often: of FSCONFIG the one that makes it. And how often the thread's link can't be read. */
+static struct failing {
+    long number;
+    int error, times;
+} failing[2];
+static int thread_error, thread_times;
+
+static bool is_failing(long number, const long *with)
+{
+    for (int one = 0; one < 2; one++)
+        if (failing[one].number == number && failing[one].times > 0 && (number != FSCONFIG || with[1] == 6)) {
+            failing[one].times--;
+            errno = failing[one].error;
+            return true;
+        }
+    return false;
+}
+
+ssize_t __wrap_readlinkat(int dir, const char *name, char *text, size_t size)
+{
+    if (strcmp(name, "thread-self") == 0 && thread_times > 0) {
+        thread_times--;
+        errno = thread_error;
+        return -1;
+    }
+    return __real_readlinkat(dir, name, text, size);
+}
+
 static long my_syscall(long number, const long *with)
 {
+    if (is_failing(number, with))
+        return -1;
     void (*now)(void) = act;
     if (now != NULL && number == SYS_statx) {
         act = NULL;
@@ -175,7 +209,6 @@ static void set_by_paths(void)
 /* A copy of /proc is of the same file system, and has what is at /proc not covered. Before Linux 6.13 attributes go by a path. */
 static void attribute(void)
 {
-    enum { FSOPEN = 430 };
     apart_from_others();
     cover_with_lies();
     refuse(FSOPEN, EPERM);
@@ -277,7 +310,6 @@ static void another_mount(void)
 /* A copy of /proc was closed, and /proc, which is covered, has its number. Before Linux 6.8 nobody can tell them apart. */
 static void copied(void)
 {
-    enum { FSOPEN = 430 };
     apart_from_others();
     if (!numbers_mounts(TELLS_UNIQUE))
         _exit(NO_RIGHT);
@@ -322,6 +354,85 @@ static void ordinary(void)
     gives(failed, 0, "inroot_use_private_proc");
     reads("a private one", 0);
     refuses_attribute();
+}
+
+/* ---- what fails */
+
+static const long makes[] = {FSOPEN, FSCONFIG, FSMOUNT};
+static long making;
+static int making_error;
+
+/* Without a new one, and then without a copy either: nothing stays open, and the call may be made again. */
+static void fails_each(void)
+{
+    int before = open_descriptors();
+    failing[0] = (struct failing){making, making_error, 1};
+    failing[1] = (struct failing){OPEN_TREE, EMFILE, 1};
+    gives(inroot_use_private_proc(), -making_error, "system call %ld fails, and there is no copy", making);
+    gives(failing[0].times + failing[1].times, 0, "system call %ld: what is to fail still", making);
+    gives(open_descriptors(), before, "system call %ld fails: open descriptors", making);
+    failing[0].times = thread_times = 1;
+    thread_error = ENOENT;
+    gives(inroot_use_private_proc(), -ENOSYS, "system call %ld fails, and the copy doesn't have the thread", making);
+    gives(open_descriptors(), before, "system call %ld fails, and the copy is none: open descriptors", making);
+    failing[0].times = 1;
+    use_private();
+    gives(open_descriptors(), before + 1, "system call %ld fails, and there is a copy: open descriptors", making);
+    reads("a copy", 0);
+}
+
+/* Each in a process of its own, since one that is kept stays. */
+static int all_fail(void)
+{
+    static const int errors[] = {EPERM, ENOSYS, EINVAL, ENOMEM, ENODEV};
+    int skipped = 0;
+    for (int one = 0; one < 3 && skipped == 0; one++)
+        for (int at = 0; at < 5 && skipped == 0; at++) {
+            making = makes[one];
+            making_error = errors[at];
+            skipped = apart(fails_each);
+        }
+    return skipped;
+}
+
+/* Signals at open_tree(2) and at readlinkat(2). */
+static void signals(void)
+{
+    int before = open_descriptors();
+    failing[0] = (struct failing){FSOPEN, EPERM, 1};
+    failing[1] = (struct failing){OPEN_TREE, EINTR, 4};
+    thread_error = EINTR;
+    thread_times = 4;
+    use_private();
+    gives(failing[1].times + thread_times, 0, "signals that are to come still");
+    gives(open_descriptors(), before + 1, "signals: open descriptors");
+    reads("where signals came", 0);
+}
+
+/* What was made is of the children's processes: this thread isn't there. A copy of /proc is tried then. */
+static void of_children(void)
+{
+    if (unshare(CLONE_NEWPID) != 0)
+        _exit(NO_RIGHT);
+    int before = open_descriptors();
+    use_private();
+    gives(open_descriptors(), before + 1, "a namespace of the children's: open descriptors");
+    reads("where children have processes of their own", 0);
+}
+
+/* A new one that is none, and no copy: ENOSYS, and not the copy's error. */
+static void none_at_all(void)
+{
+    int before = open_descriptors();
+    thread_error = ENOENT;
+    thread_times = 1;
+    failing[0] = (struct failing){OPEN_TREE, EPERM, 1};
+    gives(inroot_use_private_proc(), -ENOSYS, "a new one without the thread, and no copy");
+    gives(open_descriptors(), before, "a new one without the thread, and no copy: open descriptors");
+    thread_times = 2;
+    gives(inroot_use_private_proc(), -ENOSYS, "neither has the thread");
+    gives(open_descriptors(), before, "neither has the thread: open descriptors");
+    use_private();
 }
 
 /* Nothing is kept of a call that failed. */
@@ -378,6 +489,14 @@ int main(int count, char **words)
         skipped = apart(another_mount);
     if (skipped == 0)
         skipped = apart(copied);
+    if (skipped == 0)
+        skipped = all_fail();
+    if (skipped == 0)
+        skipped = apart(signals);
+    if (skipped == 0)
+        skipped = apart(none_at_all);
+    if (skipped == 0)
+        skipped = apart(of_children);
     printf("private_proc: %d not as they are to be\n", wrong);
     return wrong != 0 ? 1 : skipped;
 }

@@ -1,8 +1,8 @@
 //! The functions by which a C program makes calls: a static library of the exports of `c_protocol`, `step_calls`,
 //! `place_protocol`, `open_or_make`, `make_through_links`, `remove_by_calls`, `look_ups`, `list_directory`,
-//! `call_course`, `ask_place`, `give_entry`, `find_proc`, `keep_open`, `open_partial`, `open_at_once`,
-//! `open_through_links`, `enter_directory`, `walk_directory`, `walk_tree`, `begin_below`, `kernel_text` and
-//! `system_calls`.
+//! `call_course`, `ask_place`, `give_entry`, `find_proc`, `keep_open`, `begin_jail`, `private_proc`, `open_partial`,
+//! `open_at_once`, `open_through_links`, `enter_directory`, `walk_directory`, `walk_tree`, `begin_below`,
+//! `kernel_text` and `system_calls`.
 //!
 //! Each export is the function of that name of one of these, with its clauses. What a C program owes is said in
 //! `host/calls.h`: what is kept is empty (zero) before the first call, and is left alone between two turns.
@@ -39,6 +39,7 @@ mod askings;
 mod below;
 mod calls;
 mod entries;
+mod jails;
 mod keeps;
 mod leadings;
 mod listings;
