@@ -117,7 +117,7 @@ pub struct Answer {
     pub moved: bool,
     /// A /proc is in use.
     pub has_proc: bool,
-    /// It is the call's own.
+    /// It is the call's own, also after ANOTHER_PROC.
     pub owns_proc: bool,
 }
 

@@ -37,7 +37,8 @@ pub struct Birth {
     pub device: u64,
     /// 0 where it could not be asked.
     pub inode: u64,
-    /// The time of its birth (statx(2)), as 64 bits and a part; 0 and 0 where the file system keeps none.
+    /// The time of its birth (statx(2)), as 64 bits and a part; 0 and 0 where the file system keeps none. Into the
+    /// seconds a caller may mix the handle by which the file system calls the directory (name_to_handle_at(2)).
     pub seconds: u64,
     pub nanoseconds: u32,
 }
