@@ -8,7 +8,7 @@ import (
 	"syscall"
 )
 
-// Flags restrict a call. Each function takes any number of them behind its other arguments.
+// Flags restrict a call. Each function of a path below a root takes any number of them behind its other arguments.
 type Flags int
 
 const (
@@ -25,8 +25,9 @@ const (
 	// OneByOne looks up each name by a system call of its own.
 	OneByOne Flags = C.INROOT_ONE_BY_ONE
 	// Below leaves the path, with its links, and the last check to one openat2(2): what is opened stood below the root then,
-	// at which names is not said. Where that fails the steps are made. OpenParentInRoot takes it, too. Functions that change
-	// an entry or read a link refuse it, with EINVAL.
+	// at which names is not said. Where that fails the steps are made. Functions that open what is there take it, or ask for
+	// its status; so do OpenParentInRoot, and of an existing path those that give it a second name. All others refuse it, with
+	// EINVAL.
 	Below Flags = C.INROOT_BELOW
 )
 

@@ -246,6 +246,34 @@ func TestFlags(t *testing.T) {
 	must(t, err)
 }
 
+// Which functions take the flag, and which refuse it.
+func TestBelow(t *testing.T) {
+	_, root := tree(t)
+	file, err := OpenatInRoot(root, "in/f", Below)
+	must(t, err)
+	defer file.Close()
+	made, err := OpenFileInRoot(root, "new", os.O_RDWR|os.O_CREATE, 0o600, Below)
+	must(t, err)
+	must(t, made.Close())
+	_, err = StatInRoot(root, "in/f", Below)
+	must(t, err)
+	_, err = LstatInRoot(root, "in", Below)
+	must(t, err)
+	parent, _, err := OpenParentInRoot(root, "in/f", Below)
+	must(t, err)
+	must(t, parent.Close())
+	must(t, LinkInRoot(root, "in/f", "second", Below))
+	must(t, LinkFollowedInRoot(root, "in/f", "third", Below))
+	fails(t, LinkFileInRoot(root, file, "fourth", Below), syscall.EINVAL)
+	_, _, err = OpenPartialInRoot(root, "in/f", Below)
+	fails(t, err, syscall.EINVAL)
+	fails(t, WalkInRoot(root, "in", 0, nil, Below), syscall.EINVAL)
+	_, err = ReadlinkInRoot(root, "in", Below)
+	fails(t, err, syscall.EINVAL)
+	_, err = RemoveAllInRoot(root, "in", Below)
+	fails(t, err, syscall.EINVAL)
+}
+
 // Numbers whose lower 32 bits would be taken.
 func TestNumbers(t *testing.T) {
 	top, root := tree(t)

@@ -95,8 +95,9 @@ impl ResolverFlags {
     /// Looks up each name by a system call of its own, and not several by one openat2(2).
     pub const ONE_BY_ONE: ResolverFlags = ResolverFlags(32);
     /// Leaves the path, with its links, and the last check to one openat2(2): what is found stood below the root then, at
-    /// which names is not said. Where that fails the steps are made. Calls that change an entry or read a link refuse the
-    /// flag, with EINVAL; of a whole root there is [`RootFlags::BELOW`].
+    /// which names is not said. Where that fails the steps are made. Walks, `resolve_partial`, and calls that change an entry
+    /// or read a link refuse the flag, with EINVAL, but for a second name of what a path means; of a whole root there is
+    /// [`RootFlags::BELOW`].
     pub const BELOW: ResolverFlags = ResolverFlags(4096);
 }
 
