@@ -4,7 +4,8 @@ use crate::error::opened;
 use crate::{ffi, OpenFlags};
 use std::fs::{File, Metadata};
 use std::io;
-use std::os::unix::io::{AsFd, AsRawFd, BorrowedFd, OwnedFd};
+use std::mem::ManuallyDrop;
+use std::os::unix::io::{AsFd, AsRawFd, BorrowedFd, FromRawFd, OwnedFd};
 
 /// An object that a path meant below a root, by a descriptor with O_PATH. It stood there at a moment of the call.
 #[derive(Debug)]
@@ -24,9 +25,11 @@ impl Handle {
         opened(unsafe { ffi::inroot_reopen(self.fd.as_raw_fd(), flags.bits()) }).map(File::from)
     }
 
-    /// What fstat(2) says of the object.
+    /// What fstat(2) says of the object. It takes no descriptor more.
     pub fn metadata(&self) -> io::Result<Metadata> {
-        File::from(self.fd.try_clone()?).metadata()
+        // SAFETY: the file is never dropped, so the descriptor stays this handle's.
+        let file = ManuallyDrop::new(unsafe { File::from_raw_fd(self.fd.as_raw_fd()) });
+        file.metadata()
     }
 
     /// A second handle of the object.

@@ -2,7 +2,28 @@
 
 use inroot::{OpenFlags, Root};
 use std::fs::{self, Permissions};
+use std::os::raw::c_int;
 use std::os::unix::fs::PermissionsExt;
+use std::os::unix::io::AsRawFd;
+
+extern "C" {
+    fn getrlimit(resource: c_int, limits: *mut [u64; 2]) -> c_int;
+    fn setrlimit(resource: c_int, limits: *const [u64; 2]) -> c_int;
+}
+
+/// Lets so many descriptors be open. Gives how many could be before.
+fn with_limit(limit: u64) -> u64 {
+    const RLIMIT_NOFILE: c_int = 7;
+    let mut limits = [0; 2];
+    // SAFETY: both take a structure of two numbers.
+    unsafe {
+        assert_eq!(getrlimit(RLIMIT_NOFILE, &mut limits), 0);
+        let before = limits[0];
+        limits[0] = limit;
+        assert_eq!(setrlimit(RLIMIT_NOFILE, &limits), 0);
+        before
+    }
+}
 
 fn open_now() -> usize {
     fs::read_dir("/proc/self/fd").unwrap().count()
@@ -28,6 +49,14 @@ fn none_is_left_open() {
     let before = open_now();
     (0..50).for_each(|_| all());
     assert_eq!(open_now(), before);
+    // What is found is looked at also where no descriptor is left.
+    let found = root.resolve("a/f").unwrap();
+    let last = fs::File::open("/dev/null").unwrap();
+    let limit = with_limit(last.as_raw_fd() as u64);
+    assert!(fs::File::open("/dev/null").is_err());
+    let about = found.metadata();
+    with_limit(limit);
+    assert_eq!(about.unwrap().len(), 1);
     drop(root);
     fs::remove_dir_all(&top).unwrap();
 }
