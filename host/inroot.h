@@ -192,10 +192,10 @@ int inroot_use_proc(int proc);
  * program whose /proc somebody may cover, as in a container's mount namespace. It shows the processes of the thread's
  * pid namespace.
  *
- * Gives 0; -EBUSY where there is one already; -EPERM without CAP_SYS_ADMIN, or where the kernel gives no new one
- * since the /proc that is there is covered in part, and allows no copy of that; -ENOSYS before Linux 5.2, or where
- * neither is a proc(5) with thread-self; -EMFILE, -ENOMEM, and what fsopen(2) and fsmount(2) have beside it. After an
- * error the call may be made again.
+ * Gives 0; -EBUSY where there is one already; -EPERM without CAP_SYS_ADMIN in the user namespace that has the thread's
+ * mount namespace, or where the kernel gives no new one since the /proc that is there is covered in part, and allows no
+ * copy of that; -ENOSYS before Linux 5.2, or where neither is a proc(5) with thread-self; -EMFILE, -ENOMEM, and what
+ * fsopen(2) and fsmount(2) have beside it. After an error the call may be made again.
  */
 int inroot_use_private_proc(void);
 
