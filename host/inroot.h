@@ -238,7 +238,8 @@ int inroot_jail_with(int root, int flags);
 
 /*
  * Ends what inroot_jail() began: calls of this thread may not be given INROOT_JAIL then. The thread stays below the
- * root. What it kept is closed, as it is when the thread ends.
+ * root. What it kept is closed, as it is when the thread ends. Only in a child of fork(2) a descriptor of the root that
+ * INROOT_TRUST_PROC kept stays open, until exec(3): its number may be another file's there.
  */
 void inroot_jail_done(void);
 
