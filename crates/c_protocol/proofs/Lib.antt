@@ -1,7 +1,7 @@
 mod AsBox
 mod Laying
 mod Spelling
-mod Conversing
+pub mod Conversing
 mod Outright
 mod Passing
 mod AtOnce

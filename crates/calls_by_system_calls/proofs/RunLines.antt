@@ -3,11 +3,8 @@ use Rattle.std.specs.Prelude.{◌≡◌, ◌⊎◌, ℕ, ◌+◌, List, [], ◌�
 use Rattle.std.proofs.Common.{sym, ◌∙◌, ap, subst, inl, inr}
 use Rattle.std.proofs.lemmas.Option.{same_Some}
 use Rattle.path_text.specs.declared.errno.Errno.TheVariants.{NoMemory}
-use Rattle.path_text.specs.declared.errno.Errno.TheVariants as errors
 use Rattle.path_text.specs.Text.{between_slashes}
 use Rattle.tree_model.specs.declared.answer.Answer.{Answer}
-use Rattle.tree_model.specs.declared.answer.Answer.TheVariants.{Refused}
-use Rattle.tree_model.specs.declared.answer.Answer.TheVariants as answers
 use Rattle.step_resolver.specs.Order.{Line, answered, no_room, not_made}
 use Rattle.root_ops.specs.declared.below.Below.{Below}
 use Rattle.root_ops.specs.declared.call.CallTurn.{CallTurn}
@@ -16,12 +13,11 @@ use Rattle.root_ops.specs.declared.op.Op.{Op}
 use Rattle.root_ops.specs.declared.reply.Reply.{Reply}
 use Rattle.root_ops.specs.declared.reply.Reply.TheVariants.{Fault}
 use Rattle.root_ops.specs.Blind.{CallsTellByAnyNumbers}
-use Rattle.root_ops.specs.Order.{Doing, due, take, starts, ends, LeadsTo}
+use Rattle.root_ops.specs.Order.{due, take, starts, ends, LeadsTo}
 use Rattle.root_ops.specs.Order as call
 use Rattle.root_ops.specs.TurnView.{turn_view, Keeps, TakesTo}
 use Rattle.root_ops.specs.View.{CallView, reply_view}
-use Rattle.root_ops.proofs.Refusals.{refusal_needs_no_room, unmade}
-use Rattle.c_protocol.specs.History.{Heard, Hears, is_close, Spells, IsMade, LineOf, RepliesLast}
+use Rattle.c_protocol.specs.History.{Heard, Hears, RepliesLast}
 use Rattle.c_protocol.specs.History as plain
 use Rattle.c_protocol.specs.Numbers.{op_of, below_asked, answer_of}
 use Rattle.c_protocol.specs.Outright.{call_in}
@@ -29,70 +25,9 @@ use Rattle.c_protocol.specs.RunHistory.{Exchange, Run, single, run, Conversation
 use Rattle.c_protocol.specs.Runs.{Entered, Made, Makes, dir_behind, shuts, steps_of, step_of, IsRun, IsSaid}
 use Rattle.c_protocol.specs.Turns.{call_of, IsDueTold, BeginsTo, BeginsWith, IsNext}
 use Rattle.c_protocol.specs.declared.numbers.Asked.{Asked}
+use Rattle.c_protocol.proofs.Conversing.{stepped, Follows}
 use Rattle.calls_by_system_calls.specs.RunLines.{AreLinesOf, BeginWith, LinesOf, LinesWithRunsTellBySystemCalls, TellsByLines}
 use Rattle.calls_by_system_calls.proofs.BySystemCalls.{tells_in_history}
-
--- ---- whether a line is left out
-
-data Wanting (answer : Answer) : Type 0 where
-  want : answer ≡ Refused NoMemory → Wanting answer
-  none : (answer ≡ Refused NoMemory → ⊥) → Wanting answer
-
-wanting : (answer : Answer) → Wanting answer
-wanting (answers.Refused errors.NoMemory) = want refl
-wanting (answers.Refused error) = none (λ e. cc (e))
-wanting answer = none (λ e. cc (e))
-
--- ---- one exchange
-
--- the line of an exchange, by which the turn is led on to the next one
-record Step (below : Below) (doing : Doing) (heard : Heard) (x : plain.Exchange) (next : call.CallTurn) : Type 0 where
-  line : Line
-  line_of : LineOf heard x line
-  begins : (lines : List Line) → BeginWith (due below doing) (line ∷ lines)
-  leads : (lines : List Line) (end : call.CallTurn) → LeadsTo below next lines end → LeadsTo below (call.more doing) (line ∷ lines) end
-
-module _ (below : Below) (doing : Doing) (heard : Heard) (x : plain.Exchange) (next : call.CallTurn) where
-  left_out : (room : Bool) (answer : Answer) → next ≡ take below room doing answer → answer ≡ Refused NoMemory → Spells x answer
-      → IsDueTold (due below doing) heard.told heard.before heard.after → is_close (due below doing) ≡ false → Step below doing heard x next
-  left_out room answer taken wants spells told stays =
-      let same : next ≡ take below true doing (Refused NoMemory) =
-      taken ∙ ap (take below room doing) wants ∙ refusal_needs_no_room below room doing NoMemory in
-      record {
-        line = not_made NoMemory;
-        line_of = (refl, ((spells.0, sym wants ∙ spells.1), (due below doing, (told, stays))));
-        begins = λ lines. tt;
-        leads = λ lines end led.
-            (unmade below doing NoMemory (inl refl) stays, subst (λ t. LeadsTo below t lines end) same led);
-      }
-
-  made : (room : Bool) (answer : Answer) → next ≡ take below room doing answer → IsMade heard x (due below doing) answer → Step below doing heard x next
-  made true answer taken is = record {
-    line = answered (due below doing) answer;
-    line_of = is;
-    begins = λ lines. refl;
-    leads = λ lines end led. (refl, subst (λ t. LeadsTo below t lines end) taken led);
-  }
-  made false answer taken is = record {
-    line = no_room (due below doing) answer;
-    line_of = is;
-    begins = λ lines. refl;
-    leads = λ lines end led. (refl, subst (λ t. LeadsTo below t lines end) taken led);
-  }
-
-  -- the step is made, unless its answer is a want of memory and it is no Close
-  spelled : (room : Bool) (answer : Answer) → next ≡ take below room doing answer → Spells x answer
-      → IsDueTold (due below doing) heard.told heard.before heard.after → (closing : Bool) → is_close (due below doing) ≡ closing → Step below doing heard x next
-  spelled room answer taken spells told true closes = made room answer taken (told, (spells, λ _. closes))
-  spelled room answer taken spells told false stays = on (wanting answer)
-    where
-      on : Wanting answer → Step below doing heard x next
-      on (want is) = left_out room answer taken is spells told stays
-      on (none isnt) = made room answer taken (told, (spells, λ is. absurd (isnt is)))
-
-  stepped : (room : Bool) (answer : Answer) → next ≡ take below room doing answer → Spells x answer
-      → IsDueTold (due below doing) heard.told heard.before heard.after → Step below doing heard x next
-  stepped room answer taken spells told = spelled room answer taken spells told (is_close (due below doing)) refl
 
 -- ---- the steps of a run
 
@@ -114,11 +49,19 @@ abbrev BeginsAs : Below → CallTurn → List Line → Type 0
 BeginsAs below (More now) lines = BeginWith (due below now.doing) lines
 BeginsAs below (Done reply) lines = Unit {0}
 
+-- so it does wherever lines lead to a reply
+begins_as : (below : Below) (turn : CallTurn) (lines : List Line) (reply : call.Reply) → LeadsTo below (turn_view turn) lines (ends reply)
+    → BeginsAs below turn lines
+begins_as below (More now) [] reply led = cc (led)
+begins_as below (More now) (answered step answer ∷ lines) reply led = led.0
+begins_as below (More now) (no_room step answer ∷ lines) reply led = led.0
+begins_as below (More now) (not_made error ∷ lines) reply led = tt
+begins_as below (Done told) lines reply led = tt
+
 record Leading (below : Below) (ms : List Made) (first last : CallTurn) : Type 0 where
   lines : List Line
   lines_of : AreLinesOf ms lines
   keeps : Keeps below last
-  begins : (rest : List Line) → BeginsAs below last rest → BeginsAs below first (lines ++ rest)
   leads : (rest : List Line) (end : call.CallTurn) → LeadsTo below (turn_view last) rest end → LeadsTo below (turn_view first) (lines ++ rest) end
 
 module _ (below : Below) where
@@ -129,7 +72,6 @@ module _ (below : Below) where
     lines = answered m.step (answer_of true m.answer []) ∷ rest.lines;
     lines_of = ((refl, refl), rest.lines_of);
     keeps = rest.keeps;
-    begins = λ more begins. sym is_due;
     leads = λ more end led.
         (sym is_due, subst (λ t. LeadsTo below t (rest.lines ++ more) end) taken (rest.leads more end led));
   }
@@ -137,7 +79,6 @@ module _ (below : Below) where
     lines = no_room m.step (answer_of true m.answer []) ∷ rest.lines;
     lines_of = ((refl, refl), rest.lines_of);
     keeps = rest.keeps;
-    begins = λ more begins. sym is_due;
     leads = λ more end led.
         (sym is_due, subst (λ t. LeadsTo below t (rest.lines ++ more) end) taken (rest.leads more end led));
   }
@@ -147,7 +88,6 @@ module _ (below : Below) where
     lines = [];
     lines_of = refl;
     keeps = subst (Keeps below) makes keeps;
-    begins = λ rest begins. subst (λ t. BeginsAs below t rest) (sym makes) begins;
     leads = λ rest end led. subst (λ t. LeadsTo below (turn_view t) rest end) (sym makes) led;
   }
   leading (m ∷ ms) (More now) last settled makes keeps =
@@ -169,12 +109,7 @@ record Led (below : Below) (turn : CallTurn) (heard : Heard) (xs : List Exchange
   told : RepliesLast (last_heard heard xs) reply
   lines : List Line
   lines_of : LinesOf heard xs lines
-  begins : BeginsAs below turn lines
   leads : LeadsTo below (turn_view turn) lines (ends (reply_view reply))
-
--- the call that is kept was answered so, and then this was heard
-abbrev Follows : plain.Exchange → CallView → Type 0
-Follows x at = (turn : CallTurn) × (IsNext at x.answer x.bytes turn × Hears turn x.heard)
 
 joined : (below : Below) (now : CallView) (heard : Heard) (x : plain.Exchange) (xs : List Exchange) (turn : CallTurn) → now.below ≡ below
     → IsDueTold (due now.below now.doing) heard.told heard.before heard.after → IsNext now x.answer x.bytes turn
@@ -190,7 +125,6 @@ joined below now heard x xs turn same told next rest =
       told = rest.told;
       lines = step.line ∷ rest.lines;
       lines_of = (step.line_of, rest.lines_of);
-      begins = step.begins rest.lines;
       leads = step.leads rest.lines (ends (reply_view rest.reply)) rest.leads;
     }
 
@@ -220,11 +154,11 @@ joined_run below now heard x xs turn is first rest = record {
       names = is.names;
       lines = first.lines_of;
       behind = last_part below turn (dir_behind x.dir x.number is.entered) (x.number + x.ran.names) x.ran.due
-          (drop x.ran.names (between_slashes x.text)) rest.lines first.keeps rest.begins is.behind;
+          (drop x.ran.names (between_slashes x.text)) rest.lines first.keeps
+          (begins_as below turn rest.lines (reply_view rest.reply) rest.leads) is.behind;
     },
     rest.lines_of,
   );
-  begins = first.begins rest.lines rest.begins;
   leads = first.leads rest.lines (ends (reply_view rest.reply)) rest.leads;
 }
 
@@ -234,7 +168,7 @@ Passes x at = (turn : CallTurn) × (IsRun at x.text x.dir x.number x.ran turn ×
 
 led : (below : Below) (turn : CallTurn) (heard : Heard) (xs : List Exchange) → Keeps below turn → Hears turn heard → Conversation heard xs
     → Led below turn heard xs
-led below (Done reply) heard [] keeps hears over = record { reply = reply; told = hears.1; lines = []; lines_of = refl; begins = tt; leads = refl }
+led below (Done reply) heard [] keeps hears over = record { reply = reply; told = hears.1; lines = []; lines_of = refl; leads = refl }
 led below (Done reply) heard (single x ∷ xs) keeps hears onward = cc (ap call_of hears.0, onward.0.1.0)
 led below (Done reply) heard (run x ∷ xs) keeps hears onward = cc (ap call_of hears.0, onward.0.1.0)
 led below (More now) heard [] keeps hears over = cc (ap call_of over, hears.0)
