@@ -1463,6 +1463,23 @@ void inroot_walking_begin(struct inroot_walking *walking);
 /* Takes what the last thing gave. */
 void inroot_walking_next(struct inroot_walking *walking, const struct inroot_walking_answer *answer);
 
+/* Where the texts begin of what is given, or was broken off; each ends at the next NUL. PATH: the names from the first directory on. */
+struct inroot_texts {
+    size_t path, name;
+};
+
+/*
+ * Of what the directory on top has, whose path has so many bytes, as the path of the FIRST directory has: an entry, or a directory that
+ * was broken off.
+ */
+void inroot_walk_texts(size_t first, size_t directory, struct inroot_texts *texts);
+
+/*
+ * Ends the text behind the path of a DIRECTORY that was broken off, which has so many bytes: of the FIRST one behind a slash, so that its
+ * path is empty.
+ */
+void inroot_walk_cut(size_t first, size_t directory, unsigned char *path, size_t path_size);
+
 /* ---- how a call begins whose paths begin at a directory below the root. These take no memory. A PLACE has a slash before each name. */
 
 /*

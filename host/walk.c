@@ -39,7 +39,7 @@ struct inroot_walk {
     struct level *room;    /* for what was opened last, where there is memory for it */
     int opened;            /* what was opened last */
     uint8_t ended;         /* how that went: what inroot_entering_next() said */
-    size_t begin;          /* where the names begin behind PATH and a slash */
+    size_t length;         /* of the path of the first directory */
     char text[PATH_MAX + NAME_ROOM + 2];
 };
 
@@ -139,10 +139,7 @@ static uint32_t open_directory(struct inroot_walk *walk, const char *name)
 static uint32_t take_room(struct inroot_walk *walk)
 {
     walk->room = malloc(sizeof *walk->room);
-    if (walk->room == NULL)
-        return ENOMEM;
-    walk->room->course = (struct inroot_level){0};
-    return 0;
+    return walk->room == NULL ? ENOMEM : 0;
 }
 
 /* What was opened last is on top. */
@@ -152,8 +149,9 @@ static void go_in(struct inroot_walk *walk)
     level->above = walk->top;
     level->fd = walk->opened;
     level->got = 0;
+    level->course = (struct inroot_level){0};
     if (walk->top == NULL)
-        inroot_level_begin((uint32_t)walk->levels, strlen(walk->text), &level->course);
+        inroot_level_begin((uint32_t)walk->levels, walk->length, &level->course);
     else
         inroot_level_below(&walk->top->course, &level->course);
     walk->top = level;
@@ -168,13 +166,6 @@ static void leave(struct inroot_walk *walk)
     free(level);
 }
 
-/* Of the first directory the path is empty. */
-static void cut_and_leave(struct inroot_walk *walk)
-{
-    walk->text[walk->top->above == NULL ? walk->begin : walk->top->course.length] = 0;
-    leave(walk);
-}
-
 static void drop(struct inroot_walk *walk)
 {
     close(walk->opened);
@@ -184,10 +175,17 @@ static void drop(struct inroot_walk *walk)
 
 /* ---- entries */
 
-/* The name of an entry of the directory on top; where there is none, the end of an empty path. */
+/* Where the names lie of what the directory on top has. Above the first one there is none. */
+static struct inroot_texts texts_of(const struct inroot_walk *walk)
+{
+    struct inroot_texts texts = {0};
+    inroot_walk_texts(walk->length, walk->top == NULL ? walk->length : walk->top->course.length, &texts);
+    return texts;
+}
+
 static const char *name_of(const struct inroot_walk *walk)
 {
-    return walk->text + (walk->top == NULL ? walk->begin : walk->top->course.length + 1);
+    return walk->text + texts_of(walk).name;
 }
 
 static uint32_t read_records(struct level *level)
@@ -225,7 +223,7 @@ static int give(const struct inroot_walk *walk, struct inroot_walk_entry *entry)
 {
     const struct level *top = walk->top;
     *entry = (struct inroot_walk_entry){
-        .path = walk->text + walk->begin, .name = name_of(walk), .directory = top->fd,
+        .path = walk->text + texts_of(walk).path, .name = name_of(walk), .directory = top->fd,
         .opened = walk->course.held ? walk->opened : -1, .kind = top->course.kind, .depth = (int)walk->course.depth,
         .error = (int)top->course.error,
     };
@@ -236,7 +234,7 @@ static int give(const struct inroot_walk *walk, struct inroot_walk_entry *entry)
 static int tell(const struct inroot_walk *walk, struct inroot_walk_entry *entry)
 {
     *entry = (struct inroot_walk_entry){
-        .path = walk->text + walk->begin, .name = name_of(walk), .directory = -1, .opened = -1, .kind = S_IFDIR,
+        .path = walk->text + texts_of(walk).path, .name = name_of(walk), .directory = -1, .opened = -1, .kind = S_IFDIR,
         .depth = (int)walk->course.depth,
     };
     return inroot_error_alone((int)walk->course.error, "List", entry->path);
@@ -254,27 +252,28 @@ static struct inroot_walking_answer step(struct inroot_walk *walk)
     case INROOT_WALKING_TAKE_ROOM: answer.error = take_room(walk); break;
     case INROOT_WALKING_GO_IN: go_in(walk); break;
     case INROOT_WALKING_TURN: case INROOT_WALKING_ANSWER: go_on(walk, &answer); break;
-    case INROOT_WALKING_TELL: cut_and_leave(walk); break;
+    case INROOT_WALKING_TELL:
+        inroot_walk_cut(walk->length, walk->top->course.length, (unsigned char *)walk->text, sizeof walk->text);
+        leave(walk);
+        break;
     case INROOT_WALKING_LEAVE: leave(walk); break;
     default: drop(walk);
     }
     return answer;
 }
 
-static void carry_out(struct inroot_walk *walk)
+/* Carries out a call of the program. Gives what came of it. */
+static uint8_t carry_out(struct inroot_walk *walk, enum inroot_walking_call call)
 {
+    struct inroot_walking_answer answer = {.call = (uint8_t)call};
+    if (call == INROOT_WALKING_CALL_OPEN)
+        inroot_walking_begin(&walk->course);
+    else
+        inroot_walking_next(&walk->course, &answer);
     while (walk->course.next < INROOT_WALKING_DONE) {
-        const struct inroot_walking_answer answer = step(walk);
+        answer = step(walk);
         inroot_walking_next(&walk->course, &answer);
     }
-}
-
-/* What the program calls for. Gives what came of it. */
-static uint8_t call_for(struct inroot_walk *walk, enum inroot_walking_call call)
-{
-    const struct inroot_walking_answer answer = {.call = (uint8_t)call};
-    inroot_walking_next(&walk->course, &answer);
-    carry_out(walk);
     return walk->course.next;
 }
 
@@ -295,11 +294,9 @@ int inroot_walk_open(int root, const char *path, int levels, int flags, struct i
         .root = root, .levels = levels, .flags = flags & ~INROOT_NOFOLLOW, .first = flags & INROOT_NOFOLLOW,
     };
     inroot_copy(new->text, path);
-    new->begin = strlen(new->text) + 1;
+    new->length = strlen(new->text);
     INROOT_UNCANCELLED;
-    inroot_walking_begin(&new->course);
-    carry_out(new);
-    int failed = new->course.next == INROOT_WALKING_FAILS ? not_opened(new) : 0;
+    int failed = carry_out(new, INROOT_WALKING_CALL_OPEN) == INROOT_WALKING_FAILS ? not_opened(new) : 0;
     if (failed)
         free(new);
     else
@@ -310,7 +307,7 @@ int inroot_walk_open(int root, const char *path, int levels, int flags, struct i
 int inroot_walk_next(struct inroot_walk *walk, struct inroot_walk_entry *entry)
 {
     INROOT_UNCANCELLED;
-    switch (call_for(walk, INROOT_WALKING_CALL_NEXT)) {
+    switch (carry_out(walk, INROOT_WALKING_CALL_NEXT)) {
     case INROOT_WALKING_GIVES: return give(walk, entry);
     case INROOT_WALKING_TOLD: return tell(walk, entry);
     default: return 0;
@@ -320,7 +317,7 @@ int inroot_walk_next(struct inroot_walk *walk, struct inroot_walk_entry *entry)
 void inroot_walk_skip(struct inroot_walk *walk)
 {
     INROOT_UNCANCELLED;
-    call_for(walk, INROOT_WALKING_CALL_SKIP);
+    carry_out(walk, INROOT_WALKING_CALL_SKIP);
 }
 
 void inroot_walk_close(struct inroot_walk *walk)
@@ -328,6 +325,6 @@ void inroot_walk_close(struct inroot_walk *walk)
     if (walk == NULL)
         return;
     INROOT_UNCANCELLED;
-    call_for(walk, INROOT_WALKING_CALL_CLOSE);
+    carry_out(walk, INROOT_WALKING_CALL_CLOSE);
     free(walk);
 }

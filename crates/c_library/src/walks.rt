@@ -1,16 +1,17 @@
 //! Which call comes next as a walk goes into a directory, as it gives the entries of one, and from its opening to its
-//! close.
-ghost use Rattle.std.specs.Prelude.{◌≡◌, ◌≤◌, ◌<◌, ◌+◌, ◌-◌, ◌^◌, ◌∷◌, [], ℕ, List, Bool, true, false, length};
+//! close; and where the names lie of what it gives.
+ghost use Rattle.std.specs.Prelude.{◌≡◌, ◌≢◌, ◌≤◌, ◌<◌, ◌+◌, ◌-◌, ◌^◌, ◌∷◌, [], ◌++◌, ℕ, List, Bool, true, false, drop, length, take};
 ghost use Rattle.enter_directory.specs.Entering.{exchange, IsAt};
 ghost use Rattle.enter_directory.specs.History.{is_question, Exchange};
 ghost use Rattle.walk_directory.specs.History.{is_question as is_level_question, next_after, Exchange as LevelExchange, Facts};
-ghost use Rattle.walk_directory.specs.Level.{exchange as level_exchange, facts_of, IsAt as IsLevelAt, Keeps};
+ghost use Rattle.walk_directory.specs.Level.{exchange as level_exchange, facts_of, IsAt as IsLevelAt, IsLaid, Keeps};
 ghost use Rattle.walk_tree.specs.History.{is_question as is_walking_question, Exchange as WalkingExchange};
+ghost use Rattle.walk_tree.specs.Texts.{joined, HasText, IsUnder, StandsIn};
 ghost use Rattle.walk_tree.specs.Walking.{exchange as walking_exchange, IsAt as IsWalkingAt};
 
 use enter_directory::{Answer, Entering};
 use walk_directory::Level;
-use walk_tree::Walking;
+use walk_tree::{Texts, Walking};
 
 /// Begins to go into a directory: `enter_directory::begin`.
 #[unsafe(no_mangle)]
@@ -91,4 +92,27 @@ pub extern "C" fn inroot_walking_next(walking: &mut Walking, answer: &walk_tree:
     ensures over { is_walking_question walking.old.next ≡ false → walking.new ≡ walking.old }
 {
     *walking = walk_tree::next(*walking, answer);
+}
+
+/// Says where the names begin of an entry, or of a directory that was broken off: `walk_tree::texts_of`.
+#[unsafe(no_mangle)]
+pub extern "C" fn inroot_walk_texts(first: usize, directory: usize, texts: &mut Texts)
+    ensures path { (names : List (List ℕ)) (name path : List ℕ) → IsUnder names first directory path
+        → IsLaid name directory path → directory + 1 < 2 ^ 64
+        → HasText (joined (names ++ name ∷ [])) (drop texts.new.path path) }
+    ensures name { (name path : List ℕ) → IsLaid name directory path → directory + 1 < 2 ^ 64
+        → HasText name (drop texts.new.name path) }
+    ensures first { first + 1 < 2 ^ 64 → texts.new.path ≡ first + 1 }
+{
+    *texts = walk_tree::texts_of(first, directory);
+}
+
+/// Ends the text behind the path of a directory that was broken off: `walk_tree::cut`.
+#[unsafe(no_mangle)]
+pub extern "C" fn inroot_walk_cut(first: usize, directory: usize, path: &mut [u8])
+    ensures below { (name : List ℕ) (above : ℕ) → StandsIn name above directory path.old → directory ≢ first
+        → IsLaid name above path.new × (take directory path.new ≡ take directory path.old) }
+    ensures first { directory ≡ first → first + 1 < length path.old → HasText [] (drop (first + 1) path.new) }
+{
+    walk_tree::cut(first, directory, path);
 }

@@ -3,7 +3,8 @@ use std::test::Fail;
 use walk_directory::{BREAKS_OFF, ENDS, ENTER, GIVE, LOOK, READ};
 use walk_tree::{
     ANSWER, Answer, CALL_CLOSE, CALL_NEXT, CALL_OPEN, CALL_SKIP, CLOSED, DONE, DROP, FAILS, GIVES,
-    GO_IN, LEAVE, OPEN_ENTRY, OPEN_FIRST, OVER, TAKE_ROOM, TELL, TOLD, TURN, Walking, begin, next,
+    GO_IN, LEAVE, OPEN_ENTRY, OPEN_FIRST, OVER, TAKE_ROOM, TELL, TOLD, TURN, Texts, Walking, begin,
+    cut, next, texts_of,
 };
 
 const ENOENT: u32 = 2;
@@ -186,5 +187,21 @@ fn all_are_closed(rt: HostRuntime) -> Result<(), Fail> {
         calls(opened(), CALL_CLOSE).next == LEAVE && works(calls(opened(), CALL_CLOSE)) == closed
     );
     assert!(rt; calls(opened(), 0) == calls(opened(), CALL_CLOSE));
+    Ok(())
+}
+
+#[test]
+fn names_lie_behind_the_first_directory(rt: HostRuntime) -> Result<(), Fail> {
+    assert!(rt; texts_of(3, 3) == Texts { path: 4, name: 4 });
+    assert!(rt; texts_of(3, 7) == Texts { path: 4, name: 8 });
+    assert!(rt; texts_of(usize::MAX, usize::MAX).name == usize::MAX);
+    let mut text = *b"top/one/two/x";
+    cut(3, 7, &mut text);
+    assert!(rt; &text == b"top/one\0two/x");
+    cut(3, 3, &mut text);
+    assert!(rt; &text == b"top/\0ne\0two/x");
+    cut(3, 13, &mut text);
+    cut(12, 12, &mut text);
+    assert!(rt; &text == b"top/\0ne\0two/x");
     Ok(())
 }

@@ -4,3 +4,4 @@ pub mod ErrorLemmas
 pub mod FitLemmas
 mod KindLemmas
 pub mod OpenLemmas
+pub mod TextLemmas

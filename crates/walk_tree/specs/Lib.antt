@@ -1,3 +1,4 @@
 pub mod History
 pub mod Promises
+pub mod Texts
 pub mod Walking
