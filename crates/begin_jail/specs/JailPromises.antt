@@ -93,7 +93,8 @@ needs_kept next =
 abbrev pub is_repeated : ℕ → Bool
 is_repeated asked =
     (asked == LOOK)
-    || ((asked == OPEN_HERE) || ((asked == OPEN_ROOT) || ((asked == ENTER) || ((asked == CHANGE) || (asked == GO_BACK)))))
+    || ((asked == OPEN_HERE) || ((asked == OPEN_ROOT)
+    || ((asked == ENTER) || ((asked == CHANGE) || (asked == GO_BACK)))))
 
 abbrev pub is_end : ℕ → Bool
 is_end asked = (asked == CLOSE_ROOT) || ((asked == CLOSE_HERE) || (asked == LEAVE))

@@ -35,8 +35,8 @@ pub fn each_descriptor_is_closed_once()
         → is_open history ≡ needs_open (next_after kept history).next (next_after kept history).error }
 {}
 
-/// It fails by EBUSY where there is one already; by ENOSYS if the last one that was made or copied is none; by why there
-/// is no new one if there is no copy; or by the error of handing it in.
+/// It fails by EBUSY where there is one already; by ENOSYS if the last one that was made or copied is none; by why
+/// there is no new one if there is no copy; or by the error of handing it in.
 pub fn why_it_fails()
     ensures { (kept : Bool) (history : List Exchange) → IsHistory kept history
         → (next_after kept history).next ≡ FAILS

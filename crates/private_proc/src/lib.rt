@@ -1,5 +1,5 @@
-//! Which system call comes next as a proc(5) of the library's own is made, which is mounted nowhere, by what those before
-//! gave.
+//! Which system call comes next as a proc(5) of the library's own is made, which is mounted nowhere, by what those
+//! before gave.
 //!
 //! A C driver makes the calls, one at a time, and hands over what a call gave. No function makes a system call or takes
 //! memory.

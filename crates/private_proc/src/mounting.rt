@@ -168,7 +168,8 @@ pub fn begin(kept: bool) -> Mounting
 }
 
 /// Takes what the last thing gave, and says what comes next. The answer's error is 0, or that of the call (errno(3));
-/// of RESTRICT and of what is closed it isn't looked at. Where nothing comes any more, nothing changes. Takes no memory.
+/// of RESTRICT and of what is closed it isn't looked at. Where nothing comes any more, nothing changes. Takes no
+/// memory.
 ///
 /// A new one is made. If that fails, or isn't a proc(5) with the calling thread, /proc is copied. What is one of these
 /// is handed in, and its own descriptor closed. EINTR (4) of open_tree(2) and readlinkat(2) has it made again.

@@ -90,11 +90,11 @@ fn after(facts: &Facts, course: Course, answer: &Answer) -> Course
 /// The directory above is looked up by the names passed before `..` is opened, where these are known and nothing speaks
 /// against it. Only if `..` of the child leads to what was found is that what the step opens; else `..` is opened.
 ///
-/// EINTR (4) has the call made again that opens, that reads a link or a directory's records, that asks whether the mount
-/// has links followed, or of a magic link; of another question about what is open it is an error as any other. After
-/// EMFILE (24) or ENFILE (23) of an openat(2) that opens the step's object, a descriptor is let go, and the object is
-/// opened again. ENOTDIR (20) of a name that was opened with O_DIRECTORY has it opened without. A change is made once,
-/// whatever it gave.
+/// EINTR (4) has the call made again that opens, that reads a link or a directory's records, or that asks whether the
+/// mount has links followed, or of a magic link. Of another question about what is open it is an error as any other.
+/// After EMFILE (24) or ENFILE (23) of an openat(2) that opens the step's object, a descriptor is let go, and the
+/// object is opened again. ENOTDIR (20) of a name that was opened with O_DIRECTORY has it opened without. A change is
+/// made once, whatever it gave.
 ///
 /// Errors: the step is refused by an error that `is_refusal` has for it: of openat(2), of readlinkat(2), where ENOENT
 /// (2) of what is no link is EINVAL (22), of the change; and by ENOENT where a directory was removed. Any other ends it
