@@ -40,7 +40,7 @@ static uint32_t walk(struct at_once *a)
     const struct inroot_request *asked = a->d->asked;
     const uint64_t end = asked->op == INROOT_ASK_RESOLVE_NOFOLLOW ? O_NOFOLLOW : 0;
     a->fd = inroot_look_through(a->d, a->root, asked->first, end | (asked->directory ? O_DIRECTORY : 0), a->way.resolve);
-    return a->fd < 0 ? (uint32_t)errno : 0;
+    return inroot_errno_of(a->fd);
 }
 
 /* Gives the caller the object's kind. Returns 0 or an error's number. */

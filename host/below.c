@@ -36,7 +36,7 @@ static uint32_t start(struct look *l, bool *kept)
 static uint32_t open_in(struct look *l, int dir, const char *path, const struct open_how *how)
 {
     l->fd = (int)syscall(SYS_openat2, dir, path, how, sizeof *how);
-    return l->fd < 0 ? (uint32_t)errno : 0;
+    return inroot_errno_of(l->fd);
 }
 
 /* Where there is no directory, no file system is asked. A filter may answer by success, and give a descriptor. */
@@ -56,7 +56,7 @@ static uint32_t turn(struct look *l, enum inroot_one_look_next next, bool *kept)
     case INROOT_ONE_START: return start(l, kept);
     case INROOT_ONE_OPEN: return open_in(l, l->from, l->path, &l->how);
     case INROOT_ONE_PROBE: return probe(l);
-    case INROOT_ONE_STILL: return fcntl(l->from, F_GETFD) < 0 ? (uint32_t)errno : 0;
+    case INROOT_ONE_STILL: return inroot_errno_of(fcntl(l->from, F_GETFD));
     default: inroot_trust_end(); return 0;
     }
 }

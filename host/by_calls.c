@@ -12,11 +12,6 @@
 #include <sys/vfs.h>
 #include <unistd.h>
 
-static uint32_t error_of(long failed)
-{
-    return failed < 0 ? (uint32_t)errno : 0;
-}
-
 static uint32_t open_entry(struct inroot_work *w, int flags)
 {
     static const enum inroot_way ways[] = {
@@ -24,7 +19,7 @@ static uint32_t open_entry(struct inroot_work *w, int flags)
     };
     w->how = ways[w->facts.what];
     w->fd = openat(w->at, w->name, O_PATH | O_NOFOLLOW | O_CLOEXEC | flags);
-    return error_of(w->fd);
+    return inroot_errno_of(w->fd);
 }
 
 /*
@@ -50,7 +45,7 @@ static uint32_t look_above(struct inroot_driver *d, struct inroot_work *w)
 {
     w->how = INROOT_SEEN_BELOW;
     w->fd = inroot_above_find(d, d->root, d->passed, w->above);
-    return error_of(w->fd);
+    return inroot_errno_of(w->fd);
 }
 
 static uint32_t ask_object(int fd, struct inroot_step_answer *answer)
@@ -77,7 +72,7 @@ static uint32_t ask_mount_flags(struct inroot_driver *d, const struct inroot_wor
 {
     struct statfs about = {0};
     const bool was_read = w->facts.known == INROOT_SHOWN_LINK_READ;
-    const uint32_t error = was_read ? (uint32_t)inroot_followed_ask(d, &about) : error_of(fstatfs(w->looks, &about));
+    const uint32_t error = was_read ? (uint32_t)inroot_followed_ask(d, &about) : inroot_errno_of(fstatfs(w->looks, &about));
     answer->number = (uint64_t)about.f_flags;
     return error;
 }
@@ -85,20 +80,20 @@ static uint32_t ask_mount_flags(struct inroot_driver *d, const struct inroot_wor
 static uint32_t open_to_read(struct inroot_work *w)
 {
     w->reads = openat(w->looks, ".", O_RDONLY | O_DIRECTORY | O_CLOEXEC);
-    return error_of(w->reads);
+    return inroot_errno_of(w->reads);
 }
 
 static uint32_t read_some(const struct inroot_work *w)
 {
     char records[512];
-    return error_of(syscall(SYS_getdents64, w->reads, records, sizeof records));
+    return inroot_errno_of(syscall(SYS_getdents64, w->reads, records, sizeof records));
 }
 
 static uint32_t read_link(struct inroot_work *w)
 {
     ssize_t got = readlinkat(w->looks, "", w->text, INROOT_TEXT_MAX + 1);
     w->length = got < 0 ? 0 : (size_t)got;
-    return error_of(got);
+    return inroot_errno_of(got);
 }
 
 static uint32_t close_opened(struct inroot_driver *d, const struct inroot_work *w)
@@ -128,7 +123,7 @@ static uint32_t turn(struct inroot_driver *d, struct inroot_work *w, struct inro
     case INROOT_CALL_LAYERS: return ask_file_system(w->looks, answer);
     case INROOT_CALL_OPEN_TO_READ: return open_to_read(w);
     case INROOT_CALL_READ: return read_some(w);
-    case INROOT_CALL_CLOSE_READ: return error_of(close(w->reads));
+    case INROOT_CALL_CLOSE_READ: return inroot_errno_of(close(w->reads));
     case INROOT_CALL_NO_FOLLOW: return ask_mount_flags(d, w, answer);
     case INROOT_CALL_READ_LINK: return read_link(w);
     default: return close_opened(d, w);

@@ -5,6 +5,7 @@
 #include "calls.h"
 #include "inroot.h"
 
+#include <errno.h>
 #include <limits.h>
 #include <pthread.h>
 #include <stdatomic.h>
@@ -170,6 +171,12 @@ struct inroot_driver {
     struct inroot_slot few[INROOT_FEW];
     char rest[INROOT_TEXT_MAX];
 };
+
+/* What a system call gave, asked right behind it: 0, or the error's number. */
+static inline uint32_t inroot_errno_of(long given)
+{
+    return given < 0 ? (uint32_t)errno : 0;
+}
 
 /* From here to the end of the block no thread is cancelled: a call leaves nothing open, and lets go of what it holds. */
 #define INROOT_UNCANCELLED __attribute__((cleanup(inroot_cancel_again))) int inroot_cancels = inroot_cancel_not()

@@ -60,7 +60,7 @@ uint32_t inroot_followed_read(struct inroot_driver *d, uint64_t handle, int dir,
     if (length > NAME_MAX)
         return ENAMETOOLONG;
     ssize_t got = read_entry(dir, names, length, text);
-    uint32_t error = got < 0 ? (uint32_t)errno : 0;
+    uint32_t error = inroot_errno_of(got);
     inroot_hints_tell(d, handle, names, length, error == 0);
     if (error)
         return error;

@@ -23,16 +23,11 @@ struct giving {
     char text[INROOT_TEXT_MAX + 1];
 };
 
-static uint32_t error_of(long failed)
-{
-    return failed < 0 ? (uint32_t)errno : 0;
-}
-
 /* Under INROOT_NO_XDEV what is mounted over the entry isn't it. */
 static uint32_t open_entry(struct giving *g)
 {
     g->fd = inroot_mount_stay(g->d, openat(g->dir, g->name, O_PATH | O_NOFOLLOW | O_CLOEXEC));
-    return error_of(g->fd);
+    return inroot_errno_of(g->fd);
 }
 
 static uint32_t look(struct giving *g, int fd)
@@ -50,7 +45,7 @@ static uint32_t read_link(struct giving *g)
 {
     ssize_t got = readlinkat(g->fd, "", g->text, sizeof g->text);
     g->length = got < 0 ? 0 : (size_t)got;
-    return error_of(got);
+    return inroot_errno_of(got);
 }
 
 /* Makes the system call that comes next. Gives 0 or an error's number. */
@@ -61,8 +56,8 @@ static uint32_t turn(struct giving *g)
     case INROOT_GIVING_LOOK: return look(g, g->fd);
     case INROOT_GIVING_COMPARE: return look(g, g->known);
     case INROOT_GIVING_READ: return read_link(g);
-    case INROOT_GIVING_CLOSE: return error_of(close(g->fd));
-    default: return error_of(close(g->d->made));
+    case INROOT_GIVING_CLOSE: return inroot_errno_of(close(g->fd));
+    default: return inroot_errno_of(close(g->d->made));
     }
 }
 

@@ -155,13 +155,13 @@ static void find_out(const struct inroot_driver *d, uint8_t what, int *up, struc
     switch (what) {
     case INROOT_BACK_OPEN:
         *up = openat(d->inner, "..", O_PATH | O_DIRECTORY | O_NOFOLLOW | O_CLOEXEC);
-        found->error = *up < 0 ? (uint32_t)errno : 0;
+        found->error = inroot_errno_of(*up);
         break;
     case INROOT_BACK_IDENTIFY:
         identify(*up, &found->who);
         break;
     default:
-        found->error = fstatfs(*up, &about) == 0 ? 0 : (uint32_t)errno;
+        found->error = inroot_errno_of(fstatfs(*up, &about));
         found->file_system = (uint64_t)about.f_type;
     }
 }

@@ -29,11 +29,6 @@ void inroot_jail_done(void)
     inroot_proc_leave();
 }
 
-static uint32_t error_of(long failed)
-{
-    return failed < 0 ? (uint32_t)errno : 0;
-}
-
 /* ---- the current directory of a thread in a jail */
 
 /*
@@ -43,9 +38,9 @@ static uint32_t error_of(long failed)
 static uint32_t move(const struct inroot_whereabouts *where, int fd)
 {
     switch (where->next) {
-    case INROOT_WHERE_APART: return error_of(unshare(CLONE_FS));
-    case INROOT_WHERE_GO: return error_of(fchdir(fd));
-    default: return error_of(chdir("/"));
+    case INROOT_WHERE_APART: return inroot_errno_of(unshare(CLONE_FS));
+    case INROOT_WHERE_GO: return inroot_errno_of(fchdir(fd));
+    default: return inroot_errno_of(chdir("/"));
     }
 }
 
@@ -92,7 +87,7 @@ struct jail {
 static uint32_t look(struct jail *j)
 {
     struct stat about = {0};
-    const uint32_t error = error_of(fstat(j->root, &about));
+    const uint32_t error = inroot_errno_of(fstat(j->root, &about));
     j->answer.yes = S_ISDIR(about.st_mode);
     return error;
 }
@@ -101,7 +96,7 @@ static uint32_t ask_capability(struct jail *j)
 {
     struct __user_cap_header_struct head = {.version = _LINUX_CAPABILITY_VERSION_3};
     struct __user_cap_data_struct sets[_LINUX_CAPABILITY_U32S_3] = {{0}};
-    const uint32_t error = error_of(syscall(SYS_capget, &head, sets));
+    const uint32_t error = inroot_errno_of(syscall(SYS_capget, &head, sets));
     j->answer.yes = sets[CAP_SYS_CHROOT / 32].effective & 1U << CAP_SYS_CHROOT % 32;
     return error;
 }
@@ -115,7 +110,7 @@ static uint32_t stay(struct jail *j)
 static uint32_t open_in(int dir, int *fd)
 {
     *fd = openat(dir, ".", O_PATH | O_DIRECTORY | O_CLOEXEC);
-    return error_of(*fd);
+    return inroot_errno_of(*fd);
 }
 
 static uint32_t leave(void)
@@ -134,12 +129,12 @@ static uint32_t turn(struct jail *j)
     case INROOT_JAILING_TRUST: return (uint32_t)-inroot_trust_begin(j->proc, j->root);
     case INROOT_JAILING_OPEN_HERE: return open_in(AT_FDCWD, &j->from);
     case INROOT_JAILING_OPEN_ROOT: return open_in(j->root, &j->own);
-    case INROOT_JAILING_UNSHARE: return error_of(unshare(CLONE_FS));
-    case INROOT_JAILING_ENTER: return error_of(fchdir(j->own));
-    case INROOT_JAILING_CHANGE: return error_of(chroot("."));
-    case INROOT_JAILING_GO_BACK: return error_of(fchdir(j->from));
-    case INROOT_JAILING_CLOSE_ROOT: return error_of(close(j->own));
-    case INROOT_JAILING_CLOSE_HERE: return error_of(close(j->from));
+    case INROOT_JAILING_UNSHARE: return inroot_errno_of(unshare(CLONE_FS));
+    case INROOT_JAILING_ENTER: return inroot_errno_of(fchdir(j->own));
+    case INROOT_JAILING_CHANGE: return inroot_errno_of(chroot("."));
+    case INROOT_JAILING_GO_BACK: return inroot_errno_of(fchdir(j->from));
+    case INROOT_JAILING_CLOSE_ROOT: return inroot_errno_of(close(j->own));
+    case INROOT_JAILING_CLOSE_HERE: return inroot_errno_of(close(j->from));
     default: return leave();
     }
 }

@@ -33,7 +33,7 @@ uint32_t inroot_page_map(unsigned char **page)
 
 uint32_t inroot_page_wipe(unsigned char *page)
 {
-    return madvise(page, page_size(), MADV_WIPEONFORK) != 0 ? (uint32_t)errno : 0;
+    return inroot_errno_of(madvise(page, page_size(), MADV_WIPEONFORK));
 }
 
 uint32_t inroot_page_unmap(unsigned char **page)

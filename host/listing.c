@@ -57,7 +57,7 @@ static uint32_t turn(struct listing *l)
     switch (l->course.next) {
     case INROOT_LISTING_OPEN:
         l->dir = openat(l->fd, ".", O_RDONLY | O_DIRECTORY | O_CLOEXEC);
-        return l->dir < 0 ? (uint32_t)errno : 0;
+        return inroot_errno_of(l->dir);
     case INROOT_LISTING_SPARE:
         return inroot_handles_spare(l->d, l->handle) ? 0 : EMFILE;
     case INROOT_LISTING_READ:

@@ -80,7 +80,7 @@ static bool is_mount_root(int proc, int *wants)
         case INROOT_OWN_READ: got = read(fd, part, sizeof part); break;
         default: got = close(fd);
         }
-        inroot_own_root_next(about, known, got < 0 ? (uint32_t)errno : 0, part, got > 0 ? (size_t)got : 0, &own);
+        inroot_own_root_next(about, known, inroot_errno_of(got), part, got > 0 ? (size_t)got : 0, &own);
     }
     return own.next == INROOT_OWN_YES;
 }

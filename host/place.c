@@ -98,7 +98,7 @@ struct search {
 /* Notes what a system call gave: a text's length, or -1 with errno. Gives how long the text is. */
 static size_t note(struct search *s, ssize_t length)
 {
-    s->answer.error = length < 0 ? (uint32_t)errno : 0;
+    s->answer.error = inroot_errno_of(length);
     return length < 0 ? 0 : (size_t)length;
 }
 

@@ -25,21 +25,16 @@ struct mounting {
     struct inroot_mounting_answer answer;
 };
 
-static uint32_t error_of(long failed)
-{
-    return failed < 0 ? (uint32_t)errno : 0;
-}
-
 static uint32_t opened(int *fd, long given)
 {
     *fd = (int)given;
-    return error_of(given);
+    return inroot_errno_of(given);
 }
 
 /* Only what is of processes, where the kernel has that (Linux 5.8). Without it the rest is there as well, and isn't asked for. */
 static uint32_t restrict_to_processes(const struct mounting *m)
 {
-    return error_of(syscall(FSCONFIG, m->made, SETS_STRING, "subset", "pid", 0));
+    return inroot_errno_of(syscall(FSCONFIG, m->made, SETS_STRING, "subset", "pid", 0));
 }
 
 static uint32_t look(struct mounting *m)
@@ -52,7 +47,7 @@ static uint32_t look(struct mounting *m)
 static uint32_t ask_for_thread(int proc)
 {
     char text[1];
-    return error_of(readlinkat(proc, "thread-self", text, sizeof text));
+    return inroot_errno_of(readlinkat(proc, "thread-self", text, sizeof text));
 }
 
 bool inroot_proc_has_threads(int proc)
@@ -70,15 +65,15 @@ static uint32_t turn(struct mounting *m)
     switch (m->course.next) {
     case INROOT_MOUNTING_MAKE: return opened(&m->made, syscall(FSOPEN, "proc", FSOPEN_CLOSES));
     case INROOT_MOUNTING_RESTRICT: return restrict_to_processes(m);
-    case INROOT_MOUNTING_CREATE: return error_of(syscall(FSCONFIG, m->made, CREATES, NULL, NULL, 0));
+    case INROOT_MOUNTING_CREATE: return inroot_errno_of(syscall(FSCONFIG, m->made, CREATES, NULL, NULL, 0));
     case INROOT_MOUNTING_MOUNT: return opened(&m->fd, syscall(FSMOUNT, m->made, FSMOUNT_CLOSES, ATTRIBUTES));
-    case INROOT_MOUNTING_CLOSE_MADE: return error_of(close(m->made));
+    case INROOT_MOUNTING_CLOSE_MADE: return inroot_errno_of(close(m->made));
     case INROOT_MOUNTING_COPY:
         return opened(&m->fd, syscall(OPEN_TREE, AT_FDCWD, "/proc", TREE_CLONES | O_CLOEXEC | AT_SYMLINK_NOFOLLOW));
     case INROOT_MOUNTING_LOOK: return look(m);
     case INROOT_MOUNTING_THREADS: return ask_for_thread(m->fd);
     case INROOT_MOUNTING_HAND_IN: return (uint32_t)-inroot_use_proc(m->fd);
-    default: return error_of(close(m->fd));
+    default: return inroot_errno_of(close(m->fd));
     }
 }
 

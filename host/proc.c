@@ -55,11 +55,6 @@ struct finding {
     struct inroot_finding_answer answer;
 };
 
-static uint32_t error_of(long failed)
-{
-    return failed < 0 ? (uint32_t)errno : 0;
-}
-
 /* The one at hand that is asked about. */
 static int at_hand(const struct finding *f)
 {
@@ -105,12 +100,12 @@ static uint32_t opened(struct finding *f, int fd)
 static uint32_t copy_above(struct finding *f)
 {
     f->above = fcntl(f->fd, F_DUPFD_CLOEXEC, STDERR_FILENO + 1);
-    return error_of(f->above);
+    return inroot_errno_of(f->above);
 }
 
 static uint32_t close_low(struct finding *f)
 {
-    const uint32_t error = error_of(close(f->fd));
+    const uint32_t error = inroot_errno_of(close(f->fd));
     f->fd = f->above;
     return error;
 }
@@ -129,7 +124,7 @@ static uint32_t turn(struct finding *f)
     case INROOT_FINDING_COPY: return opened(f, openat(f->fd, ".", O_PATH | O_DIRECTORY | O_CLOEXEC));
     case INROOT_FINDING_IDENTIFY: return ask_file(f, f->fd);
     case INROOT_FINDING_NUMBER: return ask_mount(f, f->fd);
-    default: return error_of(close(f->fd));
+    default: return inroot_errno_of(close(f->fd));
     }
 }
 
@@ -251,7 +246,7 @@ static uint32_t turn_to_own(struct inroot_own *own, int fd, const struct inroot_
     case INROOT_OWNING_ENDS: return inroot_proc_ends() ? 0 : ENOMEM;
     case INROOT_OWNING_TAKE: fd = find_by(fd, INROOT_WANTS_TAKE, own); return fd < 0 ? (uint32_t)-fd : 0;
     case INROOT_OWNING_RELEASE: atomic_store(&kept, INROOT_NONE); return 0;
-    default: return error_of(close(own->fd));
+    default: return inroot_errno_of(close(own->fd));
     }
 }
 

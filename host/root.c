@@ -177,11 +177,6 @@ struct opening {
     char path[INROOT_TEXT_MAX], told[INROOT_TEXT_MAX];
 };
 
-static uint32_t error_of(long failed)
-{
-    return failed < 0 ? (uint32_t)errno : 0;
-}
-
 static uint32_t take_room(struct opening *o)
 {
     o->root = calloc(1, sizeof *o->root);
@@ -197,7 +192,7 @@ static uint32_t open_directory(struct opening *o)
     if (waits)
         begin_opening();
     const int fd = open(o->directory, O_PATH | O_DIRECTORY | O_CLOEXEC);
-    const uint32_t error = error_of(fd);
+    const uint32_t error = inroot_errno_of(fd);
     if (!waits)
         begin_opening();
     if (fd >= 0)
@@ -225,13 +220,13 @@ static uint32_t read_link(int dir, const char *name, char text[INROOT_TEXT_MAX],
 {
     const ssize_t got = readlinkat(dir, name, text, INROOT_TEXT_MAX);
     *length = got < 0 ? 0 : (size_t)got;
-    return error_of(got);
+    return inroot_errno_of(got);
 }
 
 static uint32_t open_table(struct opening *o)
 {
     o->table = openat(o->proc, "self/fd", O_PATH | O_DIRECTORY | O_CLOEXEC);
-    return error_of(o->table);
+    return inroot_errno_of(o->table);
 }
 
 /* Makes the system call that comes next. Gives 0 or an error's number. */
@@ -253,9 +248,9 @@ static uint32_t turn(struct opening *o, enum inroot_keeping_next next)
     case INROOT_KEEPING_TELL: return read_link(o->table, name + sizeof INROOT_PROC_TABLE - 1, o->told, &o->told_length);
     case INROOT_KEEPING_LOOK: return inroot_proc_is(o->table) ? 0 : ENOSYS;
     case INROOT_KEEPING_OWN: return (uint32_t)-inroot_proc_own(o->table, &o->root->keeps.table);
-    case INROOT_KEEPING_CLOSE_TABLE: return error_of(close(o->table));
-    case INROOT_KEEPING_CLOSE_PROC: return error_of(close(o->proc));
-    default: return error_of(close(o->root->fd));
+    case INROOT_KEEPING_CLOSE_TABLE: return inroot_errno_of(close(o->table));
+    case INROOT_KEEPING_CLOSE_PROC: return inroot_errno_of(close(o->proc));
+    default: return inroot_errno_of(close(o->root->fd));
     }
 }
 

@@ -84,7 +84,7 @@ static uint32_t look_up(struct inroot_driver *d, int dir, const char *names)
     const struct inroot_looks *now = &d->looks;
     const uint64_t flags = (now->directory ? O_DIRECTORY : 0) | (now->itself ? O_NOFOLLOW : 0);
     d->run.fd = inroot_look_through(d, dir, names, flags, now->resolve);
-    return d->run.fd < 0 ? (uint32_t)errno : 0;
+    return inroot_errno_of(d->run.fd);
 }
 
 static uint32_t look_up_names(const struct passing *p)

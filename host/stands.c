@@ -71,7 +71,7 @@ static uint32_t open_name(struct asking *a, const struct inroot_leading *now)
     const char behind = *end;
     *end = 0;
     int fd = openat(a->held, a->text + now->start, O_PATH | O_NOFOLLOW | O_CLOEXEC);
-    const uint32_t error = fd < 0 ? (uint32_t)errno : 0;
+    const uint32_t error = inroot_errno_of(fd);
     *end = behind;
     if (fd >= 0)
         hold(a, fd);
@@ -94,7 +94,7 @@ static bool takes_held(struct asking *a)
 static uint32_t look_up(struct asking *a)
 {
     a->held = inroot_look_up(a->d, a->root, a->text + 1, O_NOFOLLOW, RESOLVE_BENEATH);
-    const uint32_t error = a->held < 0 ? (uint32_t)errno : 0;
+    const uint32_t error = inroot_errno_of(a->held);
     a->answer.openat2 = inroot_has_openat2();
     if (!error) {
         a->answer.yes = takes_held(a);
@@ -131,7 +131,7 @@ static uint32_t turn(struct asking *a)
     case INROOT_ASKING_LOOK_UP: return look_up(a);
     case INROOT_ASKING_LEAD: return open_each(a);
     case INROOT_ASKING_DEAD: a->answer.yes = inroot_is_dead(a->slot->fd); return 0;
-    default: return close(a->slot->fd) < 0 ? (uint32_t)errno : 0;
+    default: return inroot_errno_of(close(a->slot->fd));
     }
 }
 

@@ -27,7 +27,7 @@ struct trusting {
 static uint32_t opened(struct trusting *t, int fd)
 {
     t->fd = fd;
-    return fd < 0 ? (uint32_t)errno : 0;
+    return inroot_errno_of(fd);
 }
 
 static uint32_t own(struct trusting *t, struct inroot_own *as)

@@ -90,7 +90,7 @@ static uint32_t find_above(struct entering *e)
 
 static uint32_t close_one(int fd)
 {
-    return close(fd) < 0 ? (uint32_t)errno : 0;
+    return inroot_errno_of(close(fd));
 }
 
 static uint32_t compare(const struct entering *e, int fd, struct inroot_entering_answer *answer)
@@ -192,7 +192,7 @@ static uint32_t read_records(struct level *level)
 {
     long got = syscall(SYS_getdents64, level->fd, level->records, sizeof level->records);
     level->got = got < 0 ? 0 : (size_t)got;
-    return got < 0 ? (uint32_t)errno : 0;
+    return inroot_errno_of(got);
 }
 
 /* The kind, which some file systems don't write beside the name, and a server may write wrong. */
