@@ -405,13 +405,22 @@ struct inroot_keeps {
     bool is_known;
     struct inroot_file file;
     unsigned char *page;           /* or NULL */
+    unsigned forks;                /* so many were seen as it began */
 };
+/*
+ * Begins to keep: notes how many forks were seen, and has the next one seen. Whether it could. Before that is kept on which a child
+ * would rely.
+ */
+bool inroot_keeps_begin(struct inroot_keeps *keeps);
+/* Whether what is kept is a parent's, as far as that is seen; whether it is seen to be this process's own. */
+bool inroot_keeps_are_parents(const struct inroot_keeps *keeps);
+bool inroot_keeps_are_own(const struct inroot_keeps *keeps);
+/* Whether this process was seen to be a child. */
+bool inroot_is_child(void);
 /* A page, which a child of fork(2) is to find empty; and gives it back. Each gives 0, or an error's number. */
 uint32_t inroot_page_map(unsigned char **page);
 uint32_t inroot_page_wipe(unsigned char *page);
 uint32_t inroot_page_unmap(unsigned char **page);
-/* Whether it begins with 1. */
-bool inroot_page_is_marked(const unsigned char *page);
 /* Which file a descriptor is of: 0, or an error's number. */
 uint32_t inroot_ask_file(int fd, struct inroot_file *file);
 /* Lets go of all of it. The root isn't closed if it IS_LOST, and SURELY only if its number is seen to be still that file's. */
@@ -483,6 +492,8 @@ struct inroot_kept_root {
     char path[INROOT_TEXT_MAX];
 };
 const struct inroot_kept_root *inroot_root_kept(int root);
+/* The process is a child of fork(2) from here on. */
+void inroot_root_in_child(void);
 
 /* place.c */
 /*

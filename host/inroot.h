@@ -211,10 +211,11 @@ int inroot_use_private_proc(void);
  *
  * Gives 0; -EBUSY in a thread that was moved already, -EBADF or -ENOTDIR where ROOT isn't a descriptor of a directory,
  * -EPERM without the capability, -ENOSYS without /proc, -EMFILE, -ENOMEM, -EACCES where ROOT may not be searched. After
- * an error the thread is as before, unless chroot(2) itself was refused, as by a security module: then its current
- * directory is still the same, but is its own from then on. If it can't go back there either, as it may no longer
- * search it, its current directory is ROOT: then the call gives the error of that fchdir(2), and inroot_last_error() has
- * the step `Return`.
+ * an error the thread is as before, unless fchdir(2) or chroot(2) itself was refused, as by a filter or a security
+ * module: then its current directory is still the same, but is its own from then on. If it can't go back there either,
+ * as it may no longer search it, its current directory is ROOT: then the call gives the error of that fchdir(2), and
+ * inroot_last_error() has the step `Return`. A filter may also have one of them do nothing, and say that it was done: then
+ * the call gives -EPERM.
  */
 int inroot_jail(int root);
 
@@ -265,7 +266,8 @@ void inroot_jail_done(void);
  * so if the kernel has no MADV_WIPEONFORK (madvise(2)) or no openat2(2), and on roots beyond some 256 roots at a
  * time. What is kept of a root goes by its descriptor's number. So a thread with a table of descriptors of its own gives
  * no call another directory by that number while the root is open. If a child of fork(2) has closed the descriptor, and
- * opens a root that gets its number, the new root counts alone, and closing the first leaves it open.
+ * opens a root that gets its number, the new root counts alone, and closing the first leaves it open. So in a child the
+ * closing of its parent's root waits until no other thread is opening one.
  *
  * inroot_root_open() walks DIRECTORY as open(2) does, links and all, so it is to be a path that nobody else can
  * change. It gives 0 and the root; -EINVAL of another flag, or of INROOT_TRUST_PROC without

@@ -113,6 +113,26 @@ static uint32_t open_in(int dir, int *fd)
     return inroot_errno_of(*fd);
 }
 
+/* A filter may say that something was done, and do nothing: then the thread isn't at the root, which a path would leave. */
+static uint32_t check_at(const char *name, const struct jail *j)
+{
+    struct stat at, own;
+    const bool is_seen = fstatat(AT_FDCWD, name, &at, AT_NO_AUTOMOUNT) == 0 && fstat(j->own, &own) == 0;
+    return is_seen && (at.st_dev != own.st_dev || at.st_ino != own.st_ino) ? EPERM : 0;
+}
+
+static uint32_t enter(const struct jail *j)
+{
+    const uint32_t error = inroot_errno_of(fchdir(j->own));
+    return error != 0 ? error : check_at(".", j);
+}
+
+static uint32_t change(const struct jail *j)
+{
+    const uint32_t error = inroot_errno_of(chroot("."));
+    return error != 0 ? error : check_at("/", j);
+}
+
 static uint32_t leave(void)
 {
     inroot_proc_leave();
@@ -130,8 +150,8 @@ static uint32_t turn(struct jail *j)
     case INROOT_JAILING_OPEN_HERE: return open_in(AT_FDCWD, &j->from);
     case INROOT_JAILING_OPEN_ROOT: return open_in(j->root, &j->own);
     case INROOT_JAILING_UNSHARE: return inroot_errno_of(unshare(CLONE_FS));
-    case INROOT_JAILING_ENTER: return inroot_errno_of(fchdir(j->own));
-    case INROOT_JAILING_CHANGE: return inroot_errno_of(chroot("."));
+    case INROOT_JAILING_ENTER: return enter(j);
+    case INROOT_JAILING_CHANGE: return change(j);
     case INROOT_JAILING_GO_BACK: return inroot_errno_of(fchdir(j->from));
     case INROOT_JAILING_CLOSE_ROOT: return inroot_errno_of(close(j->own));
     case INROOT_JAILING_CLOSE_HERE: return inroot_errno_of(close(j->from));

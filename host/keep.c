@@ -1,11 +1,13 @@
 /*
- * keep.c: what the library keeps open for a program: pages of which a child of fork(2) finds none of what its parent wrote, and how
- * what is kept is let go. What is closed, and which system call comes next, the proved library says (crates/keep_open).
+ * keep.c: what the library keeps open for a program: whether it is a parent's, of which a child of fork(2) has a copy, and how what
+ * is kept is let go. What is closed, and which system call comes next, the proved library says (crates/keep_open).
  */
 #define _GNU_SOURCE
 #include "driver.h"
 
 #include <errno.h>
+#include <pthread.h>
+#include <stdatomic.h>
 #include <sys/mman.h>
 #include <sys/stat.h>
 #include <unistd.h>
@@ -44,9 +46,48 @@ uint32_t inroot_page_unmap(unsigned char **page)
 }
 
 /* volatile: the kernel empties the page, which no compiler sees. */
-bool inroot_page_is_marked(const unsigned char *page)
+static bool is_marked(const unsigned char *page)
 {
-    return page != NULL && *(const volatile unsigned char *)page == 1;
+    return *(const volatile unsigned char *)page == 1;
+}
+
+/* ---- children */
+
+/*
+ * It is another number in a child of fork(3). The page alone says it of a child of clone(2); this alone where the kernel has no such
+ * pages, or says so and empties none, as one that qemu-user stands for may.
+ */
+static atomic_uint forks;
+static atomic_bool sees_forks;
+
+static void in_child(void)
+{
+    atomic_fetch_add(&forks, 1);
+    inroot_root_in_child();
+}
+
+/* Threads that come here at once may all do it. None waits for another, which a child might not have. */
+bool inroot_keeps_begin(struct inroot_keeps *k)
+{
+    if (!atomic_load(&sees_forks) && pthread_atfork(NULL, NULL, in_child) == 0)
+        atomic_store(&sees_forks, true);
+    k->forks = atomic_load(&forks);
+    return atomic_load(&sees_forks);
+}
+
+bool inroot_is_child(void)
+{
+    return atomic_load(&forks) != 0;
+}
+
+bool inroot_keeps_are_parents(const struct inroot_keeps *k)
+{
+    return k->forks != atomic_load(&forks) || (k->page != NULL && !is_marked(k->page));
+}
+
+bool inroot_keeps_are_own(const struct inroot_keeps *k)
+{
+    return k->page != NULL && !inroot_keeps_are_parents(k);
 }
 
 /* ---- letting go */

@@ -25,15 +25,17 @@ static struct inroot_result names(void)
 
 /*
  * Nothing is asked of a server. A filter may refuse statx(2). A C library may then give what fstat(2) says, and leave alone what
- * that doesn't say: the mask shows it.
+ * that doesn't say: the mask shows it. It also shows where a filter says that the call was made, which then was not.
  */
 bool inroot_find_which(int fd, const char *name, struct inroot_which *which)
 {
     const int how = AT_EMPTY_PATH | AT_SYMLINK_NOFOLLOW | AT_NO_AUTOMOUNT;
     struct stat about;
 #ifdef STATX_MNT_ID
+    const unsigned needs = STATX_TYPE | STATX_INO;
     struct statx more = {0};
-    if (statx(fd, name, how | AT_STATX_DONT_SYNC, STATX_TYPE | STATX_INO | STATX_NLINK | STATX_MNT_ID, &more) == 0) {
+    if (statx(fd, name, how | AT_STATX_DONT_SYNC, needs | STATX_NLINK | STATX_MNT_ID, &more) == 0 &&
+        (more.stx_mask & needs) == needs) {
         *which = (struct inroot_which){
             .object.device = (uint64_t)more.stx_dev_major << 32 | more.stx_dev_minor,
             .object.inode = more.stx_ino,

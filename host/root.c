@@ -7,7 +7,6 @@
 
 #include <errno.h>
 #include <fcntl.h>
-#include <pthread.h>
 #include <stdatomic.h>
 #include <stdlib.h>
 #include <string.h>
@@ -16,7 +15,6 @@
 struct inroot_root {
     /* The number of the root's descriptor, also once that is closed. */
     int fd;
-    /* Its page begins with 1, and with 0 in a child of fork(2): what is kept isn't the child's. */
     struct inroot_keeps keeps;
     /* A child has closed the descriptor by itself: the number is another root's. */
     atomic_bool is_lost;
@@ -81,68 +79,66 @@ static struct inroot_root *find(int fd)
 
 /* ---- who opens, and who closes */
 
+/* So many threads have a turn to open, or one has a turn to close. */
+enum { CLOSES = -1, MOMENT = 1000, GLANCES = 64 };
+
 /*
  * Who opens a root may find an older one by its number, which a thread may be closing. So nobody lets a root go while another looks
- * at one. And in a child of fork(2) nobody closes its parent's root while another opens one: by the number that the child has closed
- * itself. So many threads open a root; or one closes one.
+ * at one: these turns are short. And in a child of fork(2) nobody closes its parent's root while another opens one: by the number
+ * that the child has closed itself. A file system may let somebody wait there, for whom only who closes a parent's root waits, too.
  */
-enum { CLOSES = -1, MOMENT = 1000 };
-static atomic_int turns;
-/* The process is a child, which may have its parent's roots. */
-static atomic_bool is_child;
-static pthread_once_t fork_once = PTHREAD_ONCE_INIT;
+static atomic_int looks, opens;
 
 /* The threads that had turns aren't there. */
-static void in_child(void)
+void inroot_root_in_child(void)
 {
-    atomic_store(&turns, 0);
-    atomic_store(&is_child, true);
+    atomic_store(&looks, 0);
+    atomic_store(&opens, 0);
 }
 
-static void look_for_forks(void)
+/* Whoever has a short turn may end it before long. */
+static void glance(int *glances)
 {
-    pthread_atfork(NULL, NULL, in_child);
+    inroot_wait(++*glances > GLANCES ? MOMENT : 0);
 }
 
-static void begin_opening(void)
+static void begin_opening(atomic_int *turns)
 {
-    for (int now = atomic_load(&turns);;) {
+    int glances = 0;
+    for (int now = atomic_load(turns);;) {
         if (now == CLOSES) {
-            inroot_wait(MOMENT);
-            now = atomic_load(&turns);
-        } else if (atomic_compare_exchange_weak(&turns, &now, now + 1)) {
+            glance(&glances);
+            now = atomic_load(turns);
+        } else if (atomic_compare_exchange_weak(turns, &now, now + 1)) {
             return;
         }
     }
 }
 
-static void end_opening(void)
+/* A handler may have forked meanwhile: the child's turns were ended then. */
+static void end_opening(atomic_int *turns)
 {
-    atomic_fetch_sub(&turns, 1);
+    for (int now = atomic_load(turns); now > 0 && !atomic_compare_exchange_weak(turns, &now, now - 1);)
+        ;
 }
 
-static void begin_closing(void)
+static void begin_closing(atomic_int *turns)
 {
-    for (int none = 0; !atomic_compare_exchange_weak(&turns, &none, CLOSES); none = 0)
-        inroot_wait(MOMENT);
+    int glances = 0;
+    for (int none = 0; !atomic_compare_exchange_strong(turns, &none, CLOSES); none = 0)
+        glance(&glances);
 }
 
-static void end_closing(void)
+static void end_closing(atomic_int *turns)
 {
-    atomic_store(&turns, 0);
-}
-
-/* A page that isn't there says nothing of a child. */
-static bool is_of_parent(const struct inroot_root *root)
-{
-    return root->keeps.page != NULL && !inroot_page_is_marked(root->keeps.page);
+    atomic_store(turns, 0);
 }
 
 /* A new root has this number. So a child has closed its parent's root that had it, of which nothing counts any more. */
 static void replace(int fd)
 {
     struct inroot_root *root;
-    while ((root = find(fd)) != NULL && is_of_parent(root)) {
+    while ((root = find(fd)) != NULL && inroot_keeps_are_parents(&root->keeps)) {
         atomic_store(&root->is_lost, true);
         leave(root);
     }
@@ -153,7 +149,7 @@ const struct inroot_kept_root *inroot_root_kept(int fd)
     static const struct inroot_kept_root flag_alone = {.flags = INROOT_BELOW, .table = INROOT_NONE};
     const struct inroot_root *root = find(fd);
     const struct inroot_believing_facts facts = {
-        .there = root != NULL, .marked = root != NULL && inroot_page_is_marked(root->keeps.page),
+        .there = root != NULL, .marked = root != NULL && inroot_keeps_are_own(&root->keeps),
         .below = root != NULL && root->keeps.is_known && root->kept.flags & INROOT_BELOW,
     };
     uint8_t counts = inroot_believe(&facts);
@@ -183,21 +179,22 @@ static uint32_t take_room(struct opening *o)
     if (o->root == NULL)
         return ENOMEM;
     o->root->fd = o->root->keeps.fd = o->root->keeps.table.fd = o->root->kept.table = INROOT_NONE;
-    return 0;
+    return inroot_keeps_begin(&o->root->keeps) ? 0 : ENOMEM;
 }
 
 static uint32_t open_directory(struct opening *o)
 {
-    const bool waits = atomic_load(&is_child);
+    const bool waits = inroot_is_child();
     if (waits)
-        begin_opening();
+        begin_opening(&opens);
     const int fd = open(o->directory, O_PATH | O_DIRECTORY | O_CLOEXEC);
     const uint32_t error = inroot_errno_of(fd);
-    if (!waits)
-        begin_opening();
+    begin_opening(&looks);
     if (fd >= 0)
         replace(fd);
-    end_opening();
+    end_opening(&looks);
+    if (waits)
+        end_opening(&opens);
     o->root->fd = o->root->keeps.fd = fd;
     return error;
 }
@@ -288,7 +285,6 @@ int inroot_root_open(const char *directory, int flags, struct inroot_root **root
     struct opening o = {.directory = directory, .proc = INROOT_NONE, .table = INROOT_NONE};
     *root = NULL;
     INROOT_UNCANCELLED;
-    pthread_once(&fork_once, look_for_forks);
     const uint32_t error = open_root(&o, flags);
     if (error != 0)
         return inroot_error_alone((int)error, "", directory);
@@ -308,14 +304,15 @@ void inroot_root_close(struct inroot_root *root)
     if (root == NULL)
         return;
     INROOT_UNCANCELLED;
-    const bool waits = is_of_parent(root);
-    begin_closing();
+    const bool waits = inroot_keeps_are_parents(&root->keeps);
+    if (waits)
+        begin_closing(&opens);
+    begin_closing(&looks);
     leave(root);
     const bool is_lost = atomic_load(&root->is_lost);
-    if (!waits)
-        end_closing();
+    end_closing(&looks);
     inroot_keeps_end(&root->keeps, is_lost, false);
     if (waits)
-        end_closing();
+        end_closing(&opens);
     free(root);
 }

@@ -4,8 +4,8 @@
  * these two: the program promises that they are.
  *
  * A child of fork(2) has both descriptors, too, and its first one leads to its parent's table. So the thread has a page that the
- * kernel fills with zeros for a child (MADV_WIPEONFORK). A child finds zeros there, and forgets both descriptors. Which system
- * call comes next, and what counts, the proved library says (crates/keep_open).
+ * kernel fills with zeros for a child (MADV_WIPEONFORK). A child finds zeros there, and forgets both descriptors; so it does where
+ * its fork(3) was seen. Which system call comes next, and what counts, the proved library says (crates/keep_open).
  */
 #define _GNU_SOURCE
 #include "driver.h"
@@ -62,7 +62,7 @@ static uint32_t turn(struct trusting *t, enum inroot_trusting_next next)
     switch (next) {
     case INROOT_TRUSTING_MAP: return inroot_page_map(&t->keeps.page);
     case INROOT_TRUSTING_WIPE: return inroot_page_wipe(t->keeps.page);
-    case INROOT_TRUSTING_ENDS: return inroot_proc_ends() ? 0 : ENOMEM;
+    case INROOT_TRUSTING_ENDS: return inroot_proc_ends() && inroot_keeps_begin(&t->keeps) ? 0 : ENOMEM;
     case INROOT_TRUSTING_TABLE: return opened(t, openat(t->proc, INROOT_PROC_TABLE, O_PATH | O_DIRECTORY | O_CLOEXEC));
     case INROOT_TRUSTING_LOOK: return inroot_proc_is(t->fd) ? 0 : ENOSYS;
     case INROOT_TRUSTING_OWN: return own(t, &t->keeps.table);
@@ -91,13 +91,13 @@ int inroot_trust_begin(int proc, int root)
 /* A child of fork(2) may have another file by the root's number since, so nobody closes that one there. */
 void inroot_trust_end(void)
 {
-    inroot_keeps_end(&kept, !inroot_page_is_marked(kept.page), true);
+    inroot_keeps_end(&kept, !inroot_keeps_are_own(&kept), true);
 }
 
 /* Lets go of what doesn't count. */
 static bool counts(void)
 {
-    const struct inroot_believing_facts facts = {.there = kept.table.fd >= 0, .marked = inroot_page_is_marked(kept.page)};
+    const struct inroot_believing_facts facts = {.there = kept.table.fd >= 0, .marked = inroot_keeps_are_own(&kept)};
     const bool is_so = inroot_believe(&facts) == INROOT_BELIEVES_ALL;
     if (!is_so && facts.there)
         inroot_trust_end();

@@ -1,6 +1,7 @@
 /*
  * facts: what the driver tells the proved library is so. A C library that has no statx(2) gives what fstat(2) says, and leaves
- * the rest alone: nobody takes that for a mount. What a signal interrupts is read again. `..` of a directory that somebody moved
+ * the rest alone: nobody takes that for a mount. A filter may have statx(2) do nothing, and say that it was made: nobody takes two
+ * objects for one by that. What a signal interrupts is read again. `..` of a directory that somebody moved
  * out of its mount is ENOENT: nobody takes it for removed; and of the top of a mount that was taken off it is that top itself:
  * nobody goes on there. What a look-up has opened is no copy of the program's descriptor, though it may get the number of one
  * that was closed.
@@ -22,6 +23,8 @@ static char where[PATH_MAX];
 /* ---- a C library without statx(2) */
 
 static bool is_emulated;
+/* It does nothing, and says that it was made. */
+static bool is_unmade;
 
 int __real_statx(int dir, const char *name, int flags, unsigned what, struct statx *about);
 int __wrap_statx(int dir, const char *name, int flags, unsigned what, struct statx *about);
@@ -31,6 +34,8 @@ int __wrap_statx(int dir, const char *name, int flags, unsigned what, struct sta
 {
     static uint64_t left;
     struct stat told;
+    if (is_unmade)
+        return 0;
     if (!is_emulated)
         return __real_statx(dir, name, flags, what, about);
     if (fstatat(dir, name, &told, flags & (AT_EMPTY_PATH | AT_SYMLINK_NOFOLLOW | AT_NO_AUTOMOUNT)) != 0)
@@ -224,6 +229,19 @@ static void top_that_is_taken_off(void)
     gives(got, -EAGAIN, "the top of a mount that is taken off");
 }
 
+/* The text of what is covered is that of what covers it: only which object it is says that the look-up has found another. */
+static void covered(void)
+{
+    char place[PATH_MAX];
+    mount_over("tree", "box");
+    int fd = sure(openat(root, "d/e", O_PATH | O_CLOEXEC), "e");
+    sure(mount("tree/d", "box/d/e", NULL, MS_BIND, NULL), "mount");
+    gives(inroot_place(root, fd, place, sizeof place), -EXDEV, "the place of what is covered");
+    is_unmade = true;
+    gives(inroot_place(root, fd, place, sizeof place), -EXDEV, "the place of what is covered, where statx(2) does nothing");
+    gives(inroot_open(root, "d/e/f", 0) >= 0, true, "a call where statx(2) does nothing");
+}
+
 /* ---- a descriptor that is no copy */
 
 /* Of a directory that may not be searched a look-up from the root opens another descriptor, and `.` can't be opened. */
@@ -262,7 +280,7 @@ int main(int count, char **words)
 {
     static void (*const parts[])(void) = {
         emulated, emulated_in_chroot, interrupted, parents_by_proc, parents_in_jail, top_that_is_taken_off,
-        no_copy, no_copy_in_jail, no_copy_in_trust,
+        covered, no_copy, no_copy_in_jail, no_copy_in_trust,
     };
     int skipped = 0;
     begin_in_box(count, words, &base, &root);

@@ -1,7 +1,7 @@
 /*
  * jails: how a thread comes into a jail, and where a call in one leaves it. Each system call by which a jail begins fails, by some
  * errors, or is interrupted by signals: the thread's root directory, its current directory and its descriptors are then as they
- * were, by their inodes, or the error says otherwise. In a jail each change of the current directory is interrupted, or fails.
+ * were, by their inodes, or the error says otherwise. So they are where one of them does nothing, and says that it was done. In a jail each change of the current directory is interrupted, or fails.
  * To be linked with --wrap of chdir, chroot, fchdir, fstat, openat, syscall and unshare.
  *
  * usage: jails DIR. Exits 0 where that holds. 78: no right to change a root.
@@ -25,6 +25,8 @@ static const char *const names[] = {
 /* Which of them fails, how often, and by which error. With CHANGE the way back may fail, too. */
 static enum made fails;
 static int times, error, back_error;
+/* It does nothing, and says that it was done. */
+static bool lies;
 
 /* How many changes of the current directory there were in a jail. */
 static int moves;
@@ -62,7 +64,7 @@ int __wrap_fchdir(int fd)
 {
     moves++;
     if (is_due(has_entered ? BACK : ENTER))
-        return -1;
+        return lies ? 0 : -1;
     if (has_entered && back_error != 0) {
         errno = back_error;
         return -1;
@@ -74,7 +76,7 @@ int __wrap_fchdir(int fd)
 
 int __wrap_chroot(const char *path)
 {
-    return is_due(CHANGE) ? -1 : __real_chroot(path);
+    return is_due(CHANGE) ? lies ? 0 : -1 : __real_chroot(path);
 }
 
 int __wrap_unshare(int flags)
@@ -170,6 +172,32 @@ static void refused_in_each_way(void)
                 error = errors[at];
                 apart(refused);
             }
+    flags = 0;
+}
+
+/* As under a filter that refuses what it doesn't allow by no error. */
+static void deceived(void)
+{
+    const enum made one = fails;
+    keep_proc();
+    look_around();
+    int before = open_descriptors();
+    fail(one, 0, 1);
+    lies = true;
+    gives(inroot_jail_with(root, flags), -EPERM, "%s does nothing, flags %d", names[one], flags);
+    lies = false;
+    gives(times, 0, "%s: how often it is still to do nothing", names[one]);
+    is_at("/", &top, names[one]);
+    is_at(".", &here, names[one]);
+    gives(open_descriptors(), before, "%s does nothing: open descriptors", names[one]);
+    gives(inroot_open(INROOT_JAIL, "a", 0), -EBADF, "%s does nothing: a call in the jail", names[one]);
+}
+
+static void deceived_in_each_way(void)
+{
+    for (flags = 0; flags <= INROOT_TRUST_PROC; flags += INROOT_TRUST_PROC)
+        for (fails = ENTER; fails <= CHANGE; fails++)
+            apart(deceived);
     flags = 0;
 }
 
@@ -287,6 +315,7 @@ int main(int count, char **words)
     sure(mkdirat(root, "a", 0755), "a");
     sure(mkdirat(root, "a/b", 0755), "a/b");
     refused_in_each_way();
+    deceived_in_each_way();
     apart(stranded);
     interrupted_in_each_way();
     in_jails();

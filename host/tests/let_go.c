@@ -1,6 +1,7 @@
 /*
  * let_go: a root that is closed in a child of fork(2) which closed its number itself, while a thread opens another; signals that come
- * as a root is asked which directory it is; roots where the kernel has no pages that a child finds empty; and one that a thread with
+ * as a root is asked which directory it is; roots where the kernel has no pages that a child finds empty, or only says so, or where
+ * nobody sees a fork(3); children of clone(2); an opening that takes long, or in which a handler forks; and a root that a thread with
  * descriptors of its own opens.
  *
  * usage: let_go DIR. Exits 0 where only what the library opened is closed, and nothing kept counts in a child. 77: no openat2(2) here.
@@ -12,6 +13,7 @@
 
 #include <pthread.h>
 #include <sched.h>
+#include <signal.h>
 #include <stdatomic.h>
 #include <sys/mman.h>
 #include <sys/stat.h>
@@ -24,8 +26,13 @@ static int watched = -1, closings, signals;
 static void (*before)(void);
 /* How many texts of descriptors were read. */
 static int texts;
-/* madvise(2) is refused by this error. */
+/* madvise(2) is refused by this error; or it does nothing, and says that it was done. */
 static int refusal;
+static bool lies;
+/* So many times nobody can have forks seen. */
+static int unseen;
+/* What is done before the root is opened. */
+static void (*as_it_opens)(void);
 
 int __real_fstat(int fd, struct stat *about);
 int __wrap_fstat(int fd, struct stat *about);
@@ -33,6 +40,10 @@ int __real_close(int fd);
 int __wrap_close(int fd);
 int __real_madvise(void *at, size_t size, int advice);
 int __wrap_madvise(void *at, size_t size, int advice);
+int __real_open(const char *name, int flags, ...);
+int __wrap_open(const char *name, int flags, ...);
+int __real_pthread_atfork(void (*prepare)(void), void (*parent)(void), void (*child)(void));
+int __wrap_pthread_atfork(void (*prepare)(void), void (*parent)(void), void (*child)(void));
 
 int __wrap_fstat(int fd, struct stat *about)
 {
@@ -57,10 +68,30 @@ int __wrap_close(int fd)
 
 int __wrap_madvise(void *at, size_t size, int advice)
 {
+    if (lies)
+        return 0;
     if (refusal == 0)
         return __real_madvise(at, size, advice);
     errno = refusal;
     return -1;
+}
+
+int __wrap_open(const char *name, int flags, ...)
+{
+    if (as_it_opens != NULL && strcmp(name, path) == 0) {
+        void (*once)(void) = as_it_opens;
+        as_it_opens = NULL;
+        once();
+    }
+    return __real_open(name, flags);
+}
+
+int __wrap_pthread_atfork(void (*prepare)(void), void (*parent)(void), void (*child)(void))
+{
+    if (unseen == 0)
+        return __real_pthread_atfork(prepare, parent, child);
+    unseen--;
+    return ENOMEM;
 }
 
 ssize_t __wrap_readlinkat(int dir, const char *name, char *text, size_t size)
@@ -235,6 +266,156 @@ static void without_pages(void)
     }
 }
 
+/* In a child of clone(2), of which nobody but the page tells. */
+static void by_clone(void (*what)(void))
+{
+    int status;
+    fflush(stdout);
+    pid_t child = (pid_t)sure((int)syscall(SYS_clone, SIGCHLD, 0, 0, 0, 0), "clone");
+    if (child == 0) {
+        wrong = 0;
+        what();
+        fflush(stdout);
+        _exit(wrong > 100 ? 100 : wrong);
+    }
+    sure(waitpid(child, &status, 0), "waitpid");
+    ended_well(status, "a child of clone(2), flags %d", own_flags);
+}
+
+static void in_clones(void)
+{
+    refusal = ENOSYS;
+    own_flags = INROOT_BELOW;
+    parents = opened(own_flags);
+    by_clone(another_by_its_number);
+    inroot_root_close(parents);
+    refusal = 0;
+    for (int kind = 0; kind < KINDS; kind++) {
+        own_flags = kinds[kind];
+        parents = opened(own_flags);
+        by_clone(another_by_its_number);
+        by_clone(close_nobodys);
+        by_clone(close_others);
+        by_clone(close_own);
+        inroot_root_close(parents);
+    }
+}
+
+/* ---- the new root counts alone, also where no page tells who is a child */
+
+static void open_by_its_number(void)
+{
+    const int number = inroot_root_fd(parents);
+    __real_close(number);
+    struct inroot_root *own = opened(0);
+    gives(inroot_root_fd(own), number, "the number of a child's root, flags %d", own_flags);
+    inroot_root_close(parents);
+    gives_least(fcntl(number, F_GETFD), 0, "a child's root by the number of its parent's, flags %d", own_flags);
+    inroot_root_close(own);
+}
+
+static void in_a_jail(void)
+{
+    const int number = inroot_root_fd(parents);
+    if (inroot_jail_with(number, INROOT_TRUST_PROC) != 0)
+        return;
+    pid_t child = sure(fork(), "fork");
+    int status;
+    if (child == 0) {
+        texts = 0;
+        int found = inroot_open(INROOT_JAIL, "f", 0);
+        gives_fd(found, "a call in a jail's child");
+        gives_least(texts, 1, "texts that a call in a jail's child reads by its own descriptors");
+        fflush(stdout);
+        _exit(wrong);
+    }
+    sure(waitpid(child, &status, 0), "waitpid");
+    ended_well(status, "a jail's child");
+}
+
+static void without_truth(void)
+{
+    in_children(open_by_its_number);
+    refusal = EPERM;
+    in_children(open_by_its_number);
+    refusal = 0;
+    lies = true;
+    in_children(open_by_its_number);
+    in_children(another_by_its_number);
+    in_children(in_a_jail);
+    lies = false;
+}
+
+/* Nothing is kept of which a child might not know that it is its parent's. */
+static void without_forks(void)
+{
+    struct inroot_root *root = NULL;
+    const int before = open_descriptors();
+    unseen = 2;
+    gives(inroot_root_open(path, 0, &root), -ENOMEM, "a root where no fork is seen");
+    expect(root == NULL, "there is a root where no fork is seen");
+    gives(inroot_root_open(path, INROOT_BELOW, &root), -ENOMEM, "a second root where no fork is seen");
+    gives(unseen, 0, "how often it is still to fail");
+    gives(open_descriptors(), before, "open descriptors where no fork is seen");
+    inroot_root_close(opened(0));
+}
+
+/* ---- an opening that takes long, or in which a handler forks */
+
+static atomic_bool is_opening;
+
+static void take_long(void)
+{
+    atomic_store(&is_opening, true);
+    pause();
+}
+
+static void *open_for_long(void *unused)
+{
+    as_it_opens = take_long;
+    opened(0);
+    return unused;
+}
+
+/* A root of this process can be closed, and another be opened, while a file system has somebody wait. */
+static void while_one_waits(void)
+{
+    pthread_t waiting;
+    alarm(10);
+    struct inroot_root *own = opened(0);
+    pthread_create(&waiting, NULL, open_for_long, NULL);
+    while (!atomic_load(&is_opening))
+        nanosleep(&(struct timespec){.tv_nsec = 1000000}, NULL);
+    inroot_root_close(own);
+    own = opened(0);
+    inroot_root_close(own);
+    alarm(0);
+}
+
+/* The parent waits, and ends as its child does. The child goes on. */
+static void fork_there(void)
+{
+    int status;
+    pid_t child = sure(fork(), "fork");
+    if (child == 0) {
+        alarm(10);
+        return;
+    }
+    sure(waitpid(child, &status, 0), "waitpid");
+    ended_well(status, "the child of a handler");
+    fflush(stdout);
+    _exit(wrong);
+}
+
+static void while_it_forks(void)
+{
+    as_it_opens = fork_there;
+    struct inroot_root *own = opened(0);
+    inroot_root_close(own);
+    inroot_root_close(opened(0));
+    inroot_root_close(parents);
+}
+
 int main(int count, char **words)
 {
     if (count != 2)
@@ -244,14 +425,19 @@ int main(int count, char **words)
     base = sure(open(words[1], O_PATH | O_DIRECTORY | O_CLOEXEC), words[1]);
     sure(mkdirat(base, "box", 0755), "box");
     sure(mkdirat(base, "box/a", 0755), "box/a");
+    sure(mknodat(base, "box/f", S_IFREG | 0644, 0), "box/f");
     snprintf(path, sizeof path, "%s/box", words[1]);
-    keep_proc();
+    without_forks();
     in_children(close_at_once);
     in_children(close_nobodys);
     in_children(close_others);
     in_children(close_own);
     opened_by_signals();
     without_pages();
+    in_clones();
+    without_truth();
+    in_children(while_one_waits);
+    in_children(while_it_forks);
     apart(in_own_table);
     printf("let_go: %d not as they are to be\n", wrong);
     return wrong != 0;
