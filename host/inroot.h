@@ -262,12 +262,12 @@ void inroot_jail_done(void);
  *
  * If the program breaks a promise, the second witness still holds: the kernel itself has seen below the root whatever a
  * call opens. But the path's names may never have led there all at one moment; and a call may begin again for nothing,
- * and give EAGAIN. A child of fork(2) needs no promise: its calls go on as without the first two flags. They also go on
- * so if the kernel has no MADV_WIPEONFORK (madvise(2)) or no openat2(2), and on roots beyond some 256 roots at a
- * time. What is kept of a root goes by its descriptor's number. So a thread with a table of descriptors of its own gives
- * no call another directory by that number while the root is open. If a child of fork(2) has closed the descriptor, and
- * opens a root that gets its number, the new root counts alone, and closing the first leaves it open. So in a child the
- * closing of its parent's root waits until no other thread is opening one.
+ * and give EAGAIN. A child of fork(2) needs no promise: its calls go on as without the first two flags. They also go
+ * on so if the kernel has no MADV_WIPEONFORK (madvise(2)) or no openat2(2), and on roots beyond some 256 roots at a
+ * time. What is kept of a root goes by its descriptor's number. So while the root is open, no thread with another
+ * table of descriptors gives a call a directory by that number, or keeps a root that has it. If a child of fork(2)
+ * has closed the descriptor, and opens a root that gets its number, the new root counts alone, and closing the first
+ * leaves it open. So in a child the closing of its parent's root waits until no other thread is opening one.
  *
  * inroot_root_open() walks DIRECTORY as open(2) does, links and all, so it is to be a path that nobody else can
  * change. It gives 0 and the root; -EINVAL of another flag, or of INROOT_TRUST_PROC without
