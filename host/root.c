@@ -163,14 +163,14 @@ const struct inroot_kept_root *inroot_root_kept(int fd)
 
 /* ---- opening */
 
-/* What is being opened: the root, a /proc, its directory of descriptors; and what was read of links. */
+/* What is being opened: the root, a /proc, its directory of descriptors; and rooms, with what was read of links there. */
 struct opening {
     const char *directory;
     struct inroot_root *root;
     struct inroot_keeping_answer answer;
     int proc, table;
     size_t path_length, told_length;
-    char path[INROOT_TEXT_MAX], told[INROOT_TEXT_MAX];
+    char *path, *told;
 };
 
 static uint32_t take_room(struct opening *o)
@@ -213,7 +213,7 @@ static uint32_t wipe(struct opening *o)
     return error;
 }
 
-static uint32_t read_link(int dir, const char *name, char text[INROOT_TEXT_MAX], size_t *length)
+static uint32_t read_link(int dir, const char *name, char *text, size_t *length)
 {
     const ssize_t got = readlinkat(dir, name, text, INROOT_TEXT_MAX);
     *length = got < 0 ? 0 : (size_t)got;
@@ -282,7 +282,8 @@ static uint32_t open_root(struct opening *o, int flags)
 
 int inroot_root_open(const char *directory, int flags, struct inroot_root **root)
 {
-    struct opening o = {.directory = directory, .proc = INROOT_NONE, .table = INROOT_NONE};
+    char path[INROOT_TEXT_MAX], told[INROOT_TEXT_MAX];
+    struct opening o = {.directory = directory, .proc = INROOT_NONE, .table = INROOT_NONE, .path = path, .told = told};
     *root = NULL;
     INROOT_UNCANCELLED;
     const uint32_t error = open_root(&o, flags);
