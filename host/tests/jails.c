@@ -1,7 +1,8 @@
 /*
  * jails: how a thread comes into a jail, and where a call in one leaves it. Each system call by which a jail begins fails, by some
  * errors, or is interrupted by signals: the thread's root directory, its current directory and its descriptors are then as they
- * were, by their inodes, or the error says otherwise. So they are where one of them does nothing, and says that it was done. In a jail each change of the current directory is interrupted, or fails.
+ * were, by their inodes, or the error says otherwise. So they are where one of them does nothing, and says that it was
+ * done; and in a thread without the capability. In a jail each change of the current directory is interrupted, or fails.
  * To be linked with --wrap of chdir, chroot, fchdir, fstat, openat, syscall and unshare.
  *
  * usage: jails DIR. Exits 0 where that holds. 78: no right to change a root.
@@ -10,7 +11,9 @@
 #include "support.h"
 #include "wraps.h"
 
+#include <linux/capability.h>
 #include <sched.h>
+#include <sys/syscall.h>
 
 static int root;
 
@@ -79,8 +82,12 @@ int __wrap_chroot(const char *path)
     return is_due(CHANGE) ? lies ? 0 : -1 : __real_chroot(path);
 }
 
+/* How often it was called. */
+static int partings;
+
 int __wrap_unshare(int flags)
 {
+    partings++;
     return is_due(APART) ? -1 : __real_unshare(flags);
 }
 
@@ -173,6 +180,23 @@ static void refused_in_each_way(void)
                 apart(refused);
             }
     flags = 0;
+}
+
+/* Nothing of the thread changes before it is known that it has the capability. */
+static void without_the_capability(void)
+{
+    struct __user_cap_header_struct head = {.version = _LINUX_CAPABILITY_VERSION_3};
+    struct __user_cap_data_struct sets[_LINUX_CAPABILITY_U32S_3];
+    keep_proc();
+    look_around();
+    sure((int)syscall(SYS_capget, &head, sets), "capget");
+    sets[CAP_SYS_CHROOT / 32].effective &= ~(1U << CAP_SYS_CHROOT % 32);
+    sure((int)syscall(SYS_capset, &head, sets), "capset");
+    partings = 0;
+    gives(inroot_jail(root), -EPERM, "a thread without the capability");
+    gives(partings, 0, "a thread without the capability: how often unshare(2) was called");
+    is_at("/", &top, "a thread without the capability");
+    is_at(".", &here, "a thread without the capability");
 }
 
 /* As under a filter that refuses what it doesn't allow by no error. */
@@ -315,6 +339,7 @@ int main(int count, char **words)
     sure(mkdirat(root, "a", 0755), "a");
     sure(mkdirat(root, "a/b", 0755), "a/b");
     refused_in_each_way();
+    apart(without_the_capability);
     deceived_in_each_way();
     apart(stranded);
     interrupted_in_each_way();
