@@ -452,15 +452,6 @@ static void put_text(int dir, const char *name, const char *text)
     close(fd);
 }
 
-/* A right in a user namespace of its own is none over the mount namespace, which another one has. */
-static void without_the_mounts(void)
-{
-    if (unshare(CLONE_NEWUSER) != 0)
-        _exit(NO_RIGHT);
-    gives(inroot_use_private_proc(), -EPERM, "one in another's mount namespace");
-    gives_object(inroot_open(box, "a/f", 0), box, "a/f", "a file by /proc then");
-}
-
 int main(int count, char **words)
 {
     if (count != 2 || realpath(words[1], where) == NULL)
@@ -506,8 +497,6 @@ int main(int count, char **words)
         skipped = apart(none_at_all);
     if (skipped == 0)
         skipped = apart(of_children);
-    if (skipped == 0)
-        skipped = apart(without_the_mounts);
     printf("private_proc: %d not as they are to be\n", wrong);
     return wrong != 0 ? 1 : skipped;
 }
