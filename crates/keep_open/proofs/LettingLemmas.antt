@@ -3,7 +3,7 @@ use Rattle.std.proofs.Common.{◌≡◌, ◌≤◌, ◌+◌, ℕ, List, [], ◌�
 use Rattle.std.specs.Prelude.{◌==◌, if◌then◌else◌}
 use Rattle.std.proofs.lemmas.Bool.{eqb-true, or_cases}
 use Rattle.keep_open.specs.Letting.{after_exchange, begins, is_question, next_after, Exchange, IsHistory}
-use Rattle.keep_open.specs.LettingPromises.{is_signal, is_table_still, may_be_closed, signals, times, IsRootClosed}
+use Rattle.keep_open.specs.LettingPromises.{is_root_still, is_signal, is_table_still, may_be_closed, must_ask, must_check, must_close, signals, times, IsRootClosed}
 use Rattle.keep_open.specs.declared.letting.LettingFacts.{LettingFacts}
 use Rattle.keep_open.specs.declared.letting.Letting.{Letting}
 use Rattle.keep_open.specs.declared.letting.TheConstants.{CHECK_TABLE, CLOSE_TABLE, ASK, CLOSE, UNMAP, OVER}
@@ -199,6 +199,135 @@ page_once f [] h = pages_start f
 page_once f (e ∷ older) h =
     ap (λ n. n + one_of UNMAP e) (page_once f older h.1 ∙ ap (page_times f) (sym h.0.due))
     ∙ pages_step f (next_after f older) e h.0.question (asked_fits f e older h)
+
+-- ---- what is still it
+
+abbrev StillTable : LettingFacts → Letting → List Exchange → Exchange → Type 0
+StillTable f l older e = is_table_still (e ∷ older) ≡ true → (after_exchange f l e).next ≡ CLOSE_TABLE
+
+still_table : (f : LettingFacts) (l : Letting) (older : List Exchange) (e : Exchange) → is_question e.asked ≡ true
+    → StillTable f l older e
+still_table f l older e question =
+    each (StillTable f l older) e question
+    (λ is. grind (arith, is)) (λ is. grind (arith, is)) (λ is. grind (arith, is)) (λ is. grind (arith, is))
+    (λ is. grind (arith, is))
+
+pub table_let_go : (f : LettingFacts) (history : List Exchange) → IsHistory f history → is_table_still history ≡ true
+    → (next_after f history).next ≡ CLOSE_TABLE
+table_let_go f [] h is = grind (arith, is)
+table_let_go f (e ∷ older) h is = still_table f (next_after f older) older e h.0.question is
+
+abbrev StillRoot : LettingFacts → Letting → List Exchange → Exchange → Type 0
+StillRoot f l older e = is_root_still f (e ∷ older) ≡ true → (after_exchange f l e).next ≡ CLOSE
+
+still_root : (f : LettingFacts) (l : Letting) (older : List Exchange) (e : Exchange) → is_question e.asked ≡ true
+    → StillRoot f l older e
+still_root f l older e question =
+    each (StillRoot f l older) e question
+    (λ is. grind (arith, is)) (λ is. grind (arith, is)) (λ is. grind (arith, is)) (λ is. grind (arith, is))
+    (λ is. grind (arith, is))
+
+pub root_let_go : (f : LettingFacts) (history : List Exchange) → IsHistory f history → is_root_still f history ≡ true
+    → (next_after f history).next ≡ CLOSE
+root_let_go f [] h is = grind (arith, is)
+root_let_go f (e ∷ older) h is = still_root f (next_after f older) older e h.0.question is
+
+-- ---- what was asked for by the end
+
+-- so often, where this comes
+abbrev checked : LettingFacts → ℕ → ℕ
+checked f n = if must_check f && not (n == CHECK_TABLE) then 1 else 0
+
+abbrev asked_least : LettingFacts → ℕ → ℕ
+asked_least f n = if must_ask f && ((n == CLOSE) || ((n == UNMAP) || (n == OVER))) then 1 else 0
+
+abbrev closed_least : LettingFacts → ℕ → ℕ
+closed_least f n = if must_close f && ((n == UNMAP) || (n == OVER)) then 1 else 0
+
+abbrev Checks : LettingFacts → Letting → Exchange → Type 0
+Checks f l e =
+    fits f e.asked ≡ true → checked f e.asked + one_of CHECK_TABLE e ≡ checked f (after_exchange f l e).next
+
+checks_step : (f : LettingFacts) (l : Letting) (e : Exchange) → is_question e.asked ≡ true → Checks f l e
+checks_step f l e question =
+    each (Checks f l) e question
+    (λ is. grind (arith, is)) (λ is. grind (arith, is)) (λ is. grind (arith, is)) (λ is. grind (arith, is))
+    (λ is. grind (arith, is))
+
+checks_start : (f : LettingFacts) → 0 ≡ checked f (begins f).next
+checks_start f = grind arith
+
+checks_is : (f : LettingFacts) (history : List Exchange) → IsHistory f history
+    → times CHECK_TABLE history ≡ checked f (next_after f history).next
+checks_is f [] h = checks_start f
+checks_is f (e ∷ older) h =
+    ap (λ n. n + one_of CHECK_TABLE e) (checks_is f older h.1 ∙ ap (checked f) (sym h.0.due))
+    ∙ checks_step f (next_after f older) e h.0.question (asked_fits f e older h)
+
+abbrev Asks : LettingFacts → Letting → Exchange → Type 0
+Asks f l e = asked_least f (after_exchange f l e).next ≤ asked_least f e.asked + one_of ASK e
+
+asks_step : (f : LettingFacts) (l : Letting) (e : Exchange) → is_question e.asked ≡ true → Asks f l e
+asks_step f l e question =
+    each (Asks f l) e question
+    (grind arith) (grind arith) (grind arith) (grind arith) (grind arith)
+
+asks_start : (f : LettingFacts) → asked_least f (begins f).next ≤ 0
+asks_start f = grind arith
+
+asks_is : (f : LettingFacts) (history : List Exchange) → IsHistory f history
+    → asked_least f (next_after f history).next ≤ times ASK history
+asks_is f [] h = asks_start f
+asks_is f (e ∷ older) h =
+    let step = asks_step f (next_after f older) e h.0.question in
+    let same = ap (asked_least f) h.0.due in
+    omega (arith, asks_is f older h.1, step, same)
+
+abbrev Closes : LettingFacts → Letting → Exchange → Type 0
+Closes f l e =
+    fits f e.asked ≡ true → closed_least f (after_exchange f l e).next ≤ closed_least f e.asked + one_of CLOSE e
+
+closes_step : (f : LettingFacts) (l : Letting) (e : Exchange) → is_question e.asked ≡ true → Closes f l e
+closes_step f l e question =
+    each (Closes f l) e question
+    (λ is. grind (arith, is)) (λ is. grind (arith, is)) (λ is. grind (arith, is)) (λ is. grind (arith, is))
+    (λ is. grind (arith, is))
+
+closes_start : (f : LettingFacts) → closed_least f (begins f).next ≤ 0
+closes_start f = grind arith
+
+closes_is : (f : LettingFacts) (history : List Exchange) → IsHistory f history
+    → closed_least f (next_after f history).next ≤ times CLOSE history
+closes_is f [] h = closes_start f
+closes_is f (e ∷ older) h =
+    let step = closes_step f (next_after f older) e h.0.question (asked_fits f e older h) in
+    let same = ap (closed_least f) h.0.due in
+    omega (arith, closes_is f older h.1, step, same)
+
+checked_over : (f : LettingFacts) (n : ℕ) → n ≡ OVER → must_check f ≡ true → checked f n ≡ 1
+checked_over f n at is = grind (arith, at, is)
+
+asked_over : (f : LettingFacts) (n : ℕ) → n ≡ OVER → must_ask f ≡ true → asked_least f n ≡ 1
+asked_over f n at is = grind (arith, at, is)
+
+closed_over : (f : LettingFacts) (n : ℕ) → n ≡ OVER → must_close f ≡ true → closed_least f n ≡ 1
+closed_over f n at is = grind (arith, at, is)
+
+pub asked_by_the_end : (f : LettingFacts) (history : List Exchange) → IsHistory f history
+    → (next_after f history).next ≡ OVER
+    → (must_check f ≡ true → times CHECK_TABLE history ≡ 1) × (must_ask f ≡ true → 1 ≤ times ASK history)
+asked_by_the_end f history h at = (
+  λ is. checks_is f history h ∙ checked_over f (next_after f history).next at is,
+  λ is.
+      let one = asked_over f (next_after f history).next at is in
+      omega (arith, asks_is f history h, one),
+)
+
+pub closed_by_the_end : (f : LettingFacts) (history : List Exchange) → IsHistory f history
+    → (next_after f history).next ≡ OVER → must_close f ≡ true → times CLOSE history ≡ 1
+closed_by_the_end f history h at is =
+    let one = closed_over f (next_after f history).next at is in
+    omega (arith, closes_is f history h, root_once f history h, one)
 
 -- so many at most come before this
 abbrev rank : ℕ → ℕ

@@ -47,7 +47,7 @@ fits o =
     && (so_if (o.next == CLOSE) (not o.claimed && not (o.error == 0))
     && (so_if (o.next == FAILS) (not o.claimed && not (o.error == 0))
     && (so_if (o.next == PROGRAMS) o.claimed
-    && (so_if (o.next == CALLERS) (not o.claimed)
+    && (so_if (o.next == CALLERS) (not o.claimed && (not (o.wanted == STAY) && not (o.wanted == HAND_IN)))
     && so_if (o.next == THREADS) ((o.wanted == STAY) && not o.claimed))))))))
 
 abbrev Fits : Owning → Exchange → Type 0
@@ -157,6 +157,17 @@ threads_is wanted new history h at =
         claims_is wanted new history h ∙ so.1,
       ),
     )
+
+-- ---- the caller's
+
+at_callers : (o : Owning) → fits o ≡ true → o.next ≡ CALLERS → ((o.wanted == STAY) || (o.wanted == HAND_IN)) ≡ false
+at_callers o is at = grind (arith, is, at)
+
+pub callers_is : (wanted : ℕ) (new : Bool) (history : List Exchange) → IsHistory wanted new history
+    → (next_after wanted new history).next ≡ CALLERS → ((wanted == STAY) || (wanted == HAND_IN)) ≡ false
+callers_is wanted new history h at =
+    ap (λ w. (w == STAY) || (w == HAND_IN)) (wants_is wanted new history h)
+    ∙ at_callers (next_after wanted new history) (fits_is wanted new history h) at
 
 -- ---- what is open
 

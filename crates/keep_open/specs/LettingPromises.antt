@@ -30,6 +30,17 @@ pub record IsRootClosed (f : LettingFacts) (history : List Exchange) : Type 0 wh
   pub there : f.there ≡ true
   pub may : may_be_closed f history ≡ true
 
+-- It is asked whether a number is still that of the directory of descriptors, and of a root which directory it is.
+-- If nobody knew that, the root is closed, unless it is to be closed surely.
+abbrev pub must_check : LettingFacts → Bool
+must_check f = f.table
+
+abbrev pub must_ask : LettingFacts → Bool
+must_ask f = f.there && f.known
+
+abbrev pub must_close : LettingFacts → Bool
+must_close f = f.there && (not f.known && not f.surely)
+
 -- how often it was asked for
 abbrev pub times : ℕ → List Exchange → ℕ
 times this [] = 0

@@ -5,7 +5,7 @@ ghost use Rattle.keep_open.specs.File.{is_file};
 ghost use Rattle.keep_open.specs.Keeping.{next_after, Exchange, IsHistory};
 ghost use Rattle.keep_open.specs.KeepingPromises.{is_marked, is_page_there, is_proc_open, is_root_open, is_table_open, signals, why_after, IsNothingOpen, IsPathShown, IsTableShown};
 ghost use Rattle.keep_open.specs.Letting.{next_after as next_let, Exchange as Let, IsHistory as IsLetting};
-ghost use Rattle.keep_open.specs.LettingPromises.{is_table_still, signals as let_signals, times, IsRootClosed};
+ghost use Rattle.keep_open.specs.LettingPromises.{is_root_still, is_table_still, must_ask, must_check, must_close, signals as let_signals, times, IsRootClosed};
 ghost use Rattle.keep_open.specs.Owning.{next_after as next_owned, Exchange as Owned, IsHistory as IsOwning};
 ghost use Rattle.keep_open.specs.OwningPromises.{is_claimed_after, is_ending, is_open_after, is_owned, why_after as why_owned};
 ghost use Rattle.keep_open.specs.Trusting.{next_after as next_trusted, Exchange as Trusted, IsHistory as IsTrusting};
@@ -16,8 +16,8 @@ ghost use Rattle.keep_open.specs.declared.file.Asked.{Asked};
 ghost use Rattle.keep_open.specs.declared.file.File.{File};
 ghost use Rattle.keep_open.specs.declared.keeping.TheConstants.{UNMAP, CLOSE_TABLE, CLOSE_PROC, CLOSE, GIVES, FAILS};
 ghost use Rattle.keep_open.specs.declared.letting.LettingFacts.{LettingFacts};
-ghost use Rattle.keep_open.specs.declared.letting.TheConstants.{CLOSE as CLOSES, CLOSE_TABLE as CLOSES_TABLE, OVER, UNMAP as UNMAPS};
-ghost use Rattle.keep_open.specs.declared.owning.TheConstants.{AT_HAND, CALLERS, FAILS as FAILS_OWNING, PROGRAMS, STAY, THREADS};
+ghost use Rattle.keep_open.specs.declared.letting.TheConstants.{ASK as ASKS, CHECK_TABLE as CHECKS_TABLE, CLOSE as CLOSES, CLOSE_TABLE as CLOSES_TABLE, OVER, UNMAP as UNMAPS};
+ghost use Rattle.keep_open.specs.declared.owning.TheConstants.{AT_HAND, CALLERS, FAILS as FAILS_OWNING, HAND_IN, PROGRAMS, STAY, THREADS};
 ghost use Rattle.keep_open.specs.declared.trusting.TheConstants.{DOES_WITHOUT, FAILS as FAILS_TRUSTING, KEEPS};
 
 /// A root's path is kept only by INROOT_ROOT_STAYS, with a page that a child of fork(2) finds empty, and if its link
@@ -114,6 +114,19 @@ pub fn let_go_is_what_was_kept()
         → times UNMAPS history ≡ (if f.page && ((next_let f history).next == OVER) then 1 else 0) }
 {}
 
+/// What is still that one is closed next. By the end each was asked about; and a root of which it wasn't known which
+/// directory it is was closed, unless it was to be closed surely.
+pub fn what_is_still_it_is_let_go()
+    ensures table { (f : LettingFacts) (history : List Let) → IsLetting f history → is_table_still history ≡ true
+        → (next_let f history).next ≡ CLOSES_TABLE }
+    ensures root { (f : LettingFacts) (history : List Let) → IsLetting f history → is_root_still f history ≡ true
+        → (next_let f history).next ≡ CLOSES }
+    ensures asked { (f : LettingFacts) (history : List Let) → IsLetting f history → (next_let f history).next ≡ OVER
+        → (must_check f ≡ true → times CHECKS_TABLE history ≡ 1) × (must_ask f ≡ true → 1 ≤ times ASKS history) }
+    ensures unknown { (f : LettingFacts) (history : List Let) → IsLetting f history → (next_let f history).next ≡ OVER
+        → must_close f ≡ true → times CLOSES history ≡ 1 }
+{}
+
 /// There are five exchanges at most, and one for each signal.
 pub fn letting_calls_are_few()
     ensures { (f : LettingFacts) (history : List Let) → IsLetting f history → length history ≤ let_signals history + 5 }
@@ -131,7 +144,8 @@ pub fn nothing_kept_counts_in_a_child()
 
 /// A new /proc is open in the end only where it is the program's, the thread's, or the caller's to close: one of these.
 /// It is the program's only where its place was claimed; a place that was claimed is filled, or free again. It is the
-/// thread's only where that lets go of it as it ends.
+/// thread's only where that lets go of it as it ends. It is the caller's neither if it is to stay nor if it was handed
+/// in.
 pub fn a_proc_is_ones_alone()
     ensures owned { (wanted : ℕ) (new : Bool) (history : List Owned) → IsOwning wanted new history
         → is_owned (next_owned wanted new history).next ≡ true → is_open_after wanted new history ≡ true }
@@ -146,6 +160,8 @@ pub fn a_proc_is_ones_alone()
     ensures threads { (wanted : ℕ) (new : Bool) (history : List Owned) → IsOwning wanted new history
         → (next_owned wanted new history).next ≡ THREADS
         → ((wanted == STAY) ≡ true) × ((is_ending history ≡ true) × (is_claimed_after history ≡ false)) }
+    ensures callers { (wanted : ℕ) (new : Bool) (history : List Owned) → IsOwning wanted new history
+        → (next_owned wanted new history).next ≡ CALLERS → ((wanted == STAY) || (wanted == HAND_IN)) ≡ false }
 {}
 
 /// It fails by the last error that it met: ENOMEM if the thread can't let go of it; that of finding what is handed in;

@@ -20,8 +20,9 @@ pub use laws::{
     a_proc_is_ones_alone, each_descriptor_is_closed_once_or_kept, kept_calls_are_few,
     let_go_is_what_was_kept, letting_calls_are_few, nothing_kept_counts_in_a_child,
     only_what_is_still_it_is_closed, owning_calls_are_few, trusted_calls_are_few,
-    trusted_descriptors_are_closed_once_or_kept, what_is_kept_was_shown, what_is_trusted_was_shown,
-    why_no_proc_is_owned, why_no_root_is_kept, why_nothing_is_trusted,
+    trusted_descriptors_are_closed_once_or_kept, what_is_kept_was_shown,
+    what_is_still_it_is_let_go, what_is_trusted_was_shown, why_no_proc_is_owned,
+    why_no_root_is_kept, why_nothing_is_trusted,
 };
 pub use letting::{Letting, LettingFacts};
 pub use owning::Owning;

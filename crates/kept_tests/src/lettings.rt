@@ -2,7 +2,7 @@
 use keep_open::letting::{ASK, CHECK_TABLE, CLOSE, CLOSE_TABLE, OVER, UNMAP, begin, next};
 use keep_open::{
     Asked, File, Letting, LettingFacts, let_go_is_what_was_kept, letting_calls_are_few,
-    only_what_is_still_it_is_closed,
+    only_what_is_still_it_is_closed, what_is_still_it_is_let_go,
 };
 use std::test::Fail;
 
@@ -131,6 +131,7 @@ fn what_is_not_there_is_left_alone(rt: HostRuntime) -> Result<(), Fail> {
 #[test]
 fn laws_of_letting_go_are_at_hand() {
     let_go_is_what_was_kept();
+    what_is_still_it_is_let_go();
     letting_calls_are_few();
     only_what_is_still_it_is_closed();
 }

@@ -1,4 +1,4 @@
-use Rattle.keep_open.proofs.OwningLemmas.{free_is, not_owned_is, owned_is, programs_is, threads_is}
+use Rattle.keep_open.proofs.OwningLemmas.{callers_is, free_is, not_owned_is, owned_is, programs_is, threads_is}
 use Rattle.keep_open.proofs.laws.a_proc_is_ones_alone.Goals as goal
 
 pub returns-clause-owned : goal.returns-clause-owned
@@ -15,3 +15,6 @@ returns-clause-free c = free_is
 
 pub returns-clause-threads : goal.returns-clause-threads
 returns-clause-threads c = threads_is
+
+pub returns-clause-callers : goal.returns-clause-callers
+returns-clause-callers c = callers_is
