@@ -1,4 +1,4 @@
-use Rattle.keep_open.proofs.KeepingLemmas.{page_shown, path_shown, table_shown}
+use Rattle.keep_open.proofs.KeepingShown.{page_shown, path_shown, table_shown}
 use Rattle.keep_open.proofs.laws.what_is_kept_was_shown.Goals as goal
 
 pub returns-clause-path : goal.returns-clause-path
