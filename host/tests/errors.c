@@ -190,7 +190,7 @@ static void shut_directories(bool in_jail, int flags)
         jail_or_end(root, flags);
         at = INROOT_JAIL;
     }
-    if (setresuid(65534, 65534, 65534) != 0)
+    if (seteuid(65534) != 0)
         exit(1);
     gives(closed(inroot_open(at, "shut", 0)), 0, "a directory that may not be searched");
     gives(closed(inroot_open(at, "sub/shut", 0)), 0, "the same, deeper");

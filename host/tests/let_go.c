@@ -275,8 +275,7 @@ static void by_clone(void (*what)(void))
     if (child == 0) {
         wrong = 0;
         what();
-        fflush(stdout);
-        _exit(wrong > 100 ? 100 : wrong);
+        end_part();
     }
     sure(waitpid(child, &status, 0), "waitpid");
     ended_well(status, "a child of clone(2), flags %d", own_flags);
@@ -326,8 +325,7 @@ static void in_a_jail(void)
         int found = inroot_open(INROOT_JAIL, "f", 0);
         gives_fd(found, "a call in a jail's child");
         gives_least(texts, 1, "texts that a call in a jail's child reads by its own descriptors");
-        fflush(stdout);
-        _exit(wrong);
+        end_part();
     }
     sure(waitpid(child, &status, 0), "waitpid");
     ended_well(status, "a jail's child");

@@ -267,8 +267,7 @@ static void fork_and_close(bool asks)
         inroot_jail_done();
         for (int fd = 3; fd <= last; fd++)
             gives_least(fcntl(fd, F_GETFD), 0, "the flags of a child's descriptor %d", fd);
-        fflush(stdout);
-        _exit(wrong);
+        end_part();
     }
     sure(waitpid(child, &status, 0), "waitpid");
     ended_well(status, "a child that closed all");
