@@ -1,6 +1,6 @@
 use Rattle.std.proofs.Common.{◌∙◌, sym}
 use Rattle.sessions.proofs.Opens.{sessions_on, back_on, as_it_is, when_ok}
-use Rattle.sessions.proofs.open.+open_from.Goals as goal
+use Rattle.sessions.proofs.open.+grant_from.Goals as goal
 
 pub returns-then-is_err-clause-tree : goal.returns-then-is_err-clause-tree
 returns-then-is_err-clause-tree g t c =
