@@ -43,8 +43,8 @@ pub fn read_script<R: Read>(alloc: Global, reader: &mut R) -> Result<Vec<u8>, Ru
     Err(RunFault::ReadFailed)
 }
 
-/// The value of a JSON text. Errors, in this order: `Script(TooDeep)`; `Script(NotJson)` where the bytes are none, or no
-/// UTF-8; `NoMemory`.
+/// The value of a JSON text. Errors, in this order: `Script(TooDeep)`; `Script(NotJson)` where the bytes are none, or
+/// no UTF-8; `NoMemory`.
 pub fn value_of(alloc: Global, bytes: &[u8]) -> Result<Value, RunFault>
     ensures ok { IfOk result (λ value. data_of bytes.now ≡ Ok (view value)) }
     ensures err { IfErr result (IsFaultOf (data_of bytes.now)) }
