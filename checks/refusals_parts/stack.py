@@ -35,19 +35,19 @@ def takes_little(what, words, given, **more):
 
 
 def nested(opening, closing, levels):
-    """A script in which so many lists and objects stand in one another, five of them around a key that no command looks at."""
-    value = (levels - 5) * opening + "0" + (levels - 5) * closing
+    """A script in which so many lists and objects stand in one another, or one less where they come in pairs. Five of them are
+    around a key that no command looks at."""
+    times = (levels - 5) // len(closing)
+    value = times * opening + "0" + times * closing
     call = f'{{"op":"resolve","path":"a","x":{value}}}'
     return f'{{"version":1,"tree":[["dir","/a"]],"actors":[{{"root":"/","calls":[{call}]}}]}}'
 
 
 def deep_scripts():
     for opening, closing in (("[", "]"), ('{"":', "}"), ('[{"":', "}]")):
-        lone = len(opening) < 5
         for words in COMMANDS:
             for strictly in ("", " --strict"):
-                deepest = nested(opening, closing, LEVELS) if lone else nested(opening, closing, 34)
-                takes_little(f"the deepest script of {opening}", words + strictly, deepest)
+                takes_little(f"the deepest script of {opening}", words + strictly, nested(opening, closing, LEVELS))
                 for levels in (LEVELS + 1, 127, 128, 100000):
                     seen = ran(words + strictly, nested(opening, closing, levels))
                     verdict(seen == TOO_DEEP, f"inroot {words}{strictly}: {levels} levels of {opening}", str(seen)[:300])
