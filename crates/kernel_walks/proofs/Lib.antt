@@ -1,0 +1,2 @@
+mod SeenBelow
+mod Followed

@@ -1,0 +1,20 @@
+//! What a call tells whose walks the kernel makes: laws, each the contract of a function without a body.
+ghost use Rattle.kernel_walks.specs.Tells.{KernelWalksTell};
+
+use root_ops::each_call_tells;
+
+/// A call of any operation, each of whose walks may be one system call (openat2(2), RESOLVE_IN_ROOT or
+/// RESOLVE_BENEATH): whatever its lines are, they lead it to its reply, where the history has whatever names as the
+/// answer to the question at the end of a walk. It tells what each call tells, or else this: each walk reached its
+/// object by the path's parts at rising moments, and the object stood below the root at that question; where others
+/// leave alone the entries that the path reads, it is what the path means. A create, a remove or a rename that is Done
+/// has one own event after its walks that changes entries, through the handles that the walks found, open then on what
+/// they found; the entries after the event are those of the step table. A link's text is the one that was there as it
+/// was read. A fault is the refusal of that own event, as the step table gives it there, or a want; of a rename also
+/// the second walk's. After a fault the actor's open handles are those from before the call, after Opened these and one
+/// more. Where nobody else acts in the window, the call tells what each call tells, and so what the operation means.
+pub fn kernel_walks_tell()
+    ensures { KernelWalksTell }
+{
+    each_call_tells();
+}
