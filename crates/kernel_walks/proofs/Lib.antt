@@ -1,2 +1,12 @@
-mod SeenBelow
 mod Followed
+mod SeenBelow
+mod Parts
+mod SeenTo
+mod Alone
+mod Past
+mod Outcome
+mod Entries
+mod Renames
+mod Clearing
+mod Bulk
+mod EachOperation
