@@ -10,3 +10,6 @@ mod Renames
 mod Clearing
 mod Bulk
 mod EachOperation
+mod LastQuestion
+mod Behind
+mod Resolves

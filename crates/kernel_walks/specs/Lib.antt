@@ -8,3 +8,5 @@ pub mod Told
 pub mod SeenTo
 pub mod Tells
 pub mod Followed
+pub mod Behind
+pub mod Resolves

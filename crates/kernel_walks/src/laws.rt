@@ -1,4 +1,6 @@
 //! What a call tells whose walks the kernel makes: laws, each the contract of a function without a body.
+ghost use Rattle.kernel_walks.specs.Behind.{DirectoriesAreLookedUp, EntriesAreChangedBehindWalks};
+ghost use Rattle.kernel_walks.specs.Resolves.{ResolvesSeenBelow};
 ghost use Rattle.kernel_walks.specs.Tells.{KernelWalksTell};
 
 use root_ops::each_call_tells;
@@ -18,3 +20,25 @@ pub fn kernel_walks_tell()
 {
     each_call_tells();
 }
+
+/// A resolve that one system call walks as a whole, whatever lines it stands for: if they and the question where the
+/// object stands lead it to the reply that this was opened, then in each legal history with whatever names as the
+/// answer there the object was reached by the path's parts, and stood below the root at that question.
+pub fn resolves_seen_below()
+    ensures { ResolvesSeenBelow }
+{}
+
+/// Of no history: a create or a remove makes its change behind a walk, a resolve's of the directory part of its path.
+/// It asks for one step behind that, on the last name by the handle that the walk found, whose answer is the reply;
+/// then it closes the handle.
+pub fn entries_are_changed_behind_walks()
+    ensures { EntriesAreChangedBehindWalks }
+{}
+
+/// The other way round, as a driver goes that looks up the directory part by one system call: whatever lines the look-up
+/// stands for, if they and its question lead a resolve of that path to the reply that it was opened, then with the step
+/// on the last name by that handle, and its Close, they lead the create or the remove to its reply. So
+/// `kernel_walks_tell` holds of that.
+pub fn directories_are_looked_up()
+    ensures { DirectoriesAreLookedUp }
+{}

@@ -9,4 +9,6 @@ mod followed;
 mod laws;
 
 pub use followed::follows_at_once;
-pub use laws::kernel_walks_tell;
+pub use laws::{
+    directories_are_looked_up, entries_are_changed_behind_walks, kernel_walks_tell, resolves_seen_below,
+};
