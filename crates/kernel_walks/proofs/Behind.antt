@@ -37,6 +37,7 @@ use Rattle.kernel_walks.specs.Behind.{IsChangeOf, IsLineOf, ActsBehind, Behind, 
 use Rattle.kernel_walks.specs.Told.{as_it_was, as_passed, AreTold}
 use Rattle.kernel_walks.proofs.LastQuestion.{LooksUp, resolve_looks_up}
 use Rattle.kernel_walks.proofs.Parts.{judged_found}
+use Rattle.kernel_walks.proofs.Slash.{without_slash_leads}
 
 -- ---- the first turn
 
@@ -123,7 +124,7 @@ entries_behind_walks below op rule change text split lines reply is entry leads 
 -- ---- the other way round
 
 -- what leads a walk on leads the call on
-walk_leads : (below : Below) (aim : Aim) (room : Bool) (turn : walk.Turn) (lines : List Line) (w : Walking) → walk.LeadsTo (way_of below aim) turn lines (walk.more w)
+pub walk_leads : (below : Below) (aim : Aim) (room : Bool) (turn : walk.Turn) (lines : List Line) (w : Walking) → walk.LeadsTo (way_of below aim) turn lines (walk.more w)
     → LeadsTo below (walked below room aim turn) lines (more (walking w aim))
 walk_leads below aim room turn [] w leads = ap (walked below room aim) leads
 walk_leads below aim room (walk.more v) (answered made answer ∷ lines) w leads = (leads.0, walk_leads below aim true (walk.take (way_of below aim) true v answer) lines w leads.1)
@@ -134,13 +135,13 @@ walk_leads below aim room (walk.partial handle names rest) (line ∷ lines) w le
 walk_leads below aim room (walk.failed error) (line ∷ lines) w leads = absurd leads
 
 -- lines that lead on from where others led
-joined : (below : Below) (turn mid end : CallTurn) (first rest : List Line) → LeadsTo below turn first mid → LeadsTo below mid rest end → LeadsTo below turn (first ++ rest) end
+pub joined : (below : Below) (turn mid end : CallTurn) (first rest : List Line) → LeadsTo below turn first mid → LeadsTo below mid rest end → LeadsTo below turn (first ++ rest) end
 joined below turn mid end [] rest led onward = subst (λ t. LeadsTo below t rest end) (sym led) onward
 joined below (more doing) mid end (line ∷ first) rest led onward = (led.0, joined below (taken (calls below) doing line) mid end first rest led.1 onward)
 joined below (ends reply) mid end (line ∷ first) rest led onward = absurd led
 
 -- the history has the first of them
-told_first : (below : Below) (turn mid : CallTurn) (first rest was : List Line) → LeadsTo below turn first mid → AreTold below mid rest was → AreTold below turn (first ++ rest) (first ++ was)
+pub told_first : (below : Below) (turn mid : CallTurn) (first rest was : List Line) → LeadsTo below turn first mid → AreTold below mid rest was → AreTold below turn (first ++ rest) (first ++ was)
 told_first below turn mid [] rest was led are = subst (λ t. AreTold below t rest was) (sym led) are
 told_first below (more doing) mid (line ∷ first) rest was led are = (as_it_was refl, told_first below (taken (calls below) doing line) mid first rest was led.1 are)
 told_first below (ends reply) mid (line ∷ first) rest was led are = absurd led
@@ -150,15 +151,6 @@ pub told_all : (below : Below) (turn end : CallTurn) (lines : List Line) → Lea
 told_all below turn end [] leads = tt
 told_all below (more doing) end (line ∷ lines) leads = (as_it_was refl, told_all below (taken (calls below) doing line) end lines leads.1)
 told_all below (ends reply) end (line ∷ lines) leads = absurd leads
-
--- two texts with the same parts are walked in the same way
-abbrev begun : Way → Bool → List Part → walk.Turn
-begun way absolute parts =
-    if leads_out absolute way.flags then walk.failed CrossRoot
-    else walk.goes_on way root_itself (todo [] (asked (follows way.goal) parts) LINKS_MAX)
-
-begins_same : (way : Way) (path other : Reading) → path.absolute ≡ other.absolute → path.parts ≡ other.parts → walk.begins way path ≡ walk.begins way other
-begins_same way path other absolute parts = ap (λ b. begun way b path.parts) absolute ∙ ap (λ ps. begun way other.absolute ps) parts
 
 module _ (below : Below) (op : Op) (rule : Rule) (change : Change) (text path : List ℕ) (split : Split) (is : IsChangeOf op rule change text) (entry : IsEntry text rule split)
     (same : IsDirectoryText path split) (lines : List Line) (dir : Handle) (told names : List (List ℕ)) (step close : Line)
@@ -175,7 +167,7 @@ module _ (below : Below) (op : Op) (rule : Rule) (change : Change) (text path : 
 
   up_to : LeadsTo below (walks below to split.dir) lines at_end
   up_to = walk_leads below to true (walk.begins (way_of below to) split.dir) lines (ending dir names [])
-      (subst (λ t. walk.LeadsTo (way_of below to) t lines (walk.more (ending dir names []))) (begins_same (way_of below to) (reading_of path) split.dir same.absolute same.parts) looks.led)
+      (without_slash_leads (way_of below to) refl refl dir names path lines split.dir same.absolute same.parts looks.led)
 
   over_then : LeadsTo below (ends (reply_to wants.Done (answer_of step))) [] (ends (reply_to wants.Done (answer_of step)))
   over_then = refl

@@ -11,5 +11,7 @@ mod Clearing
 mod Bulk
 mod EachOperation
 mod LastQuestion
+mod Slash
 mod Behind
 mod Resolves
+mod RenamesBehind

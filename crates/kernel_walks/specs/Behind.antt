@@ -5,6 +5,7 @@ use Rattle.path_text.specs.declared.errno.Errno.TheVariants.{NotFound}
 use Rattle.path_text.specs.declared.path.Rule.{Rule}
 use Rattle.path_text.specs.declared.path.Rule.TheVariants.{Drop, Refuse}
 use Rattle.path_text.specs.declared.path.Split.{Split}
+use Rattle.path_text.specs.Split.{parts_without_slash}
 use Rattle.path_text.specs.Text.{reading_of}
 use Rattle.tree_model.specs.StepWith.{StepWith}
 use Rattle.tree_model.specs.declared.answer.Answer.TheVariants.{Names}
@@ -76,11 +77,11 @@ EntriesAreChangedBehindWalks = (below : Below) (op : Op) (rule : Rule) (change :
 
 -- ---- and the other way round
 
--- the text is a path that is walked as the directory part
+-- the text is a path that is walked as the directory part, but for a slash at its end
 pub record IsDirectoryText (text : List ℕ) (split : Split) : Type 0 where
   pub is_path : IsPath text
   pub absolute : (reading_of text).absolute ≡ split.dir.absolute
-  pub parts : (reading_of text).parts ≡ split.dir.parts
+  pub parts : parts_without_slash (reading_of text) ≡ split.dir.parts
 
 -- the question where the object stands, with these names
 abbrev pub asks_below : Below → Handle → List (List ℕ) → Line

@@ -10,3 +10,4 @@ pub mod Tells
 pub mod Followed
 pub mod Behind
 pub mod Resolves
+pub mod RenamesBehind

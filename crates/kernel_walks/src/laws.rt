@@ -1,5 +1,6 @@
 //! What a call tells whose walks the kernel makes: laws, each the contract of a function without a body.
 ghost use Rattle.kernel_walks.specs.Behind.{DirectoriesAreLookedUp, EntriesAreChangedBehindWalks};
+ghost use Rattle.kernel_walks.specs.RenamesBehind.{RenamesAreLookedUp};
 ghost use Rattle.kernel_walks.specs.Resolves.{ResolvesSeenBelow};
 ghost use Rattle.kernel_walks.specs.Tells.{KernelWalksTell};
 
@@ -41,4 +42,11 @@ pub fn entries_are_changed_behind_walks()
 /// `kernel_walks_tell` holds of that.
 pub fn directories_are_looked_up()
     ensures { DirectoriesAreLookedUp }
+{}
+
+/// The same of a rename, whose paths end in no slash: whatever lines two look-ups stand for, of the old path's directory
+/// part and after it of the new one's, with the Rename of the last names by both handles, and the Closes of these, they
+/// lead the rename to its reply.
+pub fn renames_are_looked_up()
+    ensures { RenamesAreLookedUp }
 {}

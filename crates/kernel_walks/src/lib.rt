@@ -10,5 +10,6 @@ mod laws;
 
 pub use followed::follows_at_once;
 pub use laws::{
-    directories_are_looked_up, entries_are_changed_behind_walks, kernel_walks_tell, resolves_seen_below,
+    directories_are_looked_up, entries_are_changed_behind_walks, kernel_walks_tell,
+    renames_are_looked_up, resolves_seen_below,
 };
