@@ -1,5 +1,6 @@
 mod Followed
 mod SeenBelow
+mod AtQuestion
 mod Parts
 mod SeenTo
 mod Alone

@@ -51,7 +51,7 @@ told_alone w is was rest whole told front handle names others led told_so was_so
     let v = walk_part w (parts w is was rest whole).before was in
     let alone = left_alone v (own_front w.actor (parts w is was rest whole).before (parts w is was rest whole).after (subst (AllOwn w.actor) (parts w is was rest whole).whole own))
     (reads_of (whole_meaning v)) in
-    told_so ∙ ap (λ ns. front ++ asks w.way handle ns ∷ []) (sym (names_alone v (first_is w is was rest whole) front handle names others was_so led alone)) ∙ sym was_so
+    told_so ∙ ap (λ ns. front ++ asks w.way handle ns ∷ []) (sym (names_alone v (first_is w is was rest whole) front (asks w.way handle others) handle names others was_so (refl, refl) led alone)) ∙ sym was_so
 
 -- ---- handles
 

@@ -16,7 +16,7 @@ use Rattle.root_ops.specs.declared.aim.Renaming.{Renaming}
 use Rattle.root_ops.specs.declared.aim.Wanted.{Wanted}
 use Rattle.root_ops.specs.declared.aim.Wanted.TheVariants as wants
 use Rattle.root_ops.specs.declared.below.Below.{Below}
-use Rattle.root_ops.specs.Order.{Reply, After, gives, acts, Doing, walking, acting, checking, closing, making, removing, releasing, CallTurn, more, ends, closes, gives_up, comes, checked, take, due, makes, removing_turn, LeadsTo}
+use Rattle.root_ops.specs.Order.{Reply, After, gives, acts, Doing, walking, acting, checking, closing, making, removing, releasing, CallTurn, more, ends, closes, gives_up, comes, checked, reply_to, take, make_way, makes, removing_turn}
 use Rattle.kernel_walks.specs.Told.{passed_by, IsTold, as_it_was, as_passed, AreTold}
 
 -- no walk is under way, nor will be
@@ -243,7 +243,7 @@ remove_past room (remove.closing h hs end) answer past = remove_closes hs end
 
 take_past : (below : Below) (room : Bool) (doing : Doing) (answer : Answer) → IsPast doing → IsPastTurn (take below room doing answer)
 take_past below room (walking w aim) answer past = absurd past
-take_past below room (acting wanted step hs) answer past = closes_past hs (gives _)
+take_past below room (acting wanted step hs) answer past = closes_past hs (gives (reply_to wanted answer))
 take_past below room (checking old new renaming) (Opened h x kind) past = checked_past old new renaming h (is_dir_kind kind)
 take_past below room (checking old new renaming) (Text text) past = tt
 take_past below room (checking old new renaming) (Names told) past = tt
@@ -252,7 +252,7 @@ take_past below room (checking old new renaming) (Listed listed) past = tt
 take_past below room (checking old new renaming) Done past = tt
 take_past below room (checking old new renaming) (Refused error) past = tt
 take_past below room (closing h hs after) answer past = closes_past hs after
-take_past below room (making call) answer past = make_past _ room call answer past
+take_past below room (making call) answer past = make_past (make_way below) room call answer past
 take_past below room (removing call) answer past = remove_past room call answer past
 take_past below room (releasing h) answer past = tt
 

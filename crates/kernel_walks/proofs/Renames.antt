@@ -239,7 +239,7 @@ module _ (c : CallInHistory) (reply : Reply) (is : IsCallInHistory c) (old_text 
         told_by_steps : p.first ≡ p.first_was → (at : walk.Turn) → HasEnded (walk.under_way at) → p.at ≡ at → Second told
         told_by_steps e (walk.more w) over there = absurd over
         told_by_steps e (walk.found other others) over there =
-            let second = seen_by_steps second_part second_is p.first_was p.rest_was p.whole_was other others refl
+            let second = seen_by_steps second_part second_is p.first_was p.rest_was p.whole_was other others
             (subst (λ ls. Led (walk.found other others) ls) e (subst (λ t. Led t p.first) there p.led)) in
             record {
               sees = rename_sees other others second (onward_from (walk.found other others) there);
@@ -337,7 +337,7 @@ module _ (c : CallInHistory) (reply : Reply) (is : IsCallInHistory c) (old_text 
           → Told true (walk.found dir names) → Outcome c told reply
       steps_found e dir names led leads are =
           let s = with_room dir names
-          (seen_by_steps first_part first_is p.first_was p.rest_was p.whole_was dir names refl (subst (FirstLed (walk.found dir names)) e led)) p.rest leads are in
+          (seen_by_steps first_part first_is p.first_was p.rest_was p.whole_was dir names (subst (FirstLed (walk.found dir names)) e led)) p.rest leads are in
           by_second s.exact e s.sees s.stays s.alone
 
       kernel_found : (front : List Line) (dir : Handle) (names others : List (List ℕ)) → FirstLed (walk.found dir names) p.first

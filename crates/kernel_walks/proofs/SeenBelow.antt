@@ -33,7 +33,7 @@ use Rattle.step_resolver.proofs.Ends.EveryWalk.{tree_laws}
 use Rattle.step_resolver.proofs.Ends.EntriesLeftAlone.{steady, root_is_no_child}
 use Rattle.step_resolver.proofs.Ends.TrailsAndMeaning.{Fits, AllAlone, Followed, follow, stands_on}
 use Rattle.step_resolver.proofs.Ends.WholeMeaning.{setting, all_alone}
-use Rattle.kernel_walks.specs.SeenBelow.{StoodBelowAt, OpensBelow, MeansBelow, SeenBelow}
+use Rattle.kernel_walks.specs.SeenBelow.{OpensBelow, MeansBelow, SeenBelow}
 
 -- ---- what is so where the last question is asked
 
@@ -83,14 +83,6 @@ module _ {w : WalkInHistory} (lived : Lived w) where
     abbrev to : Spot
     to = spot_at w (holds handle names) good.links good.m
 
-    stood_by : (o : Option (List (List ℕ))) → names_below (state_at w t).nodes w.root handle.node ≡ o → StoodBelowAt w to t
-    stood_by None q = cc (answer_is None q)
-    stood_by (Some told) q = record {
-      at = own_earlier (timeline w) good.past is.at;
-      names = told;
-      stands = Stands-names_below (state_at w t).nodes w.root handle.node told q;
-    }
-
     nodes_kept : (o : Option (List (List ℕ))) → (shows (state_at w t) o).after ≡ state_at w t
     nodes_kept None = refl
     nodes_kept (Some told) = refl
@@ -105,26 +97,39 @@ module _ {w : WalkInHistory} (lived : Lived w) where
         by : Names others ≡ (shows (state_at w t) (Some names)).answer → others ≡ reverse names
         by e = cc (e)
 
-    opens_so : ((h : ℕ) → held (end_state w) w.actor h ≡ held_at w (suc t) h) → OpensBelow w handle names
-    opens_so end = record {
-      to = to;
-      trail = subst (λ ps. Trail (timeline w) ps (start w) to no_part) (sym (good.going.parts ∙ append-nil good.going.taken)) (trail_at good.going);
-      node = refl;
-      passed = refl;
-      when = t;
-      stood = stood_by (names_below (state_at w t).nodes w.root handle.node) refl;
-      new = record {
-        is_open = end handle.number ∙ kept handle.number ∙ good.position_held.is_open;
-        fresh = good.handles.fresh.0;
-        others = λ h ne. end h ∙ kept h ∙ good.handles.others h (ne, tt);
-        what = good.position_held.what;
-        is_what = good.position_held.is_what;
-        kind = good.position_held.kind;
-      };
-    }
-      where
-        no_part : Option AskedPart
-        no_part = None
+    module _ (end : (h : ℕ) → held (end_state w) w.actor h ≡ held_at w (suc t) h) where
+      opens_at : (told : List (List ℕ)) → names_below (state_at w t).nodes w.root handle.node ≡ Some told → OpensBelow w handle names
+      opens_at told q = record {
+        to = to;
+        trail = subst (λ ps. Trail (timeline w) ps (start w) to no_part) (sym (good.going.parts ∙ append-nil good.going.taken)) (trail_at good.going);
+        node = refl;
+        passed = refl;
+        when = t;
+        stood = record {
+          at = own_earlier (timeline w) good.past is.at;
+          names = told;
+          stands = Stands-names_below (state_at w t).nodes w.root handle.node told q;
+        };
+        asked = is.event ∙ ap (λ (answer : Answer). Some (record { actor = w.actor; step = NameBelow w.way.root handle.number; answer = answer })) (answer_is (Some told) q);
+        new = record {
+          is_open = end handle.number ∙ kept handle.number ∙ good.position_held.is_open;
+          fresh = good.handles.fresh.0;
+          others = λ h ne. end h ∙ kept h ∙ good.handles.others h (ne, tt);
+          what = good.position_held.what;
+          is_what = good.position_held.is_what;
+          kind = good.position_held.kind;
+        };
+      }
+        where
+          no_part : Option AskedPart
+          no_part = None
+
+      opens_by : (o : Option (List (List ℕ))) → names_below (state_at w t).nodes w.root handle.node ≡ o → OpensBelow w handle names
+      opens_by None q = cc (answer_is None q)
+      opens_by (Some told) q = opens_at told q
+
+      opens_so : OpensBelow w handle names
+      opens_so = opens_by (names_below (state_at w t).nodes w.root handle.node) refl
 
 -- ---- a walk whose last question is answered so
 
@@ -132,8 +137,14 @@ module _ {w : WalkInHistory} (lived : Lived w) where
 abbrev pub asks : Way → Handle → List (List ℕ) → Line
 asks way handle names = answered (NameBelow way.root handle.number) (Names names)
 
-module _ (w : WalkInHistory) (is : IsWalkInHistory w) (front : List Line) (handle : Handle) (names others : List (List ℕ))
-    (lines : w.lines ≡ front ++ asks w.way handle others ∷ [])
+-- the line is that question, whether its answer found room or not
+abbrev pub IsQuestion : Way → Handle → List (List ℕ) → Line → Type 0
+IsQuestion way handle names (answered step answer) = (step ≡ NameBelow way.root handle.number) × (answer ≡ Names names)
+IsQuestion way handle names (no_room step answer) = (step ≡ NameBelow way.root handle.number) × (answer ≡ Names names)
+IsQuestion way handle names (not_made error) = ⊥
+
+module _ (w : WalkInHistory) (is : IsWalkInHistory w) (front : List Line) (last : Line) (handle : Handle) (names others : List (List ℕ))
+    (lines : w.lines ≡ front ++ last ∷ []) (question : IsQuestion w.way handle others last)
     (leads : LeadsTo w.way (begins w.way w.path) front (more (ending handle names []))) where
   abbrev begun : Bool → Turn
   begun b = if b then failed CrossRoot else goes_on w.way root_itself (todo [] (parts_of_walk w) LINKS_MAX)
@@ -153,14 +164,36 @@ module _ (w : WalkInHistory) (is : IsWalkInHistory w) (front : List Line) (handl
   all_lived : Lived w
   all_lived = lived tree_laws w is
 
-  at_question : GoodLater all_lived (more (ending handle names [])) (asks w.way handle others ∷ [])
-  at_question = good_after all_lived front (asks w.way handle others ∷ []) 0 (begins w.way w.path) (more (ending handle names []))
+  at_question : GoodLater all_lived (more (ending handle names [])) (last ∷ [])
+  at_question = good_after all_lived front (last ∷ []) 0 (begins w.way w.path) (more (ending handle names []))
       (begins_good all_lived inside) (subst (Happens w 0) lines (lines_happen tree_laws w is)) leads
       (λ error is_want want. wants_told all_lived error is_want (subst (TellsWant error) (sym lines) want))
       (λ step met. subst (MetRefusal step) (sym lines) met)
 
+  -- the event of the question, after which nothing comes
+  record Asked (m : ℕ) : Type 0 where
+    t : ℕ
+    at : StepAt w m t (NameBelow w.way.root handle.number) (Names others)
+    rests : (h : ℕ) → held (end_state w) w.actor h ≡ held_at w (suc t) h
+
+  asked_so : (m t : ℕ) (step : StepWith ℕ) (answer : Answer) → (step ≡ NameBelow w.way.root handle.number) × (answer ≡ Names others) → StepAt w m t step answer
+      → ((h : ℕ) → held (end_state w) w.actor h ≡ held_at w (suc t) h) → Asked m
+  asked_so m t step answer same at rests = record {
+    t = t;
+    at = subst (λ (s : StepWith ℕ). StepAt w m t s (Names others)) same.0 (subst (λ (a : Answer). StepAt w m t step a) same.1 at);
+    rests = rests;
+  }
+
+  asked_at : (m : ℕ) (line : Line) → IsQuestion w.way handle others line → Happens w m (line ∷ []) → Asked m
+  asked_at m (answered step answer) same happens = asked_so m happens.0 step answer same happens.1.0 happens.1.1
+  asked_at m (no_room step answer) same happens = asked_so m happens.0 step answer same happens.1.0 happens.1.1
+  asked_at m (not_made error) same happens = absurd same
+
+  asked : Asked at_question.later
+  asked = asked_at at_question.later last question at_question.happens
+
   opens : OpensBelow w handle names
-  opens = opens_so all_lived at_question.later at_question.happens.0 handle names others at_question.good at_question.happens.1.0 at_question.happens.1.1
+  opens = opens_so all_lived at_question.later asked.t handle names others at_question.good asked.at asked.rests
 
   -- the lines of the history lead somewhere, too
   joined : (way : Way) (turn mid end : Turn) (ls : List Line) (last : Line) → LeadsTo way turn ls mid → LeadsTo way mid (last ∷ []) end → LeadsTo way turn (ls ++ last ∷ []) end
@@ -173,9 +206,14 @@ module _ (w : WalkInHistory) (is : IsWalkInHistory w) (front : List Line) (handl
   abbrev end_there : Turn
   end_there = take w.way true (ending handle names []) (Names others)
 
+  by_last : (line : Line) → IsQuestion w.way handle others line → LeadsTo w.way (more (ending handle names [])) (line ∷ []) end_there
+  by_last (answered step answer) same = (same.0, ap (λ (a : Answer). take w.way true (ending handle names []) a) same.1)
+  by_last (no_room step answer) same = (same.0, ap (λ (a : Answer). take w.way false (ending handle names []) a) same.1)
+  by_last (not_made error) same = absurd same
+
   led : LeadsTo w.way (begins w.way w.path) w.lines end_there
   led = subst (λ ls. LeadsTo w.way (begins w.way w.path) ls end_there) (sym lines)
-      (joined w.way (begins w.way w.path) (more (ending handle names [])) end_there front (asks w.way handle others) leads (refl, refl))
+      (joined w.way (begins w.way w.path) (more (ending handle names [])) end_there front last leads (by_last last question))
 
   fits : Fits (setting w)
   fits = record {
@@ -210,7 +248,7 @@ module _ (w : WalkInHistory) (is : IsWalkInHistory w) (front : List Line) (handl
   -- where the entries that the path reads are left alone, the names are those that were passed
   pub names_alone : AllLeftAlone w (reads_of (whole_meaning w)) → others ≡ reverse names
   names_alone alone =
-      names_so all_lived at_question.later at_question.happens.0 handle names others at_question.good at_question.happens.1.0
-      (subst (λ ns. Stands (state_at w at_question.happens.0).nodes w.root handle.node ns) opens.passed
-      (subst (λ x. Stands (state_at w at_question.happens.0).nodes w.root x opens.to.names) opens.node
-      (stands_on fits at_question.happens.0 opens.to.node opens.to.names (passed_alone alone).way)))
+      names_so all_lived at_question.later asked.t handle names others at_question.good asked.at
+      (subst (λ ns. Stands (state_at w asked.t).nodes w.root handle.node ns) opens.passed
+      (subst (λ x. Stands (state_at w asked.t).nodes w.root x opens.to.names) opens.node
+      (stands_on fits asked.t opens.to.node opens.to.names (passed_alone alone).way)))

@@ -1,5 +1,5 @@
 -- A walk whose object was seen below the root is the first part of its window; and what comes after it.
-use Rattle.std.specs.Prelude.{◌≡◌, ◌≢◌, ℕ, List, [], ◌∷◌, ◌++◌, true, false, Some, None, refl}
+use Rattle.std.specs.Prelude.{◌≡◌, ◌≢◌, ℕ, List, [], ◌∷◌, ◌++◌, reverse, true, Some, None, refl}
 use Rattle.std.proofs.Common.{sym, ap, subst, ◌∙◌}
 use Rattle.std.proofs.lemmas.Option.{none-some}
 use Rattle.tree_model.specs.declared.answer.Event.{Event}
@@ -8,20 +8,19 @@ use Rattle.tree_model.specs.Steps.{held}
 use Rattle.tree_model.specs.History.{IsLegal, after_events}
 use Rattle.tree_model.proofs.StepLaws.{others_handles_stay}
 use Rattle.tree_model.proofs.HistoryLaws.{IsLegal-append, IsLegal-back, after_events-append}
-use Rattle.step_resolver.specs.Asked.{is_deepest}
-use Rattle.step_resolver.specs.Headline.{Headline, IsNewHandle}
+use Rattle.step_resolver.specs.Headline.{IsNewHandle}
 use Rattle.step_resolver.specs.Order.{Handle, Line, ending}
 use Rattle.step_resolver.specs.Order as walk
 use Rattle.step_resolver.specs.WalkHistory.{WalkInHistory, IsWalkInHistory, begin_of, end_of, own_events}
 use Rattle.step_resolver.proofs.Underway.HandleCount.{one_more}
 use Rattle.step_resolver.proofs.Underway.LegalHistory.{lived, HappensAlone, lines_happen_alone}
 use Rattle.step_resolver.proofs.Ends.EveryWalk.{tree_laws}
-use Rattle.step_resolver.proofs.Ends.WalksMean.{every_walk}
 use Rattle.bulk_ops.specs.WalkFirst.{walk_part, rest_part}
 use Rattle.bulk_ops.proofs.WalkParts.{parts, first_is, later_is}
 use Rattle.kernel_walks.specs.SeenBelow.{SeenBelow}
 use Rattle.kernel_walks.specs.SeenTo.{SeenTo, after_seen, OneMoreHeld}
-use Rattle.kernel_walks.proofs.SeenBelow.{asks, seen_below}
+use Rattle.kernel_walks.proofs.AtQuestion.{found_asks, begins_not_found}
+use Rattle.kernel_walks.proofs.SeenBelow.{asks, IsQuestion, seen_below}
 
 -- ---- the walk
 
@@ -47,41 +46,25 @@ module _ (w : WalkInHistory) (is : IsWalkInHistory w) (was rest : List Line) (wh
     begun_later = later;
   }
 
-  -- the history has others' names as the answer to its last question
+  -- by its last question, to which the history has these names as the answer
+  abbrev pub seen_at : (told front : List Line) (last : Line) (others : List (List ℕ)) → walk.LeadsTo w.way (walk.begins w.way w.path) told (walk.found handle names)
+      → walk.LeadsTo w.way (walk.begins w.way w.path) front (walk.more (ending handle names [])) → IsQuestion w.way handle others last → was ≡ front ++ last ∷ [] → SeenTo w handle names
+  seen_at told front last others leads led question was_so =
+      seen_so told leads
+      (seen_below (walk_part w (parts w is was rest whole).before was) (first_is w is was rest whole) front last handle names others was_so question led)
+      (λ before onward e none. seen_below (rest_part w before onward was)
+      (later_is (walk_part w (parts w is was rest whole).before was) (first_is w is was rest whole) before onward e none) front last handle names others was_so question led)
+
+  -- the history has others' names there
   abbrev pub seen_by_kernel : (told front : List Line) (others : List (List ℕ)) → walk.LeadsTo w.way (walk.begins w.way w.path) told (walk.found handle names)
       → walk.LeadsTo w.way (walk.begins w.way w.path) front (walk.more (ending handle names [])) → was ≡ front ++ asks w.way handle others ∷ [] → SeenTo w handle names
-  seen_by_kernel told front others leads led was_so =
-      seen_so told leads
-      (seen_below (walk_part w (parts w is was rest whole).before was) (first_is w is was rest whole) front handle names others was_so led)
-      (λ before onward e none. seen_below (rest_part w before onward was)
-      (later_is (walk_part w (parts w is was rest whole).before was) (first_is w is was rest whole) before onward e none) front handle names others was_so led)
+  seen_by_kernel told front others leads led was_so = seen_at told front (asks w.way handle others) others leads led (refl, refl) was_so
 
-steps_below : (v : WalkInHistory) (handle : Handle) (names : List (List ℕ)) → IsWalkInHistory v → is_deepest v.way.goal ≡ false
-    → walk.LeadsTo v.way (walk.begins v.way v.path) v.lines (walk.found handle names) → SeenBelow v handle names
-steps_below v handle names is shallow leads =
-    let headline : Headline v (walk.found handle names) = every_walk v (walk.found handle names) is leads in
-    record {
-      opens = record {
-        to = headline.tells.to;
-        trail = headline.tells.trail;
-        node = headline.tells.node;
-        passed = headline.tells.passed;
-        when = headline.tells.when;
-        stood = record { at = headline.tells.stood.at; names = headline.tells.to.names; stands = headline.tells.stood.stands };
-        new = headline.tells.new;
-      };
-      means = λ alone. headline.means tt shallow refl alone;
-      leaves = headline.leaves;
-    }
-
--- it was told all that the history has
-abbrev pub seen_by_steps : (w : WalkInHistory) (is : IsWalkInHistory w) (was rest : List Line) (whole : w.lines ≡ was ++ rest) (handle : Handle) (names : List (List ℕ))
-    → is_deepest w.way.goal ≡ false → walk.LeadsTo w.way (walk.begins w.way w.path) was (walk.found handle names) → SeenTo w handle names
-seen_by_steps w is was rest whole handle names shallow leads =
-    seen_so w is was rest whole handle names was leads
-    (steps_below (walk_part w (parts w is was rest whole).before was) handle names (first_is w is was rest whole) shallow leads)
-    (λ before onward e none. steps_below (rest_part w before onward was) handle names
-    (later_is (walk_part w (parts w is was rest whole).before was) (first_is w is was rest whole) before onward e none) shallow leads)
+  -- it was told all that the history has
+  abbrev pub seen_by_steps : walk.LeadsTo w.way (walk.begins w.way w.path) was (walk.found handle names) → SeenTo w handle names
+  seen_by_steps leads =
+      let at = found_asks w.way handle names (walk.begins w.way w.path) was (begins_not_found w.way w.path) leads in
+      seen_at was at.front at.last (reverse names) leads at.led at.question at.whole
 
 -- ---- what comes after it
 
