@@ -54,10 +54,10 @@ starts_so below (RemoveDir path) rule change text is = by_rule below rule Drop c
 starts_so below op rule change text is = absurd is
 
 module _ (below : Below) (op : Op) (rule : Rule) (change : Change) (text : List ℕ) (split : Split) (is : IsChangeOf op rule change text) (entry : IsEntry text rule split) where
-  abbrev aim : Aim
-  aim = Changes change split.name
+  abbrev finds : Aim
+  finds = Changes change split.name
 
-  pub walks_so : starts below true op ≡ walks below aim split.dir
+  pub walks_so : starts below true op ≡ walks below finds split.dir
   walks_so =
       starts_so below op rule change text is
       ∙ ap (λ (why : Option Errno). unless_fault why (in_directory below change (split_of (reading_of text) rule))) entry.0
@@ -99,7 +99,7 @@ module _ (below : Below) (op : Op) (rule : Rule) (change : Change) (text : List 
     gave_up (no_room made answer ∷ lines) leads = sym (at_its_end below (fault NotFound) reply lines leads.1)
     gave_up (not_made error ∷ lines) leads = sym (at_its_end below (fault NotFound) reply lines leads.1)
 
-  behind : (reply : Reply) (room : Bool) (end : walk.Turn) → IsEnded end → (rest : List Line) → LeadsTo below (walked below room aim end) rest (ends reply)
+  behind : (reply : Reply) (room : Bool) (end : walk.Turn) → IsEnded end → (rest : List Line) → LeadsTo below (walked below room finds end) rest (ends reply)
       → Behind change split.name end rest reply
   behind reply room (walk.more w) over rest leads = absurd over
   behind reply room (walk.found dir names) over rest leads = acts dir reply rest leads
@@ -108,7 +108,7 @@ module _ (below : Below) (op : Op) (rule : Rule) (change : Change) (text : List 
 
   pub is_behind : (lines : List Line) (reply : Reply) → LeadsTo below (starts below true op) lines (ends reply) → IsBehindWalk below change split lines reply
   is_behind lines reply leads =
-      let parts = walk_ends below aim reply lines true (walk.begins (way_of below aim) split.dir) (subst (λ t. LeadsTo below t lines (ends reply)) walks_so leads) in
+      let parts = walk_ends below finds reply lines true (walk.begins (way_of below finds) split.dir) (subst (λ t. LeadsTo below t lines (ends reply)) walks_so leads) in
       record {
         first = parts.first;
         rest = parts.rest;

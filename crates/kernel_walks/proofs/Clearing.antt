@@ -31,7 +31,7 @@ use Rattle.bulk_ops.proofs.RemovingAll.Parts.{walk_removes_none}
 use Rattle.root_ops.specs.Acts.{along, IsEntry}
 use Rattle.root_ops.specs.CallHistory.{CallInHistory, IsCallInHistory, actor_of, HandlesAfter, HandlesStay}
 use Rattle.root_ops.specs.CallHistory as call
-use Rattle.root_ops.specs.Order.{Reply, count, fault, removing_turn}
+use Rattle.root_ops.specs.Order.{Reply, fault, removing_turn}
 use Rattle.root_ops.specs.Order as calls
 use Rattle.root_ops.proofs.Bulk.{clears_led}
 use Rattle.root_ops.proofs.Handles.AfterWalks.{same_reply}
@@ -131,14 +131,14 @@ module _ (c : CallInHistory) (reply : Reply) (is : IsCallInHistory c) (text : Li
   module _ (dir : Handle) (names : List (List ℕ)) (seen : SeenTo part dir names)
       (onward : calls.LeadsTo c.below (removing_turn (walked part.way split.name (walk.found dir names))) seen.rest (calls.ends reply))
       (counted : removals c.lines ≡ removals seen.rest) where
-    abbrev then : WalkInHistory
-    then = after_seen seen
+    abbrev after : WalkInHistory
+    after = after_seen seen
 
     abbrev b : ℕ → Option ℕ
     b k = held (call.begin_of c) (actor_of c) k
 
-    first_good : Good then dir.node split.name b 0 seen.rest (walked part.way split.name (walk.found dir names))
-    first_good = due_good then dir.node split.name b 0 seen.rest removes_file (record { dir = dir.number; name = split.name; others = [] }) [] 0 CLEARING_STEPS_MAX (record {
+    first_good : Good after dir.node split.name b 0 seen.rest (walked part.way split.name (walk.found dir names))
+    first_good = due_good after dir.node split.name b 0 seen.rest removes_file (record { dir = dir.number; name = split.name; others = [] }) [] 0 CLEARING_STEPS_MAX (record {
       at = record { is_open = is_held part part_is dir names seen; name = refl; none = refl };
       stage_at = tt;
       holds = record { others = λ k out. there part part_is dir names seen k ∙ seen.seen.opens.new.others k out.0; fresh = (seen.seen.opens.new.fresh, tt) };
@@ -152,16 +152,16 @@ module _ (c : CallInHistory) (reply : Reply) (is : IsCallInHistory c) (text : Li
       };
     })
 
-    stay : {m : ℕ} → Rests then m → Holds then b m [] → HandlesStay c
+    stay : {m : ℕ} → Rests after m → Holds after b m [] → HandlesStay c
     stay rests holds k = ap (λ (s : State). held s (actor_of c) k) (sym (ends_there part part_is dir names seen)) ∙ rests.kept k ∙ holds.others k tt
 
-    abbrev clears : {m : ℕ} → IsBounded seen.rest → Rests then m → TookAway then dir.node split.name m → ClearsThere c text
+    abbrev clears : {m : ℕ} → IsBounded seen.rest → Rests after m → TookAway after dir.node split.name m → ClearsThere c text
     clears few rests took = record { split = split; entry = entry; dir = dir; names = names; seen = seen; entries = takes_all rests took; bounded = few }
 
-    told_end : IsBounded seen.rest → (end : Turn) → removing_turn end ≡ calls.ends reply → EndsGood then dir.node split.name b end → RemoveAllSees c text reply × HandlesAfter c reply
+    told_end : IsBounded seen.rest → (end : Turn) → removing_turn end ≡ calls.ends reply → EndsGood after dir.node split.name b end → RemoveAllSees c text reply × HandlesAfter c reply
     told_end few (more call) same good = cc (same)
     told_end few (removed n) same good =
-        subst (λ r. RemoveAllSees c text r × HandlesAfter c r) (same_reply (count n) reply same)
+        subst (λ r. RemoveAllSees c text r × HandlesAfter c r) (same_reply (calls.count n) reply same)
         ((clears few good.rests good.good.took, (omega (arith, good.good.counted, counted), is_last good.rests good.good.last)), stay good.rests good.good.holds)
     told_end few (failed error) same good =
         subst (λ r. RemoveAllSees c text r × HandlesAfter c r) (same_reply (fault error) reply same)
@@ -172,7 +172,7 @@ module _ (c : CallInHistory) (reply : Reply) (is : IsCallInHistory c) (text : Li
         let turn = walked part.way split.name (walk.found dir names) in
         let by = clears_led c.below turn seen.rest reply onward in
         told_end (lines_bounded CLEARING_STEPS_MAX seen.rest turn by.end (clearing_begins part.way split.name dir names) by.led) by.end by.is_reply
-        (lines_good (lived tree_laws then (after_is part part_is dir names seen)) dir.node split.name b seen.rest 0 turn by.end first_good
+        (lines_good (lived tree_laws after (after_is part part_is dir names seen)) dir.node split.name b seen.rest 0 turn by.end first_good
         (happens_after part part_is dir names seen) by.led)
 
 -- no line of a walk takes an entry away, whatever its last question was told

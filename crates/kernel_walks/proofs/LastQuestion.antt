@@ -3,7 +3,9 @@ use Rattle.std.proofs.Common.{◌≡◌, ℕ, Bool, true, false, List, [], ◌�
 use Rattle.std.specs.Prelude.{Option, Some, None}
 use Rattle.path_text.specs.declared.errno.Errno.{Errno}
 use Rattle.path_text.specs.Text.{text_fault, reading_of}
+use Rattle.tree_model.specs.declared.answer.Answer.{Answer}
 use Rattle.tree_model.specs.declared.answer.Answer.TheVariants.{Names, Refused}
+use Rattle.tree_model.specs.StepWith.{StepWith}
 use Rattle.tree_model.specs.declared.step.StepOf.TheVariants.{NameBelow}
 use Rattle.walk_plan.specs.declared.goal.Goal.{Goal}
 use Rattle.step_resolver.specs.Order.{Way, Handle, Line, answered, no_room, not_made, ending, Turn, more, found, partial, failed, begins, take, LeadsTo}
@@ -57,6 +59,12 @@ pub record LooksUp (way : Way) (turn : Turn) (front : List Line) (root : ℕ) (h
   pub root_is : root ≡ way.root
   pub told_is : told ≡ reverse names
 
+same_root : (a b h : ℕ) (x y : StepWith ℕ) → x ≡ NameBelow a h → y ≡ NameBelow b h → x ≡ y → a ≡ b
+same_root a b h x y e f same = cc (e, f, same)
+
+same_told : (a b : List (List ℕ)) (x y : Answer) → x ≡ Names a → y ≡ Names b → x ≡ y → a ≡ b
+same_told a b x y e f same = cc (e, f, same)
+
 looks_up : (way : Way) (turn : Turn) (front : List Line) (root : ℕ) (handle : Handle) (told names : List (List ℕ)) → not_found turn
     → LeadsTo way turn (front ++ asks root handle told ∷ []) (found handle names) → LooksUp way turn front root handle told names
 looks_up way turn front root handle told names none leads =
@@ -65,15 +73,9 @@ looks_up way turn front root handle told names none leads =
     let question = subst (IsQuestion way handle (reverse names)) (sym same.1) at.question in
     record {
       led = subst (λ ls. LeadsTo way turn ls (more (ending handle names []))) (sym same.0) at.led;
-      root_is = root_so question.0;
-      told_is = told_so question.1;
+      root_is = same_root root way.root handle.number (NameBelow root handle.number) (NameBelow way.root handle.number) refl refl question.0;
+      told_is = same_told told (reverse names) (Names told) (Names (reverse names)) refl refl question.1;
     }
-  where
-    root_so : NameBelow root handle.number ≡ NameBelow way.root handle.number → root ≡ way.root
-    root_so e = cc (e)
-
-    told_so : Names told ≡ Names (reverse names) → told ≡ reverse names
-    told_so e = cc (e)
 
 pub resolve_looks_up : (below : Below) (goal : Goal) (path : List ℕ) (why : Option Errno) (front : List Line) (root : ℕ) (handle : Handle) (told names : List (List ℕ))
     → calls.LeadsTo below (unless_fault why (calls.walks below (Opens goal) (reading_of path))) (front ++ asks root handle told ∷ []) (ends (opened handle names))

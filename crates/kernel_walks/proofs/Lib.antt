@@ -1,4 +1,4 @@
-mod Followed
+mod ShortPieces
 mod SeenBelow
 mod AtQuestion
 mod Parts

@@ -44,8 +44,8 @@ module _ (below : Below) (old_path new_path : List ℕ) (mode : Mode) (from to :
   abbrev on : Aim
   on = WalksOn to.dir ren
 
-  abbrev then : Aim
-  then = Renames old.dir.number ren
+  abbrev onto : Aim
+  onto = Renames old.dir.number ren
 
   abbrev end : CallTurn
   end = ends (reply_to wants.Done (answer_of last.step))
@@ -90,33 +90,33 @@ module _ (below : Below) (old_path new_path : List ℕ) (mode : Mode) (from to :
   -- ---- the second look-up
 
   abbrev new_question : CallTurn
-  new_question = more (walking (ending new.dir new.names []) then)
+  new_question = more (walking (ending new.dir new.names []) onto)
 
-  new_found : walk.take (way_of below then) true (ending new.dir new.names []) (Names new.told) ≡ walk.found new.dir new.names
-  new_found = ap (λ ns. walk.take (way_of below then) true (ending new.dir new.names []) (Names ns)) new_looks.told_is ∙ judged_found (way_of below then) new.dir new.names
+  new_found : walk.take (way_of below onto) true (ending new.dir new.names []) (Names new.told) ≡ walk.found new.dir new.names
+  new_found = ap (λ ns. walk.take (way_of below onto) true (ending new.dir new.names []) (Names ns)) new_looks.told_is ∙ judged_found (way_of below onto) new.dir new.names
 
-  new_onward : LeadsTo below (walked below true then (walk.take (way_of below then) true (ending new.dir new.names []) (Names new.told))) last_lines end
-  new_onward = subst (λ t. LeadsTo below (walked below true then t) last_lines end) (sym new_found) renames_then
+  new_onward : LeadsTo below (walked below true onto (walk.take (way_of below onto) true (ending new.dir new.names []) (Names new.told))) last_lines end
+  new_onward = subst (λ t. LeadsTo below (walked below true onto t) last_lines end) (sym new_found) renames_then
 
-  to_new : LeadsTo below (walks below then to.dir) new.lines new_question
-  to_new = walk_leads below then true (walk.begins (way_of below then) to.dir) new.lines (ending new.dir new.names [])
-      (without_slash_leads (way_of below then) refl refl new.dir new.names new_text new.lines to.dir new_same.absolute new_same.parts new_looks.led)
+  to_new : LeadsTo below (walks below onto to.dir) new.lines new_question
+  to_new = walk_leads below onto true (walk.begins (way_of below onto) to.dir) new.lines (ending new.dir new.names [])
+      (without_slash_leads (way_of below onto) refl refl new.dir new.names new_text new.lines to.dir new_same.absolute new_same.parts new_looks.led)
 
   abbrev behind_new : List (List ℕ) → List Line
   behind_new names = asks_below below new.dir names ∷ last_lines
 
-  second_leads : LeadsTo below (walks below then to.dir) (new.lines ++ behind_new new.told) end
-  second_leads = joined below (walks below then to.dir) new_question end new.lines (behind_new new.told) to_new (refl, new_onward)
+  second_leads : LeadsTo below (walks below onto to.dir) (new.lines ++ behind_new new.told) end
+  second_leads = joined below (walks below onto to.dir) new_question end new.lines (behind_new new.told) to_new (refl, new_onward)
 
-  second_told : (further : List (List ℕ)) → AreTold below (walks below then to.dir) (new.lines ++ behind_new new.told) (new.lines ++ behind_new further)
-  second_told further = told_first below (walks below then to.dir) new_question new.lines (behind_new new.told) (behind_new further) to_new (
+  second_told : (further : List (List ℕ)) → AreTold below (walks below onto to.dir) (new.lines ++ behind_new new.told) (new.lines ++ behind_new further)
+  second_told further = told_first below (walks below onto to.dir) new_question new.lines (behind_new new.told) (behind_new further) to_new (
     as_passed (NameBelow below.root.handle new.dir.number) new.names further refl (ap (λ ns. answered (NameBelow below.root.handle new.dir.number) (Names ns)) new_looks.told_is) refl,
-    told_all below (walked below true then (walk.take (way_of below then) true (ending new.dir new.names []) (Names new.told))) end last_lines new_onward,
+    told_all below (walked below true onto (walk.take (way_of below onto) true (ending new.dir new.names []) (Names new.told))) end last_lines new_onward,
   )
 
   -- ---- the first one
 
-  same_walked : (turn : walk.Turn) → walked_on old.dir.number ren turn ≡ walked below true then turn
+  same_walked : (turn : walk.Turn) → walked_on old.dir.number ren turn ≡ walked below true onto turn
   same_walked (walk.more w) = refl
   same_walked (walk.found handle others) = refl
   same_walked (walk.partial handle others rest) = refl
@@ -126,10 +126,10 @@ module _ (below : Below) (old_path new_path : List ℕ) (mode : Mode) (from to :
   old_question = more (walking (ending old.dir old.names []) on)
 
   -- what its question told is that the old directory was found, from where the second walk begins
-  second_turn : walked below true on (walk.take (way_of below on) true (ending old.dir old.names []) (Names old.told)) ≡ walks below then to.dir
+  second_turn : walked below true on (walk.take (way_of below on) true (ending old.dir old.names []) (Names old.told)) ≡ walks below onto to.dir
   second_turn =
       ap (walked below true on) (ap (λ ns. walk.take (way_of below on) true (ending old.dir old.names []) (Names ns)) old_looks.told_is ∙ judged_found (way_of below on) old.dir old.names)
-      ∙ same_walked (walk.begins (way_of below then) to.dir)
+      ∙ same_walked (walk.begins (way_of below onto) to.dir)
 
   to_old : LeadsTo below (walks below on from.dir) old.lines old_question
   to_old = walk_leads below on true (walk.begins (way_of below on) from.dir) old.lines (ending old.dir old.names [])

@@ -1,5 +1,5 @@
 -- A resolve whose last question had some names as its answer: its walk saw the object below the root.
-use Rattle.std.specs.Prelude.{◌≡◌, ℕ, List, true, refl}
+use Rattle.std.specs.Prelude.{◌≡◌, ℕ, List, [], ◌∷◌, ◌++◌, true, refl}
 use Rattle.std.proofs.Common.{sym, ap, ◌∙◌, subst}
 use Rattle.path_text.specs.Text.{text_fault, reading_of}
 use Rattle.walk_plan.specs.declared.goal.Goal.{Goal}
@@ -25,5 +25,5 @@ starts_so below op goal path is = absurd is
 pub resolves_seen_below : ResolvesSeenBelow
 resolves_seen_below c goal path lines handle told names others is leads lines_so in_history =
     let looks = resolve_looks_up c.below goal path (text_fault path) lines c.below.root.handle handle told names
-    (subst (λ turn. LeadsTo c.below turn _ (ends (opened handle names))) (starts_so c.below c.op goal path is) leads) in
+    (subst (λ turn. LeadsTo c.below turn (lines ++ asks_below c.below handle told ∷ []) (ends (opened handle names))) (starts_so c.below c.op goal path is) leads) in
     seen_below (along c goal (reading_of path)) (is_bulk_of c goal (reading_of path) in_history) lines (asks_below c.below handle others) handle names others lines_so (refl, refl) looks.led

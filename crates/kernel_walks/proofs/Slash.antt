@@ -334,7 +334,7 @@ asked_with (p ∷ q ∷ ps) = ap (λ qs. ask true p ∷ qs) (asked_with (q ∷ p
 
 last_off : (ps : List Part) → before_last (ps ++ part.Cur ∷ []) ≡ ps
 last_off ps =
-    ap (λ n. take n (ps ++ part.Cur ∷ [])) one_off ∙ take-append-le (length ps) ps (part.Cur ∷ []) (le_refl (length ps)) ∙ take_all ps (length ps) (le_refl (length ps))
+    ap (λ n. take n (ps ++ part.Cur ∷ [])) one_off ∙ take-append-le (length ps) ps (part.Cur ∷ []) (le_refl (length ps)) ∙ take_all (length ps) ps (le_refl (length ps))
   where
     one_off : length (ps ++ part.Cur ∷ []) - 1 ≡ length ps
     one_off = ap (λ n. n - 1) (length-append ps (part.Cur ∷ [])) ∙ omega arith

@@ -5,7 +5,7 @@ use Rattle.std.proofs.lemmas.Iterator.Splits.{YieldsList-from_slice_split}
 use Rattle.std.proofs.lemmas.List.{length_push}
 use borrow.Author.Tests.{tests}
 use Rattle.path_text.specs.declared.name.TheConstants.{SLASH}
-use Rattle.kernel_walks.proofs.Followed.{one_long, one_shorter, all_short, long_piece, short_piece}
+use Rattle.kernel_walks.proofs.ShortPieces.{one_long, one_shorter, all_short, long_piece, short_piece}
 use Rattle.kernel_walks.proofs.followed.are_short.Goals as goal
 
 pub returns-then-piece-gt-NAME_MAX : goal.returns-then-piece-gt-NAME_MAX
