@@ -1,0 +1,13 @@
+pub use Rattle.root_ops.specs.Acts
+pub use Rattle.root_ops.specs.CallHistory
+pub use Rattle.root_ops.specs.EachCall
+pub use Rattle.root_ops.specs.Order
+pub use Rattle.root_ops.specs.View
+pub mod SeenBelow
+pub mod Told
+pub mod SeenTo
+pub mod Tells
+pub mod Followed
+pub mod Behind
+pub mod Resolves
+pub mod RenamesBehind
