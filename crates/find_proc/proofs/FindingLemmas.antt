@@ -300,10 +300,10 @@ believed_step : (f : Facts) (e : Exchange) (older : List Exchange) (error : ℕ)
 believed_step f e older error question fit at =
     elim (asked_is e.asked question) [
       | ask_it is ↦ record {
-          present = grind (arith, is, fit);
-          mount = grind (arith, is, at);
-          surely = λ so. grind (arith, is, at, so);
-        }
+        present = grind (arith, is, fit);
+        mount = grind (arith, is, at);
+        surely = λ so. grind (arith, is, at, so);
+      }
       | open_it is ↦ absurd (grind (arith, is, at))
       | raise_it is ↦ absurd (grind (arith, is, at))
       | close_low is ↦ absurd (grind (arith, is, at))

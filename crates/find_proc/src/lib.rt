@@ -20,3 +20,4 @@ pub use laws::{
     no_kept_one_is_passed_over, owning_calls_are_few, proc_is_opened_for_a_call_alone,
     what_is_at_hand_was_shown, what_is_given_is_a_proc, why_it_fails, why_no_proc_is_owned,
 };
+pub use owning::Owning;

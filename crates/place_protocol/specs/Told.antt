@@ -32,21 +32,22 @@ abbrev pub names_told : ℕ → Bool → List ℕ → List ℕ → Told
 names_told what is_root text names =
     record { start = start_of text names; length = length names; error = 0; what = what; is_root = is_root }
 
-abbrev pub told_of : List ℕ → Due → Told
-told_of text (asks question) =
+abbrev pub told_of : Due → List ℕ → Told
+told_of (asks question) text =
     record { start = 0; length = 0; error = 0; what = number_of question; is_root = false }
-told_of text (looks names) = names_told 3 false text names
-told_of text (stands names) = names_told 6 (is_top names) text names
-told_of text (unmade error) = record { start = 0; length = 0; error = error; what = 7; is_root = false }
+told_of (looks names) text = names_told 3 false text names
+told_of (stands names) text =
+    record { start = start_of text names; length = length names; error = 0; what = 6; is_root = is_top names }
+told_of (unmade error) text = record { start = 0; length = 0; error = error; what = 7; is_root = false }
 
 -- what is due behind the answer to a question; a number that is no question's is refused
 abbrev pub next_told : Facts → Option Question → Answer → Texts → Told
-next_told facts None a t = told_of t.text (unmade EINVAL)
-next_told facts (Some question) a t = told_of t.text (follows facts question a t)
+next_told facts None a t = told_of (unmade EINVAL) t.text
+next_told facts (Some question) a t = told_of (follows facts question a t) t.text
 
 -- the first question
 abbrev pub begun : Told
-begun = told_of [] (asks RootLink)
+begun = told_of (asks RootLink) []
 
 -- the place is so many bytes of the text, from there on
 pub record IsPart (text place : List ℕ) (start size : ℕ) : Type 0 where

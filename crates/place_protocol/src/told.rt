@@ -73,7 +73,7 @@ fn names_told(what: u8, is_root: bool, text: &[u8], names: &[u8]) -> Told
 }
 
 fn told_of(text: &[u8], turn: Turn) -> Told
-    ensures { result ≡ told_of text.now (due_of turn.entry) }
+    ensures { result ≡ told_of (due_of turn.entry) text.now }
 {
     match turn {
         Turn::Ask(question) => Told {
