@@ -1,7 +1,6 @@
 //! Whose a /proc is.
 use find_proc::owning::{
-    AT_HAND, CALL, CALLERS, CLAIM, CLOSE, FAILS, HAND_IN, PROGRAMS, RELEASE, TAKE, begin,
-    next,
+    AT_HAND, CALL, CALLERS, CLAIM, CLOSE, FAILS, HAND_IN, PROGRAMS, RELEASE, TAKE, begin, next,
 };
 use find_proc::{Owning, a_proc_is_ones_alone, owning_calls_are_few, why_no_proc_is_owned};
 use std::test::Fail;

@@ -55,11 +55,12 @@ stood_seen w facts place end within seen before (inl gone) = (1, within, inr (se
 stood_seen w facts place end within seen before (inr is) = (1, within, inl is)
 
 confirmed_stood : (w : World) (facts : Facts) (place : List ℕ) (root object : Exchange) (es : List Exchange) → StaysGone w
-    → AreAnswers w facts 0 (root ∷ object ∷ es) → TextsTell w → LinksTell place root object → IsConfirmed facts place es
+    → AreAnswers w facts 0 (root ∷ object ∷ es) → (is_top place ≡ false → TextsTell w) → LinksTell place root object
+    → IsConfirmed facts place es
     → Stood w facts place (length (root ∷ object ∷ es))
 confirmed_stood w facts place root object [] stays answers tell links is =
     let before = answers.1.0.link_before links.1 (not_called root.text object.text place links.2 is.1 is.2) in
-    stood_seen w facts place 2 (lit< tt) is.0 before (read w facts place root object [] answers tell links is.1)
+    stood_seen w facts place 2 (lit< tt) is.0 before (read w facts place root object [] answers (tell is.1) links is.1)
 confirmed_stood w facts place root object (e ∷ []) stays answers tell links (inl is) =
     let at = slash root.text object.text place links.2 is.0 in
     let finds = subst (λ (p : List ℕ). FindsObject p e) at is.1 in
@@ -67,15 +68,15 @@ confirmed_stood w facts place root object (e ∷ []) stays answers tell links (i
 confirmed_stood w facts place root object (e ∷ []) stays answers tell links (inr is) =
     let there = there_settles w facts place 2 e answers.1.1.0 (inr is.2) in
     stood_there w facts place 3 (lit< tt) (not_before w 1 stays there)
-    (read w facts place root object (e ∷ []) answers tell links is.1)
+    (read w facts place root object (e ∷ []) answers (tell is.1) links is.1)
 confirmed_stood w facts place root object (look ∷ last ∷ []) stays answers tell links is =
     let there = there_settles w facts place 3 last answers.1.1.1.0 is.3 in
     stood_there w facts place 4 (lit< tt) (not_before w 1 stays (not_before w 2 stays there))
-    (read w facts place root object (look ∷ last ∷ []) answers tell links is.1)
+    (read w facts place root object (look ∷ last ∷ []) answers (tell is.1) links is.1)
 confirmed_stood w facts place root object (look ∷ last ∷ more ∷ es) stays answers tell links is = absurd is
 
 witnessed_stood : (w : World) (facts : Facts) (place : List ℕ) (es : List Exchange) → StaysGone w → AreAnswers w facts 0 es
-    → TextsTell w → IsWitnessed facts place es → Stood w facts place (length es)
+    → (is_top place ≡ false → TextsTell w) → IsWitnessed facts place es → Stood w facts place (length es)
 witnessed_stood w facts place [] stays answers tell is = absurd is
 witnessed_stood w facts place (root ∷ []) stays answers tell is = absurd is
 witnessed_stood w facts place (root ∷ object ∷ es) stays answers tell is =

@@ -67,12 +67,14 @@ pub record TextsTell (w : World) : Type 0 where
   pub below : (place : List ℕ) → place_told (w.root 1) (w.object 1) ≡ Some place → is_top place ≡ false
       → (w.gone 1 ≡ true) ⊎ (w.stands 1 place ≡ true)
 
--- A place is told. Then at the moment of an answer the object stood there. Texts of links must tell that; and what the
--- kernel had seen below the root right before may have been removed, but not before the first question.
+-- A place is told. Then at the moment of an answer the object stood there. Texts of links must tell that, but of the root
+-- itself; and what the kernel had seen below the root right before may have been removed, but not before the first
+-- question.
 abbrev pub PlacesStood : Type 0
 PlacesStood =
     (w : World) (facts : Facts) (es : List Exchange) (place : List ℕ)
-    → StaysGone w → AreAnswers w facts 0 es → TextsTell w → Conversation facts es (StandsAt place)
+    → StaysGone w → AreAnswers w facts 0 es → (is_top place ≡ false → TextsTell w)
+    → Conversation facts es (StandsAt place)
     → (n : ℕ) × (n < length es)
     × ((w.stands n place ≡ true) ⊎ ((facts.seen ≡ true) × (w.before ≡ false) × (w.gone n ≡ true)))
 

@@ -27,10 +27,10 @@ pub fn names_lie_in_the_text()
 {}
 
 /// What answers of Linux say of the file system, each at its moment, is a premise (proc(5), rmdir(2)). With it: where a
-/// place is told, the object stood there at the moment of an answer. Texts must tell inside from outside, but for a
-/// slash alone, and the root must not be moved between the readings of its text and of the object's. A slash alone is
-/// told of what device and inode have shown to be the root. What the kernel had seen below the root right before may
-/// also have been removed by then, but not before the first question.
+/// place is told, the object stood there at the moment of an answer. Of all but the root itself texts must tell inside
+/// from outside, and the root must not be moved between the readings of its text and of the object's. The root itself
+/// is what device and inode have shown to be it. What the kernel had seen below the root right before may also have been
+/// removed by then, but not before the first question.
 pub fn places_stood()
     ensures { PlacesStood }
 {}
