@@ -1,7 +1,7 @@
 /*
  * calls.h: the proved library's functions, and what passes between it and a driver. The numbers and bytes are those
  * of crates/c_protocol, step_calls, place_protocol, open_or_make, make_through_links, remove_by_calls, look_ups,
- * list_directory, walk_directory, walk_tree, call_course, ask_place, give_entry, find_proc, keep_open, begin_jail,
+ * list_directory, walk_directory, walk_tree, call_course, ask_place, give_entry, find_proc,
  * private_proc, open_partial, open_at_once, open_through_links, enter_directory, begin_below, kernel_text and
  * system_calls, whose contracts say what they stand for. A program that makes calls includes inroot.h, and not this.
  *
@@ -330,45 +330,6 @@ struct inroot_sorted {
 void inroot_sort_names(const unsigned char *text, size_t text_length, unsigned char *room, size_t size,
                        struct inroot_sorted *sorted);
 
-/* ---- whether a mount stands at the thread's root directory, by statx(2), or by two texts of proc(5). These take no memory. */
-
-/*
- * FDINFO of a descriptor of the root directory is read, and mountinfo opened: openat(2). The bytes of mountinfo that come next
- * are read: read(2). It is closed. Or nothing comes: a mount stands there; or none does, or nothing says.
- */
-enum inroot_own_root_next {
-    INROOT_OWN_OPEN = 1, INROOT_OWN_READ, INROOT_OWN_CLOSE, INROOT_OWN_YES, INROOT_OWN_NO,
-};
-
-/* What statx(2) said of the root directory: the attributes, and the MASK of those that it knows; or an error. */
-struct inroot_own_look {
-    uint64_t mask, attributes;
-    uint32_t error;
-};
-
-/* What was read of mountinfo so far. */
-struct inroot_mounts {
-    size_t at;
-    uint8_t fields;
-    bool holds, found;
-};
-
-/* A driver reads what comes NEXT. It leaves all of it alone between two turns. */
-struct inroot_own_root {
-    struct inroot_mounts mounts;
-    uint8_t next;
-};
-
-void inroot_own_root_begin(const struct inroot_own_look *look, struct inroot_own_root *own);
-
-/*
- * Takes what the last demand gave: 0, or an error; and the bytes of mountinfo that were read, none at its end. A mount stands
- * there if a whole line so far begins with the number that FDINFO has behind `mnt_id:` and a tab, and its fifth field is a slash
- * alone. FDINFO is the same in each call, and empty where it can't be read. What is mounted over the directory has another number.
- */
-void inroot_own_root_next(const unsigned char *fdinfo, size_t fdinfo_length, uint32_t error, const unsigned char *part,
-                          size_t length, struct inroot_own_root *own);
-
 /* ---- what is asked of Linux, and what its answers mean, by numbers alone. These take no memory, and need no call under way. */
 
 /* The flags of open(2) whose numbers differ between machines: O_DIRECTORY, O_NOFOLLOW, O_DIRECT, O_LARGEFILE. */
@@ -440,11 +401,11 @@ enum inroot_way { INROOT_BY_ROOT, INROOT_BY_NAME, INROOT_SEEN_BELOW, INROOT_BY_P
 
 /*
  * What is known of it as its place is due: the WAY; `..` of another led to it (ABOVE); it is a directory; the names are known that
- * the walk passed to it (NAMED); the thread has openat2(2) (SECOND); the kernel's own check is enough (INROOT_BELOW).
+ * the walk passed to it (NAMED); the kernel's own check is enough (BELOW).
  */
 struct inroot_held {
     uint8_t way;
-    bool above, directory, named, second, below;
+    bool above, directory, named, below;
 };
 
 /*
@@ -457,28 +418,19 @@ enum inroot_held_next { INROOT_HELD_AT_ROOT = 1, INROOT_HELD_LOOK_UP, INROOT_HEL
 uint8_t inroot_place_before(const struct inroot_held *held);
 uint8_t inroot_place_behind(const struct inroot_held *held, bool found);
 
-/*
- * What is known before the first question: the root is the thread's own root directory; the object is a directory; openat2(2)
- * opened it by names from the root with RESOLVE_BENEATH right before; `..` led to it; the thread has openat2(2); and the root's
- * path is known, since the root stays there.
- */
+/* What is known before the first question: a directory; openat2(2) opened it by names from the root with RESOLVE_BENEATH right before. */
 struct inroot_place_facts {
-    bool jailed, directory, seen, by_parent, second, kept;
+    bool directory, seen;
 };
 
 /*
- * A question: fchdir(2) to the object; getcwd(2), and once more with a room of one byte; the text of the object's link in /proc, by
- * what is kept of the root; that of the root's link; that of the object's; whether the thread's own root directory is a mount's;
- * the root's link once more; what the names lead to from the root; the object's link once more; whether the directory was removed;
- * which objects the object and the root are; in a jail, which ones the directory and `/` are, and once more with `/` opened anew;
- * which ones the root and its `..` are. Or there is none: the object stands at the names; it isn't below the root; or that could not
- * be found out.
+ * A question: the text of the root's link in /proc; that of the object's; what the names lead to from the root, by openat2(2) with
+ * RESOLVE_BENEATH; the object's link once more; whether the directory was removed. Or there is none: the object stands at the names;
+ * or that could not be found out.
  */
 enum inroot_place_what {
-    INROOT_PLACE_ENTER = 1, INROOT_PLACE_CWD, INROOT_PLACE_CWD_AGAIN, INROOT_PLACE_KEPT_LINK, INROOT_PLACE_ROOT_LINK,
-    INROOT_PLACE_OBJECT_LINK, INROOT_PLACE_OWN_ROOT, INROOT_PLACE_ROOT_AGAIN, INROOT_PLACE_LOOK_UP, INROOT_PLACE_LINK_AGAIN,
-    INROOT_PLACE_DEAD, INROOT_PLACE_IS_ROOT, INROOT_PLACE_SLASH, INROOT_PLACE_SLASH_AGAIN, INROOT_PLACE_TOP,
-    INROOT_PLACE_STANDS = 16, INROOT_PLACE_NOWHERE, INROOT_PLACE_UNMADE,
+    INROOT_PLACE_ROOT_LINK = 1, INROOT_PLACE_OBJECT_LINK, INROOT_PLACE_LOOK_UP, INROOT_PLACE_LINK_AGAIN, INROOT_PLACE_DEAD,
+    INROOT_PLACE_STANDS, INROOT_PLACE_UNMADE,
 };
 
 /*
@@ -492,11 +444,7 @@ struct inroot_place_told {
     bool is_root;
 };
 
-/*
- * What a question was answered: 0 or an error's number. `yes`: the root directory is a mount's; the directory was removed; or the
- * thread has no openat2(2) any more. Of a look-up: the object, and what was found. Of which objects two are: the first, and the
- * other in the place of what was found.
- */
+/* What a question was answered: 0 or an error's number. YES: the directory was removed. Of a look-up: the object, and what was found. */
 struct inroot_place_answer {
     uint32_t error;
     bool yes;
@@ -504,14 +452,13 @@ struct inroot_place_answer {
 };
 
 /* The first question. */
-void inroot_place_begin(const struct inroot_place_facts *facts, struct inroot_place_told *told);
+void inroot_place_begin(struct inroot_place_told *told);
 
 /*
  * Puts what is due behind the answer to the question in its place; by the texts that were read last, each empty where none was: of
- * the root, or what is kept of it; of the object, also by getcwd(2); and of a link that was read once more. FACTS are those of the
- * first question: they change if the thread has lost openat2(2).
+ * the root, of the object, and of the object's link once more.
  */
-void inroot_place_next(struct inroot_place_facts *facts, const struct inroot_place_answer *answer, const unsigned char *root,
+void inroot_place_next(const struct inroot_place_facts *facts, const struct inroot_place_answer *answer, const unsigned char *root,
                        size_t root_length, const unsigned char *text, size_t text_length, const unsigned char *again,
                        size_t again_length, struct inroot_place_told *told);
 
@@ -763,33 +710,22 @@ void inroot_looks_next(struct inroot_looks *looks, const struct inroot_coming_na
 
 /*
  * The object is looked at: statx(2). The descriptor is copied. The names are found out at which the object stands, as
- * above. All of them are looked up at once below the root, through no link: openat2(2) with RESOLVE_BENEATH. It is found out
- * whether they LEAD to the object, as below. It is asked whether the directory was removed. The copy is closed. If it ENDS, the
- * object stands at the names that were found. If it FAILS, there is an error.
+ * above. It is asked whether the directory was removed. The copy is closed. If it ENDS, the object stands at the names that were
+ * found. If it FAILS, there is an error.
  */
 enum inroot_asking_next {
-    INROOT_ASKING_LOOK = 1, INROOT_ASKING_COPY, INROOT_ASKING_FIND, INROOT_ASKING_LOOK_UP, INROOT_ASKING_LEAD,
-    INROOT_ASKING_DEAD, INROOT_ASKING_CLOSE, INROOT_ASKING_ENDS, INROOT_ASKING_FAILS,
+    INROOT_ASKING_LOOK = 1, INROOT_ASKING_COPY, INROOT_ASKING_FIND, INROOT_ASKING_DEAD, INROOT_ASKING_CLOSE, INROOT_ASKING_ENDS,
+    INROOT_ASKING_FAILS,
 };
 
 /*
- * The object is known to be a directory; the copy is kept where the place is told; the root is the thread's own; and the program has
- * handed the descriptor in, where else the call itself has found the object below the root.
- */
-struct inroot_asking_facts {
-    bool directory, keeps, jailed, handed;
-};
-
-/*
- * What a demand gave: 0, or an error. How many names has what was looked at. How long the names are that were found, or
- * 0. YES: what was looked at is a directory; what was looked up is the object; or, the directory was removed. The thread has
- * OPENAT2, as far as it is known once the names were found or looked up.
+ * What a demand gave: 0, or an error. How many names has what was looked at. YES: what was looked at is a directory; or, the
+ * directory was removed.
  */
 struct inroot_asking_answer {
     uint64_t links;
-    size_t length;
     uint32_t error;
-    bool yes, openat2;
+    bool yes;
 };
 
 /*
@@ -802,25 +738,8 @@ struct inroot_asking {
     bool directory, nameless;
 };
 
-void inroot_asking_begin(const struct inroot_asking_facts *facts, struct inroot_asking *asking);
-void inroot_asking_next(struct inroot_asking *asking, const struct inroot_asking_facts *facts,
-                        const struct inroot_asking_answer *answer);
-
-/*
- * The name of the place from START to END is opened in what is held, which is the root first, and is held then: openat(2) with O_PATH,
- * O_NOFOLLOW and O_CLOEXEC. What is held is COMPARED with the object. The names LEAD to it; or they don't, by an ERROR.
- */
-enum inroot_leading_next { INROOT_LEADING_OPEN = 1, INROOT_LEADING_COMPARE, INROOT_LEADING_LEADS, INROOT_LEADING_MISLEADS };
-
-struct inroot_leading {
-    size_t start, end;
-    uint32_t error;
-    uint8_t next;
-};
-
-void inroot_leading_begin(const unsigned char *names, size_t length, struct inroot_leading *leading);
-/* Takes the error of openat(2), or 0; or whether both are the SAME. */
-void inroot_leading_next(const unsigned char *names, size_t length, uint32_t error, bool same, struct inroot_leading *leading);
+void inroot_asking_begin(struct inroot_asking *asking);
+void inroot_asking_next(struct inroot_asking *asking, const struct inroot_asking_answer *answer);
 
 /* Another question for a place is due; or it is the end, by an error or 0. */
 struct inroot_question {
@@ -833,9 +752,6 @@ struct inroot_question {
  * of this SIZE.
  */
 void inroot_next_question(uint32_t asked, uint32_t error, size_t length, size_t size, struct inroot_question *question);
-
-/* The error of a descriptor that must be a directory's, or 0: by the error of fstat(2), or by 0 and the mode. */
-uint32_t inroot_directory_error(uint32_t error, uint32_t mode);
 
 /* ---- which system call comes next, as an entry that a call has made is opened. These take no memory. */
 
@@ -894,29 +810,26 @@ void inroot_giving_next(struct inroot_giving *giving, const struct inroot_giving
 /* ---- which system call comes next, as a /proc is found, and which proc(5) is believed. These take no memory. */
 
 /*
- * What is wanted: a /proc for a call, at hand or opened: FIND. One that is at hand: CHECK. A copy of what is handed in: TAKE. A
- * number above those of the standard files for a descriptor that was opened: OWN. Whether a descriptor is of a proc(5) that
- * follows links: TELL.
+ * What is wanted: a /proc for a call, at hand or opened: FIND. One that is at hand: CHECK. A copy of what is handed in: TAKE.
+ * Whether a descriptor is of a proc(5) that follows links: TELL.
  */
-enum inroot_wants { INROOT_WANTS_FIND = 1, INROOT_WANTS_CHECK, INROOT_WANTS_TAKE, INROOT_WANTS_OWN, INROOT_WANTS_TELL };
+enum inroot_wants { INROOT_WANTS_FIND = 1, INROOT_WANTS_CHECK, INROOT_WANTS_TAKE, INROOT_WANTS_TELL };
 
 /*
- * Of one at hand, of the program or of the thread: its mount, by statx(2); its file system, by fstatfs(2); which file it is, by
- * fstat(2). /proc is opened: open(2) with O_PATH, O_DIRECTORY, O_NOFOLLOW and O_CLOEXEC. A standard file's number is copied above
- * those, by fcntl(2) with F_DUPFD_CLOEXEC, and then closed. The file system of what was opened or handed in: fstatfs(2). `.` is
- * opened in what was handed in: openat(2) with O_PATH, O_DIRECTORY and O_CLOEXEC. Of what was opened: which file it is, and
- * its mount. It is closed. In the end it is the program's, or the thread's, or what was opened; or there is an error.
+ * Which file the one at hand is is ASKed: statx(2). /proc is opened: open(2) with O_PATH, O_DIRECTORY, O_NOFOLLOW and O_CLOEXEC. A
+ * standard file's number is copied above those, by fcntl(2) with F_DUPFD_CLOEXEC, and then closed. The file system of what was
+ * opened or handed in is LOOKed at: fstatfs(2). `.` is opened in what was handed in: openat(2) with O_PATH, O_DIRECTORY and
+ * O_CLOEXEC. Which file was opened: statx(2). It is closed. In the end it is the program's, or what was opened; or there is an error.
  */
 enum inroot_finding_next {
-    INROOT_FINDING_ASK_MOUNT = 1, INROOT_FINDING_ASK_SYSTEM, INROOT_FINDING_ASK_FILE, INROOT_FINDING_OPEN,
-    INROOT_FINDING_RAISE, INROOT_FINDING_CLOSE_LOW, INROOT_FINDING_LOOK, INROOT_FINDING_COPY, INROOT_FINDING_IDENTIFY,
-    INROOT_FINDING_NUMBER, INROOT_FINDING_CLOSE, INROOT_FINDING_PROGRAMS, INROOT_FINDING_THREADS, INROOT_FINDING_GIVES,
+    INROOT_FINDING_ASK = 1, INROOT_FINDING_OPEN, INROOT_FINDING_RAISE, INROOT_FINDING_CLOSE_LOW, INROOT_FINDING_LOOK,
+    INROOT_FINDING_COPY, INROOT_FINDING_IDENTIFY, INROOT_FINDING_CLOSE, INROOT_FINDING_PROGRAMS, INROOT_FINDING_GIVES,
     INROOT_FINDING_FAILS,
 };
 
-/* Which file of a proc(5) it is, on which mount, and of which file system; 0 where the kernel doesn't say. */
+/* Which file of a proc(5) it is, and on which mount (statx(2)); 0 where the kernel doesn't say. */
 struct inroot_proc_file {
-    uint64_t device, inode, mount, system;
+    uint64_t device, inode, mount;
 };
 
 /* What is kept of a descriptor, if one is THERE. */
@@ -926,17 +839,16 @@ struct inroot_proc_kept {
 };
 
 /*
- * What is kept of the PROGRAM's descriptor and of the THREAD's own. The DESCRIPTOR that is to be owned. What is WANTED. One was
- * HANDED_IN; the thread is JAILED; and one at hand is to be SURELY the file that is kept, and not another one on its mount.
+ * What is kept of the PROGRAM's descriptor. What is WANTED. One was HANDED_IN; and the one at hand is to be SURELY the file that is
+ * kept, and not another one on its mount.
  */
 struct inroot_finding_facts {
-    struct inroot_proc_kept program, thread;
-    uint32_t descriptor;
+    struct inroot_proc_kept program;
     uint8_t wanted;
-    bool handed_in, jailed, surely;
+    bool handed_in, surely;
 };
 
-/* What a system call gave, or 0: of fstatfs(2) also the type, and the flags of the mount; what was opened; an error. */
+/* What a system call gave, or 0: of statx(2) which FILE it is; of fstatfs(2) the type, and the mount's flags; what was opened; an error. */
 struct inroot_finding_answer {
     struct inroot_proc_file file;
     uint64_t kind, flags;
@@ -944,141 +856,32 @@ struct inroot_finding_answer {
 };
 
 /*
- * How far it has come. A driver reads what comes NEXT, whether that is about the THREAD's descriptor, the ERROR if it fails, and
- * in the end what was FOUND out of what was opened. It leaves all of it alone between two turns.
+ * How far it has come. A driver reads what comes NEXT, the ERROR if it fails, and in the end what was FOUND out of what was opened.
+ * It leaves all of it alone between two turns.
  */
 struct inroot_finding {
     struct inroot_proc_file found;
     uint32_t error;
     uint8_t next;
-    bool thread, again;
 };
 
 void inroot_finding_begin(const struct inroot_finding_facts *facts, struct inroot_finding *finding);
 void inroot_finding_next(struct inroot_finding *finding, const struct inroot_finding_facts *facts,
                          const struct inroot_finding_answer *answer);
 
-/* ---- what is kept of a root, and of a thread in a jail that trusts. These take no memory. */
-
-/*
- * Memory is taken for what is kept: ROOM. The root is opened: open(2) with O_PATH, O_DIRECTORY and O_CLOEXEC. It is asked which
- * directory that is: fstat(2). A /proc is found (inroot_finding_begin, inroot_owning_begin), and it is asked whether it has
- * THREADS: readlinkat(2) of thread-self. A page is made, by mmap(2), which a child of fork(2) is to find empty: WIPE, by madvise(2)
- * with MADV_WIPEONFORK. If that succeeds, the driver marks the page. It is given back: munmap(2). The root's LINK is read in
- * thread-self/fd. The TABLE of descriptors is opened: openat(2) of self/fd with O_PATH, O_DIRECTORY and O_CLOEXEC. Its link of the
- * root TELLs a path. It is LOOKed at whether it is a directory of a proc(5); and it is given a number above those of the standard
- * files: OWN, which closes it if that fails. It is closed; the /proc is, which is the caller's; the root is. Or the root is open:
- * GIVES.
- */
-enum inroot_keeping_next {
-    INROOT_KEEPING_ROOM = 1, INROOT_KEEPING_OPEN, INROOT_KEEPING_IDENTIFY, INROOT_KEEPING_PROC, INROOT_KEEPING_THREADS,
-    INROOT_KEEPING_MAP, INROOT_KEEPING_WIPE, INROOT_KEEPING_UNMAP, INROOT_KEEPING_LINK, INROOT_KEEPING_TABLE, INROOT_KEEPING_TELL,
-    INROOT_KEEPING_LOOK, INROOT_KEEPING_OWN, INROOT_KEEPING_CLOSE_TABLE, INROOT_KEEPING_CLOSE_PROC, INROOT_KEEPING_CLOSE,
-    INROOT_KEEPING_GIVES, INROOT_KEEPING_FAILS,
-};
-
-/* An error or 0; and at PROC, that it is the CALLER'S to close. */
-struct inroot_keeping_answer {
-    uint32_t error;
-    bool callers;
-};
-
-/*
- * A driver reads what comes NEXT, and the ERROR if it fails. In the end it is UNKNOWN by an error which directory the root is, or
- * that is 0; there is a PAGE with its mark; and the PATH and the TABLE are kept. It leaves all of it alone between two turns.
- */
-struct inroot_keeping {
-    uint32_t error, unknown;
-    uint8_t next;
-    bool callers, page, path, table;
-};
-
-/* By the flags of inroot_root_open(). */
-void inroot_keeping_begin(uint32_t flags, struct inroot_keeping *keeping);
-/* Takes also the texts that were read at LINK and at TELL, or no bytes before. */
-void inroot_keeping_next(struct inroot_keeping *keeping, uint32_t flags, const struct inroot_keeping_answer *answer,
-                         const unsigned char *path, size_t path_length, const unsigned char *told, size_t told_length);
-
-/*
- * A page is made, as above. The thread is to let go of what it keeps as it ENDS: pthread_setspecific(3). Its TABLE is opened:
- * openat(2) of thread-self/fd. LOOK and OWN as above. `.` is opened in the root: TOP, and owned. The table is closed; the page is
- * given back. Both are kept, and the driver marks the page: KEEPS. Or the calls DO WITHOUT; or the jail FAILS.
- */
-enum inroot_trusting_next {
-    INROOT_TRUSTING_MAP = 1, INROOT_TRUSTING_WIPE, INROOT_TRUSTING_ENDS, INROOT_TRUSTING_TABLE, INROOT_TRUSTING_LOOK,
-    INROOT_TRUSTING_OWN, INROOT_TRUSTING_TOP, INROOT_TRUSTING_OWN_TOP, INROOT_TRUSTING_CLOSE_TABLE, INROOT_TRUSTING_UNMAP,
-    INROOT_TRUSTING_KEEPS, INROOT_TRUSTING_DOES_WITHOUT, INROOT_TRUSTING_FAILS,
-};
-
-/* A driver reads what comes NEXT, and the ERROR if it fails. It leaves all of it alone. */
-struct inroot_trusting {
-    uint32_t error;
-    uint8_t next;
-    bool page, table;
-};
-
-void inroot_trusting_begin(struct inroot_trusting *trusting);
-void inroot_trusting_next(struct inroot_trusting *trusting, uint32_t error);
-
-/* Which file a descriptor is of; and what fstat(2) gave: an error, or 0. */
-struct inroot_file {
-    uint64_t device, inode;
-};
-struct inroot_file_answer {
-    struct inroot_file file;
-    uint32_t error;
-};
-
-/*
- * It is CHECKed whether the table's number is still the table's: by an error, or 0. It is closed. It is ASKed which file the root's
- * number is of: fstat(2). It is closed. The page is given back: munmap(2).
- */
-enum inroot_letting_next {
-    INROOT_LETTING_CHECK_TABLE = 1, INROOT_LETTING_CLOSE_TABLE, INROOT_LETTING_ASK, INROOT_LETTING_CLOSE, INROOT_LETTING_UNMAP,
-    INROOT_LETTING_OVER,
-};
-
-/*
- * What is kept: a TABLE, a PAGE, and a root, if it is THERE and isn't lost. It is KNOWN which FILE that is. It is closed only if it
- * is SURELY still that one. Else also if nobody can say.
- */
-struct inroot_letting_facts {
-    struct inroot_file file;
-    bool table, page, there, known, surely;
-};
-
-struct inroot_letting {
-    uint8_t next;
-};
-
-void inroot_letting_begin(const struct inroot_letting_facts *facts, struct inroot_letting *letting);
-void inroot_letting_next(struct inroot_letting *letting, const struct inroot_letting_facts *facts,
-                         const struct inroot_file_answer *asked);
-
-/* What is kept counts: ALL of it, the FLAG INROOT_BELOW alone, or NOTHING. Or it is ASKed first which file it is: fstat(2). */
-enum inroot_believes { INROOT_BELIEVES_ALL = 1, INROOT_BELIEVES_ASK, INROOT_BELIEVES_FLAG, INROOT_BELIEVES_NOTHING };
-
-/* Something is kept, and is THERE. The page is MARKED. The flag INROOT_BELOW was given, and it is known of which file. */
-struct inroot_believing_facts {
-    bool there, marked, below;
-};
-
-uint8_t inroot_believe(const struct inroot_believing_facts *facts);
-uint8_t inroot_believe_by(const struct inroot_file *file, const struct inroot_file_answer *asked);
-
 /* ---- whose a /proc is. These take no memory. */
 
-/* A call has found it, or a thread that moves below a root and STAYs there; or the program is to HAND one IN. */
-enum inroot_for { INROOT_FOR_CALL = 1, INROOT_FOR_STAY, INROOT_FOR_HAND_IN };
+/* A call has found it; or the program is to HAND one IN. */
+enum inroot_for { INROOT_FOR_CALL = 1, INROOT_FOR_HAND_IN };
 
 /*
- * The program's place is CLAIMed, or another error than 0 says that the program has one. The thread is to let go of it as it ENDS:
- * pthread_setspecific(3). What is handed in is copied: TAKE (inroot_finding_begin). The program's place is free again. What was opened
- * is closed. In the end it was AT HAND; or it is the program's, the thread's, or the caller's to close; or there is an error.
+ * The program's place is CLAIMed, or another error than 0 says that the program has one. What is handed in is copied: TAKE
+ * (inroot_finding_begin). The program's place is free again. What was opened is closed. In the end it was AT HAND; or it is the
+ * program's, or the caller's to close; or there is an error.
  */
 enum inroot_owning_next {
-    INROOT_OWNING_CLAIM = 1, INROOT_OWNING_ENDS, INROOT_OWNING_TAKE, INROOT_OWNING_RELEASE, INROOT_OWNING_CLOSE,
-    INROOT_OWNING_AT_HAND, INROOT_OWNING_PROGRAMS, INROOT_OWNING_THREADS, INROOT_OWNING_CALLERS, INROOT_OWNING_FAILS,
+    INROOT_OWNING_CLAIM = 1, INROOT_OWNING_TAKE, INROOT_OWNING_RELEASE, INROOT_OWNING_CLOSE, INROOT_OWNING_AT_HAND,
+    INROOT_OWNING_PROGRAMS, INROOT_OWNING_CALLERS, INROOT_OWNING_FAILS,
 };
 
 /* A driver reads what comes NEXT, and the ERROR if it fails. It leaves all of it alone between two turns. */
@@ -1091,76 +894,6 @@ struct inroot_owning {
 /* Begins with one that is wanted so: IS_NEW if it was just opened. */
 void inroot_owning_begin(uint8_t wanted, bool is_new, struct inroot_owning *owning);
 void inroot_owning_next(struct inroot_owning *owning, uint32_t error);
-
-/* ---- which system call comes next, as a thread is given a root directory of its own. These take no memory. */
-
-/* The flag by which the thread keeps what its calls ask. */
-enum { INROOT_JAILING_TRUST_PROC = 64 };
-
-/*
- * What the root is: fstat(2). Whether the thread has CAP_SYS_CHROOT: capget(2). A /proc is found that stays open, and what the
- * thread trusts. The current directory is opened, and `.` in the root: with O_PATH, O_DIRECTORY and O_CLOEXEC. unshare(2) with
- * CLONE_FS. fchdir(2) to what was opened in the root; chroot(2) of `.`; fchdir(2) back. Both are closed. What was found, and what
- * is trusted, is closed. In the end the thread is in a jail, or there is an error.
- */
-enum inroot_jailing_next {
-    INROOT_JAILING_LOOK = 1, INROOT_JAILING_CAPABLE, INROOT_JAILING_STAY, INROOT_JAILING_TRUST, INROOT_JAILING_OPEN_HERE,
-    INROOT_JAILING_OPEN_ROOT, INROOT_JAILING_UNSHARE, INROOT_JAILING_ENTER, INROOT_JAILING_CHANGE, INROOT_JAILING_GO_BACK,
-    INROOT_JAILING_CLOSE_ROOT, INROOT_JAILING_CLOSE_HERE, INROOT_JAILING_LEAVE, INROOT_JAILING_JAILS, INROOT_JAILING_FAILS,
-};
-
-/* The flags of inroot.h; and whether the thread is JAILED already. */
-struct inroot_jailing_facts {
-    uint32_t flags;
-    bool jailed;
-};
-
-/* What it gave: 0 or an error's number. YES: the root is a directory; the thread has the capability. */
-struct inroot_jailing_answer {
-    uint32_t error;
-    bool yes;
-};
-
-/*
- * How far it has come. A driver reads what comes NEXT, the ERROR if it fails, and then whether the thread's current directory is
- * the root, since it could not go back (AWAY). It leaves all of it alone between two turns.
- */
-struct inroot_jailing {
-    uint32_t error;
-    uint8_t next;
-    bool away;
-};
-
-void inroot_jailing_begin(const struct inroot_jailing_facts *facts, struct inroot_jailing *jailing);
-void inroot_jailing_next(struct inroot_jailing *jailing, const struct inroot_jailing_facts *facts,
-                         const struct inroot_jailing_answer *answer);
-
-/* ---- which system call comes next, as a call in a jail changes the thread's current directory. These take no memory. */
-
-/* The root is to be named in a look-up; another directory is to be the current one; or the thread is to return to the root. */
-enum inroot_where_wants { INROOT_WHERE_STARTS = 1, INROOT_WHERE_ENTERS, INROOT_WHERE_RETURNS };
-
-/*
- * unshare(2) with CLONE_FS; fchdir(2) to the directory; chdir(2) of `/`. In the end the root has a descriptor, which is KEPT; or
- * it is the current directory, HERE; the thread is in the other directory, THERE; it is BACK, or hasn't left; or there is an error.
- */
-enum inroot_where_next {
-    INROOT_WHERE_APART = 1, INROOT_WHERE_GO, INROOT_WHERE_HOME, INROOT_WHERE_KEPT, INROOT_WHERE_HERE, INROOT_WHERE_THERE,
-    INROOT_WHERE_BACK, INROOT_WHERE_STUCK,
-};
-
-/*
- * Where the thread is, as far as the call knows. All of it is 0 as the call begins. A driver reads what comes NEXT, the ERROR if
- * it is stuck, and whether the thread may be elsewhere than at its root (MOVED). It leaves all of it alone.
- */
-struct inroot_whereabouts {
-    uint32_t error;
-    uint8_t next, wants;
-    bool alone, moved;
-};
-
-void inroot_where_wants(struct inroot_whereabouts *place, uint8_t wanted, bool kept);
-void inroot_where_went(struct inroot_whereabouts *place, uint32_t error);
 
 /* ---- which system call comes next, as a proc(5) of the library's own is made. These take no memory. */
 

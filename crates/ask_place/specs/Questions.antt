@@ -1,7 +1,6 @@
--- How often a place is asked for, and the error of a descriptor that must be of a directory.
+-- How often a place is asked for.
 use Rattle.std.specs.Prelude.{ℕ, ◌==◌, Bool, ◌&&◌, if◌then◌else◌, nat_le, nat_lt}
-use Rattle.system_calls.specs.Errors.{EAGAIN, EXDEV, ENOTDIR, ERANGE}
-use Rattle.system_calls.specs.Objects.{format, S_IFDIR}
+use Rattle.system_calls.specs.Errors.{EAGAIN, EXDEV, ERANGE}
 use Rattle.ask_place.specs.declared.questions.Question.{Question}
 
 -- so often at most
@@ -20,7 +19,3 @@ error_after asked error length size =
 abbrev pub next_question : ℕ → ℕ → ℕ → ℕ → Question
 next_question asked error length size =
     record { error = error_after asked error length size; again = is_again asked error }
-
--- openat(2) below what is no directory says the same
-abbrev pub directory_error : ℕ → ℕ → ℕ
-directory_error error mode = if error == 0 then (if format mode == S_IFDIR then 0 else ENOTDIR) else error

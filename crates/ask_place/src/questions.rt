@@ -1,9 +1,8 @@
 //! How often a program asks for a place, and what its answer is.
 ghost use Rattle.std.specs.Prelude.{◌≡◌};
-ghost use Rattle.ask_place.specs.Questions.{directory_error, next_question};
+ghost use Rattle.ask_place.specs.Questions.{next_question};
 
-use system_calls::errors::{EAGAIN, ENOTDIR, ERANGE, EXDEV};
-use system_calls::kind_of;
+use system_calls::errors::{EAGAIN, ERANGE, EXDEV};
 
 const MOST: u32 = 8;
 
@@ -37,18 +36,4 @@ pub fn next_question(asked: u32, error: u32, length: usize, size: usize) -> Ques
         error
     };
     Question { error, again }
-}
-
-/// The error of a descriptor that must be of a directory, by what fstat(2) gave: an error, or 0 and the mode. 0 if it
-/// is one, and else ENOTDIR (20). Takes no memory.
-pub fn directory_error(error: u32, mode: u32) -> u32
-    ensures { result ≡ directory_error error mode }
-{
-    if error != 0 {
-        error
-    } else if kind_of(mode) == 1 {
-        0
-    } else {
-        ENOTDIR
-    }
 }

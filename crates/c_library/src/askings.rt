@@ -2,26 +2,26 @@
 ghost use Rattle.std.specs.Prelude.{◌≡◌, ◌∷◌, [], List, true, false};
 ghost use Rattle.ask_place.specs.Asking.{exchange, IsAt};
 ghost use Rattle.ask_place.specs.History.{is_question, Exchange};
-ghost use Rattle.ask_place.specs.Questions.{directory_error, next_question};
+ghost use Rattle.ask_place.specs.Questions.{next_question};
 
-use ask_place::{Answer, Asking, Facts, Question};
+use ask_place::{Answer, Asking, Question};
 
 /// Begins to ask for an object's place: `ask_place::begin`.
 #[unsafe(no_mangle)]
-pub extern "C" fn inroot_asking_begin(facts: &Facts, asking: &mut Asking)
-    ensures { IsAt facts.now [] asking.new }
+pub extern "C" fn inroot_asking_begin(asking: &mut Asking)
+    ensures { IsAt [] asking.new }
 {
-    *asking = ask_place::begin(facts);
+    *asking = ask_place::begin();
 }
 
 /// Takes what the last demand gave, and says what comes next: `ask_place::next`.
 #[unsafe(no_mangle)]
-pub extern "C" fn inroot_asking_next(asking: &mut Asking, facts: &Facts, answer: &Answer)
-    ensures goes { (history : List Exchange) → IsAt facts.now history asking.old → is_question asking.old.next ≡ true
-        → IsAt facts.now (exchange asking.old answer.now ∷ history) asking.new }
+pub extern "C" fn inroot_asking_next(asking: &mut Asking, answer: &Answer)
+    ensures goes { (history : List Exchange) → IsAt history asking.old → is_question asking.old.next ≡ true
+        → IsAt (exchange asking.old answer.now ∷ history) asking.new }
     ensures over { is_question asking.old.next ≡ false → asking.new ≡ asking.old }
 {
-    *asking = ask_place::next(*asking, facts, answer);
+    *asking = ask_place::next(*asking, answer);
 }
 
 /// Whether a place is asked for again, or what the answer is: `ask_place::next_question`.
@@ -36,12 +36,4 @@ pub extern "C" fn inroot_next_question(
     ensures { question.new ≡ next_question asked error length size }
 {
     *question = ask_place::next_question(asked, error, length, size);
-}
-
-/// The error of a descriptor that must be a directory's: `ask_place::directory_error`.
-#[unsafe(no_mangle)]
-pub extern "C" fn inroot_directory_error(error: u32, mode: u32) -> u32
-    ensures { result ≡ directory_error error mode }
-{
-    ask_place::directory_error(error, mode)
 }

@@ -1,8 +1,8 @@
 //! The functions by which a C program makes calls: a static library of the exports of `c_protocol`, `step_calls`,
 //! `place_protocol`, `open_or_make`, `make_through_links`, `remove_by_calls`, `look_ups`, `list_directory`,
-//! `call_course`, `ask_place`, `give_entry`, `find_proc`, `keep_open`, `begin_jail`, `private_proc`, `open_partial`,
-//! `open_at_once`, `open_through_links`, `enter_directory`, `walk_directory`, `walk_tree`, `begin_below`,
-//! `kernel_text` and `system_calls`.
+//! `call_course`, `ask_place`, `give_entry`, `find_proc`, `private_proc`, `open_partial`, `open_at_once`,
+//! `open_through_links`, `enter_directory`, `walk_directory`, `walk_tree`, `begin_below`, `kernel_text` and
+//! `system_calls`.
 //!
 //! Each export is the function of that name of one of these, with its clauses. What a C program owes is said in
 //! `host/calls.h`: what is kept is empty (zero) before the first call, and is left alone between two turns.
@@ -22,7 +22,7 @@ ghost use Rattle.c_protocol.specs.ThroughAhead.{laid_if, leads_on, look_ahead, n
 ghost use Rattle.open_through_links.specs.declared.passage.TheConstants.{UP};
 ghost use Rattle.c_protocol.specs.Turns.{call_of, IsBegun, IsNext, IsTold};
 ghost use Rattle.place_protocol.specs.Held.{before_questions, behind_look_up};
-ghost use Rattle.place_protocol.specs.Told.{begun, facts_after_number, question_of, TellsNext};
+ghost use Rattle.place_protocol.specs.Told.{begun, next_told, question_of};
 ghost use Rattle.place_protocol.specs.Texts.{texts_of};
 ghost use Rattle.path_text.specs.declared.path.TheConstants.{TEXT_MAX};
 ghost use Rattle.open_or_make.specs.Course.{exchange, IsAt};
@@ -39,12 +39,8 @@ mod askings;
 mod below;
 mod calls;
 mod entries;
-mod jails;
-mod keeps;
-mod leadings;
 mod listings;
 mod looks;
-mod mounts;
 mod procs;
 mod removals;
 mod steps;
@@ -303,24 +299,24 @@ pub extern "C" fn inroot_is_node(mode: u32, device: u64) -> bool
 
 /// The first question about the place of an object: `place_protocol::begin`.
 #[unsafe(no_mangle)]
-pub extern "C" fn inroot_place_begin(facts: &Facts, told: &mut place_protocol::Told)
-    ensures { told.new ≡ begun facts.now }
+pub extern "C" fn inroot_place_begin(told: &mut place_protocol::Told)
+    ensures { told.new ≡ begun }
 {
-    *told = place_protocol::begin(facts);
+    *told = place_protocol::begin();
 }
 
 /// What is due behind the answer to the question that was: `place_protocol::next`.
 #[unsafe(no_mangle)]
 pub extern "C" fn inroot_place_next(
-    facts: &mut Facts,
+    facts: &Facts,
     answer: &Answer,
     root: &[u8],
     text: &[u8],
     again: &[u8],
     told: &mut place_protocol::Told,
 )
-    ensures facts { facts.new ≡ facts_after_number facts.old (question_of told.old.what) answer.now }
-    ensures told { TellsNext facts.old told.old.what answer.now (texts_of root.now text.now again.now) told.new }
+    ensures { told.new
+        ≡ next_told facts.now (question_of told.old.what) answer.now (texts_of root.now text.now again.now) }
 {
     *told = place_protocol::next(facts, told.what, answer, root, text, again);
 }

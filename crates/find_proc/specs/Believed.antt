@@ -19,14 +19,8 @@ has_followed flags = not (bit_and flags NOSYMFOLLOW == NOSYMFOLLOW)
 abbrev pub is_proc : Answer → Bool
 is_proc a = (a.error == 0) && ((a.kind == PROC) && has_followed a.flags)
 
--- fstatfs(2): and of the one that is kept
-abbrev pub is_of_system : Kept → Answer → Bool
-is_of_system k a = is_proc a && (a.file.system == k.file.system)
-
--- statx(2) of Linux 5.8: it is on the mount of what is kept
+-- statx(2): it is on the mount of what is kept
 abbrev pub is_on_mount : Kept → Answer → Bool
-is_on_mount k a = (a.file.mount == k.file.mount) && (a.file.device == k.file.device)
-
--- fstat(2): it is the file that is kept
-abbrev pub is_file : Kept → Answer → Bool
-is_file k a = (a.error == 0) && ((a.file.device == k.file.device) && (a.file.inode == k.file.inode))
+is_on_mount k a =
+    (a.error == 0)
+    && (not (a.file.mount == 0) && ((a.file.mount == k.file.mount) && (a.file.device == k.file.device)))

@@ -1,4 +1,5 @@
 pub mod Believed
 pub mod Finding
 pub mod History
+pub mod Owning
 pub mod Promises

@@ -1,21 +1,19 @@
 //! What an answer shows of a descriptor.
 ghost use Rattle.std.specs.Prelude.{◌≡◌};
-ghost use Rattle.find_proc.specs.Believed.{has_followed, is_file, is_of_system, is_on_mount, is_proc};
+ghost use Rattle.find_proc.specs.Believed.{has_followed, is_on_mount, is_proc};
 
 const PROC: u64 = 0x9fa0;
 
 const NOSYMFOLLOW: u64 = 0x2000;
 
-/// Which file of a proc(5) it is, and on which mount.
+/// Which file of a proc(5) it is, and on which mount (statx(2)).
 #[repr(C)]
 #[derive(Clone, Copy, Debug, PartialEq, Eq)]
 pub struct File {
     pub device: u64,
     pub inode: u64,
-    /// The number of its mount (statx(2)); 0 where the kernel doesn't say.
+    /// The number of its mount; 0 where the kernel doesn't say.
     pub mount: u64,
-    /// The number of its file system (statfs(2)), which old kernels give as 0 of each proc(5).
-    pub system: u64,
 }
 
 /// What is kept of a descriptor.
@@ -23,7 +21,7 @@ pub struct File {
 #[derive(Clone, Copy, Debug, PartialEq, Eq)]
 pub struct Kept {
     pub file: File,
-    /// There is one. Else the others aren't looked at.
+    /// There is one. Else the other isn't looked at.
     pub there: bool,
 }
 
@@ -31,7 +29,7 @@ pub struct Kept {
 #[repr(C)]
 #[derive(Clone, Copy, Debug, PartialEq, Eq)]
 pub struct Answer {
-    /// Of statx(2) the mount and the device, of fstat(2) the device and the inode, of fstatfs(2) the file system.
+    /// Of statx(2): which file it is.
     pub file: File,
     /// Of fstatfs(2): the type of the file system.
     pub kind: u64,
@@ -59,18 +57,6 @@ pub fn is_proc(answer: &Answer) -> bool
 pub fn is_on_mount(kept: &Kept, answer: &Answer) -> bool
     ensures { result ≡ is_on_mount kept.now answer.now }
 {
-    answer.file.mount == kept.file.mount && answer.file.device == kept.file.device
-}
-
-pub fn is_of_system(kept: &Kept, answer: &Answer) -> bool
-    ensures { result ≡ is_of_system kept.now answer.now }
-{
-    is_proc(answer) && answer.file.system == kept.file.system
-}
-
-pub fn is_file(kept: &Kept, answer: &Answer) -> bool
-    ensures { result ≡ is_file kept.now answer.now }
-{
-    answer.error == 0
-        && (answer.file.device == kept.file.device && answer.file.inode == kept.file.inode)
+    let (was, is) = (&kept.file, &answer.file);
+    answer.error == 0 && (is.mount != 0 && (is.mount == was.mount && is.device == was.device))
 }

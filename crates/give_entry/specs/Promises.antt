@@ -1,8 +1,8 @@
 -- What holds of every history.
-use Rattle.std.specs.Prelude.{◌≡◌, ℕ, ◌+◌, List, [], ◌∷◌, ◌==◌, Bool, true, false, not, ◌&&◌, ◌||◌, if◌then◌else◌}
+use Rattle.std.specs.Prelude.{◌≡◌, ℕ, ◌+◌, List, [], ◌∷◌, ◌==◌, Bool, true, false, not, ◌&&◌, ◌||◌, if◌then◌else◌, bit_and}
 use Rattle.system_calls.specs.Errors.{ENOENT, EINTR, EAGAIN}
 use Rattle.system_calls.specs.Objects.{is_same_object}
-use Rattle.give_entry.specs.Made.{is_known, is_of_kind, is_read, is_text, Made}
+use Rattle.give_entry.specs.Made.{is_known, is_read, is_text, Made}
 use Rattle.give_entry.specs.History.{looked_after, Exchange, Next}
 use Rattle.give_entry.specs.declared.giving.Facts.{Facts}
 use Rattle.give_entry.specs.declared.giving.TheConstants.{OPEN, LOOK, COMPARE, READ, CLOSE, CLOSE_MADE, GIVES, FAILS}
@@ -34,12 +34,24 @@ is_over next = (next == GIVES) || (next == FAILS)
 
 -- ---- what was seen since the entry was opened
 
+-- S_IFMT of inode(7)
+abbrev pub KIND : ℕ
+KIND = 61440
+
+-- It has the bits of the kind that was made, and a device, of S_IFCHR or S_IFBLK, the very number that was made. What
+-- got another name may be any.
+abbrev pub is_as_made : Facts → ℕ → ℕ → Bool
+is_as_made f mode device =
+    f.linked
+    || ((bit_and mode KIND == bit_and f.mode KIND)
+    && (not ((bit_and mode KIND == 8192) || (bit_and mode KIND == 24576)) || (device == f.device)))
+
 -- it was looked at, and is of the kind that was made
 abbrev pub is_seen_after : Made → List Exchange → Bool
 is_seen_after m [] = false
 is_seen_after m (e ∷ older) =
     if e.asked == OPEN then false
-    else (if e.asked == LOOK then (e.error == 0) && is_of_kind m.facts e.mode e.device else is_seen_after m older)
+    else (if e.asked == LOOK then (e.error == 0) && is_as_made m.facts e.mode e.device else is_seen_after m older)
 
 -- behind that the object was looked at that it must be, and is the same one, by the same mount
 abbrev pub is_same_after : List Exchange → Bool
@@ -73,7 +85,7 @@ abbrev pub error_of : Made → Exchange → List Exchange → ℕ
 error_of m e older =
     if e.asked == OPEN
     then (if (e.error == 0) || (e.error == EINTR) then 0 else (if e.error == ENOENT then EAGAIN else e.error))
-    else (if e.asked == LOOK then question_error e.error (is_of_kind m.facts e.mode e.device)
+    else (if e.asked == LOOK then question_error e.error (is_as_made m.facts e.mode e.device)
     else (if e.asked == COMPARE then question_error e.error (is_same_object (looked_after older) e.object false)
     else (if e.asked == READ then question_error e.error (is_text e.read m.text) else 0)))
 

@@ -12,7 +12,6 @@ const FILE: Held = Held {
     above: false,
     directory: false,
     named: true,
-    second: true,
     below: false,
 };
 
@@ -54,18 +53,12 @@ fn a_file_is_looked_up_before_its_text_is_read(rt: HostRuntime) -> Result<(), Fa
     Ok(())
 }
 
-// Without openat2(2), behind `..`, and where the walk's names aren't known.
+// Behind `..`, and where the walk's names aren't known.
 #[test]
 fn no_names_are_looked_up_elsewhere(rt: HostRuntime) -> Result<(), Fail> {
     for way in &[BY_NAME, SEEN_BELOW, BY_PARENT] {
         for held in &[FILE, DIRECTORY, below(FILE), below(DIRECTORY)] {
             let held = by(*way, *held);
-            assert!(rt;
-                before_questions(&Held {
-                    second: false,
-                    ..held
-                }) == ASK
-            );
             assert!(rt;
                 before_questions(&Held {
                     above: true,
@@ -91,7 +84,6 @@ fn the_root_is_below_itself_at_no_names(rt: HostRuntime) -> Result<(), Fail> {
     assert!(rt; before_questions(&below(root)) == AT_ROOT);
     let unnamed = Held {
         named: false,
-        second: false,
         ..root
     };
     assert!(rt; before_questions(&unnamed) == AT_ROOT);

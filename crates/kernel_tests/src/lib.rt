@@ -15,12 +15,12 @@ mod objects;
 #[cfg(test)]
 mod openings;
 #[cfg(test)]
+mod ownings;
+#[cfg(test)]
 mod places;
 #[cfg(test)]
 mod protocol;
 #[cfg(test)]
 mod records;
-#[cfg(test)]
-mod slashes;
 #[cfg(test)]
 mod tries;

@@ -1,153 +1,127 @@
-//! What statx(2) and mountinfo say of the root directory's mount, by texts as proc(5) has them, and by others.
-use kernel_text::{
-    OWN_CLOSE, OWN_NO, OWN_OPEN, OWN_READ, OWN_YES, OwnLook, OwnRoot,
-    a_mount_stands_where_one_was_seen, begin_mounts, begin_own, mountinfo_is_closed_once, next_own,
-    read_mounts,
+//! How a proc(5) of the library's own is made.
+use private_proc::{
+    Answer, CLOSE, CLOSE_MADE, COPY, CREATE, FAILS, GIVES, HAND_IN, LOOK, MAKE, MOUNT, Mounting,
+    REFUSE, RESTRICT, THREADS, begin, calls_are_few, each_descriptor_is_closed_once,
+    new_ones_are_restricted, new_ones_are_tried_first, next, nothing_is_made_where_one_is_kept,
+    what_is_handed_in_is_a_proc, why_it_fails,
 };
 use std::test::Fail;
 
-// fdinfo as the kernel writes it of a directory on the mount 22.
-const ABOUT: &str = "pos:\t0\nflags:\t012200000\nmnt_id:\t22\nino:\t2\n";
+const EPERM: u32 = 1;
 
-// The example of proc(5), and a root directory's line.
-const BELOW: &str =
-    "36 35 98:0 /mnt1 /mnt2 rw,noatime master:1 - ext3 /dev/root rw,errors=continue\n";
-
-const ROOT: &str = "22 1 254:1 / / rw,relatime shared:1 - ext4 /dev/vda1 rw\n";
-
-fn tells_of(about: &str, text: &str) -> bool {
-    read_mounts(about.as_bytes(), begin_mounts(), text.as_bytes()).found
-}
-
-fn tells(text: &str) -> bool {
-    tells_of(ABOUT, text)
-}
-
-fn tells_by_two(first: &str, second: &str) -> bool {
-    let about = ABOUT.as_bytes();
-    let so_far = read_mounts(about, begin_mounts(), first.as_bytes());
-    read_mounts(about, so_far, second.as_bytes()).found
-}
-
-#[test]
-fn a_mount_at_the_root_is_told(rt: HostRuntime) -> Result<(), Fail> {
-    assert!(rt; tells(ROOT));
-    assert!(rt; tells_by_two(BELOW, ROOT) && tells_by_two(ROOT, BELOW));
-    assert!(rt; tells_by_two("2", "2 1 254:1 / / rw,relatime - ext4 /dev/vda1 rw\n"));
-    assert!(rt; tells_by_two("22 1 254:1 /srv ", "/ rw,relatime - ext4 /dev/vda1 rw\n"));
-    assert!(rt; tells_by_two("22 1 254:1 /srv /", " rw,relatime - ext4 /dev/vda1 rw\n"));
-    assert!(rt; tells_by_two("22 1 254:1 /srv / rw - ext4 / ", "/\n"));
-    assert!(rt; tells("22 1 254:1 /srv /\n"));
-    Ok(())
-}
-
-#[test]
-fn no_other_mount_is_one_at_the_root(rt: HostRuntime) -> Result<(), Fail> {
-    assert!(rt; !tells("") && !tells(BELOW));
-    // The root of the mounted tree, the fourth field, says nothing.
-    assert!(rt; !tells("22 1 254:1 / /srv rw - ext4 /dev/vda1 rw\n"));
-    assert!(rt; !tells("22 1 254:1 / /srv/ rw - ext4 / /\n"));
-    assert!(rt; !tells("22 1 254:1 / /\\040 rw - ext4 /dev/vda1 rw\n"));
-    // A line that hasn't ended is none yet.
-    assert!(rt; !tells("22 1 254:1 / /") && !tells("22 1 254:1 / / rw"));
-    assert!(rt; !tells_by_two("22 1 254:1 / /", "srv rw\n"));
-    assert!(rt; !tells("22 1 254:1\n/ / rw\n"));
-    Ok(())
-}
-
-#[test]
-fn what_covers_the_root_is_another_mount(rt: HostRuntime) -> Result<(), Fail> {
-    assert!(rt; !tells("23 22 0:31 / / rw - tmpfs none rw\n"));
-    assert!(rt;
-        !tells("2 1 254:1 / / rw\n") && !tells("222 1 254:1 / / rw\n") && !tells(" 22 1 / / rw\n")
-    );
-    assert!(rt; tells_by_two("23 22 0:31 / / rw - tmpfs none rw\n", ROOT));
-    Ok(())
-}
-
-#[test]
-fn a_mounts_number_is_read_in_a_line_of_its_own(rt: HostRuntime) -> Result<(), Fail> {
-    assert!(rt; tells_of("mnt_id:\t22\n", ROOT) && tells_of("\nmnt_id:\t22\nmnt_id:\t3\n", ROOT));
-    // Before Linux 3.15 there is no such line; and the text may be cut off.
-    assert!(rt; !tells_of("pos:\t0\nflags:\t012200000\n", ROOT) && !tells_of("", ROOT));
-    assert!(rt; !tells_of("mnt_id:\t22", ROOT) && !tells_of("mnt_id:\t2\n", ROOT));
-    assert!(rt; !tells_of("x mnt_id:\t22\n", ROOT) && !tells_of("mnt_id: 22\n", ROOT));
-    Ok(())
-}
+const ENOENT: u32 = 2;
 
 const EINTR: u32 = 4;
 
-const EIO: u32 = 5;
+const EBUSY: u32 = 16;
+
+const EINVAL: u32 = 22;
+
+const EMFILE: u32 = 24;
 
 const ENOSYS: u32 = 38;
 
-const MOUNT_ROOT: u64 = 0x2000;
-
-fn asked(error: u32, mask: u64, attributes: u64) -> u8 {
-    begin_own(&OwnLook {
-        mask,
-        attributes,
-        error,
-    })
-    .next
+fn gave(error: u32) -> Answer {
+    Answer { error, yes: true }
 }
 
-fn after(own: OwnRoot, error: u32, text: &str) -> OwnRoot {
-    next_own(ABOUT.as_bytes(), own, error, text.as_bytes())
-}
-
-// The file system doesn't tell, and mountinfo is open.
-fn opened() -> OwnRoot {
-    let untold = OwnLook {
-        mask: 0,
-        attributes: 0,
-        error: ENOSYS,
-    };
-    after(begin_own(&untold), 0, "")
-}
-
-#[test]
-fn statx_tells_where_its_mask_says_so(rt: HostRuntime) -> Result<(), Fail> {
-    assert!(rt; asked(0, MOUNT_ROOT, MOUNT_ROOT) == OWN_YES);
-    assert!(rt; asked(0, u64::MAX, u64::MAX) == OWN_YES);
-    assert!(rt; asked(0, MOUNT_ROOT, 0) == OWN_NO);
-    assert!(rt; asked(0, MOUNT_ROOT, 0x1000) == OWN_NO);
-    assert!(rt; asked(0, 0, MOUNT_ROOT) == OWN_OPEN);
-    assert!(rt; asked(0, 0x1000, MOUNT_ROOT) == OWN_OPEN);
-    assert!(rt; asked(ENOSYS, MOUNT_ROOT, MOUNT_ROOT) == OWN_OPEN);
-    Ok(())
-}
-
-#[test]
-fn mounts_tell_where_statx_does_not(rt: HostRuntime) -> Result<(), Fail> {
-    let read = after(opened(), 0, BELOW);
-    assert!(rt; opened().next == OWN_READ && read.next == OWN_READ);
-    let found = after(after(read, EINTR, ""), 0, ROOT);
-    assert!(rt; found.next == OWN_CLOSE && after(found, 0, "").next == OWN_YES);
-    let ended = after(read, 0, "");
-    assert!(rt; ended.next == OWN_CLOSE && after(ended, 0, "").next == OWN_NO);
-    assert!(rt; after(after(found, 0, ""), 0, "").next == OWN_YES);
-    Ok(())
-}
-
-#[test]
-fn what_cannot_be_read_is_no(rt: HostRuntime) -> Result<(), Fail> {
-    let untold = OwnLook {
-        mask: 0,
-        attributes: MOUNT_ROOT,
+fn none() -> Answer {
+    Answer {
         error: 0,
-    };
-    assert!(rt; after(begin_own(&untold), EIO, ROOT).next == OWN_NO);
-    // What comes with an error isn't read.
-    let failed = after(opened(), EIO, ROOT);
-    assert!(rt; failed.next == OWN_CLOSE && after(failed, 0, "").next == OWN_NO);
-    let cut = after(after(opened(), 0, "22 1 254:1 / /"), EIO, "");
-    assert!(rt; cut.next == OWN_CLOSE && after(cut, EIO, "").next == OWN_NO);
+        yes: false,
+    }
+}
+
+// What comes after so many things that worked.
+fn after(worked: u32) -> Mounting {
+    let mut at = begin(false);
+    for _ in 0..worked {
+        at = next(at, &gave(0));
+    }
+    at
+}
+
+fn fails(at: &Mounting, error: u32) -> bool {
+    at.next == FAILS && at.error == error
+}
+
+#[test]
+fn a_new_one_is_made_and_handed_in(rt: HostRuntime) -> Result<(), Fail> {
+    let due = [
+        MAKE, RESTRICT, CREATE, MOUNT, CLOSE_MADE, LOOK, THREADS, HAND_IN, CLOSE, GIVES,
+    ];
+    let mut at = begin(false);
+    for one in due {
+        assert!(rt; at.next == one && at.error == 0);
+        at = next(at, &gave(0));
+    }
+    assert!(rt; at.next == GIVES);
+    // An old kernel can't restrict it. What is closed is closed, whatever that says.
+    assert!(rt; next(after(1), &gave(EINVAL)) == after(2));
+    assert!(rt; next(after(4), &gave(EINVAL)) == after(5));
     Ok(())
 }
 
 #[test]
-fn laws_of_the_own_root() {
-    a_mount_stands_where_one_was_seen();
-    mountinfo_is_closed_once();
+fn where_there_is_one_none_is_made(rt: HostRuntime) -> Result<(), Fail> {
+    assert!(rt; fails(&begin(true), EBUSY));
+    assert!(rt; next(begin(true), &gave(0)) == begin(true));
+    Ok(())
+}
+
+#[test]
+fn where_no_new_one_is_made_there_is_a_copy(rt: HostRuntime) -> Result<(), Fail> {
+    let unmade = next(after(0), &gave(ENOSYS));
+    assert!(rt; unmade.next == COPY && fails(&next(unmade, &gave(EPERM)), ENOSYS));
+    assert!(rt; next(unmade, &gave(EINTR)) == unmade);
+    for worked in [2, 3] {
+        let refused = next(after(worked), &gave(EPERM));
+        assert!(rt; refused.next == CLOSE_MADE);
+        let copies = next(refused, &gave(0));
+        assert!(rt; copies.next == COPY && fails(&next(copies, &gave(ENOENT)), EPERM));
+        let copied = next(copies, &gave(0));
+        assert!(rt; copied.next == LOOK && copied.copied);
+        assert!(rt; fails(&next(next(copied, &none()), &gave(0)), ENOSYS));
+        let taken = next(next(next(copied, &gave(0)), &gave(0)), &gave(0));
+        assert!(rt; taken.next == CLOSE && next(taken, &gave(0)).next == GIVES);
+    }
+    Ok(())
+}
+
+#[test]
+fn a_new_one_without_the_thread_is_none(rt: HostRuntime) -> Result<(), Fail> {
+    for refused in [next(after(5), &none()), next(after(6), &gave(ENOENT))] {
+        assert!(rt; refused.next == REFUSE && !refused.copied);
+        let copies = next(refused, &gave(0));
+        assert!(rt; copies.next == COPY && fails(&next(copies, &gave(EPERM)), ENOSYS));
+        let copied = next(copies, &gave(0));
+        assert!(rt; copied.next == LOOK && copied.error == 0);
+        let asked = next(copied, &gave(0));
+        assert!(rt; asked.next == THREADS && next(asked, &gave(0)).next == HAND_IN);
+        let other = next(asked, &gave(ENOENT));
+        assert!(rt; other.next == REFUSE && fails(&next(other, &gave(0)), ENOSYS));
+    }
+    assert!(rt; next(after(6), &gave(EINTR)) == after(6));
+    Ok(())
+}
+
+#[test]
+fn what_cannot_be_handed_in_is_closed(rt: HostRuntime) -> Result<(), Fail> {
+    for error in [EBUSY, EMFILE] {
+        let refused = next(after(7), &gave(error));
+        assert!(rt; refused.next == CLOSE && fails(&next(refused, &gave(0)), error));
+    }
+    Ok(())
+}
+
+// The laws are called as a caller has them at hand. They do nothing.
+#[test]
+fn laws_of_mounts_are_at_hand() {
+    calls_are_few();
+    each_descriptor_is_closed_once();
+    new_ones_are_restricted();
+    new_ones_are_tried_first();
+    nothing_is_made_where_one_is_kept();
+    what_is_handed_in_is_a_proc();
+    why_it_fails();
 }

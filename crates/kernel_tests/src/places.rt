@@ -1,52 +1,41 @@
-//! Where an object stands, by texts as proc(5) and getcwd(2) have them, and by others.
+//! Where an object stands, by texts as proc(5) has them, and by others.
 ghost use Rattle.std.specs.Prelude.{◌≤◌};
 
-use kernel_text::{is_named, place_between, place_of_cwd};
+use kernel_text::{ends_as_gone, is_named, place_told};
 use std::test::Fail;
 
-/// The root's path, the object's, and where the place is in it: so many bytes from there on.
-const PLACES: [(&str, &str, usize, usize); 16] = [
-    ("/srv/root", "/srv/root/a/b", 9, 4),
-    ("/srv/root", "/srv/root", 0, 1),
-    ("/srv/root", "/srv/root2", 0, 0),
-    ("/srv/root", "/srv/root2/a", 0, 0),
-    ("/srv/root", "/srv/roo", 0, 0),
-    ("/srv/root", "/srv", 0, 0),
-    ("/srv/root", "/srv/rooT/a", 0, 0),
-    ("/srv/root", "/a/srv/root/b", 0, 0),
-    ("/srv/root", "(unreachable)/srv/root/a", 0, 0),
-    ("/", "/a/b", 0, 4),
-    ("/", "/", 0, 1),
-    ("/", "(unreachable)/a", 0, 0),
-    ("/", "socket:[7]", 0, 0),
-    ("/", "", 0, 0),
-    ("", "/a", 0, 0),
-    ("pipe:[7]", "pipe:[7]/a", 0, 0),
+/// The root's path, the object's, and the place, or no bytes where none is told.
+const PLACES: [(&str, &str, &str); 16] = [
+    ("/srv/root", "/srv/root/a/b", "/a/b"),
+    ("/srv/root", "/srv/root", "/"),
+    ("/srv/root", "/srv/root2", ""),
+    ("/srv/root", "/srv/root2/a", ""),
+    ("/srv/root", "/srv/roo", ""),
+    ("/srv/root", "/srv", ""),
+    ("/srv/root", "/srv/rooT/a", ""),
+    ("/srv/root", "/a/srv/root/b", ""),
+    ("/srv/root", "(unreachable)/srv/root/a", ""),
+    ("/", "/a/b", "/a/b"),
+    ("/", "/", "/"),
+    ("/", "(unreachable)/a", ""),
+    ("/", "socket:[7]", ""),
+    ("/", "", ""),
+    ("", "/a", ""),
+    ("pipe:[7]", "pipe:[7]/a", ""),
 ];
 
-fn is_at(root: &str, path: &str, start: usize, length: usize) -> bool {
-    let place = place_between(root.as_bytes(), path.as_bytes(), root.as_bytes());
-    place.start == start && place.length == length && !place.gone
+fn place_of<'a>(root: &str, path: &'a str) -> &'a [u8] {
+    match place_told(root.as_bytes(), path.as_bytes()) {
+        Some(place) => place,
+        None => b"",
+    }
 }
 
 #[test]
 fn finds_places(rt: HostRuntime) -> Result<(), Fail> {
-    for (root, path, start, length) in &PLACES {
-        assert!(rt; is_at(root, path, *start, *length));
+    for (root, path, place) in &PLACES {
+        assert!(rt; place_of(root, path) == place.as_bytes());
     }
-    Ok(())
-}
-
-// Whether a root that was at two paths tells no place.
-fn moves(before: &str, path: &str, after: &str) -> bool {
-    place_between(before.as_bytes(), path.as_bytes(), after.as_bytes()).length == 0
-}
-
-#[test]
-fn a_root_that_moved_tells_none(rt: HostRuntime) -> Result<(), Fail> {
-    assert!(rt; moves("/a", "/a/x", "/b"));
-    assert!(rt; moves("/a", "/a/x", "/a/"));
-    assert!(rt; !moves("/a", "/a/x", "/a"));
     Ok(())
 }
 
@@ -56,7 +45,10 @@ fn size_of(length: usize) -> usize
 {
     let mut path = [b'a'; 4096];
     path[0] = b'/';
-    place_between(b"/", &path[..length], b"/").length
+    match place_told(b"/", &path[..length]) {
+        Some(place) => place.len(),
+        None => 0,
+    }
 }
 
 #[test]
@@ -68,7 +60,7 @@ fn a_path_has_at_most_4095_bytes(rt: HostRuntime) -> Result<(), Fail> {
 
 // Whether the place ends as of what was removed.
 fn is_gone(root: &str, path: &str) -> bool {
-    place_between(root.as_bytes(), path.as_bytes(), root.as_bytes()).gone
+    ends_as_gone(place_of(root, path))
 }
 
 #[test]
@@ -92,21 +84,5 @@ fn a_name_may_end_as_what_was_removed(rt: HostRuntime) -> Result<(), Fail> {
     assert!(rt; names("/srv/a/x (deleted)", "/a/x (deleted)"));
     assert!(rt; !names("/srv/a/x (deleted) (deleted)", "/a/x (deleted)"));
     assert!(rt; !names("/srv/a/yx (deleted)", "/a/x (deleted)"));
-    Ok(())
-}
-
-// How long the place is that getcwd(2) told.
-fn size_in_jail(told: &str) -> usize {
-    place_of_cwd(told.as_bytes()).length
-}
-
-#[test]
-fn reads_what_getcwd_wrote(rt: HostRuntime) -> Result<(), Fail> {
-    assert!(rt; size_in_jail("/\0") == 1);
-    assert!(rt; size_in_jail("/a/b\0") == 4);
-    assert!(rt; size_in_jail("(unreachable)/a\0") == 0);
-    assert!(rt; size_in_jail("/a/b") == 0);
-    assert!(rt; size_in_jail("\0") == 0);
-    assert!(rt; size_in_jail("") == 0);
     Ok(())
 }

@@ -1,5 +1,3 @@
 pub mod EntryLemmas
 pub mod ListingLemmas
-pub mod MountLemmas
-pub mod OwnRootLemmas
 pub mod PlaceLemmas

@@ -41,23 +41,21 @@ behind false below e = absurd (omega (arith, e))
 record Names (held : Held) : Type 0 where
   named : held.named ≡ true
   by_names : held.above ≡ false
-  second : held.second ≡ true
   either : (held.below || not held.directory) ≡ true
 
 names_of : (held : Held) → are_looked_up held ≡ true → Names held
 names_of held e =
-    let a = and_parts held.named (not held.above && (held.second && (held.below || not held.directory))) e in
-    let b = and_parts (not held.above) (held.second && (held.below || not held.directory)) a.1 in
-    let c = and_parts held.second (held.below || not held.directory) b.1 in
-    record { named = a.0; by_names = not-true held.above b.0; second = c.0; either = c.1 }
+    let a = and_parts held.named (not held.above && (held.below || not held.directory)) e in
+    let b = and_parts (not held.above) (held.below || not held.directory) a.1 in
+    record { named = a.0; by_names = not-true held.above b.0; either = b.1 }
 
 is_enough : (held : Held) → are_looked_up held ≡ true → held.below ≡ true → IsCheckEnough held
 is_enough held e below =
-    let n = names_of held e in record { below = below; second = n.second; named = n.named; by_names = n.by_names }
+    let n = names_of held e in record { below = below; named = n.named; by_names = n.by_names }
 
 enough_looks : (held : Held) → IsCheckEnough held → are_looked_up held ≡ true
 enough_looks held is =
-    both_true is.named (both_true (ap not is.by_names) (both_true is.second (or_left held.below (not held.directory) is.below)))
+    both_true is.named (both_true (ap not is.by_names) (or_left held.below (not held.directory) is.below))
 
 either_of : (below directory : Bool) → (below || not directory) ≡ true → (below ≡ true) ⊎ (directory ≡ false)
 either_of true directory e = inl refl
@@ -106,7 +104,7 @@ pub names-are-looked-up-first : NamesAreLookedUpFirst
 names-are-looked-up-first held e =
     let n = look_up (held.way == BY_ROOT) (are_looked_up held) (held.way == BY_NAME) ((held.way == SEEN_BELOW) && held.below) e in
     let names = names_of held n.0 in
-    (eqb-true held.way BY_NAME n.1, names.named, names.second, names.by_names, either_of held.below held.directory names.either)
+    (eqb-true held.way BY_NAME n.1, names.named, names.by_names, either_of held.below held.directory names.either)
 
 root_is_told : (held : Held) → held.way ≡ BY_ROOT → before_questions held ≡ AT_ROOT
 root_is_told held way = cond-true (held.way == BY_ROOT) AT_ROOT _ (eq-eqb held.way BY_ROOT way)

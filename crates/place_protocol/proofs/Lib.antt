@@ -1,9 +1,8 @@
 pub mod TextLemmas
 pub mod GoesLemmas
-pub mod AloneLemmas
-pub mod BothLemmas
+pub mod TellLemmas
 pub mod WitnessLemmas
-pub mod RankLemmas
+pub mod CountLemmas
 pub mod AgreeLemmas
 pub mod MomentLemmas
 pub mod HeldLemmas

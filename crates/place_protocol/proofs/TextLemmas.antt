@@ -1,222 +1,130 @@
 -- The place that a text tells, and where it lies in it.
-use Rattle.std.proofs.Common.{◌≡◌, ◌+◌, ◌-◌, ◌≤◌, ◌==◌, ◌&&◌, ◌||◌, ℕ, zero, suc, Bool, true, false, not, cond, List, [], ◌∷◌, length, take, drop, Option, Some, None, IsSomeAnd, nat_lt, nat_eq, refl, sym, ap, subst, ◌∙◌, arith}
-use Rattle.std.specs.List.{ends_with, list_any}
+use Rattle.std.proofs.Common.{◌≡◌, ◌-◌, ◌≤◌, ◌==◌, ◌&&◌, ◌||◌, ℕ, zero, suc, Bool, true, false, not, List, [], ◌∷◌, length, take, drop, Some, None, nat_lt, refl, sym, ap, subst, ◌∙◌, arith}
+use Rattle.std.specs.List.{list_any}
 use Rattle.std.specs.Prelude.{codes}
-use Rattle.std.specs.Cmp.Derive.{both_true}
 use Rattle.std.specs.Cmp.Lexicographic.{same_text}
-use Rattle.std.proofs.lemmas.Bool.{both_ways, cond-true, cond-false, cond_both, eq-eqb, eqb-true, false_from_ne_true, false≢true, ltb-false, ltb-true, true≢false, or_left, or_from, or_parts, or_right}
-use Rattle.std.proofs.lemmas.List.{drop-take, length-drop, length-take-le, take-take}
-use Rattle.path_text.specs.Name.{NUL, same_bytes}
+use Rattle.std.proofs.lemmas.Bool.{both_ways, cond-true, cond_both, and_parts, eqb-true, false_from_ne_true, false≢true, ltb-false, ltb-true, not-false, true≢false, or_left, or_right}
+use Rattle.std.proofs.lemmas.List.{length-drop, take_all}
+use Rattle.path_text.specs.Name.{same_bytes}
 use Rattle.path_text.specs.Text.{begins_with_slash}
 use Rattle.path_text.specs.declared.name.TheConstants.{SLASH}
 use Rattle.path_text.specs.declared.path.TheConstants.{TEXT_MAX}
-use Rattle.kernel_text.specs.Place.{behind, but_last, ends_as_gone, is_named, last_part, place_below, place_between, place_of_cwd, IsPart, TellsPlace}
-use Rattle.kernel_text.specs.declared.place.Place.{Place}
-use Rattle.place_protocol.specs.Texts.{Texts, Finds, IsWithin, as_found, path_after, path_of_root, place_before, place_of, texts_of}
-use Rattle.place_protocol.specs.declared.questions.Facts.{Facts}
+use Rattle.kernel_text.specs.Place.{behind, ends_as_gone, is_named, last_part, place_below, place_told}
+use Rattle.place_protocol.specs.Texts.{is_top}
+use Rattle.place_protocol.specs.Told.{start_of, IsPart}
 
--- ---- a place has bytes
+-- ---- a slash alone
 
-abbrev Long : Option (List ℕ) → Type 0
-Long o = o ≡ Some [] → ⊥
+alone_slash : (place : List ℕ) → begins_with_slash place ≡ true → is_top place ≡ true → place ≡ SLASH ∷ []
+alone_slash [] slash top = absurd (false≢true slash)
+alone_slash (b ∷ []) slash top = ap (λ x. x ∷ []) (eqb-true b SLASH slash)
+alone_slash (b ∷ c ∷ bs) slash top = absurd (omega (arith, eqb-true (length (b ∷ c ∷ bs)) 1 top))
 
-none_long : Long None
-none_long e = cc
+some_slash : (place text : List ℕ) → begins_with_slash text ≡ true → Some text ≡ Some place → is_top place ≡ true → place ≡ SLASH ∷ []
+some_slash place text slash e top =
+    let same : text ≡ place = cc in
+    alone_slash place (subst (λ (x : List ℕ). begins_with_slash x ≡ true) same slash) top
 
-behind_long : (xs : List ℕ) → Long (behind xs)
-behind_long [] e = cc
-behind_long (b ∷ bs) e = cond_both (b == SLASH) (Some (b ∷ bs)) None Long (λ _ f. cc) (λ _. none_long) e
+behind_slash : (rest place : List ℕ) → behind rest ≡ Some place → is_top place ≡ true → place ≡ SLASH ∷ []
+behind_slash [] place e top = some_slash place (SLASH ∷ []) refl e top
+behind_slash (b ∷ bs) place e top =
+    cond_both (b == SLASH) (Some (b ∷ bs)) None (λ o. o ≡ Some place → place ≡ SLASH ∷ [])
+    (λ slash f. some_slash place (b ∷ bs) slash f top) (λ _ f. absurd cc) e
 
-no_and : (x : Bool) → not (x && false) ≡ false → ⊥
-no_and true e = true≢false e
-no_and false e = true≢false e
+below_slash_alone : (root path place : List ℕ) → place_below root path ≡ Some place → is_top place ≡ true → place ≡ SLASH ∷ []
+below_slash_alone root path place e top =
+    cond_both (not (begins_with_slash root && begins_with_slash path)) None _ (λ o. o ≡ Some place → place ≡ SLASH ∷ [])
+    (λ _ f. absurd cc)
+    (λ begin. cond_both (same_bytes root (SLASH ∷ [])) (Some path) _ (λ o. o ≡ Some place → place ≡ SLASH ∷ [])
+    (λ _ f. some_slash place path (and_parts (begins_with_slash root) (begins_with_slash path) (not-false _ begin)).1 f top)
+    (λ _. cond_both (same_bytes (take (length root) path) root) (behind (drop (length root) path)) None
+    (λ o. o ≡ Some place → place ≡ SLASH ∷ []) (λ _ f. behind_slash (drop (length root) path) place f top) (λ _ f. absurd cc))) e
 
-path_long : (root path : List ℕ) → not (begins_with_slash root && begins_with_slash path) ≡ false → Long (Some path)
-path_long root [] both e = no_and (begins_with_slash root) both
-path_long root (b ∷ bs) both e = cc
+pub slash : (root path place : List ℕ) → place_told root path ≡ Some place → is_top place ≡ true → place ≡ SLASH ∷ []
+slash root path place e top =
+    cond_both (nat_lt TEXT_MAX (length path)) None (place_below root path) (λ o. o ≡ Some place → place ≡ SLASH ∷ [])
+    (λ _ f. absurd cc) (λ _ f. below_slash_alone root path place f top) e
 
-below_long : (root path : List ℕ) → Long (place_below root path)
-below_long root path =
-    cond_both (not (begins_with_slash root && begins_with_slash path)) None _ Long (λ _. none_long)
-    (λ both. cond_both (same_bytes root (SLASH ∷ [])) (Some path) _ Long (λ _. path_long root path both)
-    (λ _. cond_both (same_bytes (take (length root) path) root) (behind (drop (length root) path)) None Long
-    (λ _. behind_long (drop (length root) path)) (λ _. none_long)))
+-- ---- where it lies
 
-pub between_long : (before path after : List ℕ) → Long (place_between before path after)
-between_long before path after =
-    cond_both (nat_lt TEXT_MAX (length path) || not (same_bytes before after)) None (place_below before path) Long
-    (λ _. none_long) (λ _. below_long before path)
+-- the path is a slash with what is behind it
+record Begins (path : List ℕ) : Type 0 where
+  rest : List ℕ
+  is : path ≡ SLASH ∷ rest
 
-pub cwd_long : (told : List ℕ) → Long (place_of_cwd told)
-cwd_long told =
-    cond_both (ends_with nat_eq told (NUL ∷ [])) (place_between (SLASH ∷ []) (but_last told) (SLASH ∷ [])) None Long
-    (λ _. between_long (SLASH ∷ []) (but_last told) (SLASH ∷ [])) (λ _. none_long)
+begins : (path : List ℕ) → begins_with_slash path ≡ true → Begins path
+begins [] slash = absurd (false≢true slash)
+begins (b ∷ bs) slash = record { rest = bs; is = ap (λ x. x ∷ bs) (eqb-true b SLASH slash) }
 
--- ---- what the code finds
+first_part : (path : List ℕ) → Begins path → IsPart path (SLASH ∷ []) 0 1
+first_part path b =
+    subst (λ (p : List ℕ). IsPart p (SLASH ∷ []) 0 1) (sym b.is) (record { within = omega arith; bytes = refl })
 
-empty_part : (text p : List ℕ) (start size : ℕ) → size ≡ 0 → IsPart text p start size → p ≡ []
-empty_part text p start size e part = sym part.bytes ∙ ap (λ n. take n (drop start text)) e
-
-pub finds : (text : List ℕ) (o : Option (List ℕ)) (place : Place) → Long o → TellsPlace text o place → Finds text o (as_found place)
-finds text None place long told = cond-true (place.length == 0) None (Some place) (eq-eqb place.length 0 told)
-finds text (Some p) place long told =
-    cond_both (place.length == 0) None (Some place)
-    (λ f. IsSomeAnd f (λ at. IsPart text p at.start at.length × (at.gone ≡ ends_as_gone p)))
-    (λ none. absurd (long (ap Some (empty_part text p place.start place.length (eqb-true place.length 0 none) told.0)))) (λ _. told)
-
-pub is_within : (text : List ℕ) (o : Option (List ℕ)) (place : Place) → TellsPlace text o place → IsWithin text (as_found place)
-is_within text None place told =
-    subst (IsWithin text) (sym (cond-true (place.length == 0) None (Some place) (eq-eqb place.length 0 told))) tt
-is_within text (Some p) place told = cond_both (place.length == 0) None (Some place) (IsWithin text) (λ _. tt) (λ _. told.0.within)
-
--- by the paths that were chosen
-pub by_paths : (facts : Facts) (root text again path after : List ℕ) (place : Place)
-    → path ≡ path_of_root facts root → after ≡ path_after facts root again
-    → TellsPlace text (place_between path text after) place → TellsPlace text (place_of facts (texts_of root text again)) place
-by_paths facts root text again path after place e f told =
-    subst (λ (a : List ℕ). TellsPlace text (place_between (path_of_root facts root) text a) place) f
-    (subst (λ (p : List ℕ). TellsPlace text (place_between p text after) place) e told)
-
-pub found_place : (facts : Facts) (root text again path after : List ℕ) (place : Place) (found : Option Place)
-    → path ≡ path_of_root facts root → after ≡ path_after facts root again
-    → TellsPlace text (place_between path text after) place → found ≡ as_found place
-    → Finds text (place_of facts (texts_of root text again)) found
-found_place facts root text again path after place found e f told is =
-    let told' = by_paths facts root text again path after place e f told in
-    subst (λ (x : Option Place). Finds text (place_of facts (texts_of root text again)) x) (sym is)
-    (finds text (place_of facts (texts_of root text again)) place
-    (between_long (path_of_root facts root) text (path_after facts root again)) told')
-
--- getcwd(2) writes a NUL behind the path
-part_of_front : (n start size : ℕ) (text place : List ℕ) → n ≤ length text → IsPart (take n text) place start size
-    → IsPart text place start size
-part_of_front n start size text place room part =
-    let long : length (take n text) ≡ n = length-take-le n text room in
-    let within : start + size ≤ n = omega (arith, part.within, long) in
-    let rest : n ≡ start + (n - start) = omega (arith, within) in
-    let size_in : size ≤ n - start = omega (arith, within) in
-    let front : drop start (take n text) ≡ take (n - start) (drop start text) =
-    ap (λ k. drop start (take k text)) rest ∙ drop-take start (n - start) text in
+last_bytes : (k : ℕ) (path place : List ℕ) → k ≤ length path → drop k path ≡ place
+    → IsPart path place (length path - length place) (length place)
+last_bytes k path place within is =
+    let size : length place ≡ length path - k = sym (ap length is) ∙ length-drop k path in
+    let at : length path - length place ≡ k = omega (arith, size, within) in
     record {
-      within = omega (arith, within, room);
-      bytes = sym (take-take size (n - start) (drop start text) size_in) ∙ (sym (ap (take size) front) ∙ part.bytes);
+      within = omega (arith, size, within);
+      bytes = ap (λ n. take (length place) (drop n path)) at ∙ ap (take (length place)) is ∙ take_all (length place) place (omega arith);
     }
 
-told_front : (n : ℕ) (text : List ℕ) (o : Option (List ℕ)) (place : Place) → n ≤ length text → TellsPlace (take n text) o place
-    → TellsPlace text o place
-told_front n text None place room told = told
-told_front n text (Some p) place room told = (part_of_front n place.start place.length text p room told.0, told.1)
+-- the place lies in the path, where it isn't the root's
+abbrev Lies : List ℕ → List ℕ → Type 0
+Lies path place = (k : ℕ) × (k ≤ length path) × (drop k path ≡ place)
 
-pub found_cwd : (text : List ℕ) (place : Place) (found : Option Place) → TellsPlace (but_last text) (place_of_cwd text) place
-    → found ≡ as_found place → Finds text (place_of_cwd text) found
-found_cwd text place found told is =
-    subst (λ (x : Option Place). Finds text (place_of_cwd text) x) (sym is)
-    (finds text (place_of_cwd text) place (cwd_long text)
-    (told_front (length text - 1) text (place_of_cwd text) place (omega arith) told))
+behind_lies : (k : ℕ) (path rest place : List ℕ) → drop k path ≡ rest → behind rest ≡ Some place → is_top place ≡ false
+    → Lies path place
+behind_lies k path [] place is e top =
+    let same : SLASH ∷ [] ≡ place = cc in
+    absurd (true≢false (ap is_top same ∙ top))
+behind_lies k path (b ∷ bs) place is e top =
+    cond_both (b == SLASH) (Some (b ∷ bs)) None (λ o. o ≡ Some place → Lies path place)
+    (λ slash f.
+    let same : b ∷ bs ≡ place = cc in
+    let size : suc (length bs) ≡ length path - k = sym (ap length is) ∙ length-drop k path in
+    (k, omega (arith, size), is ∙ same))
+    (λ _ f. absurd cc) e
 
-pub found_within : (text : List ℕ) (o : Option (List ℕ)) (place : Place) (found : Option Place) → TellsPlace text o place
-    → found ≡ as_found place → IsWithin text found
-found_within text o place found told is = subst (IsWithin text) (sym is) (is_within text o place told)
+below_lies : (root path place : List ℕ) → place_below root path ≡ Some place → is_top place ≡ false → Lies path place
+below_lies root path place e top =
+    cond_both (not (begins_with_slash root && begins_with_slash path)) None _ (λ o. o ≡ Some place → Lies path place)
+    (λ _ f. absurd cc)
+    (λ begin. cond_both (same_bytes root (SLASH ∷ [])) (Some path) _ (λ o. o ≡ Some place → Lies path place)
+    (λ _ f. let same : path ≡ place = cc in (0, omega arith, same))
+    (λ _. cond_both (same_bytes (take (length root) path) root) (behind (drop (length root) path)) None
+    (λ o. o ≡ Some place → Lies path place) (λ _ f. behind_lies (length root) path (drop (length root) path) place refl f top)
+    (λ _ f. absurd cc))) e
 
--- ---- places in a conversation
+-- a place is told of a path that begins with a slash
+below_begins : (root path place : List ℕ) → place_below root path ≡ Some place → Begins path
+below_begins root path place e =
+    cond_both (not (begins_with_slash root && begins_with_slash path)) None _ (λ o. o ≡ Some place → Begins path)
+    (λ _ f. absurd cc)
+    (λ begin f. begins path (and_parts (begins_with_slash root) (begins_with_slash path) (not-false _ begin)).1) e
 
--- what was found at these bytes is the place that the text tells
-pub some_found : (text : List ℕ) (o : Option (List ℕ)) (found : Place) (place : List ℕ) → Finds text o (Some found)
-    → IsPart text place found.start found.length → (o ≡ Some place) × (found.gone ≡ ends_as_gone place)
-some_found text None found place h part = absurd cc
-some_found text (Some p) found place h part =
-    let e : p ≡ place = sym h.0.bytes ∙ part.bytes in (ap Some e, h.1 ∙ ap ends_as_gone e)
+told_below : (root path place : List ℕ) → place_told root path ≡ Some place → place_below root path ≡ Some place
+told_below root path place e =
+    cond_both (nat_lt TEXT_MAX (length path)) None (place_below root path)
+    (λ o. o ≡ Some place → place_below root path ≡ Some place) (λ _ f. absurd cc) (λ _ f. f) e
 
--- and the other way
-pub found_part : (text : List ℕ) (o : Option (List ℕ)) (found : Place) (place : List ℕ) → Finds text o (Some found)
-    → o ≡ Some place → IsPart text place found.start found.length × (found.gone ≡ ends_as_gone place)
-found_part text None found place h e = absurd cc
-found_part text (Some p) found place h e =
-    let same : p ≡ place = cc in
-    (subst (λ (q : List ℕ). IsPart text q found.start found.length) same h.0, h.1 ∙ ap ends_as_gone same)
+pub short : (root path place : List ℕ) → place_told root path ≡ Some place → length path ≤ TEXT_MAX
+short root path place e =
+    cond_both (nat_lt TEXT_MAX (length path)) None (place_below root path)
+    (λ o. o ≡ Some place → length path ≤ TEXT_MAX) (λ _ f. absurd cc) (λ none _. ltb-false TEXT_MAX (length path) none) e
 
--- it is some place
-pub is_found : (text : List ℕ) (o : Option (List ℕ)) (found : Place) → Finds text o (Some found)
-    → (place : List ℕ) × (o ≡ Some place) × IsPart text place found.start found.length
-is_found text None found h = absurd cc
-is_found text (Some p) found h = (p, refl, h.0)
+top_lies : (path place : List ℕ) → Begins path → place ≡ SLASH ∷ [] → IsPart path place 0 (length place)
+top_lies path place b is = subst (λ (p : List ℕ). IsPart path p 0 (length p)) (sym is) (first_part path b)
 
-pub part_size : (text place : List ℕ) (start size : ℕ) → IsPart text place start size → length place ≡ size
-part_size text place start size part =
-    let room : size ≤ length (drop start text) = omega (arith, length-drop start text, part.within) in
-    sym (ap length part.bytes) ∙ length-take-le size (drop start text) room
-
--- ---- the root's path
-
--- with the second witness it is read once
-pub told_with_second : (facts : Facts) (t : Texts) (place : List ℕ) → facts.second ≡ true → place_of facts t ≡ Some place
-    → place_between (path_of_root facts t.root) t.text (path_of_root facts t.root) ≡ Some place
-told_with_second facts t place second told =
-    sym (ap (λ p. place_between (path_of_root facts t.root) t.text p)
-    (cond-true (facts.jailed || facts.second) (path_of_root facts t.root) t.again (or_right facts.jailed facts.second second)))
-    ∙ told
-
-pub place_with_second : (facts : Facts) (t : Texts) (place : List ℕ) → facts.second ≡ true
-    → place_between (path_of_root facts t.root) t.text (path_of_root facts t.root) ≡ Some place → place_of facts t ≡ Some place
-place_with_second facts t place second told =
-    ap (λ p. place_between (path_of_root facts t.root) t.text p)
-    (cond-true (facts.jailed || facts.second) (path_of_root facts t.root) t.again (or_right facts.jailed facts.second second))
-    ∙ told
-
--- in a jail it is a slash
-pub told_in_jail : (facts : Facts) (t : Texts) (place : List ℕ) → facts.jailed ≡ true → place_of facts t ≡ Some place
-    → place_between (SLASH ∷ []) t.text (SLASH ∷ []) ≡ Some place
-told_in_jail facts t place jailed told =
-    let root : path_of_root facts t.root ≡ SLASH ∷ [] = cond-true facts.jailed (SLASH ∷ []) t.root jailed in
-    let after : path_after facts t.root t.again ≡ SLASH ∷ [] =
-    cond-true (facts.jailed || facts.second) (path_of_root facts t.root) t.again (or_left facts.jailed facts.second jailed) ∙ root in
-    sym (ap (λ p. place_between p t.text (path_after facts t.root t.again)) root ∙ ap (λ p. place_between (SLASH ∷ []) t.text p) after) ∙ told
-
-pub place_alone : (facts : Facts) (t : Texts) (place : List ℕ) → facts.jailed ≡ false → facts.second ≡ false
-    → place_between t.root t.text t.again ≡ Some place → place_of facts t ≡ Some place
-place_alone facts t place jailed second told =
-    let root : path_of_root facts t.root ≡ t.root = cond-false facts.jailed (SLASH ∷ []) t.root jailed in
-    let after : path_after facts t.root t.again ≡ t.again =
-    cond-false (facts.jailed || facts.second) (path_of_root facts t.root) t.again (or_from facts.jailed facts.second jailed second) in
-    ap (λ p. place_between p t.text (path_after facts t.root t.again)) root ∙ (ap (λ p. place_between t.root t.text p) after ∙ told)
-
--- out of one, without the second witness, it is read twice
-pub told_alone : (facts : Facts) (t : Texts) (place : List ℕ) → facts.jailed ≡ false → facts.second ≡ false
-    → place_of facts t ≡ Some place → place_between t.root t.text t.again ≡ Some place
-told_alone facts t place jailed second told =
-    let root : path_of_root facts t.root ≡ t.root = cond-false facts.jailed (SLASH ∷ []) t.root jailed in
-    let after : path_after facts t.root t.again ≡ t.again =
-    cond-false (facts.jailed || facts.second) (path_of_root facts t.root) t.again (or_from facts.jailed facts.second jailed second) in
-    sym (ap (λ p. place_between p t.text (path_after facts t.root t.again)) root ∙ ap (λ p. place_between t.root t.text p) after) ∙ told
-
--- ---- the root's text, once
-
-same_self : (xs : List ℕ) → same_bytes xs xs ≡ true
-same_self [] = refl
-same_self (x ∷ xs) = both_true (eq-eqb x x refl) (same_self xs)
-
-between_once : (before path after place : List ℕ) → place_between before path after ≡ Some place
-    → place_between before path before ≡ Some place
-between_once before path after place =
-    cond_both (nat_lt TEXT_MAX (length path) || not (same_bytes before after)) None (place_below before path)
-    (λ o. o ≡ Some place → place_between before path before ≡ Some place) (λ _ e. absurd cc)
-    (λ none e.
-    cond-false (nat_lt TEXT_MAX (length path) || not (same_bytes before before)) None (place_below before path)
-    (or_from (nat_lt TEXT_MAX (length path)) (not (same_bytes before before)) (or_parts _ _ none).0 (ap not (same_self before)))
-    ∙ e)
-
-once : (x y : Bool) (slash root : List ℕ) → cond (x || y) (cond x slash root) root ≡ cond x slash root
-once true y slash root = refl
-once false true slash root = refl
-once false false slash root = refl
-
--- the text told the place between both texts of the root, so it tells it by the first
-pub told_before : (facts : Facts) (t : Texts) (place : List ℕ) → place_of facts t ≡ Some place
-    → place_before facts t ≡ Some place
-told_before facts t place told =
-    let path = path_of_root facts t.root in
-    ap (λ p. place_between path t.text p) (once facts.jailed facts.second (SLASH ∷ []) t.root)
-    ∙ between_once path t.text (path_after facts t.root t.again) place told
+pub lies : (root path place : List ℕ) → place_told root path ≡ Some place
+    → IsPart path place (start_of path place) (length place)
+lies root path place e =
+    cond_both (is_top place) 0 (length path - length place) (λ n. IsPart path place n (length place))
+    (λ top. top_lies path place (below_begins root path place (told_below root path place e)) (slash root path place e top))
+    (λ below.
+    let at = below_lies root path place (told_below root path place e) below in
+    last_bytes at.0 path place at.1 at.2)
 
 -- ---- what is called deleted
 
@@ -301,13 +209,13 @@ called_below root path place e top called =
     (λ _ f. called_behind (length root) path (drop (length root) path) place refl f top called) (λ _ f. absurd cc))) e
 
 -- where the place isn't called deleted, the text isn't
-pub not_called : (before path after place : List ℕ) → place_between before path after ≡ Some place
-    → (length place == 1) ≡ false → ends_as_gone place ≡ false → ends_as_gone path ≡ false
-not_called before path after place e top named =
-    cond_both (nat_lt TEXT_MAX (length path) || not (same_bytes before after)) None (place_below before path)
+pub not_called : (root path place : List ℕ) → place_told root path ≡ Some place → is_top place ≡ false
+    → ends_as_gone place ≡ false → ends_as_gone path ≡ false
+not_called root path place e top named =
+    cond_both (nat_lt TEXT_MAX (length path)) None (place_below root path)
     (λ o. o ≡ Some place → ends_as_gone path ≡ false) (λ _ f. absurd cc)
     (λ _ f. false_from_ne_true (ends_as_gone path)
-    (λ called. both_ways (ends_as_gone place) named (called_below before path place f top called))) e
+    (λ called. both_ways (ends_as_gone place) named (called_below root path place f top called))) e
 
 -- ---- what is named
 

@@ -3,11 +3,11 @@ use Rattle.std.specs.Prelude.{◌≡◌, ◌⊎◌, ℕ, ◌==◌, Bool, true, f
 use Rattle.place_protocol.specs.declared.held.Held.{Held}
 use Rattle.place_protocol.specs.declared.held.TheConstants.{BY_ROOT, BY_NAME, SEEN_BELOW, AT_ROOT, LOOK_UP, AT_NAMES, ASK}
 
--- The names that the walk passed may be looked up: they are known, `..` didn't lead to the object, and the thread has
--- openat2(2). It is done where that is all, and of what is no directory, whose text comes after it then.
+-- The names that the walk passed may be looked up: they are known, and `..` didn't lead to the object. It is done where
+-- that is all, and of what is no directory, whose text comes after it then.
 abbrev pub are_looked_up : Held → Bool
 are_looked_up held =
-    held.named && (not held.above && (held.second && (held.below || not held.directory)))
+    held.named && (not held.above && (held.below || not held.directory))
 
 abbrev pub before_questions : Held → ℕ
 before_questions held =
@@ -21,11 +21,10 @@ behind_look_up held found = if found && held.below then AT_NAMES else ASK
 
 -- ---- what that means
 
--- The kernel's check may answer the walk's last question alone: it is asked for, the thread has openat2(2), and the
--- names are those by which the walk has come there, and not by `..`.
+-- The kernel's check may answer the walk's last question alone: it is asked for, and the names are those by which the
+-- walk has come there, and not by `..`.
 pub record IsCheckEnough (held : Held) : Type 0 where
   pub below : held.below ≡ true
-  pub second : held.second ≡ true
   pub named : held.named ≡ true
   pub by_names : held.above ≡ false
 
@@ -41,12 +40,12 @@ NamesAreToldByTheKernelsCheck =
     × ((held : Held) → IsCheckEnough held → held.way ≡ BY_NAME
     → (before_questions held ≡ LOOK_UP) × (behind_look_up held true ≡ AT_NAMES))
 
--- The names passed are looked up before the questions only of what was opened by a name, in a thread that has
--- openat2(2): where that look-up is all, or of what is no directory.
+-- The names passed are looked up before the questions only of what was opened by a name: where that look-up is all, or of
+-- what is no directory.
 abbrev pub NamesAreLookedUpFirst : Type 0
 NamesAreLookedUpFirst =
     (held : Held) → before_questions held ≡ LOOK_UP
-    → (held.way ≡ BY_NAME) × (held.named ≡ true) × (held.second ≡ true) × (held.above ≡ false)
+    → (held.way ≡ BY_NAME) × (held.named ≡ true) × (held.above ≡ false)
     × ((held.below ≡ true) ⊎ (held.directory ≡ false))
 
 -- The root itself stands below itself at no names, wherever it is, and nothing else is taken for it unasked.

@@ -1,19 +1,18 @@
 -- What an answer of Linux says of the file system at its moment: premises, each with the manual page that it is from.
 -- By these a place that is told is one at which the object stood.
-use Rattle.std.specs.Prelude.{◌≡◌, ◌⊎◌, ◌+◌, ◌<◌, ◌&&◌, ℕ, List, [], ◌∷◌, Bool, true, false, length, Some}
+use Rattle.std.specs.Prelude.{◌≡◌, ◌⊎◌, ◌+◌, ◌<◌, ℕ, List, [], ◌∷◌, Bool, true, false, length, Some}
 use Rattle.path_text.specs.declared.name.TheConstants.{SLASH}
-use Rattle.kernel_text.specs.Place.{ends_as_gone, place_between, place_of_cwd}
-use Rattle.place_protocol.specs.Conversation.{Comes, Conversation, Exchange, StandsAt}
+use Rattle.kernel_text.specs.Place.{ends_as_gone, place_told}
+use Rattle.place_protocol.specs.Conversation.{Conversation, Exchange, StandsAt}
 use Rattle.place_protocol.specs.Texts.{is_top}
-use Rattle.place_protocol.specs.Turns.{has_path}
-use Rattle.place_protocol.specs.Witness.{FindsObject, FindsRoot, IsOwnRoot, Worked}
+use Rattle.place_protocol.specs.Witness.{FindsObject, Worked}
 use Rattle.place_protocol.specs.declared.questions.Facts.{Facts}
-use Rattle.place_protocol.specs.declared.questions.Question.TheVariants.{Cwd, CwdAgain, KeptLink, RootLink, ObjectLink, RootAgain, LookUp, LinkAgain, Dead}
+use Rattle.place_protocol.specs.declared.questions.Question.TheVariants.{RootLink, ObjectLink, LinkAgain, Dead}
 
 -- One object and one root, moment by moment. The n-th answer of a conversation is of the moment n, which is in its
 -- system calls: of a text, that of its names; of a look-up, that at which statx(2) looks at what was found; of what is
--- asked again (LinkAgain, CwdAgain, Dead), that at which the kernel looks whether it is gone. What others do comes
--- between two moments.
+-- asked again (LinkAgain, Dead), that at which the kernel looks whether it is gone. What others do comes between two
+-- moments.
 pub record World : Type 0 where
   -- these names led from the root to the object, all at this moment
   pub stands : ℕ → List ℕ → Bool
@@ -33,79 +32,58 @@ abbrev pub StaysGone : World → Type 0
 StaysGone w = (n : ℕ) → w.gone n ≡ true → w.gone (n + 1) ≡ true
 
 pub record IsAnswer (w : World) (facts : Facts) (n : ℕ) (e : Exchange) : Type 0 where
-  -- getcwd(2): the names of one moment, but whether the directory is gone is asked before. Of a slash alone this is no
-  -- premise: it is also the path of what is mounted over the thread's own root.
-  pub cwd : (place : List ℕ) → Worked Cwd e → place_of_cwd e.text ≡ Some place → is_top place ≡ false
-      → (w.gone n ≡ true) ⊎ (w.stands n place ≡ true)
-  -- getcwd(2): it has a path only where it hasn't been unlinked (ENOENT)
-  pub again : e.question ≡ CwdAgain → has_path e.answer.error ≡ true → w.gone n ≡ false
   -- proc(5): the text of a link is called deleted if the object is gone, which the kernel looks at first (`d_path` in
   -- fs/d_path.c)
   pub link_again : Worked LinkAgain e → ends_as_gone e.text ≡ false → w.gone n ≡ false
-  -- so it is of each text, and getcwd(2) fails, if it was gone before the first question
-  pub link_before : Worked ObjectLink e ⊎ Worked KeptLink e → ends_as_gone e.text ≡ false → w.before ≡ false
-  pub cwd_before : Worked Cwd e → w.before ≡ false
+  -- so it is of each text, if it was gone before the first question
+  pub link_before : Worked ObjectLink e → ends_as_gone e.text ≡ false → w.before ≡ false
   -- statx(2), rmdir(2), getdents64(2): a removed directory has no link; where it keeps some (overlayfs, cgroups,
   -- btrfs), reading from it gives ENOENT. It isn't so in sysfs, where the kernel itself removes directories.
   pub dead : facts.directory ≡ true → e.question ≡ Dead → e.answer.yes ≡ false → w.gone n ≡ false
   -- proc(5): a link's text is the path
-  pub kept_link : Worked KeptLink e → e.text ≡ w.object n
   pub object_link : Worked ObjectLink e → e.text ≡ w.object n
   pub root_link : Worked RootLink e → e.text ≡ w.root n
-  pub root_again : Worked RootAgain e → e.text ≡ w.root n
   -- openat2(2), RESOLVE_BENEATH; statx(2): the same device, inode and mount are the same object
   pub look_up : (place : List ℕ) → FindsObject place e → w.passed n place ≡ true
-  -- statx(2), fstat(2): the same device and inode are the same object, while both are open. So this is the root itself,
-  -- which a look-up of no names finds.
+  -- statx(2): the same device and inode are the same object, while both are open. So this is the root itself, which a
+  -- look-up of no names finds.
   pub looked_root : FindsObject (SLASH ∷ []) e → w.stands n (SLASH ∷ []) ≡ true
-  pub is_root : FindsRoot e → w.stands n (SLASH ∷ []) ≡ true
-  -- the same of a jail's root, which is `/` there (chroot(2))
-  pub own_root : IsOwnRoot e → w.stands n (SLASH ∷ []) ≡ true
 
 abbrev pub AreAnswers : World → Facts → ℕ → List Exchange → Type 0
 AreAnswers w facts n [] = Unit {0}
 AreAnswers w facts n (e ∷ es) = IsAnswer w facts n e × AreAnswers w facts (n + 1) es
 
--- The root stays at its path, which is a slash in a jail, or what is kept of it. And texts tell inside from outside
--- (proc(5), /proc/pid/fd), since the thread's own root directory is a mount's, the root hasn't left its own mount,
--- and no mount with the object is taken off (umount2(2), MNT_DETACH): an object whose path lies below the root's
--- stands at the rest, or is gone by then: the kernel looks whether it is gone, which it calls deleted, and takes the
--- names after that, all at one moment (`d_path` in fs/d_path.c). If it was removed in between, and its directory
--- moved, the text has names at which it never stood. What the kernel calls deleted is gone, but for a name that its
--- cache has lost (NFS). Of a slash alone none of this is so: the kernel also writes it of an object that was moved
--- out of the mount by which it was opened, and so has no path any more (getcwd(2) writes `(unreachable)` before it, a
--- link in /proc doesn't: `prepend_path`).
-pub record TextsTell (w : World) (facts : Facts) (kept : List ℕ) : Type 0 where
-  pub path : List ℕ
-  pub stays : (n : ℕ) → w.root n ≡ path
-  pub jailed : facts.jailed ≡ true → path ≡ SLASH ∷ []
-  pub kept_path : facts.kept ≡ true → path ≡ kept
-  pub below : (n : ℕ) (place : List ℕ) → place_between path (w.object n) path ≡ Some place → is_top place ≡ false
-      → (w.gone n ≡ true) ⊎ (w.stands n place ≡ true)
+-- The root hasn't moved between the moments of the first two answers, which are its text and the object's. And these
+-- tell inside from outside (proc(5), /proc/pid/fd), since the thread's own root directory is a mount's, the root hasn't
+-- left its own mount, and no mount with the object is taken off (umount2(2), MNT_DETACH): an object whose path lies
+-- below the root's stands at the rest, or is gone by then: the kernel looks whether it is gone, which it calls deleted,
+-- and takes the names after that, all at one moment (`d_path` in fs/d_path.c). If it was removed in between, and its
+-- directory moved, the text has names at which it never stood. What the kernel calls deleted is gone, but for a name
+-- that its cache has lost (NFS). Of a slash alone none of this is so: the kernel also writes it of an object that was
+-- moved out of the mount by which it was opened, and so has no path any more (getcwd(2) writes `(unreachable)` before
+-- it, a link in /proc doesn't: `prepend_path`).
+pub record TextsTell (w : World) : Type 0 where
+  pub stays : w.root 1 ≡ w.root 0
+  pub below : (place : List ℕ) → place_told (w.root 1) (w.object 1) ≡ Some place → is_top place ≡ false
+      → (w.gone 1 ≡ true) ⊎ (w.stands 1 place ≡ true)
 
--- a link of the object was read
-abbrev pub ReadsLink : List Exchange → Type 0
-ReadsLink = Comes (λ e _. Worked ObjectLink e ⊎ Worked KeptLink e)
-
--- A place is told. Then at the moment of an answer the object stood there. Texts of links must tell that where one
--- was read; and what the kernel had seen below the root right before may have been removed, but not before the first
+-- A place is told. Then at the moment of an answer the object stood there. Texts of links must tell that, but of the root
+-- itself; and what the kernel had seen below the root right before may have been removed, but not before the first
 -- question.
 abbrev pub PlacesStood : Type 0
 PlacesStood =
-    (w : World) (facts : Facts) (kept : List ℕ) (es : List Exchange) (place : List ℕ) (is_root : Bool)
-    → StaysGone w → AreAnswers w facts 0 es → (ReadsLink es → TextsTell w facts kept)
-    → Conversation facts kept es (StandsAt place is_root)
+    (w : World) (facts : Facts) (es : List Exchange) (place : List ℕ)
+    → StaysGone w → AreAnswers w facts 0 es → (is_top place ≡ false → TextsTell w)
+    → Conversation facts es (StandsAt place)
     → (n : ℕ) × (n < length es)
     × ((w.stands n place ≡ true) ⊎ ((facts.seen ≡ true) × (w.before ≡ false) × (w.gone n ≡ true)))
 
 -- Wherever the root is moved, and whichever names texts have: the kernel has passed the place's names at the moment
--- of an answer, and saw the object below the root, which wasn't removed by then. So it is of all but a directory in a
--- jail, if the kernel hadn't seen the object there right before, and openat2(2) wasn't refused.
+-- of an answer, and saw the object below the root, which wasn't removed by then. So it is if the kernel hadn't seen the
+-- object there right before.
 abbrev pub PlacesWerePassed : Type 0
 PlacesWerePassed =
-    (w : World) (facts : Facts) (kept : List ℕ) (es : List Exchange) (place : List ℕ) (is_root : Bool)
-    → StaysGone w → AreAnswers w facts 0 es → Conversation facts kept es (StandsAt place is_root)
-    → (facts.jailed && facts.directory) ≡ false → facts.second ≡ true → facts.seen ≡ false
-    → (Comes (λ e _. (e.question ≡ LookUp) × (e.answer.yes ≡ true)) es → ⊥)
+    (w : World) (facts : Facts) (es : List Exchange) (place : List ℕ)
+    → StaysGone w → AreAnswers w facts 0 es → Conversation facts es (StandsAt place) → facts.seen ≡ false
     → (n : ℕ) × (n < length es)
     × (w.passed n place ≡ true) × ((is_top place ≡ true) ⊎ (w.gone n ≡ false))

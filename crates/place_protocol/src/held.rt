@@ -38,8 +38,6 @@ pub struct Held {
     pub directory: bool,
     /// The names are known that the walk passed to it.
     pub named: bool,
-    /// The thread has openat2(2).
-    pub second: bool,
     /// The kernel's own check is enough, by which the object is below the root, at whichever names.
     pub below: bool,
 }
@@ -48,7 +46,7 @@ pub struct Held {
 fn are_looked_up(held: &Held) -> bool
     ensures { result ≡ are_looked_up held.now }
 {
-    held.named && !held.above && held.second && (held.below || !held.directory)
+    held.named && !held.above && (held.below || !held.directory)
 }
 
 /// What comes first: AT_ROOT, LOOK_UP, AT_NAMES or ASK. Takes no memory.

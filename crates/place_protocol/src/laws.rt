@@ -1,6 +1,7 @@
 //! What a conversation comes to: laws, each the contract of a function without a body.
 ghost use Rattle.place_protocol.specs.Held.{NamesAreLookedUpFirst, NamesAreToldByTheKernelsCheck, OnlyTheRootIsAtItself};
 ghost use Rattle.place_protocol.specs.Moments.{PlacesStood, PlacesWerePassed};
+ghost use Rattle.place_protocol.specs.Told.{NamesLieInTheText};
 ghost use Rattle.place_protocol.specs.Witness.{AgreeingWitnessesAreTold, PlacesAreWitnessed, QuestionsComeToAnEnd};
 
 /// Whatever a kernel answers: where a place is told, the witnesses that the documentation names were asked in their
@@ -9,47 +10,48 @@ pub fn places_are_witnessed()
     ensures { PlacesAreWitnessed }
 {}
 
-/// Where a text of the object tells a place below the root, the look-up finds the object, and its link has its name
-/// still, the conversation tells just that place. So does a directory's in a jail, where getcwd(2) tells it, and then
-/// that there is a path still; between the two, of a slash alone, that the directory is the root. Without openat2(2) so
-/// does any conversation whose texts agree, where the link has its name still; and the root's own, where device and
-/// inode are the same. A root whose path is a slash alone is its own parent there.
+/// Where the witnesses agree on a place, and no text fills its room, their answers are a conversation that tells just
+/// that place.
 pub fn agreeing_witnesses_are_told()
     ensures { AgreeingWitnessesAreTold }
 {}
 
-/// No more than ten questions are asked about one place, and ten may be.
+/// No more than four questions are asked about one place, and four may be.
 pub fn questions_come_to_an_end()
     ensures { QuestionsComeToAnEnd }
 {}
 
-/// What answers of Linux say of the file system, each at its moment, is a premise (getcwd(2), proc(5), rmdir(2)).
-/// With it: where a place is told, the object stood there at the moment of an answer. If a link's text was read,
-/// texts must tell inside from outside, but for a slash alone, and the root must stay at its path. Of a directory in
-/// a jail that is no premise. A slash alone is told of what device and inode have shown to be the root. What the kernel
-/// had seen below the root right before may also have been removed by then, but not before the first question.
+/// The names of a look-up and of a place are just the bytes of the object's text that are told.
+pub fn names_lie_in_the_text()
+    ensures { NamesLieInTheText }
+{}
+
+/// What answers of Linux say of the file system, each at its moment, is a premise (proc(5), rmdir(2)). With it: where a
+/// place is told, the object stood there at the moment of an answer. Of all but the root itself texts must tell inside
+/// from outside, and the root must not be moved between the readings of its text and of the object's. The root itself
+/// is what device and inode have shown to be it. What the kernel had seen below the root right before may also have been
+/// removed by then, but not before the first question.
 pub fn places_stood()
     ensures { PlacesStood }
 {}
 
 /// Wherever the root is moved, and whichever names texts have: at the moment of an answer the kernel has passed the
 /// place's names from the root, by openat2(2) with RESOLVE_BENEATH, and saw the object below it, which wasn't removed
-/// by then. So it is of all but directories in a jail and what the kernel had seen there right before, if the thread
-/// has openat2(2) and keeps it. Of the root itself it isn't said that it wasn't removed.
+/// by then. So it is of all but what the kernel had seen there right before. Of the root itself it isn't said that it
+/// wasn't removed.
 pub fn places_were_passed()
     ensures { PlacesWerePassed }
 {}
 
 /// Where no question is asked, and the object isn't the root, the names that the walk passed are told by the kernel's
 /// check alone, which the call has asked for: openat2(2) has seen the object below the root, as the call opened it or
-/// by a look-up of these names. So it is never behind `..`, nor without openat2(2). Where that check is enough, nothing
-/// more is asked behind it.
+/// by a look-up of these names. So it is never behind `..`. Where that check is enough, nothing more is asked behind it.
 pub fn names_are_told_by_the_kernels_check()
     ensures { NamesAreToldByTheKernelsCheck }
 {}
 
-/// The names that the walk passed are looked up before the questions only of what was opened by a name, in a thread
-/// that has openat2(2): where that look-up is all, or of what is no directory.
+/// The names that the walk passed are looked up before the questions only of what was opened by a name: where that
+/// look-up is all, or of what is no directory.
 pub fn names_are_looked_up_first()
     ensures { NamesAreLookedUpFirst }
 {}

@@ -10,7 +10,6 @@
 mod held;
 mod laws;
 mod questions;
-mod texts;
 mod told;
 mod turns;
 
@@ -20,9 +19,8 @@ pub use held::{
 };
 pub use laws::{
     agreeing_witnesses_are_told, names_are_looked_up_first, names_are_told_by_the_kernels_check,
-    only_the_root_is_at_itself, places_are_witnessed, places_stood, places_were_passed,
-    questions_come_to_an_end,
+    names_lie_in_the_text, only_the_root_is_at_itself, places_are_witnessed, places_stood,
+    places_were_passed, questions_come_to_an_end,
 };
 pub use questions::{Answer, Facts, Question};
 pub use told::{Told, begin, next};
-pub use turns::Turn;

@@ -1,11 +1,11 @@
 //! What is told, as numbers for a C program.
 ghost use Rattle.std.specs.Prelude.{◌≡◌};
-ghost use Rattle.place_protocol.specs.Told.{begun, told_of, facts_after_number, number_of, question_told, question_of, TellsNext};
 ghost use Rattle.place_protocol.specs.Texts.{texts_of};
+ghost use Rattle.place_protocol.specs.Told.{begun, names_told, next_told, number_of, question_of, start_of, told_of};
+ghost use Rattle.place_protocol.specs.Turns.{due_of};
 
 use crate::questions::{Answer, Facts, Question};
-use crate::turns::{Turn, facts_after, first, follow};
-use kernel_text::Place;
+use crate::turns::{Turn, follow, is_top};
 use system_calls::errors::EINVAL;
 
 /// What is due: a question, or nothing more.
@@ -18,8 +18,7 @@ pub struct Told {
     pub length: usize,
     /// Why the place could not be found out (errno(3)), or 0.
     pub error: u32,
-    /// 1 to 15: the number of a `Question`. 16: the object stands at the names. 17: it isn't below the root. 18: that
-    /// could not be found out.
+    /// 1 to 5: the number of a `Question`. 6: the object stands at the names. 7: that could not be found out.
     pub what: u8,
     /// The object turned out to be the root itself.
     pub is_root: bool,
@@ -29,21 +28,11 @@ fn number_of(question: Question) -> u8
     ensures { result ≡ number_of question }
 {
     match question {
-        Question::Enter => 1,
-        Question::Cwd => 2,
-        Question::CwdAgain => 3,
-        Question::KeptLink => 4,
-        Question::RootLink => 5,
-        Question::ObjectLink => 6,
-        Question::OwnRoot => 7,
-        Question::RootAgain => 8,
-        Question::LookUp => 9,
-        Question::LinkAgain => 10,
-        Question::Dead => 11,
-        Question::IsRoot => 12,
-        Question::Slash => 13,
-        Question::SlashAgain => 14,
-        Question::Top => 15,
+        Question::RootLink => 1,
+        Question::ObjectLink => 2,
+        Question::LookUp => 3,
+        Question::LinkAgain => 4,
+        Question::Dead => 5,
     }
 }
 
@@ -51,98 +40,86 @@ fn question_of(number: u8) -> Option<Question>
     ensures { result ≡ question_of number }
 {
     match number {
-        1 => Some(Question::Enter),
-        2 => Some(Question::Cwd),
-        3 => Some(Question::CwdAgain),
-        4 => Some(Question::KeptLink),
-        5 => Some(Question::RootLink),
-        6 => Some(Question::ObjectLink),
-        7 => Some(Question::OwnRoot),
-        8 => Some(Question::RootAgain),
-        9 => Some(Question::LookUp),
-        10 => Some(Question::LinkAgain),
-        11 => Some(Question::Dead),
-        12 => Some(Question::IsRoot),
-        13 => Some(Question::Slash),
-        14 => Some(Question::SlashAgain),
-        15 => Some(Question::Top),
+        1 => Some(Question::RootLink),
+        2 => Some(Question::ObjectLink),
+        3 => Some(Question::LookUp),
+        4 => Some(Question::LinkAgain),
+        5 => Some(Question::Dead),
         _ => None,
     }
 }
 
-fn question_told(question: Question, start: usize, length: usize) -> Told
-    ensures { result ≡ question_told question start length }
+// The names are the end of the text, or its first slash.
+fn start_of(text: &[u8], names: &[u8]) -> usize
+    ensures { result ≡ start_of text.now names.now }
 {
-    Told {
-        start,
-        length,
-        error: 0,
-        what: number_of(question),
-        is_root: false,
+    if is_top(names) {
+        0
+    } else {
+        text.len().saturating_sub(names.len())
     }
 }
 
-fn told_of(turn: Turn) -> Told
-    ensures { result ≡ told_of turn }
+fn names_told(what: u8, is_root: bool, text: &[u8], names: &[u8]) -> Told
+    ensures { result ≡ names_told what is_root text.now names.now }
+{
+    Told {
+        start: start_of(text, names),
+        length: names.len(),
+        error: 0,
+        what,
+        is_root,
+    }
+}
+
+fn told_of(text: &[u8], turn: Turn) -> Told
+    ensures { result ≡ told_of (due_of turn.entry) text.now }
 {
     match turn {
-        Turn::Ask(question) => question_told(question, 0, 0),
-        Turn::Look(place) => question_told(Question::LookUp, place.start, place.length),
-        Turn::Stands(place, is_root) => Told {
-            start: place.start,
-            length: place.length,
-            error: 0,
-            what: 16,
-            is_root,
-        },
-        Turn::Nowhere => Told {
+        Turn::Ask(question) => Told {
             start: 0,
             length: 0,
             error: 0,
-            what: 17,
+            what: number_of(question),
             is_root: false,
         },
+        Turn::Look(names) => names_told(3, false, text, names),
+        Turn::Stands(names) => names_told(6, is_top(names), text, names),
         Turn::Unmade(error) => Told {
             start: 0,
             length: 0,
             error,
-            what: 18,
+            what: 7,
             is_root: false,
         },
     }
 }
 
 /// The first question.
-pub fn begin(facts: &Facts) -> Told
-    ensures { result ≡ begun facts.now }
+pub fn begin() -> Told
+    ensures { result ≡ begun }
 {
-    told_of(Turn::Ask(first(facts)))
+    told_of(b"", Turn::Ask(Question::RootLink))
 }
 
 /// What is due behind the answer to the question of this number, which was due before; by the texts that were read last
-/// of the root (or the one that is kept of it), of the object, and of what was read once more. One that isn't read yet
-/// is empty. `facts` are those that `begin` got. They change where the thread has lost openat2(2).
+/// of the root, of the object, and of the object's link once more. One that isn't read yet is empty.
 ///
 /// Errors: EAGAIN (11), the witnesses don't agree, so the object is being moved; ENOSYS (38) of a link that isn't in
-/// /proc; ENAMETOOLONG (36) of a text of more than 4,095 bytes; EOPNOTSUPP (95), a text in /proc can't tell the root
-/// from outside; EINVAL (22) of a number that is no question's. Any other is the answer's own.
+/// /proc; ENAMETOOLONG (36) of a text of more than 4,095 bytes; EINVAL (22) of a number that is no question's. Any other
+/// is the answer's own.
 pub fn next(
-    facts: &mut Facts,
+    facts: &Facts,
     asked: u8,
     answer: &Answer,
     root: &[u8],
     text: &[u8],
     again: &[u8],
 ) -> Told
-    ensures facts { facts.new ≡ facts_after_number facts.old (question_of asked) answer.now }
-    ensures told { TellsNext facts.old asked answer.now (texts_of root.now text.now again.now) result }
+    ensures { result ≡ next_told facts.now (question_of asked) answer.now (texts_of root.now text.now again.now) }
 {
     match question_of(asked) {
-        None => told_of(Turn::Unmade(EINVAL)),
-        Some(question) => {
-            let turn = follow(facts, question, answer, root, text, again);
-            *facts = facts_after(facts, question, answer);
-            told_of(turn)
-        }
+        None => told_of(text, Turn::Unmade(EINVAL)),
+        Some(question) => told_of(text, follow(facts, question, answer, root, text, again)),
     }
 }

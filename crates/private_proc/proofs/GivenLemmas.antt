@@ -2,7 +2,7 @@
 use Rattle.std.proofs.Common.{◌≡◌, ℕ, List, [], ◌∷◌, length, Bool, true, false, not, ◌&&◌, ◌||◌, refl, ap, sym, ◌∙◌, arith}
 use Rattle.std.specs.Prelude.{◌==◌, if◌then◌else◌}
 use Rattle.private_proc.specs.History.{after_exchange, begins, is_question, next_after, Exchange, IsHistory}
-use Rattle.private_proc.specs.Promises.{gets, has_no_new, has_thread, is_open, is_proc, needs_open, why_after}
+use Rattle.private_proc.specs.Promises.{gets, has_no_new, has_thread, is_open, is_proc, is_restricted, needs_open, why_after}
 use Rattle.private_proc.specs.declared.mounting.Mounting.{Mounting}
 use Rattle.private_proc.specs.declared.mounting.TheConstants.{MAKE, RESTRICT, CREATE, MOUNT, CLOSE_MADE, COPY, LOOK, THREADS, REFUSE, HAND_IN, CLOSE, GIVES}
 use Rattle.private_proc.proofs.Asked.{make_it, restrict_it, create_it, mount_it, close_made, copy_it, look_it, threads_it, refuse_it, hand_in, close_it, asked_is, at_asked}
@@ -176,3 +176,34 @@ pub nothing : (history : List Exchange) → IsHistory true history → history �
 nothing [] h = refl
 nothing (e ∷ []) h = absurd (nothing_due e (begins true) refl h.0.due h.0.question)
 nothing (e ∷ (before ∷ older)) h = absurd (none_before before older (nothing (before ∷ older) h.1))
+
+-- ---- what is created
+
+created : (e : Exchange) (n : Mounting) → is_question e.asked ≡ true → (after_exchange e n).next ≡ CREATE → e.asked ≡ RESTRICT
+created e n question is =
+    elim (asked_is e.asked question) [
+      | make_it at ↦ absurd (grind (arith, at, is))
+      | restrict_it at ↦ at
+      | create_it at ↦ absurd (grind (arith, at, is))
+      | mount_it at ↦ absurd (grind (arith, at, is))
+      | close_made at ↦ absurd (grind (arith, at, is))
+      | copy_it at ↦ absurd (grind (arith, at, is))
+      | look_it at ↦ absurd (grind (arith, at, is))
+      | threads_it at ↦ absurd (grind (arith, at, is))
+      | refuse_it at ↦ absurd (grind (arith, at, is))
+      | hand_in at ↦ absurd (grind (arith, at, is))
+      | close_it at ↦ absurd (grind (arith, at, is))
+    ]
+
+restricted_by : (e : Exchange) (older : List Exchange) → e.asked ≡ RESTRICT → is_restricted (e ∷ older) ≡ true
+restricted_by e older at = grind (arith, at)
+
+start_not_created : (kept : Bool) → (begins kept).next ≡ CREATE → ⊥
+start_not_created true is = grind (arith, is)
+start_not_created false is = grind (arith, is)
+
+pub restricted : (kept : Bool) (history : List Exchange) → IsHistory kept history
+    → (next_after kept history).next ≡ CREATE → is_restricted history ≡ true
+restricted kept [] h is = absurd (start_not_created kept is)
+restricted kept (e ∷ older) h is =
+    restricted_by e older (created e (next_after kept older) h.0.question is)

@@ -22,6 +22,11 @@ has_thread [] = false
 has_thread (e ∷ older) =
     if gets e.asked then false else (if e.asked == THREADS then e.gave.error == 0 else has_thread older)
 
+-- since fsopen(2), it was asked that it has only what is of processes
+abbrev pub is_restricted : List Exchange → Bool
+is_restricted [] = false
+is_restricted (e ∷ older) = if e.asked == MAKE then false else (e.asked == RESTRICT) || is_restricted older
+
 -- a new one was tried, and could not be made, or is none
 abbrev pub has_no_new : List Exchange → Bool
 has_no_new [] = false

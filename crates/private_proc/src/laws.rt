@@ -1,8 +1,8 @@
 //! What holds of every history, as laws over its exchanges: each function's contract is one, and its body is empty.
 ghost use Rattle.std.specs.Prelude.{◌≡◌, ◌≢◌, ◌≤◌, ◌+◌, Bool, true, List, [], length};
 ghost use Rattle.private_proc.specs.History.{next_after, Exchange, IsHistory};
-ghost use Rattle.private_proc.specs.Promises.{has_no_new, has_thread, is_made, is_open, is_proc, needs_made, needs_open, signals, why_after};
-ghost use Rattle.private_proc.specs.declared.mounting.TheConstants.{COPY, HAND_IN, GIVES, FAILS};
+ghost use Rattle.private_proc.specs.Promises.{has_no_new, has_thread, is_made, is_open, is_proc, is_restricted, needs_made, needs_open, signals, why_after};
+ghost use Rattle.private_proc.specs.declared.mounting.TheConstants.{CREATE, COPY, HAND_IN, GIVES, FAILS};
 
 /// What is handed in was made by fsmount(2) or open_tree(2), is open, and was seen since to be a proc(5) that follows
 /// links, and to have the calling thread. It ends well only where it could be handed in.
@@ -13,6 +13,12 @@ pub fn what_is_handed_in_is_a_proc()
     ensures gives { (kept : Bool) (history : List Exchange) → IsHistory kept history
         → (next_after kept history).next ≡ GIVES
         → (is_proc history ≡ true) × ((has_thread history ≡ true) × (why_after kept history ≡ 0)) }
+{}
+
+/// A new one is created only after it was asked to have nothing but what is of processes.
+pub fn new_ones_are_restricted()
+    ensures { (kept : Bool) (history : List Exchange) → IsHistory kept history
+        → (next_after kept history).next ≡ CREATE → is_restricted history ≡ true }
 {}
 
 /// /proc is copied only after a new one was tried, and could not be made, or was none.

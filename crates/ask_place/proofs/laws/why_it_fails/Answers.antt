@@ -1,5 +1,5 @@
-use Rattle.ask_place.proofs.HistoryLemmas.{fails}
+use Rattle.ask_place.proofs.HistoryLemmas.{why}
 use Rattle.ask_place.proofs.laws.why_it_fails.Goals as goal
 
 pub returns : goal.returns
-returns c = fails
+returns c = why

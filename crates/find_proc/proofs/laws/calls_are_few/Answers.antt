@@ -1,4 +1,4 @@
-use Rattle.find_proc.proofs.CountLemmas.{few}
+use Rattle.find_proc.proofs.FindingLemmas.{few}
 use Rattle.find_proc.proofs.laws.calls_are_few.Goals as goal
 
 pub returns : goal.returns

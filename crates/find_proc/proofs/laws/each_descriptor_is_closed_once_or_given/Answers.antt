@@ -1,4 +1,4 @@
-use Rattle.find_proc.proofs.OpenLemmas.{low_is, open_is}
+use Rattle.find_proc.proofs.FindingLemmas.{low_is, open_is}
 use Rattle.find_proc.proofs.laws.each_descriptor_is_closed_once_or_given.Goals as goal
 
 pub returns-clause-new : goal.returns-clause-new

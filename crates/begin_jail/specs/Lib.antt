@@ -1,4 +1,0 @@
-pub mod Jail
-pub mod JailPromises
-pub mod Place
-pub mod PlacePromises
