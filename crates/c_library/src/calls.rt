@@ -1,12 +1,10 @@
-//! What says which thing comes next in a call, from its beginning to its result, and as it makes one openat2(2); and
-//! which descriptor it hands out.
-ghost use Rattle.std.specs.Prelude.{◌≡◌, ◌∷◌, [], ℕ, Bool, List, true, false};
+//! What says which thing comes next in a call, from its beginning to its result, and which descriptor it hands out.
+ghost use Rattle.std.specs.Prelude.{◌≡◌, ◌∷◌, [], List, true, false};
 ghost use Rattle.call_course.specs.History.{exchange, is_question, Exchange, IsAt};
-ghost use Rattle.call_course.specs.OneLook.{is_turn, turn_of, IsOneLook, Turn};
 ghost use Rattle.call_course.specs.Taking.{taken};
 ghost use Rattle.call_course.specs.declared.calling.Facts.{Facts as CallFacts};
 
-use call_course::{Answer, Calling, Facts, OneLook, Taking};
+use call_course::{Answer, Calling, Facts, Taking};
 
 /// Begins a call: `call_course::begin`.
 #[unsafe(no_mangle)]
@@ -32,23 +30,4 @@ pub extern "C" fn inroot_take(shared: bool, held: bool, taking: &mut Taking)
     ensures { taking.new ≡ taken shared held }
 {
     *taking = call_course::take(shared, held);
-}
-
-/// Begins one openat2(2), or the question whether there is that: `call_course::begin_one`.
-#[unsafe(no_mangle)]
-pub extern "C" fn inroot_one_look_begin(known: u8, asks: bool, look: &mut OneLook)
-    ensures { IsOneLook known asks [] look.new }
-{
-    *look = call_course::begin_one(known, asks);
-}
-
-/// Takes what the last demand gave, and says what comes next: `call_course::next_one`.
-#[unsafe(no_mangle)]
-pub extern "C" fn inroot_one_look_next(look: &mut OneLook, error: u32)
-    ensures goes { (known : ℕ) (asks : Bool) (history : List Turn) → IsOneLook known asks history look.old
-        → is_turn look.old.next ≡ true
-        → IsOneLook known asks (turn_of look.old.next error ∷ history) look.new }
-    ensures over { is_turn look.old.next ≡ false → look.new ≡ look.old }
-{
-    *look = call_course::next_one(*look, error);
 }
