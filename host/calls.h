@@ -1,8 +1,7 @@
 /*
  * calls.h: the proved library's functions, and what passes between it and a driver. The numbers and bytes are those
- * of crates/c_protocol, step_calls, place_protocol, open_or_make, make_through_links, remove_by_calls, look_ups,
- * list_directory, walk_directory, walk_tree, call_course, ask_place, give_entry, find_proc,
- * private_proc, open_partial, open_at_once, open_through_links, enter_directory, begin_below, kernel_text and
+ * of crates/c_protocol, step_calls, place_protocol, open_or_make, make_through_links, remove_by_calls, list_directory,
+ * call_course, ask_place, give_entry, find_proc, private_proc, open_partial, kernel_text and
  * system_calls, whose contracts say what they stand for. A program that makes calls includes inroot.h, and not this.
  *
  * Each function asks this of its caller, beside what stands at it. No pointer is NULL, not even one to no bytes. Each is
@@ -12,7 +11,7 @@
  * text and the path with which it began, and what the library has laid in its room. checks/owed has what looks for this as
  * the driver is tested.
  *
- * inroot_begin(), inroot_next(), inroot_pass_names() and inroot_sort_names() take memory, by malloc(3).
+ * inroot_begin(), inroot_next() and inroot_sort_names() take memory, by malloc(3).
  */
 #ifndef INROOT_CALLS_H
 #define INROOT_CALLS_H
@@ -80,65 +79,10 @@ void inroot_next(struct inroot_kept *kept, const struct inroot_answered *answere
                  size_t length, struct inroot_told *told, unsigned char *room, size_t size);
 
 /*
- * Names that come next in a call: how many; how many bytes they take, a slash before each; whether `..` comes behind them, whose
- * bytes are counted and written as well; whether the walk ends behind them; and if so, whether it ends behind `.` or a slash.
+ * Whether a call fails by ENOENT where one of PATH's names is missing in what those before it led to. It is true of a resolve of just
+ * the names of PLACE, a slash before each, with a slash between each two and one before the first or none; but not of a path that
+ * leads out by its first byte. It takes no memory, changes nothing, and needs no call under way. docs/HOST-WHY.md has the argument.
  */
-struct inroot_ahead_names {
-    size_t names, used;
-    bool up, ends, dot;
-};
-
-/*
- * Writes the names that a call is due to open next, one in another, if each of them is a directory: at most so many, and so many as
- * fit. The call stays as it is: `kept` holds one. None where no Open is due. It takes no memory. NUMBER is that of
- * inroot_pass_names().
- */
-void inroot_names_ahead(struct inroot_kept *kept, size_t most, uint64_t number, unsigned char *room, size_t size,
-                        struct inroot_ahead_names *ahead);
-
-/* Parts of a path: how many; how many bytes they take; whether one of them is a name; and whether none comes behind them. */
-struct inroot_left {
-    size_t parts, used;
-    bool named, whole;
-};
-
-/*
- * Writes what is left of the path that a call walks: its parts in their order, `.` and `..` too, a slash before each, so many as
- * fit. At 0 it begins with the part that comes next: the name that is due to be opened, or what comes behind the step that is due;
- * at 1 behind that part. There are none where no walk is under way, where a link is due to be read, or a handle to be closed. The
- * last name of a call on one entry is none of them. The call stays as it is: `kept` holds one. It takes no memory.
- */
-void inroot_parts_ahead(struct inroot_kept *kept, uint8_t from, unsigned char *room, size_t size, struct inroot_left *left);
-
-/*
- * Names that a call has passed: how many, and whether the directory is closed now in which the first was opened. DUE: they are all
- * parts but the last, and the step that is due opens that one in the directory that they led to, or is the Parent of it for `..`.
- */
-struct inroot_ran {
-    size_t names;
-    bool shut, due;
-};
-
-/*
- * Tells a call that one openat2(2) with RESOLVE_NO_SYMLINKS led along the parts of a text, a slash between each two, FROM a
- * directory: so that all but the last were passed as directories. It passes those of them that it was due to open, one in another,
- * and tells the step that is due behind them. What is opened so has numbers that count up from NUMBER, and counts as closed where
- * the call closes it. `kept` holds a call.
- */
-void inroot_pass_names(struct inroot_kept *kept, const unsigned char *text, size_t length, uint64_t from, uint64_t number,
-                       struct inroot_told *told, unsigned char *room, size_t size, struct inroot_ran *ran);
-
-/*
- * Whether a call goes so: PATH's names are opened one after another, each a directory but for the last, which is of this
- * KIND, and stands at PLACE when it is asked for. Then its reply is what was opened. It is true of a resolve, but not of a
- * link that it would follow, and of a call that makes all directories, where they are there; and only where PATH is just
- * the names of PLACE, with a slash between each two and one before the first or none. It takes no memory, changes nothing,
- * and needs no call under way. docs/HOST-WHY.md has the argument.
- */
-bool inroot_opens_at_once(const struct inroot_asked *asked, const unsigned char *path, size_t path_length, uint8_t kind,
-                          const unsigned char *place, size_t place_length);
-
-/* Whether a call by the names of this place fails by ENOENT where one of them is missing in what those before it led to. */
 bool inroot_misses_at_once(const struct inroot_asked *asked, const unsigned char *path, size_t path_length,
                            const unsigned char *place, size_t place_length);
 
@@ -149,63 +93,6 @@ bool inroot_misses_at_once(const struct inroot_asked *asked, const unsigned char
  * nothing, and needs no call under way. docs/HOST-WHY.md has the argument.
  */
 bool inroot_follows_at_once(const struct inroot_asked *asked, const unsigned char *path, size_t path_length);
-
-/*
- * The five that follow are asked as a call goes on a path through links, one after another, each of the path that the one before
- * it gave: from the root, a slash before each part. The first is true of a resolve that follows links, of a PATH that has names
- * alone and is not refused for its slash at the beginning; WHOLE is that path, with a slash before it.
- */
-bool inroot_begins_through(const struct inroot_asked *asked, const unsigned char *path, size_t path_length,
-                           const unsigned char *whole, size_t whole_length);
-
-/*
- * What comes next on a path (enum inroot_comes): how many names were PASSED, and how many are AHEAD, before a link or to the
- * end. Where `..` comes, the names passed without the last have UPPER bytes; the name of a link that comes is to END. What isn't
- * said is zero.
- */
-struct inroot_path_ahead {
-    size_t passed, ahead, upper, end;
-    uint8_t comes;
-};
-
-/*
- * AT bytes are the names passed. A name that was a link last begins at LINK, or none does where that is no place behind these. If
- * that link is LEFT to the steps, all is.
- */
-void inroot_look_ahead(const unsigned char *whole, size_t whole_length, size_t at, size_t link, bool left,
-                       struct inroot_path_ahead *ahead);
-
-/* How a call goes on: LENGTH bytes of a room are its path then, and AT of these the names passed. If it doesn't, all is zero. */
-struct inroot_next_path {
-    size_t length, at;
-    bool goes_on, absolute;
-};
-
-/*
- * Behind a link: AT bytes of the path are names that were passed; those up to START are opened, each in the one before it; the
- * name from START to END is a link there, with this TEXT; so many LINKS were followed before, at most 39. The text has names and
- * `..` alone, and doesn't lead out. The path then is laid at the room's beginning, if it fits: the text stands in the link's
- * place, of which START bytes were passed; or, where it is ABSOLUTE, that is begins with a slash, in that of all up to there, of
- * which none were. A call doesn't go on if `..` comes there behind a name, at the end, or more often than names were passed.
- */
-void inroot_goes_through(const struct inroot_asked *asked, size_t links, const unsigned char *whole, size_t whole_length, size_t at,
-                         size_t start, size_t end, const unsigned char *text, size_t text_length, unsigned char *room, size_t size,
-                         struct inroot_next_path *next);
-
-/*
- * Behind `..`, which comes behind the names passed: the directory above was asked for its PLACE, which is these names less the
- * last. The path then is laid at the room's beginning, if it fits: of it these were passed.
- */
-void inroot_rises_through(const unsigned char *whole, size_t whole_length, size_t at, const unsigned char *place,
-                          size_t place_length, unsigned char *room, size_t size, struct inroot_next_path *next);
-
-/*
- * At the end: names alone are left, and lead to an object of this KIND, which is no link, and stands at the whole path when it is
- * asked for its PLACE. Then the reply is what was opened. None of the five takes memory, or needs a call under way.
- * docs/HOST-WHY.md has the argument.
- */
-bool inroot_ends_through(const unsigned char *whole, size_t whole_length, size_t at, uint8_t kind, const unsigned char *place,
-                         size_t place_length);
 
 /* Where a path's last name stands in it, of so many bytes; or the error's number, and zeros. */
 struct inroot_parted {
@@ -227,32 +114,6 @@ void inroot_split(const unsigned char *path, size_t path_length, bool takes_slas
  */
 bool inroot_is_refusal(uint8_t what, uint8_t mode, size_t text, uint32_t error);
 
-/* ---- what is known of a step from the steps before. These take no memory. */
-
-/*
- * What the step before has shown: an object's place was found; a link was read by its name as it was opened; a directory had such a
- * link as an entry, whose text was then asked for.
- */
-enum inroot_shown { INROOT_SHOWN_NOTHING, INROOT_SHOWN_PLACED, INROOT_SHOWN_LINK_READ, INROOT_SHOWN_FOLLOWED };
-
-/* The last step. All of it is 0 before the first one. A driver leaves it alone. */
-struct inroot_last_step {
-    uint64_t handle, dir;
-    uint8_t what, shows;
-};
-
-/* Takes a step, before it is made, and says what the one before has shown of the same object, if that is of use to this one. */
-uint8_t inroot_last_take(struct inroot_last_step *last, uint8_t what, uint64_t handle);
-
-/* That step found the object's place (PLACED); or read the link by its name, which has the handle that it GAVE (LINK_READ). */
-void inroot_last_end(struct inroot_last_step *last, uint8_t how, uint64_t gave);
-
-/*
- * Why a step can't be begun, of which this is KNOWN: 0; ENAMETOOLONG where its texts aren't WHOLE; ENOMEM where it needs a
- * descriptor that isn't there. PASSED: its directory or link has none; OTHER: the directory to which a rename goes has none.
- */
-uint32_t inroot_step_lack(uint8_t what, uint8_t known, bool whole, bool passed, bool other);
-
 /* ---- which system call comes next, as one step is made. These take no memory. */
 
 /* Whether a directory is there still: a question in the place of a step. It isn't made where that can't be known. */
@@ -260,36 +121,27 @@ enum { INROOT_IS_THERE = 0 };
 
 /*
  * What is known of a step before its first system call. WHAT it is (`enum inroot_what`), the MODE of a rename, the bytes of the
- * TEXT of a link that is made. An Open: a DIRECTORY is expected; NO_MAGIC link is followed; the name IS_LAST in the path; the
- * path TAKES_LINK where it ends in one. An Open, a Dup, a Parent: what is opened must be on the root's MOUNT. A Dup, a Parent: the
- * call GOES_ON from what is opened by a name. A Parent: the names are known by which the call came to the child (NAMED), and are a
- * SINGLE one; the root is the thread's own (JAILED); a tree is removed (CLEARS); each name is to be looked up by itself
- * (ONE_BY_ONE); openat2(2) is there (SECOND). An Open, a ReadLink: the call FOLLOWS the text that it reads. A ReadLink: the
- * object was opened as a LINK. A Parent, a ReadLink: what is KNOWN from the steps before (`enum inroot_shown`): that the child
- * had an entry; that the walk has come to the link which it was to find, or has its text. A change: an object that is there
- * gets a SECOND_NAME.
+ * TEXT of a link that is made. An Open: a DIRECTORY is expected; the name IS_LAST in the path; the path TAKES_LINK where it ends in
+ * one. An Open, a Dup, a Parent: what is opened must be on the root's MOUNT. An Open, a ReadLink: the call FOLLOWS the text that it
+ * reads. A ReadLink: the walk has come to the link that it was to find (IS_LAST); the object was opened as a LINK. A change: an
+ * object that is there gets a SECOND_NAME.
  */
 struct inroot_step_facts {
     size_t text;
     uint8_t what, mode;
-    bool directory, mount, no_magic, is_last, takes_link, named, single, goes_on, jailed, clears, one_by_one, second;
-    uint8_t known;
-    bool follows, link, second_name;
+    bool directory, mount, is_last, takes_link, follows, link, second_name;
 };
 
 /*
  * By O_PATH, O_NOFOLLOW and O_CLOEXEC the name is opened, or `.` of a Dup, or `..` of a Parent: with O_DIRECTORY, or without. A
  * descriptor of a directory above is let go. Of what was opened: whether it is on the root's mount; its kind; its file system; openat2(2)
- * of its name with RESOLVE_NO_MAGICLINKS. Of a Parent, first: whether `..` is the root, as it is of a Dup; then the root is what was
- * opened; or the names passed, without the last, are looked up from the root with RESOLVE_BENEATH; whether `..` is what that found; if
- * not, that is closed. Of the directory that must be there still: its links; its file system; it is opened to be read, read by
- * getdents64(2), and closed. Of a link: the flags of its mount; its text. The one system call of a change. What was opened is closed.
- * Or the step ENDS: with what was opened; with a text; done; refused by an error of the step table; or not made.
+ * of its name with RESOLVE_NO_MAGICLINKS. Of the directory that must be there still: its links; its file system; it is opened to be read,
+ * read by getdents64(2), and closed. Of a link: the flags of its mount; its text. The one system call of a change. What was opened is
+ * closed. Or the step ENDS: with what was opened; with a text; done; refused by an error of the step table; or not made.
  */
 enum inroot_step_next {
     INROOT_CALL_OPEN_DIRECTORY = 1, INROOT_CALL_OPEN_ANY, INROOT_CALL_SPARE, INROOT_CALL_MOUNT, INROOT_CALL_KIND,
-    INROOT_CALL_MAY_HOLD_MAGIC, INROOT_CALL_MAGIC, INROOT_CALL_IS_ROOT, INROOT_CALL_LOOK_ABOVE, INROOT_CALL_COMPARE_ABOVE,
-    INROOT_CALL_CLOSE_ABOVE, INROOT_CALL_LINKS, INROOT_CALL_LAYERS, INROOT_CALL_OPEN_TO_READ, INROOT_CALL_READ,
+    INROOT_CALL_MAY_HOLD_MAGIC, INROOT_CALL_MAGIC, INROOT_CALL_LINKS, INROOT_CALL_LAYERS, INROOT_CALL_OPEN_TO_READ, INROOT_CALL_READ,
     INROOT_CALL_CLOSE_READ, INROOT_CALL_NO_FOLLOW, INROOT_CALL_READ_LINK, INROOT_CALL_CHANGE, INROOT_CALL_CLOSE,
     INROOT_ENDS_OPENED, INROOT_ENDS_TEXT, INROOT_ENDS_DONE, INROOT_ENDS_REFUSED, INROOT_ENDS_UNMADE,
 };
@@ -465,47 +317,38 @@ void inroot_place_next(const struct inroot_place_facts *facts, const struct inro
 /* ---- which thing comes next in a call, from its beginning to its result. These take no memory. */
 
 /*
- * What is known of a call before its first try: 0, or the error by which it has failed, which comes behind those of its root, and of
- * OWN_ROOT; its root is the thread's own root directory; its paths begin at a directory below the root; it asks for the place of an
- * object, and walks nothing; its root is a directory that another call has come to, so that no place is asked for by a text; it gives
- * a descriptor of the entry that it makes; what it makes another try finds, since it makes all missing directories of a path; another
- * try may be made.
+ * What is known of a call before its first try: 0, or the error by which it has failed, which comes behind those of its root; it asks
+ * for the place of an object, and walks nothing; it gives a descriptor of the entry that it makes; what it makes another try finds,
+ * since it makes all missing directories of a path; another try may be made.
  */
 struct inroot_calling_facts {
     uint32_t error;
-    bool jailed, from, places, held, gives, finds_again, may_retry;
+    bool places, gives, finds_again, may_retry;
 };
 
 /*
- * A try begins, after a pause of ABOUT nanoseconds: nothing is known of it. The place of the directory at which the paths begin is
- * asked for, and its names are put before them. One system call opens the whole path. It is asked whether the thread has openat2(2).
- * A /proc is found for the call. It is checked that this one can distinguish the thread's own root directory from outside. The
- * object's place is asked for. The proved call is driven to its reply. What it opened
- * is taken out of its handle. All that a try holds beside is closed. The descriptor ABOUT is closed. It is looked at whether the
- * number of /proc is another file's by now. Another /proc is opened, and the try begins anew by it: nothing is known but where the
- * thread is. The call's own /proc is closed. The thread goes to its root directory: chdir(2). The root is looked at: fstat(2). If it
- * ENDS, VALUE is what the call gives. If it FAILS, there is an error.
+ * A try begins, after a pause of ABOUT nanoseconds: nothing is known of it. The object's place is asked for. The proved call is driven
+ * to its reply. What it opened is taken out of its handle. All that a try holds beside is closed. The descriptor ABOUT is closed. It is
+ * looked at whether the number of /proc is another file's by now. Another /proc is opened, and the try begins anew by it. The call's own
+ * /proc is closed. The root is looked at: fstat(2). If it ENDS, VALUE is what the call gives. If it FAILS, there is an error.
  */
 enum inroot_calling_next {
-    INROOT_CALLING_BEGIN = 1, INROOT_CALLING_JOIN, INROOT_CALLING_AT_ONCE, INROOT_CALLING_SECOND, INROOT_CALLING_FIND_PROC,
-    INROOT_CALLING_OWN_ROOT, INROOT_CALLING_PLACE, INROOT_CALLING_CONVERSE, INROOT_CALLING_TAKE, INROOT_CALLING_LET_GO,
+    INROOT_CALLING_BEGIN = 1, INROOT_CALLING_PLACE, INROOT_CALLING_CONVERSE, INROOT_CALLING_TAKE, INROOT_CALLING_LET_GO,
     INROOT_CALLING_CLOSE, INROOT_CALLING_LOOK_AT_PROC, INROOT_CALLING_ANOTHER_PROC, INROOT_CALLING_CLOSE_PROC,
-    INROOT_CALLING_GO_HOME, INROOT_CALLING_LOOK_AT_ROOT, INROOT_CALLING_ENDS, INROOT_CALLING_FAILS,
+    INROOT_CALLING_LOOK_AT_ROOT, INROOT_CALLING_ENDS, INROOT_CALLING_FAILS,
 };
 
 /*
- * What a thing gave: 0, or an error. AT_ONCE may give any number if it opened nothing, SECOND if openat2(2) isn't there,
- * FIND_PROC if there is no /proc, and LOOK_AT_PROC if it is another file. The VALUE is the descriptor that was opened or taken,
- * a reply's count, or the root's kind. LENGTH is a text's. Of the proved call: its reply, and whether the text is WHOLE; 0, or
- * why a step wasn't made; 0, or why what it made could not be opened; and the descriptor of that, its number and one, or 0. Of
- * all things up to TAKE: a step was made; an entry was changed; the thread isn't at its root directory; a /proc is in use; it
- * is the call's own, which counts of ANOTHER_PROC, too.
+ * What a thing gave: 0, or an error, at LOOK_AT_PROC if it is another file. The VALUE is the descriptor that was taken, a reply's count,
+ * or the root's kind. LENGTH is a text's. Of the proved call: its reply, and whether the text is WHOLE; 0, or why a step wasn't made; 0,
+ * or why what it made could not be opened; and the descriptor of that, its number and one, or 0. Of all things up to TAKE: a step was
+ * made; an entry was changed; a /proc is in use; it is the call's own, which counts of ANOTHER_PROC, too.
  */
 struct inroot_calling_answer {
     uint64_t value, length;
     uint32_t error, unmade, unopened, made;
     uint8_t reply;
-    bool whole, fails, stepped, changed, moved, has_proc, owns_proc;
+    bool whole, stepped, changed, has_proc, owns_proc;
 };
 
 /*
@@ -517,7 +360,7 @@ struct inroot_calling {
     uint64_t value, about;
     uint32_t tries, error, made;
     uint8_t next;
-    bool holds, is_root, stepped, changed, moved, has_proc, owns_proc, by_another, stuck;
+    bool holds, is_root, stepped, changed, has_proc, owns_proc, by_another;
 };
 
 void inroot_calling_begin(const struct inroot_calling_facts *facts, struct inroot_calling *calling);
@@ -525,15 +368,15 @@ void inroot_calling_next(struct inroot_calling *calling, const struct inroot_cal
 
 /*
  * What is done as a call hands out what a handle is on. There is nothing, by an ERROR. The directory is opened ANEW, and what that
- * gives is handed out; else it is the handle's own descriptor. That one is closed then, whatever the opening gave (CLOSES).
+ * gives is handed out; else it is the handle's own descriptor.
  */
 struct inroot_taking {
     uint32_t error;
-    bool anew, closes;
+    bool anew;
 };
 
-/* The handle's descriptor is the caller's own (SHARED), or a copy of that; and it wasn't let go. */
-void inroot_take(bool shared, bool copied, bool held, struct inroot_taking *taking);
+/* The handle's descriptor is the caller's own (SHARED); and it wasn't let go. */
+void inroot_take(bool shared, bool held, struct inroot_taking *taking);
 
 /* ---- which call comes next, as a file is opened, or made, or made where it is missing. These take no memory. */
 
@@ -563,12 +406,12 @@ void inroot_course_begin(size_t path_length, const struct inroot_opening *openin
 /*
  * What a call is asked for: an operation (`enum inroot_op`); the mode of a new file, with its kind if it isn't opened as it is
  * made, and the FLAGS by which it is. Only a DIRECTORY is of use; it is asked of which kind the object is; a new file is opened as
- * it is made, or its name is opened, which the call GIVES; the text that is read is walked afterwards; the call takes INROOT_BELOW.
+ * it is made, or its name is opened, which the call GIVES; the text that is read is walked afterwards.
  */
 struct inroot_course_request {
     uint32_t bits, flags;
     uint8_t op;
-    bool directory, asks_kind, opens, gives, walks, takes_below;
+    bool directory, asks_kind, opens, gives, walks;
 };
 
 /* By the call that comes next. MODE is that of a new file. */
@@ -626,85 +469,6 @@ void inroot_making_begin(size_t path_length, bool file, bool follows, bool may_r
  */
 void inroot_making_next(struct inroot_making *making, const struct inroot_outcome *outcome, const unsigned char *text,
                         size_t text_length, unsigned char *room, size_t size);
-
-/* ---- which system call comes next, as the names that come next on a path are passed. These take no memory. */
-
-/*
- * The first name is read as a link: readlinkat(2), before others or after a look-up has met one; names are looked up from the
- * directory that is held, or the first one from the root, behind the names passed: openat2(2); it is asked of which kind the object
- * is, or whether the first name leads to it; it is closed; the first name is opened alone. Then nothing comes: the names were
- * PASSED, and what was opened answers the step that is due behind them; or the first one is a LINK; or it was opened alone.
- */
-enum inroot_look {
-    INROOT_LOOK_READ_FIRST = 1, INROOT_LOOK_NAMES, INROOT_LOOK_FROM_ROOT, INROOT_LOOK_KIND, INROOT_LOOK_COMPARE,
-    INROOT_LOOK_CLOSE, INROOT_LOOK_READ_LAST, INROOT_LOOK_ALONE, INROOT_LOOK_PASSED, INROOT_LOOK_LINK, INROOT_LOOK_ENDS,
-};
-
-/* What comes behind a name: another name; nothing, but for a slash or `.`; or `..`, or a name that is too long. */
-enum inroot_behind { INROOT_BEHIND_NAME, INROOT_BEHIND_END, INROOT_BEHIND_OTHER };
-
-/*
- * So many names, and the number of the first of them that was a LINKED one last, from 0 on, or any higher one. What is behind them:
- * `..`; or the walk ENDS there, and if so behind a slash or `.`. They begin at the root; a link was followed before. What the call
- * asks for: it walks the whole path; only a directory is of use; a link at the end is meant itself; it stays on the root's mount;
- * each name is opened alone, since it asks for that or no look-up can be made; it reads links by their names; nobody asks of which
- * kind the object is. A driver reads whether the first is the last part of the path, and what is BEHIND the first (`enum
- * inroot_behind`).
- */
-struct inroot_coming_names {
-    size_t names, linked;
-    bool up, ends, dot, at_root, behind_link, walks_whole, directory, itself, stays, one_by_one, reads, any_kind, is_last;
-    uint8_t behind;
-};
-
-/* A request: the FLAGS of inroot.h, the operation; only a DIRECTORY is of use; its KIND is asked for; the root is a jail's. */
-struct inroot_looks_request {
-    uint32_t flags;
-    uint8_t op;
-    bool directory, kind, jailed;
-};
-
-/*
- * The directory in which the names begin, and LINKED as above. No step was made: the names are the WHOLE path. It is the root; a
- * link was followed before; its descriptor is HELD; there is ROOM for one handle more; the thread has openat2(2), as far as that is
- * known.
- */
-struct inroot_looks_spot {
-    size_t linked;
-    bool whole, at_root, behind_link, held, room, openat2;
-};
-
-/* What is known of the names that inroot_names_ahead() gave, by what the call asks for. */
-void inroot_looks_coming(const struct inroot_looks_request *request, const struct inroot_ahead_names *ahead,
-                         const struct inroot_looks_spot *spot, struct inroot_coming_names *coming);
-
-/*
- * How far a call has come with them, and what failed before. A driver reads what comes NEXT, on how many NAMES and whether UP behind
- * them: openat2(2) with these RESOLVE bits, with O_DIRECTORY, or for the link ITSELF with O_NOFOLLOW, whose object the kernel sees
- * BELOW the root; openat(2) of one alone, as a DIRECTORY at first. So many names were PASSED as directories. So many at MOST are
- * tried at once where others come next. It leaves all of it alone between two turns.
- */
-struct inroot_looks {
-    size_t most, bad, linked, names, passed;
-    uint64_t resolve;
-    uint8_t next;
-    bool up, directory, itself, below, met_link, was_read;
-};
-
-/* Nothing has failed, or what failed is no longer ahead. */
-void inroot_looks_fresh(struct inroot_looks *looks);
-
-/* How many names are to be asked for, of those that come next. */
-size_t inroot_looks_most(const struct inroot_looks *looks, const struct inroot_looks_request *request, bool openat2);
-
-/* Begins on the names that come next. A driver may leave at any time, and begin on others, or on these again. */
-void inroot_looks_begin(struct inroot_looks *looks, const struct inroot_coming_names *coming);
-
-/*
- * Takes what the last demand gave: 0, or an error; any number but 0 says that it is another object. After a link was read in vain,
- * LINKED is as above; else it isn't looked at.
- */
-void inroot_looks_next(struct inroot_looks *looks, const struct inroot_coming_names *coming, uint32_t error, size_t linked);
 
 /* ---- which system call comes next, as the place of a descriptor's object is asked for. These take no memory. */
 
@@ -924,330 +688,6 @@ struct inroot_mounting {
 
 void inroot_mounting_begin(bool kept, struct inroot_mounting *mounting);
 void inroot_mounting_next(struct inroot_mounting *mounting, const struct inroot_mounting_answer *answer);
-
-/* ---- which system call comes next, as one openat2(2) is made, or it is asked whether the thread has that. These take no memory. */
-
-/*
- * Where it STARTs: the directory, or a jail's root by a descriptor that the thread keeps or by another way. openat2(2) of the path:
- * OPEN. Of `.` in the directory -1: PROBE. fcntl(2) of the kept descriptor with F_GETFD: STILL. The thread goes on without it:
- * FORGET. It GIVES what the openat2(2) has opened; or the answer that there is openat2(2). Or it FAILS.
- */
-enum inroot_one_look_next {
-    INROOT_ONE_START = 1, INROOT_ONE_OPEN, INROOT_ONE_PROBE, INROOT_ONE_STILL, INROOT_ONE_FORGET, INROOT_ONE_GIVES, INROOT_ONE_FAILS,
-};
-
-/* Whether a thread has openat2(2). */
-enum inroot_openat2_known { INROOT_OPENAT2_UNKNOWN, INROOT_OPENAT2_THERE, INROOT_OPENAT2_MISSING };
-
-/* A driver reads what comes NEXT, the ERROR if it fails, and what is KNOWN in the end, for the thread. It leaves all of it alone. */
-struct inroot_one_look {
-    uint32_t error;
-    uint8_t next, known;
-    bool kept;
-};
-
-/* Begins with what the thread knows. ASKS: it is only asked whether there is openat2(2). */
-void inroot_one_look_begin(uint8_t known, bool asks, struct inroot_one_look *look);
-/* Takes an error, or 0; and at START, whether it began by the descriptor that the thread keeps. */
-void inroot_one_look_next(struct inroot_one_look *look, uint32_t error, bool kept);
-
-/* ---- by which way a path is opened. These take no memory. */
-
-/*
- * A question: whether one system call may walk the path WHOLE (inroot_follows_at_once), which has more than slashes. The kernel's
- * WALK: openat2(2) with these RESOLVE bits. The KIND of the object that it came to: fstat(2). SHUT: that is closed. A question: what
- * HINTS there are of the path's names. A question: whether they are plain NAMES, by which the call may open a directory
- * (inroot_opens_at_once) and which are looked up at once (inroot_looks_begin). They are looked up so: LOOK_UP. The object's PLACE; or
- * the PATH is taken for it. A question: whether the call REPLIES so (inroot_opens_at_once). DROP: the object is closed. A question:
- * whether there is openat2(2), and the path is FRESH, which didn't fail so before. THROUGH links, which are read by their names
- * (inroot_through_begin). A question: whether the call MISSES one of the names by ENOENT, as LOOK_UP did (inroot_misses_at_once). If it
- * OPENS, the last way has opened what the call gives; if it FAILS, the call does so by ENOENT; else the STEPS decide.
- */
-enum inroot_way_next {
-    INROOT_WAY_WHOLE = 1, INROOT_WAY_WALK, INROOT_WAY_KIND, INROOT_WAY_SHUT, INROOT_WAY_HINTS, INROOT_WAY_NAMES, INROOT_WAY_LOOK_UP,
-    INROOT_WAY_PLACE, INROOT_WAY_PATH, INROOT_WAY_REPLIES, INROOT_WAY_DROP, INROOT_WAY_FRESH, INROOT_WAY_THROUGH, INROOT_WAY_MISSES,
-    INROOT_WAY_OPENS, INROOT_WAY_FAILS, INROOT_WAY_STEPS,
-};
-
-/*
- * What is known of a call: it goes name by name; takes the kernel's word that the object is below the root; refuses what leads out
- * of the root; its path FITS a room, with a slash before; it is a resolve that follows a link at the end; it follows no link, or no
- * magic one, or stays on a mount; and somebody asks of which kind the object is.
- */
-struct inroot_way_facts {
-    bool one_by_one, below, beneath, fits, resolves, keeps, asks_kind;
-};
-
-/*
- * The error of the kernel's walk, or of a question for a kind, or 0. YES: one system call may walk the path; the names may be looked
- * up; they were, and led to an object; its place was found; the call replies so; the path is fresh; links led to what the call gives.
- * Of the names: one was a link last; and that one is LEFT to the steps.
- */
-struct inroot_way_answer {
-    uint32_t error;
-    bool yes, linked, left;
-};
-
-/*
- * A driver reads what comes NEXT, at WALK the RESOLVE bits, and at LOOK_UP the error by which the names can't be opened, or 0. It
- * leaves all of it alone.
- */
-struct inroot_way_course {
-    uint64_t resolve;
-    uint32_t failed;
-    uint8_t next;
-};
-
-void inroot_way_begin(const struct inroot_way_facts *facts, struct inroot_way_course *way);
-void inroot_way_next(const struct inroot_way_facts *facts, const struct inroot_way_answer *answer, struct inroot_way_course *way);
-
-/* ---- which call comes next, as a path is opened through links that are known. These take no memory. */
-
-/*
- * A call BEGINS so on this path (inroot_begins_through). What comes next on it: AHEAD. The name before a link is opened in the
- * directory that is held, through no link, and is held then: ENTER, by openat(2). So are several: ENTER_NAMES, by openat2(2), as each
- * look-up of names below, with these RESOLVE bits. The link is READ by its name there: readlinkat(2). Its mount's flags, by which it FOLLOWS links or not: fstatfs(2) of that directory. The call GOES on with the text (inroot_goes_through); if
- * that begins with a slash, the root is held: TO_ROOT. `..` of what is held IS_ROOT, by statx(2) of both: then the root is held, TO_TOP,
- * whose place is a slash alone. Else the directory ABOVE: openat2(2) of the names passed less the last one, from the root with
- * RESOLVE_BENEATH; it is held if `..` is the same (statx(2)). Or the PARENT: openat(2) of `..`. Its place: PLACE_ABOVE. The call RISES
- * (inroot_rises_through).
- *
- * The object: names are looked up FROM_TOP, in the root, which is held; the whole path FROM_ROOT: both openat2(2) with RESOLVE_BENEATH.
- * statx(2) of that and of the last name in what is held: COMPARE. The names ahead are looked up FROM_HERE, in what is held: openat2(2).
- * Its KIND, and KIND_HERE of the last: fstat(2). The whole path, as FROM_ROOT, which must be the object and takes its place: WITNESS. The
- * object's PLACE. The call ENDS with it (inroot_ends_through). SHUT: it is closed, if it is open, and so is what is held. LET_GO: what is
- * held is closed. Then it OPENS what the call gives; or the STEPS decide.
- */
-enum inroot_through_turn {
-    INROOT_THROUGH_BEGINS = 1, INROOT_THROUGH_AHEAD, INROOT_THROUGH_ENTER, INROOT_THROUGH_ENTER_NAMES, INROOT_THROUGH_READ,
-    INROOT_THROUGH_FOLLOWS, INROOT_THROUGH_GOES, INROOT_THROUGH_TO_ROOT, INROOT_THROUGH_IS_ROOT, INROOT_THROUGH_TO_TOP,
-    INROOT_THROUGH_ABOVE, INROOT_THROUGH_PARENT, INROOT_THROUGH_PLACE_ABOVE, INROOT_THROUGH_RISES, INROOT_THROUGH_FROM_TOP,
-    INROOT_THROUGH_FROM_ROOT, INROOT_THROUGH_COMPARE, INROOT_THROUGH_FROM_HERE, INROOT_THROUGH_KIND, INROOT_THROUGH_KIND_HERE,
-    INROOT_THROUGH_WITNESS, INROOT_THROUGH_PLACE, INROOT_THROUGH_ENDS, INROOT_THROUGH_SHUT, INROOT_THROUGH_LET_GO,
-    INROOT_THROUGH_OPENS, INROOT_THROUGH_STEPS,
-};
-
-/* Names alone to the path's end; a name that was a link last, behind names or none; `..`; or what is left to the steps. */
-enum inroot_comes { INROOT_COMES_END, INROOT_COMES_LINK, INROOT_COMES_UP, INROOT_COMES_LEFT };
-
-/* The root is the thread's own root directory; only a directory is wanted; somebody asks of which kind the object is. */
-struct inroot_through_facts {
-    bool jailed, directory, asks_kind;
-};
-
-/*
- * The NUMBER of bytes that were READ, or a mount's flags. AHEAD: how many names were PASSED, how many are AHEAD, before a link or to
- * the end; and what comes. The error is 0 where a call worked, or the answer is yes. Of which kind the object is. At GOES: the text
- * begins with a slash.
- */
-struct inroot_through_answer {
-    uint64_t number;
-    size_t passed, ahead;
-    uint32_t error;
-    uint8_t comes, kind;
-    bool absolute;
-};
-
-/* A driver reads the RESOLVE bits of a look-up of names, how many links were followed, and what comes NEXT. It leaves all alone. */
-struct inroot_passage {
-    uint64_t resolve;
-    uint32_t links;
-    uint8_t next;
-};
-
-void inroot_through_begin(struct inroot_passage *passage);
-void inroot_through_next(const struct inroot_through_facts *facts, const struct inroot_through_answer *answer,
-                         struct inroot_passage *passage);
-
-/* ---- which call comes next, as a walk goes into a directory. These take no memory. */
-
-/*
- * The name is opened in the directory above: openat(2) with O_PATH, O_DIRECTORY, O_NOFOLLOW and O_CLOEXEC. A call opens what the
- * directory's path means, through no link at its end. Both are compared. `.` is opened in what was found: openat(2) with
- * O_RDONLY, O_DIRECTORY and O_CLOEXEC. What was found is closed; so is what was opened by its name. A call opens what the path of
- * the directory above means; that is compared with the one that is being listed, and closed. The directory with which a walk begins
- * stands in none: a call opens what its path means, `.` is opened in that to be read, and what the call found is closed. If it
- * ENTERS, what was opened to be read is the directory. If it FAILS, there is an error; if it LOSES, the directory above isn't where
- * it was found, either; if it MISSES, the error is that of the call which looked for the first directory.
- */
-enum inroot_entering_next {
-    INROOT_ENTERING_OPEN = 1, INROOT_ENTERING_FIND, INROOT_ENTERING_COMPARE, INROOT_ENTERING_OPEN_TO_READ,
-    INROOT_ENTERING_CLOSE_FOUND, INROOT_ENTERING_CLOSE, INROOT_ENTERING_FIND_ABOVE, INROOT_ENTERING_COMPARE_ABOVE,
-    INROOT_ENTERING_CLOSE_ABOVE, INROOT_ENTERING_FIND_FIRST, INROOT_ENTERING_READ_FIRST, INROOT_ENTERING_CLOSE_FIRST,
-    INROOT_ENTERING_ENTERS, INROOT_ENTERING_FAILS, INROOT_ENTERING_LOSES, INROOT_ENTERING_MISSES,
-};
-
-/* What a call gave: an error, or 0; of a comparison, whether both are one directory. */
-struct inroot_entering_answer {
-    uint32_t error;
-    bool same;
-};
-
-/*
- * How far it has come. A driver reads what comes NEXT, how many nanoseconds it waits before (PAUSE), and the ERROR if it fails. It
- * leaves all of it alone between two turns.
- */
-struct inroot_entering {
-    uint32_t error, tries, pause;
-    uint8_t next;
-};
-
-/* It is the FIRST one of a walk, or stands in one that is being listed. */
-void inroot_entering_begin(bool first, struct inroot_entering *entering);
-
-/* Takes what the last call gave. AGAIN: the caller lets it try again. */
-void inroot_entering_next(struct inroot_entering *entering, bool again, const struct inroot_entering_answer *answer);
-
-/* ---- which call comes next, as a walk gives the entries of a directory, one after another. These take no memory. */
-
-/*
- * Records are read: getdents64(2). An entry is looked at, for its kind: fstatat(2) of its name in the directory, with
- * AT_SYMLINK_NOFOLLOW and AT_NO_AUTOMOUNT. It is opened to be gone into, by turns with inroot_entering_next(). It is GIVEN to the
- * program; if it was opened, all below it comes then. If it ENDS, the directory has no more entries. If it BREAKS_OFF, the others
- * aren't given, and there is an error.
- */
-enum inroot_level_next {
-    INROOT_LEVEL_READ = 1, INROOT_LEVEL_LOOK, INROOT_LEVEL_ENTER, INROOT_LEVEL_GIVE, INROOT_LEVEL_ENDS, INROOT_LEVEL_BREAKS_OFF,
-};
-
-/* What a call gave: an error, or 0; of LOOK the mode; of ENTER, whether the directory that has the entry isn't where it was found. */
-struct inroot_level_answer {
-    uint32_t error, mode;
-    bool lost;
-};
-
-/*
- * How far a directory has come. A driver reads what comes NEXT; how many bytes its path has (LENGTH), behind which come a slash and
- * the entry's name, of NAME bytes, with a NUL; which level its entries are on (DEPTH); the entry's KIND (S_IFMT), or 0 where it isn't
- * known; and the ERROR: where an entry is given, why its kind isn't known or it isn't gone into, or 0. It leaves all of it alone
- * between two turns.
- */
-struct inroot_level {
-    size_t length, name, at;
-    uint32_t levels, depth, kind, error;
-    uint8_t next;
-    bool lost;
-};
-
-/* Begins with the first directory of a walk, whose path has so many bytes. So many levels are given, or all if LEVELS is 0. */
-void inroot_level_begin(uint32_t levels, size_t path_length, struct inroot_level *level);
-
-/* Begins with the directory that was opened at ENTER, below the one that has it. */
-void inroot_level_below(const struct inroot_level *above, struct inroot_level *level);
-
-/*
- * Takes what the last call gave. RECORDS are what was read last. The name of the entry that comes is laid in PATH, a room of so many
- * bytes, behind the directory's own path. Errors by which it breaks off: what getdents64(2) has but EINTR and ENOENT; EAGAIN of a
- * directory that isn't where it was found, behind the entry where that came out; EIO of what is no record, and of a name without a
- * byte or with a slash; ENAMETOOLONG of a name without room.
- */
-void inroot_level_next(struct inroot_level *level, const struct inroot_level_answer *answer, const unsigned char *records,
-                       size_t records_length, unsigned char *path, size_t path_size);
-
-/* ---- which thing comes next in a walk over all entries, from its opening to its close. These take no memory. */
-
-/*
- * The first directory is opened by turns with inroot_entering_next(); so is that of the entry which the directory on top is about.
- * Memory is taken for what was opened last. That is gone into: it is on top then, by inroot_level_begin() or inroot_level_below(). The
- * directory on top takes a turn: it makes the call that it asks for, or none behind an entry that was given, and is told by
- * inroot_level_next() what that gave. It has its ANSWER the same way, by the error, where the directory of its entry was opened or
- * not. The program is told that the rest of the directory on top isn't given, and that directory is closed (TELL). The directory on
- * top is closed (LEAVE). What was opened last is closed, and wasn't gone into (DROP).
- *
- * The call of the program is DONE, and has nothing to give; or it GIVES an entry of the directory on top; or it is TOLD the error by
- * which the rest of a directory isn't given; or the walk is OVER. Then the program calls for something. If the walk FAILS, it couldn't
- * be opened, and nothing comes; nor once it is CLOSED.
- */
-enum inroot_walking_next {
-    INROOT_WALKING_OPEN_FIRST = 1, INROOT_WALKING_OPEN_ENTRY, INROOT_WALKING_TAKE_ROOM, INROOT_WALKING_GO_IN, INROOT_WALKING_TURN,
-    INROOT_WALKING_ANSWER, INROOT_WALKING_TELL, INROOT_WALKING_LEAVE, INROOT_WALKING_DROP, INROOT_WALKING_DONE, INROOT_WALKING_GIVES,
-    INROOT_WALKING_TOLD, INROOT_WALKING_OVER, INROOT_WALKING_FAILS, INROOT_WALKING_CLOSED,
-};
-
-/* The program opens the walk; calls for the next entry; passes over what is below the directory that was given last; closes the walk. */
-enum inroot_walking_call {
-    INROOT_WALKING_CALL_OPEN = 1, INROOT_WALKING_CALL_NEXT, INROOT_WALKING_CALL_SKIP, INROOT_WALKING_CALL_CLOSE,
-};
-
-/*
- * What a thing gave: of an opening and of memory, an error, or 0; of a turn, what the directory on top says comes next (CAME), and its
- * error; where a call of the program is done, what it CALLs for.
- */
-struct inroot_walking_answer {
-    uint32_t error;
-    uint8_t came, call;
-};
-
-/*
- * How far a walk has come. A driver reads what comes NEXT; how many directories are listed (DEPTH), which is how deep an entry stands
- * that is given, and how deep the directory stands that was broken off; the ERROR: at ANSWER and where it FAILS, why nothing was
- * opened, or 0, and where it is TOLD, why the rest isn't given; and whether what was opened last is HELD. It leaves all of it alone
- * between two turns.
- */
-struct inroot_walking {
-    uint32_t depth, error;
-    uint8_t call, next;
-    bool held;
-};
-
-/* Begins as the program opens a walk. */
-void inroot_walking_begin(struct inroot_walking *walking);
-
-/* Takes what the last thing gave. */
-void inroot_walking_next(struct inroot_walking *walking, const struct inroot_walking_answer *answer);
-
-/* Where the texts begin of what is given, or was broken off; each ends at the next NUL. PATH: the names from the first directory on. */
-struct inroot_texts {
-    size_t path, name;
-};
-
-/*
- * Of what the directory on top has, whose path has so many bytes, as the path of the FIRST directory has: an entry, or a directory that
- * was broken off.
- */
-void inroot_walk_texts(size_t first, size_t directory, struct inroot_texts *texts);
-
-/*
- * Ends the text behind the path of a DIRECTORY that was broken off, which has so many bytes: of the FIRST one behind a slash, so that its
- * path is empty.
- */
-void inroot_walk_cut(size_t first, size_t directory, unsigned char *path, size_t path_size);
-
-/* ---- how a call begins whose paths begin at a directory below the root. These take no memory. A PLACE has a slash before each name. */
-
-/*
- * Lays the text that the call walks from the root: where the path BEGINS at the directory, as a telling says, the names of PLACE, a
- * slash and the path; else the path. How many bytes that are: at most 4,096, one more than a path has. The room has so many.
- */
-size_t inroot_join(const unsigned char *place, size_t place_length, const unsigned char *path, size_t path_length, bool begins,
-                   unsigned char *room, size_t size);
-
-/*
- * What is done with a step: it is made; the names are reported as passed; the place is asked for once more, and they are if it
- * holds; it is a question for the place of the directory that was just reported, which the place answers; it isn't made, by EAGAIN.
- */
-enum inroot_telling_next {
-    INROOT_TELLING_WALKS, INROOT_TELLING_TELLS, INROOT_TELLING_ASKS_AGAIN, INROOT_TELLING_ANSWERS, INROOT_TELLING_REFUSES,
-};
-
-/* Whether the FIRST and the SECOND walk begin with the names, and are still to be begun. A driver leaves all of it alone. */
-struct inroot_telling {
-    uint64_t root, told;
-    bool first, second, placed, waits, asks, lost;
-};
-
-/* By the root's own handle and the call's paths. Whether one of them begins at the directory, whose place is asked for then. */
-bool inroot_telling_begin(uint64_t root, const unsigned char *first, size_t first_length, const unsigned char *second,
-                          size_t second_length, bool is_rename, struct inroot_telling *telling);
-/* Takes the place, or none where it wasn't asked for. */
-void inroot_telling_found(struct inroot_telling *telling, const unsigned char *place, size_t length);
-/* WHAT the step is, but a Close, and of which handle. */
-uint8_t inroot_telling_next(struct inroot_telling *telling, uint8_t what, uint64_t handle);
-/* Behind ASKS_AGAIN: where the directory stands NOW. Returns whether it stands at the same names still, which are reported then. */
-bool inroot_telling_again(struct inroot_telling *telling, const unsigned char *place, size_t length, const unsigned char *now,
-                          size_t now_length);
-/* After a report: the handle that the call has on the directory, or 0 where it took none. */
-void inroot_telling_reported(struct inroot_telling *telling, uint64_t handle);
 
 /* ---- how much of a path is tried next, as as much as is there is opened. These take no memory. */
 

@@ -7,13 +7,11 @@ use Rattle.root_ops.specs.declared.reply.Reply.{Reply}
 use Rattle.root_ops.specs.declared.reply.Reply.TheVariants as replies
 use Rattle.root_ops.specs.View.{CallView}
 use Rattle.c_protocol.specs.Numbers.{reply_told}
-use Rattle.c_protocol.specs.Runs.{IsRun}
 use Rattle.c_protocol.specs.Turns.{call_of, IsBegun, IsNext, IsTold}
 use Rattle.c_protocol.specs.declared.kept.Held.{Held}
 use Rattle.c_protocol.specs.declared.numbers.Answered.{Answered}
 use Rattle.c_protocol.specs.declared.numbers.Asked.{Asked}
 use Rattle.c_protocol.specs.declared.numbers.Told.{Told}
-use Rattle.c_protocol.specs.declared.runs.Ran.{Ran}
 
 -- a reply's number is none of a step
 replies_are_no_steps : (reply : Reply) → (reply_told reply).what < 32 → ⊥
@@ -48,16 +46,3 @@ pub next_is_kept : (before : Option Held) (answered : Answered) (bytes : List �
     → IfSome (call_of before) (λ call. (turn : CallTurn) × IsNext call answered bytes turn × IsTold turn held told old new)
     → told.what < 32 → IsSome (call_of held)
 next_is_kept before = next_from (call_of before)
-
-run_from : (before : Option CallView) (text : List ℕ) (from number : ℕ) (ran : Ran) (held : Option Held) (told : Told)
-    (old new : List ℕ) → IsSome before
-    → IfSome before (λ call. (turn : CallTurn) × IsRun call text from number ran turn × IsTold turn held told old new)
-    → told.what < 32 → IsSome (call_of held)
-run_from None text from number ran held told old new some is few = absurd (true≢false (sym some))
-run_from (Some call) text from number ran held told old new some is few = is_kept is.0 held told old new is.2 few
-
-pub run_is_kept : (before : Option Held) (text : List ℕ) (from number : ℕ) (ran : Ran) (held : Option Held) (told : Told)
-    (old new : List ℕ) → IsSome (call_of before)
-    → IfSome (call_of before) (λ call. (turn : CallTurn) × IsRun call text from number ran turn × IsTold turn held told old new)
-    → told.what < 32 → IsSome (call_of held)
-run_is_kept before = run_from (call_of before)

@@ -1,13 +1,10 @@
 //! Which thing comes next in a call, by what those before gave.
 
 use call_course::{
-    ANOTHER_PROC, AT_ONCE, Answer, BEGIN, CLOSE, CLOSE_PROC, CONVERSE, Calling, ENDS, FAILS,
-    FIND_PROC, Facts, GO_HOME, JOIN, LET_GO, LOOK_AT_PROC, LOOK_AT_ROOT, OWN_ROOT, PLACE, SECOND,
-    TAKE, Taking, begin, next, take,
+    ANOTHER_PROC, Answer, BEGIN, CLOSE, CLOSE_PROC, CONVERSE, Calling, ENDS, FAILS, Facts, LET_GO,
+    LOOK_AT_PROC, LOOK_AT_ROOT, PLACE, TAKE, Taking, begin, next, take,
 };
 use std::test::Fail;
-
-const ENOENT: u32 = 2;
 
 const EIO: u32 = 5;
 
@@ -25,8 +22,6 @@ const EMFILE: u32 = 24;
 
 const ENOSYS: u32 = 38;
 
-const EOPNOTSUPP: u32 = 95;
-
 const NO_ANSWER: u32 = 1;
 
 const OPENED: u8 = 32;
@@ -39,14 +34,11 @@ const COUNT: u8 = 35;
 
 const FAULT: u8 = 38;
 
-// Of a call with a root of its own, that may be tried again.
+// Of a call that may be tried again.
 fn plain() -> Facts {
     Facts {
         error: 0,
-        jailed: false,
-        from: false,
         places: false,
-        held: false,
         gives: false,
         finds_again: false,
         may_retry: true,
@@ -63,10 +55,8 @@ fn fine() -> Answer {
         made: 0,
         reply: 0,
         whole: false,
-        fails: false,
         stepped: true,
         changed: false,
-        moved: false,
         has_proc: false,
         owns_proc: false,
     }
@@ -103,14 +93,9 @@ fn no_step() -> Answer {
     }
 }
 
-// Where the proved call is due: the path could not be opened at once, and openat2(2) is there.
+// Where the proved call is due.
 fn due(facts: Facts) -> Calling {
-    let tried = goes(goes(begin(&facts), fine()), fails(NO_ANSWER));
-    if tried.next == SECOND {
-        goes(tried, no_step())
-    } else {
-        tried
-    }
+    goes(begin(&facts), fine())
 }
 
 fn is(calling: &Calling, next: u8, error: u32) -> bool {
@@ -118,39 +103,17 @@ fn is(calling: &Calling, next: u8, error: u32) -> bool {
 }
 
 #[test]
-fn what_is_opened_at_once_is_given(rt: HostRuntime) -> Result<(), Fail> {
+fn what_a_reply_opened_is_taken(rt: HostRuntime) -> Result<(), Fail> {
     let begun = begin(&plain());
     assert!(rt; is(&begun, BEGIN, 0) && begun.about == 0);
-    let first = goes(begun, fine());
-    assert!(rt; is(&first, AT_ONCE, 0) && first.tries == 1);
-    let end = goes(first, Answer { value: 7, ..fine() });
-    assert!(rt; is(&end, ENDS, 0) && end.value == 7 && end.holds);
-    assert!(rt; goes(end, fails(EIO)) == end);
-    Ok(())
-}
-
-#[test]
-fn what_fails_at_once_needs_no_steps(rt: HostRuntime) -> Result<(), Fail> {
-    let first = goes(begin(&plain()), fine());
-    let missing = Answer {
-        fails: true,
-        ..fails(ENOENT)
-    };
-    assert!(rt; is(&goes(first, missing), FAILS, ENOENT));
-    Ok(())
-}
-
-#[test]
-fn what_a_reply_opened_is_taken(rt: HostRuntime) -> Result<(), Fail> {
-    let first = goes(goes(begin(&plain()), fine()), fails(NO_ANSWER));
-    assert!(rt; is(&first, SECOND, 0));
-    let walk = goes(first, fine());
-    assert!(rt; is(&walk, CONVERSE, 0));
+    let walk = goes(begun, fine());
+    assert!(rt; is(&walk, CONVERSE, 0) && walk.tries == 1);
     let opened = goes(walk, replies(OPENED, 99));
     assert!(rt; is(&opened, TAKE, 0));
     let taken = goes(opened, Answer { value: 5, ..fine() });
     assert!(rt; is(&taken, LET_GO, 0) && taken.value == 5);
-    assert!(rt; is(&goes(taken, fine()), ENDS, 0));
+    let end = goes(taken, fine());
+    assert!(rt; is(&end, ENDS, 0) && end.holds && goes(end, fails(EIO)) == end);
     let not_taken = goes(goes(opened, fails(EMFILE)), fine());
     assert!(rt; is(&not_taken, FAILS, EMFILE));
     Ok(())
@@ -232,7 +195,7 @@ fn another_try_follows_eagain_alone(rt: HostRuntime) -> Result<(), Fail> {
         let again = goes(goes(now, faults(EAGAIN)), fine());
         assert!(rt; again.next == BEGIN && again.tries == tries);
         pauses = pauses.saturating_add(again.about);
-        now = goes(goes(goes(again, fine()), fails(NO_ANSWER)), fine());
+        now = goes(again, fine());
     }
     assert!(rt; pauses == 18_270_000);
     assert!(rt; is(&goes(goes(now, faults(EAGAIN)), fine()), FAILS, EAGAIN));
@@ -284,11 +247,8 @@ fn another_proc_is_tried_once(rt: HostRuntime) -> Result<(), Fail> {
         ..fine()
     };
     let anew = goes(other, own);
-    assert!(rt; is(&anew, AT_ONCE, 0) && anew.tries == 1);
-    let again = goes(
-        goes(goes(goes(anew, fails(NO_ANSWER)), fine()), lost),
-        fine(),
-    );
+    assert!(rt; is(&anew, CONVERSE, 0) && anew.tries == 1);
+    let again = goes(goes(anew, lost), fine());
     assert!(rt; is(&again, CLOSE_PROC, ENOSYS));
     assert!(rt; is(&goes(again, fine()), FAILS, ENOSYS));
     let changed = Answer {
@@ -305,50 +265,12 @@ fn another_proc_is_tried_once(rt: HostRuntime) -> Result<(), Fail> {
 }
 
 #[test]
-fn the_thread_goes_home_or_gives_nothing(rt: HostRuntime) -> Result<(), Fail> {
-    let jailed = Facts {
-        jailed: true,
-        ..plain()
-    };
-    let taken = Answer {
-        value: 5,
-        moved: true,
-        ..fine()
-    };
-    let away = goes(goes(goes(due(jailed), replies(OPENED, 0)), taken), fine());
-    assert!(rt; is(&away, GO_HOME, 0));
-    let home = goes(away, fine());
-    assert!(rt; is(&home, ENDS, 0) && home.value == 5);
-    let stuck = goes(away, fails(EACCES));
-    assert!(rt; is(&stuck, CLOSE, EACCES) && stuck.about == 5);
-    assert!(rt; is(&goes(stuck, fine()), FAILS, EACCES));
-    let failed = Answer {
-        moved: true,
-        ..faults(EAGAIN)
-    };
-    let no_more = goes(goes(goes(due(jailed), failed), fine()), fails(EACCES));
-    assert!(rt; is(&no_more, FAILS, EACCES));
-    Ok(())
-}
-
-#[test]
 fn the_roots_errors_come_before_those_of_the_path(rt: HostRuntime) -> Result<(), Fail> {
     let unseen = Answer {
         stepped: false,
         ..faults(EACCES)
     };
-    let first = goes(goes(begin(&plain()), fine()), fails(NO_ANSWER));
-    // That one system call failed is no step.
-    let none = goes(
-        goes(begin(&plain()), fine()),
-        Answer {
-            stepped: false,
-            ..fails(NO_ANSWER)
-        },
-    );
-    assert!(rt; first.next == SECOND);
-    let walk = goes(none, no_step());
-    let look = goes(goes(walk, unseen), fine());
+    let look = goes(goes(due(plain()), unseen), fine());
     assert!(rt; is(&look, LOOK_AT_ROOT, EACCES));
     let directory = Answer { value: 1, ..fine() };
     assert!(rt; is(&goes(look, directory), FAILS, EACCES) && !goes(look, directory).is_root);
@@ -359,150 +281,32 @@ fn the_roots_errors_come_before_those_of_the_path(rt: HostRuntime) -> Result<(),
 }
 
 #[test]
-fn an_error_from_before_comes_behind_the_own_roots(rt: HostRuntime) -> Result<(), Fail> {
+fn an_error_from_before_comes_behind_the_roots(rt: HostRuntime) -> Result<(), Fail> {
     let before = begin(&Facts {
         error: EACCES,
-        from: true,
+        places: true,
         ..plain()
     });
     assert!(rt; is(&before, BEGIN, EACCES) && before.about == 0);
-    let check = goes(before, fine());
-    assert!(rt; is(&check, SECOND, EACCES));
-    let look = goes(goes(check, no_step()), fine());
+    let nothing = goes(before, fine());
+    assert!(rt; is(&nothing, LET_GO, EACCES));
+    let look = goes(nothing, fine());
     assert!(rt; is(&look, LOOK_AT_ROOT, EACCES));
     let directory = Answer { value: 1, ..fine() };
     let file = Answer { value: 2, ..fine() };
     assert!(rt; is(&goes(look, directory), FAILS, EACCES));
     assert!(rt; is(&goes(look, file), FAILS, ENOTDIR) && goes(look, file).is_root);
-    let missing = Answer {
-        error: ENOSYS,
-        ..no_step()
-    };
-    let refused = Answer {
-        error: EOPNOTSUPP,
-        ..no_step()
-    };
-    let own = goes(goes(goes(goes(check, missing), no_step()), refused), fine());
-    assert!(rt; is(&own, LOOK_AT_ROOT, EOPNOTSUPP));
-    assert!(rt; is(&goes(own, directory), FAILS, EOPNOTSUPP));
-    assert!(rt; is(&goes(own, fails(EBADF)), FAILS, EBADF));
+    assert!(rt; is(&goes(look, fails(EBADF)), FAILS, EBADF));
     Ok(())
 }
 
 #[test]
-fn an_error_from_before_is_given_in_a_jail_and_by_another_proc(
-    rt: HostRuntime,
-) -> Result<(), Fail> {
-    let jailed = Facts {
-        error: ENOTDIR,
-        jailed: true,
-        ..plain()
-    };
-    let unchecked = goes(begin(&jailed), fine());
-    assert!(rt; is(&unchecked, LET_GO, ENOTDIR) && is(&goes(unchecked, fine()), FAILS, ENOTDIR));
-    let outside = Facts {
-        jailed: false,
-        ..jailed
-    };
-    let proc = Answer {
-        has_proc: true,
-        ..fine()
-    };
-    let check = goes(begin(&outside), fine());
-    assert!(rt; is(&check, SECOND, ENOTDIR));
-    let lost = goes(goes(goes(check, proc), fine()), fails(NO_ANSWER));
-    assert!(rt; is(&lost, ANOTHER_PROC, ENOTDIR));
-    assert!(rt; is(&goes(lost, fine()), SECOND, ENOTDIR));
-    assert!(rt; is(&goes(lost, fails(EMFILE)), FAILS, EMFILE));
-    Ok(())
-}
-
-#[test]
-fn the_own_root_is_checked_where_openat2_is_missing(rt: HostRuntime) -> Result<(), Fail> {
-    let asked = goes(goes(begin(&plain()), fine()), fails(NO_ANSWER));
-    assert!(rt; is(&asked, SECOND, 0));
-    let alone = goes(asked, fails(ENOSYS));
-    assert!(rt; is(&alone, FIND_PROC, 0));
-    assert!(rt; is(&goes(alone, fails(ENOSYS)), CONVERSE, 0));
-    let check = goes(alone, fine());
-    assert!(rt; is(&check, OWN_ROOT, 0) && is(&goes(check, fine()), CONVERSE, 0));
-    let refused = goes(check, fails(EOPNOTSUPP));
-    assert!(rt; is(&refused, LET_GO, EOPNOTSUPP) && is(&goes(refused, fine()), FAILS, EOPNOTSUPP));
+fn a_place_is_asked_for(rt: HostRuntime) -> Result<(), Fail> {
     let places = Facts {
         places: true,
         ..plain()
     };
-    let without_proc = goes(
-        goes(goes(begin(&places), fine()), fails(ENOSYS)),
-        fails(EMFILE),
-    );
-    assert!(rt; is(&without_proc, PLACE, 0));
-    Ok(())
-}
-
-#[test]
-fn the_own_root_is_not_checked_in_a_jail(rt: HostRuntime) -> Result<(), Fail> {
-    let jailed = Facts {
-        jailed: true,
-        ..plain()
-    };
-    assert!(rt;
-        is(
-            &goes(goes(begin(&jailed), fine()), fails(NO_ANSWER)),
-            CONVERSE,
-            0
-        )
-    );
-    let places = Facts {
-        places: true,
-        ..jailed
-    };
-    assert!(rt; is(&goes(begin(&places), fine()), PLACE, 0));
-    let from = Facts {
-        from: true,
-        ..jailed
-    };
-    assert!(rt; is(&goes(goes(begin(&from), fine()), fine()), CONVERSE, 0));
-    Ok(())
-}
-
-#[test]
-fn the_own_root_of_a_held_root_is_not_checked(rt: HostRuntime) -> Result<(), Fail> {
-    let held = Facts {
-        held: true,
-        ..plain()
-    };
-    let walk = goes(goes(begin(&held), fine()), fails(NO_ANSWER));
-    assert!(rt; is(&walk, CONVERSE, 0));
-    let from = Facts { from: true, ..held };
-    let join = goes(begin(&from), fine());
-    assert!(rt; is(&join, JOIN, 0) && is(&goes(join, fine()), CONVERSE, 0));
-    let places = Facts {
-        places: true,
-        ..held
-    };
-    assert!(rt; is(&goes(begin(&places), fine()), PLACE, 0));
-    let before = Facts {
-        error: EACCES,
-        jailed: true,
-        ..held
-    };
-    let failed = goes(begin(&before), fine());
-    assert!(rt; is(&failed, LET_GO, EACCES) && is(&goes(failed, fine()), FAILS, EACCES));
-    Ok(())
-}
-
-#[test]
-fn a_place_is_asked_for_and_paths_are_joined(rt: HostRuntime) -> Result<(), Fail> {
-    let places = goes(
-        begin(&Facts {
-            places: true,
-            ..plain()
-        }),
-        fine(),
-    );
-    assert!(rt; is(&places, SECOND, 0));
-    let asked = goes(places, fine());
+    let asked = goes(begin(&places), fine());
     assert!(rt; is(&asked, PLACE, 0));
     let there = goes(
         asked,
@@ -513,18 +317,6 @@ fn a_place_is_asked_for_and_paths_are_joined(rt: HostRuntime) -> Result<(), Fail
     );
     assert!(rt; is(&there, ENDS, 0) && there.value == 4 && !there.holds);
     assert!(rt; is(&goes(asked, fails(EACCES)), FAILS, EACCES));
-    let from = goes(
-        begin(&Facts {
-            from: true,
-            ..plain()
-        }),
-        fine(),
-    );
-    assert!(rt; is(&from, JOIN, 0));
-    assert!(rt; is(&goes(from, fine()), SECOND, 0));
-    let unknown = goes(from, fails(EACCES));
-    assert!(rt; is(&unknown, LET_GO, EACCES));
-    assert!(rt; is(&goes(unknown, fine()), FAILS, EACCES));
     Ok(())
 }
 
@@ -533,28 +325,17 @@ fn no_descriptor_of_the_callers_is_handed_out(rt: HostRuntime) -> Result<(), Fai
     let own = Taking {
         error: 0,
         anew: false,
-        closes: false,
     };
     let anew = Taking { anew: true, ..own };
-    assert!(rt; take(false, false, true) == own);
-    assert!(rt; take(true, false, true) == anew);
-    assert!(rt;
-        take(false, true, true)
-            == (Taking {
-                closes: true,
-                ..anew
-            })
-    );
+    assert!(rt; take(false, true) == own);
+    assert!(rt; take(true, true) == anew);
     // One that was let go.
     assert!(rt;
-        take(false, false, false)
+        take(false, false)
             == (Taking {
                 error: ENOMEM,
                 ..own
             })
     );
-    assert!(rt; take(false, true, false) == take(false, false, false));
-    // The caller's own is never closed. Of a jail's root there is none.
-    assert!(rt; take(true, true, true) == anew && take(true, false, false) == anew);
     Ok(())
 }

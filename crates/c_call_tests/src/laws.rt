@@ -9,9 +9,8 @@ fn laws_of_whole_calls() {
     call_course::what_was_changed_is_not_begun_again();
     call_course::another_proc_is_tried_once();
     call_course::tries_are_few();
-    call_course::the_thread_goes_home();
     call_course::the_roots_errors_come_first();
-    call_course::the_own_root_is_checked_first();
+    call_course::what_has_failed_before_fails();
     call_course::why_it_fails();
     call_course::exchanges_are_few();
 }
@@ -23,16 +22,14 @@ fn laws_of_single_steps() {
     step_calls::there_stood();
     step_calls::links_were_read();
     step_calls::links_are_followed_by_leave();
+    step_calls::mounts_are_left_by_no_step();
     step_calls::each_descriptor_is_closed_once();
     step_calls::no_error_is_passed_over();
     step_calls::changes_stood();
     step_calls::renames_stood();
     step_calls::a_change_is_made_once();
     step_calls::refusals_are_the_steps_own();
-    step_calls::above_is_found_by_leave();
     step_calls::calls_are_few();
-    step_calls::what_is_known_was_shown_last();
-    step_calls::a_step_has_its_descriptors();
 }
 
 #[test]
@@ -40,11 +37,8 @@ fn laws_of_calls_from_c() {
     c_protocol::conversations_are_calls();
     c_protocol::conversations_tell();
     c_protocol::steps_told_whole_are_one();
-    c_protocol::conversations_with_runs_tell();
     c_protocol::opens_at_once_tell();
     c_protocol::fails_at_once_tell();
-    c_protocol::opens_through_tell();
-    c_protocol::paths_that_lead_on();
     c_protocol::conversations_close();
     c_protocol::unmade_steps_end_calls();
     c_protocol::seen_below_tell();

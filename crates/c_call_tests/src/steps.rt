@@ -1,12 +1,10 @@
-//! Which system call comes next as one step is made, by answers that Linux gives; and what is known of a step from the
-//! steps before.
+//! Which system call comes next as one step is made, by answers that Linux gives.
 use std::test::Fail;
 use step_calls::{
-    Answer, CHANGE, CLOSE, CLOSE_ABOVE, CLOSE_HANDLE, CLOSE_READ, COMPARE_ABOVE, Course, DIRECTORY,
-    DONE, DUP, FOLLOWED, Facts, IS_ROOT, IS_THERE, KIND, LAYERS, LINK, LINK_READ, LINKS,
-    LOOK_ABOVE, LastStep, MAGIC, MAY_HOLD_MAGIC, MOUNT, NAME_BELOW, NO_FOLLOW, NOTHING, OPEN,
-    OPEN_ANY, OPEN_DIRECTORY, OPEN_TO_READ, OPENED, PARENT, PLACED, READ, READ_LINK, READ_TEXT,
-    REFUSED, SPARE, TEXT, UNMADE, begin, lack_of, next, take_step, tell_end,
+    Answer, CHANGE, CLOSE, CLOSE_READ, Course, DIRECTORY, DONE, DUP, Facts, IS_THERE, KIND, LAYERS,
+    LINK, LINKS, MAGIC, MAY_HOLD_MAGIC, MOUNT, NO_FOLLOW, OPEN, OPEN_ANY, OPEN_DIRECTORY,
+    OPEN_TO_READ, OPENED, PARENT, READ, READ_LINK, READ_TEXT, REFUSED, SPARE, TEXT, UNMADE, begin,
+    next,
 };
 
 const ENOENT: u32 = 2;
@@ -14,8 +12,6 @@ const ENOENT: u32 = 2;
 const EINTR: u32 = 4;
 
 const EIO: u32 = 5;
-
-const ENOMEM: u32 = 12;
 
 const EACCES: u32 = 13;
 
@@ -31,16 +27,9 @@ const EMFILE: u32 = 24;
 
 const ENOSPC: u32 = 28;
 
-const ENAMETOOLONG: u32 = 36;
-
 const ELOOP: u32 = 40;
 
 const FILE: u8 = 2;
-
-// Steps, as c_protocol numbers them.
-const MAKE_LINK: u8 = 10;
-
-const RENAME: u8 = 13;
 
 // <linux/magic.h>
 const EXT4: u64 = 0xef53;
@@ -68,17 +57,8 @@ fn step(what: u8) -> Facts {
         mode: 0,
         directory: false,
         mount: false,
-        no_magic: false,
         is_last: false,
         takes_link: false,
-        named: false,
-        single: false,
-        goes_on: false,
-        jailed: false,
-        clears: false,
-        one_by_one: false,
-        second: false,
-        known: NOTHING,
         follows: false,
         link: false,
         second_name: false,
@@ -147,6 +127,7 @@ fn descriptors_are_spared(rt: HostRuntime) -> Result<(), Fail> {
     assert!(rt; ends(fails(&facts, spare, 1), UNMADE, EMFILE));
     let root = step(DUP);
     assert!(rt; works(&root, fails(&root, begin(&root), EMFILE)).next == OPEN_DIRECTORY);
+    assert!(rt; works(&root, begin(&root)).next == OPENED);
     Ok(())
 }
 
@@ -155,7 +136,6 @@ fn descriptors_are_spared(rt: HostRuntime) -> Result<(), Fail> {
 fn mounts_and_magic_links(rt: HostRuntime) -> Result<(), Fail> {
     let facts = Facts {
         mount: true,
-        no_magic: true,
         ..step(OPEN)
     };
     let mount = works(&facts, begin(&facts));
@@ -223,97 +203,9 @@ fn removed_directories_have_no_parent(rt: HostRuntime) -> Result<(), Fail> {
     let gone = works(&facts, fails(&facts, read, ENOENT));
     assert!(rt; gone.next == CLOSE);
     assert!(rt; ends(works(&facts, gone), REFUSED, ENOENT));
-    let lived = Facts {
-        known: FOLLOWED,
-        ..facts
-    };
-    assert!(rt; works(&lived, begin(&lived)).next == OPENED);
     let alone = step(IS_THERE);
     assert!(rt; ends(says(&alone, begin(&alone), 0), REFUSED, ENOENT));
     assert!(rt; says(&alone, says(&alone, begin(&alone), 2), EXT4).next == DONE);
-    Ok(())
-}
-
-// openat2(2), RESOLVE_BENEATH, of the names passed without the last; statx(2) of what that found, and of `..`.
-#[test]
-fn what_is_above_is_looked_up_by_the_names(rt: HostRuntime) -> Result<(), Fail> {
-    let facts = Facts {
-        named: true,
-        second: true,
-        ..step(PARENT)
-    };
-    let look = begin(&facts);
-    assert!(rt; look.next == LOOK_ABOVE && fails(&facts, look, EINTR).next == OPEN_DIRECTORY);
-    let compare = works(&facts, look);
-    assert!(rt; compare.next == COMPARE_ABOVE && works(&facts, compare).next == LINKS);
-    let other = fails(&facts, compare, EIO);
-    assert!(rt; other.next == CLOSE_ABOVE);
-    let above = works(&facts, other);
-    assert!(rt; above.next == OPEN_DIRECTORY && works(&facts, above).next == LINKS);
-    let lived = Facts {
-        known: FOLLOWED,
-        ..facts
-    };
-    let found = works(&lived, works(&lived, begin(&lived)));
-    assert!(rt; found.next == OPENED && found.kind == DIRECTORY);
-    let jailed = Facts {
-        jailed: true,
-        ..facts
-    };
-    let removing = Facts {
-        clears: true,
-        ..facts
-    };
-    let one = Facts {
-        one_by_one: true,
-        ..facts
-    };
-    let stays = Facts {
-        mount: true,
-        ..facts
-    };
-    let old = Facts {
-        second: false,
-        ..facts
-    };
-    assert!(rt; begin(&jailed).next == OPEN_DIRECTORY && begin(&removing).next == OPEN_DIRECTORY);
-    assert!(rt; begin(&one).next == OPEN_DIRECTORY && begin(&stays).next == OPEN_DIRECTORY);
-    assert!(rt; begin(&old).next == OPEN_DIRECTORY);
-    Ok(())
-}
-
-// Behind one name it is the root: by the caller's own descriptor, if the call goes on by a name.
-#[test]
-fn the_root_is_above_one_name(rt: HostRuntime) -> Result<(), Fail> {
-    let facts = Facts {
-        named: true,
-        single: true,
-        second: true,
-        goes_on: true,
-        ..step(PARENT)
-    };
-    let root = begin(&facts);
-    assert!(rt; root.next == IS_ROOT && works(&facts, root).next == LINKS);
-    assert!(rt; fails(&facts, root, EIO).next == OPEN_DIRECTORY);
-    let ends = Facts {
-        goes_on: false,
-        ..facts
-    };
-    assert!(rt; begin(&ends).next == OPEN_DIRECTORY);
-    Ok(())
-}
-
-// A Dup of the root is the caller's own descriptor, if the call goes on by a name; and else one of its own.
-#[test]
-fn the_root_is_shared_on_the_way(rt: HostRuntime) -> Result<(), Fail> {
-    let facts = Facts {
-        goes_on: true,
-        mount: true,
-        ..step(DUP)
-    };
-    let root = begin(&facts);
-    assert!(rt; root.next == IS_ROOT && works(&facts, root).next == OPENED);
-    assert!(rt; begin(&step(DUP)).next == OPEN_DIRECTORY);
     Ok(())
 }
 
@@ -348,7 +240,7 @@ fn what_may_be_removed_is_no_answer(rt: HostRuntime) -> Result<(), Fail> {
     Ok(())
 }
 
-// readlink(2); mount(8), nosymfollow.
+// readlink(2); mount(8), nosymfollow, which bars no link whose text alone is wanted.
 #[test]
 fn texts_are_read(rt: HostRuntime) -> Result<(), Fail> {
     let facts = Facts {
@@ -365,7 +257,7 @@ fn texts_are_read(rt: HostRuntime) -> Result<(), Fail> {
     assert!(rt; ends(fails(&facts, read, EINVAL), UNMADE, EINVAL));
     let file = Facts {
         link: false,
-        known: PLACED,
+        is_last: true,
         ..facts
     };
     assert!(rt; begin(&file).next == READ_LINK);
@@ -376,26 +268,6 @@ fn texts_are_read(rt: HostRuntime) -> Result<(), Fail> {
         ..file
     };
     assert!(rt; begin(&followed).next == NO_FOLLOW);
-    let known = Facts {
-        known: LINK_READ,
-        ..facts
-    };
-    assert!(rt; works(&known, begin(&known)).next == TEXT);
-    Ok(())
-}
-
-// Behind one system call on several names nobody has a descriptor of those between.
-#[test]
-fn a_step_needs_its_descriptors(rt: HostRuntime) -> Result<(), Fail> {
-    assert!(rt; lack_of(OPEN, NOTHING, true, false, false) == 0);
-    assert!(rt; lack_of(OPEN, NOTHING, true, true, false) == ENOMEM);
-    assert!(rt; lack_of(READ_TEXT, LINK_READ, true, true, false) == 0);
-    assert!(rt; lack_of(READ_TEXT, PLACED, true, true, false) == ENOMEM);
-    assert!(rt; lack_of(RENAME, NOTHING, true, false, true) == ENOMEM);
-    assert!(rt; lack_of(RENAME, NOTHING, true, true, false) == ENOMEM);
-    assert!(rt; lack_of(RENAME, NOTHING, true, false, false) == 0);
-    assert!(rt; lack_of(OPEN, NOTHING, true, false, true) == 0);
-    assert!(rt; lack_of(MAKE_LINK, NOTHING, false, false, false) == ENAMETOOLONG);
     Ok(())
 }
 
@@ -416,77 +288,5 @@ fn changes_are_one_call(rt: HostRuntime) -> Result<(), Fail> {
     assert!(rt; ends(fails(&other, begin(&other), ENOENT), UNMADE, ENOENT));
     let end = works(&facts, change);
     assert!(rt; works(&facts, end) == end);
-    Ok(())
-}
-
-fn no_step() -> LastStep {
-    LastStep {
-        handle: 0,
-        dir: 0,
-        what: 0,
-        shows: NOTHING,
-    }
-}
-
-// A walk that ends, and the reading of a link that it was to find: the place is asked for twice in a row.
-#[test]
-fn a_place_is_known_at_the_next_step(rt: HostRuntime) -> Result<(), Fail> {
-    let mut last = no_step();
-    assert!(rt; take_step(&mut last, NAME_BELOW, 5) == NOTHING);
-    tell_end(&mut last, PLACED, 0);
-    let placed = last;
-    assert!(rt; take_step(&mut last, CLOSE_HANDLE, 4) == NOTHING);
-    assert!(rt; take_step(&mut last, NAME_BELOW, 5) == PLACED);
-    assert!(rt; take_step(&mut last, NAME_BELOW, 5) == NOTHING);
-    last = placed;
-    assert!(rt; take_step(&mut last, READ_TEXT, 5) == PLACED);
-    last = placed;
-    assert!(rt; take_step(&mut last, NAME_BELOW, 6) == NOTHING);
-    tell_end(&mut last, PLACED, 0);
-    assert!(rt; take_step(&mut last, NAME_BELOW, 5) == NOTHING);
-    last = placed;
-    assert!(rt; take_step(&mut last, CLOSE_HANDLE, 5) == NOTHING);
-    assert!(rt; take_step(&mut last, NAME_BELOW, 5) == NOTHING);
-    last = placed;
-    assert!(rt; take_step(&mut last, 13, 5) == NOTHING);
-    assert!(rt; take_step(&mut last, NAME_BELOW, 5) == NOTHING);
-    Ok(())
-}
-
-// A link is read by its name as it is opened: its text is there, and then its directory had an entry.
-#[test]
-fn a_link_is_known_at_the_next_step(rt: HostRuntime) -> Result<(), Fail> {
-    let mut last = no_step();
-    assert!(rt; take_step(&mut last, OPEN, 5) == NOTHING);
-    tell_end(&mut last, LINK_READ, 9);
-    let read = last;
-    assert!(rt; take_step(&mut last, PARENT, 5) == NOTHING);
-    last = read;
-    assert!(rt; take_step(&mut last, READ_TEXT, 9) == LINK_READ);
-    assert!(rt; take_step(&mut last, CLOSE_HANDLE, 9) == NOTHING);
-    assert!(rt; take_step(&mut last, PARENT, 5) == FOLLOWED);
-    assert!(rt; take_step(&mut last, PARENT, 5) == NOTHING);
-    last = read;
-    assert!(rt; take_step(&mut last, READ_TEXT, 8) == NOTHING);
-    assert!(rt; take_step(&mut last, PARENT, 5) == NOTHING);
-    last = read;
-    assert!(rt; take_step(&mut last, CLOSE_HANDLE, 5) == NOTHING);
-    assert!(rt; take_step(&mut last, READ_TEXT, 9) == NOTHING);
-    last = read;
-    assert!(rt; take_step(&mut last, READ_TEXT, 9) == LINK_READ);
-    assert!(rt; take_step(&mut last, OPEN, 5) == NOTHING);
-    assert!(rt; take_step(&mut last, PARENT, 5) == NOTHING);
-    Ok(())
-}
-
-// An Open tells no place, and a question for a place reads no link.
-#[test]
-fn an_end_of_another_step_shows_nothing(rt: HostRuntime) -> Result<(), Fail> {
-    let mut last = no_step();
-    assert!(rt; take_step(&mut last, OPEN, 5) == NOTHING);
-    tell_end(&mut last, PLACED, 0);
-    assert!(rt; take_step(&mut last, NAME_BELOW, 5) == NOTHING);
-    tell_end(&mut last, LINK_READ, 9);
-    assert!(rt; take_step(&mut last, READ_TEXT, 9) == NOTHING);
     Ok(())
 }

@@ -26,8 +26,8 @@ pub extern "C" fn inroot_calling_next(calling: &mut Calling, answer: &Answer)
 
 /// What is done as a call hands out what a handle is on: `call_course::take`.
 #[unsafe(no_mangle)]
-pub extern "C" fn inroot_take(shared: bool, copied: bool, held: bool, taking: &mut Taking)
-    ensures { taking.new ≡ taken shared copied held }
+pub extern "C" fn inroot_take(shared: bool, held: bool, taking: &mut Taking)
+    ensures { taking.new ≡ taken shared held }
 {
-    *taking = call_course::take(shared, copied, held);
+    *taking = call_course::take(shared, held);
 }

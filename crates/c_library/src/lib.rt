@@ -1,25 +1,17 @@
 //! The functions by which a C program makes calls: a static library of the exports of `c_protocol`, `step_calls`,
-//! `place_protocol`, `open_or_make`, `make_through_links`, `remove_by_calls`, `look_ups`, `list_directory`,
-//! `call_course`, `ask_place`, `give_entry`, `find_proc`, `private_proc`, `open_partial`, `open_at_once`,
-//! `open_through_links`, `enter_directory`, `walk_directory`, `walk_tree`, `begin_below`, `kernel_text` and
+//! `place_protocol`, `open_or_make`, `make_through_links`, `remove_by_calls`, `list_directory`, `call_course`,
+//! `ask_place`, `give_entry`, `find_proc`, `private_proc`, `open_partial`, `kernel_text` and
 //! `system_calls`.
 //!
 //! Each export is the function of that name of one of these, with its clauses. What a C program owes is said in
 //! `host/calls.h`: what is kept is empty (zero) before the first call, and is left alone between two turns.
 #![tactic(auto)]
 
-ghost use Rattle.std.specs.Prelude.{◌≡◌, ◌≤◌, ◌&&◌, ◌+◌, ◌∷◌, [], ℕ, List, true, false, drop, length, take, IfSome, IsSome};
-ghost use Rattle.root_ops.specs.Ahead.{doing_ahead};
+ghost use Rattle.std.specs.Prelude.{◌≡◌, ◌≤◌, ◌∷◌, [], ℕ, List, true, false, length, take, IfSome, IsSome};
 ghost use Rattle.root_ops.specs.declared.call.CallTurn.{CallTurn};
-ghost use Rattle.c_protocol.specs.AtOnce.{misses_at_once, opens_at_once};
+ghost use Rattle.c_protocol.specs.AtOnce.{misses_at_once};
 ghost use Rattle.c_protocol.specs.FollowedAtOnce.{follows_at_once};
-ghost use Rattle.c_protocol.specs.Left.{IsLeft};
-ghost use Rattle.c_protocol.specs.Runs.{ComeNext, IsRun};
-ghost use Rattle.c_protocol.specs.Split.{IsCutAt, IsParted};
-ghost use Rattle.c_protocol.specs.Through.{begins_through, ends_through, from_place, goes_through, rises_through};
-ghost use Rattle.c_protocol.specs.Through.{with_text};
-ghost use Rattle.c_protocol.specs.ThroughAhead.{laid_if, leads_on, look_ahead, next_above, next_behind};
-ghost use Rattle.open_through_links.specs.declared.passage.TheConstants.{UP};
+ghost use Rattle.c_protocol.specs.Split.{IsParted};
 ghost use Rattle.c_protocol.specs.Turns.{call_of, IsBegun, IsNext, IsTold};
 ghost use Rattle.place_protocol.specs.Held.{before_questions, behind_look_up};
 ghost use Rattle.place_protocol.specs.Told.{begun, next_told, question_of};
@@ -36,18 +28,14 @@ ghost use Rattle.system_calls.specs.Opening.{opening_of, reopen_flags};
 ghost use Rattle.system_calls.specs.Uses.{use_of};
 
 mod askings;
-mod below;
 mod calls;
 mod entries;
 mod listings;
-mod looks;
 mod procs;
 mod removals;
 mod steps;
-mod walks;
-mod ways;
 
-use c_protocol::{Ahead, Answered, Asked, Kept, Left, NextPath, Parted, PathAhead, Ran, Told};
+use c_protocol::{Answered, Asked, Kept, Parted, Told};
 use make_through_links::{Making, Outcome};
 use open_or_make::{Course, Request};
 use place_protocol::{Answer, Facts, Held};
@@ -89,68 +77,6 @@ pub extern "C" fn inroot_next(
     c_protocol::next(alloc, kept, answered, bytes, told, room);
 }
 
-/// Which names a call is due to open next, one in another: `c_protocol::names_ahead`.
-#[unsafe(no_mangle)]
-pub extern "C" fn inroot_names_ahead(
-    alloc: Global,
-    kept: &mut Kept,
-    most: usize,
-    number: u64,
-    room: &mut [u8],
-    ahead: &mut Ahead,
-)
-    requires { IsSome (call_of kept.old.held) }
-    ensures kept { kept.new.held ≡ kept.old.held }
-    ensures names { IfSome (call_of kept.old.held)
-        (λ call. ComeNext call most number ahead.new room.old room.new) }
-{
-    *ahead = c_protocol::names_ahead(alloc, kept, most, number, room);
-}
-
-/// What is left of the path that a call walks: `c_protocol::parts_ahead`.
-#[unsafe(no_mangle)]
-pub extern "C" fn inroot_parts_ahead(
-    alloc: Global,
-    kept: &mut Kept,
-    from: u8,
-    room: &mut [u8],
-    left: &mut Left,
-)
-    requires { IsSome (call_of kept.old.held) }
-    ensures kept { kept.new.held ≡ kept.old.held }
-    ensures parts { IfSome (call_of kept.old.held)
-        (λ call. IsLeft (drop from (doing_ahead call.doing)) left.new room.old room.new) }
-{
-    *left = c_protocol::parts_ahead(alloc, kept, from, room);
-}
-
-/// Takes a call past names that one system call passed, and tells the next step: `c_protocol::pass_names`.
-#[unsafe(no_mangle)]
-pub extern "C" fn inroot_pass_names(
-    alloc: Global,
-    kept: &mut Kept,
-    text: &[u8],
-    from: u64,
-    number: u64,
-    told: &mut Told,
-    room: &mut [u8],
-    ran: &mut Ran,
-)
-    requires { IsSome (call_of kept.old.held) }
-    ensures { IfSome (call_of kept.old.held) (λ call. (turn : CallTurn) × IsRun call text.now from number ran.new turn
-        × IsTold turn kept.new.held told.new room.old room.new) }
-{
-    *ran = c_protocol::pass_names(alloc, kept, text, from, number, told, room);
-}
-
-/// Whether a call whose names were passed at once opens what the last one is: `c_protocol::opens_at_once`.
-#[unsafe(no_mangle)]
-pub extern "C" fn inroot_opens_at_once(asked: &Asked, path: &[u8], kind: u8, place: &[u8]) -> bool
-    ensures { result ≡ opens_at_once asked.now path.now kind place.now }
-{
-    c_protocol::opens_at_once(asked, path, kind, place)
-}
-
 /// Whether a call whose names are looked up at once fails where one is missing: `c_protocol::misses_at_once`.
 #[unsafe(no_mangle)]
 pub extern "C" fn inroot_misses_at_once(asked: &Asked, path: &[u8], place: &[u8]) -> bool
@@ -165,75 +91,6 @@ pub extern "C" fn inroot_follows_at_once(asked: &Asked, path: &[u8]) -> bool
     ensures { result ≡ follows_at_once asked.now path.now }
 {
     c_protocol::follows_at_once(asked, path)
-}
-
-/// Whether a call may go on a path by names and links alone: `c_protocol::begins_through`.
-#[unsafe(no_mangle)]
-pub extern "C" fn inroot_begins_through(asked: &Asked, path: &[u8], whole: &[u8]) -> bool
-    ensures { result ≡ begins_through asked.now path.now whole.now && leads_on (record { path = whole.now; at = 0 }) }
-{
-    c_protocol::begins_through(asked, path, whole)
-}
-
-/// What comes next on such a path: `c_protocol::look_ahead`.
-#[unsafe(no_mangle)]
-pub extern "C" fn inroot_look_ahead(
-    whole: &[u8],
-    at: usize,
-    link: usize,
-    left: bool,
-    ahead: &mut PathAhead,
-)
-    ensures exact { ahead.new ≡ look_ahead (record { path = whole.now; at = at }) link left ahead.new.upper }
-    ensures upper { ahead.new.comes ≡ UP → IsCutAt (take at whole.now) (ahead.new.upper + 1) }
-{
-    *ahead = c_protocol::look_ahead(whole, at, link, left);
-}
-
-/// How a call goes on behind a link: `c_protocol::goes_through`.
-#[unsafe(no_mangle)]
-pub extern "C" fn inroot_goes_through(
-    asked: &Asked,
-    links: usize,
-    whole: &[u8],
-    at: usize,
-    start: usize,
-    end: usize,
-    text: &[u8],
-    room: &mut [u8],
-    next: &mut NextPath,
-)
-    ensures exact { next.new ≡ next_behind asked.now links (record { path = whole.now; at = at }) start end text.now
-        room.old }
-    ensures bytes { room.new ≡ laid_if
-        (goes_through asked.now links (record { path = whole.now; at = at }) start end text.now)
-        (with_text whole.now start end text.now) room.old }
-{
-    *next = c_protocol::goes_through(asked, links, whole, at, start, end, text, room);
-}
-
-/// How a call goes on above: `c_protocol::rises_through`.
-#[unsafe(no_mangle)]
-pub extern "C" fn inroot_rises_through(
-    whole: &[u8],
-    at: usize,
-    place: &[u8],
-    room: &mut [u8],
-    next: &mut NextPath,
-)
-    ensures exact { next.new ≡ next_above (record { path = whole.now; at = at }) place.now room.old }
-    ensures bytes { room.new ≡ laid_if (rises_through (record { path = whole.now; at = at }) place.now)
-        (from_place (record { path = whole.now; at = at }) place.now) room.old }
-{
-    *next = c_protocol::rises_through(whole, at, place, room);
-}
-
-/// Whether a call ends so: `c_protocol::ends_through`.
-#[unsafe(no_mangle)]
-pub extern "C" fn inroot_ends_through(whole: &[u8], at: usize, kind: u8, place: &[u8]) -> bool
-    ensures { result ≡ ends_through (record { path = whole.now; at = at }) kind place.now }
-{
-    c_protocol::ends_through(whole, at, kind, place)
 }
 
 /// Where the last name of a path stands in it, or why it has none: `c_protocol::split`.

@@ -7,8 +7,6 @@ use Rattle.path_text.specs.Name.{NUL, is_name, same_bytes}
 use Rattle.path_text.specs.Text.{between_slashes}
 use Rattle.path_text.specs.declared.name.TheConstants.{SLASH}
 use Rattle.c_protocol.specs.AtOnce.{fits_piece}
-use Rattle.c_protocol.specs.Through.{is_step}
-use Rattle.c_protocol.proofs.AtOnce.{same_text}
 
 abbrev has_nul : List ℕ → Bool
 has_nul bs = list_any (λ b. b == NUL) bs
@@ -58,17 +56,8 @@ nul_between (b ∷ bs) =
 
 -- ---- what a piece is
 
-named : (p : List ℕ) → is_plain p ≡ true → (not (has_nul p) && fits_piece false p) ≡ is_name p
+named : (p : List ℕ) → is_plain p ≡ true → (not (has_nul p) && fits_piece p) ≡ is_name p
 named p plain = grind (arith, plain)
-
-stepped_by : (p : List ℕ) (up : Bool) → same_bytes p (codes "..") ≡ up → is_plain p ≡ true
-    → (not (has_nul p) && fits_piece true p) ≡ (up || is_name p)
-stepped_by p true up plain =
-    subst (λ (q : List ℕ). (not (has_nul q) && fits_piece true q) ≡ true) (sym (same_text p (codes "..") up)) refl
-stepped_by p false up plain = grind (arith, up, plain)
-
-stepped : (p : List ℕ) → is_plain p ≡ true → (not (has_nul p) && fits_piece true p) ≡ is_step p
-stepped p plain = stepped_by p (same_bytes p (codes "..")) refl plain
 
 -- ---- all of them
 
@@ -94,18 +83,11 @@ all_of Fits Is (p ∷ ps) each plain =
     ∙ ap (λ x. Is p && x) (all_of Fits Is ps each parts.1)
 
 pub all_named : (text : List ℕ)
-    → (not (list_any (λ b. b == NUL) text) && list_all (fits_piece false) (between_slashes text))
+    → (not (list_any (λ b. b == NUL) text) && list_all (fits_piece) (between_slashes text))
     ≡ list_all is_name (between_slashes text)
 all_named text =
-    ap (λ x. not x && list_all (fits_piece false) (between_slashes text)) (sym (nul_between text))
-    ∙ all_of (fits_piece false) is_name (between_slashes text) named (plain_between text)
-
-pub all_stepped : (text : List ℕ)
-    → (not (list_any (λ b. b == NUL) text) && list_all (fits_piece true) (between_slashes text))
-    ≡ list_all is_step (between_slashes text)
-all_stepped text =
-    ap (λ x. not x && list_all (fits_piece true) (between_slashes text)) (sym (nul_between text))
-    ∙ all_of (fits_piece true) is_step (between_slashes text) stepped (plain_between text)
+    ap (λ x. not x && list_all (fits_piece) (between_slashes text)) (sym (nul_between text))
+    ∙ all_of (fits_piece) is_name (between_slashes text) named (plain_between text)
 
 -- ---- by whether the text has NUL
 

@@ -33,11 +33,11 @@ abbrev pub opens_kind : ℕ → Kind → Bool
 opens_kind op kind =
     (op == 2) || (((op == 1) && not (is_followed true kind)) || ((op == 10) && is_dir_kind kind))
 
--- a name, where it has no slash and no NUL (POSIX.1, Filename); or `..`, where that counts
-abbrev pub fits_piece : Bool → List ℕ → Bool
-fits_piece ups piece =
+-- a name, where it has no slash and no NUL (POSIX.1, Filename)
+abbrev pub fits_piece : List ℕ → Bool
+fits_piece piece =
     not (same_bytes piece []) && (not (same_bytes piece (codes "."))
-    && ((ups || not (same_bytes piece (codes ".."))) && not (nat_lt NAME_MAX (length piece))))
+    && (not (same_bytes piece (codes "..")) && not (nat_lt NAME_MAX (length piece))))
 
 abbrev pub has_names : Option (List (List ℕ)) → Bool
 has_names None = false

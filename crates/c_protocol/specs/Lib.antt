@@ -6,16 +6,11 @@ pub use Rattle.root_ops.specs.View
 pub mod Kept
 pub mod Numbers
 pub mod Turns
-pub mod Runs
-pub mod Left
 pub mod History
 pub mod Outright
-pub mod RunHistory
 pub mod OwnExchanges
 pub mod Refusals
 pub mod AtOnce
-pub mod Through
-pub mod ThroughAhead
 pub mod SeenBelow
 pub mod FollowedAtOnce
 pub mod Split

@@ -6,27 +6,26 @@ ghost use Rattle.path_text.specs.Print.{names_read};
 ghost use Rattle.path_text.specs.Text.{between_slashes};
 ghost use Rattle.c_protocol.specs.AtOnce.{fits_piece, has_names, misses_at_once, opens_at_once, opens_kind, spells_place};
 ghost use Rattle.c_protocol.specs.Numbers.{kind_of};
-ghost use Rattle.c_protocol.specs.Through.{is_step};
 
 use crate::numbers::Asked;
 use path_text::{NAME_MAX, Path, SLASH};
 
-// Whether a piece is neither empty nor `.`, isn't too long for a name, and is `..` only where that counts.
-fn fits_piece(ups: bool, piece: &[u8]) -> bool
-    ensures { result ≡ fits_piece ups piece.now }
+// Whether a piece is neither empty nor `.` nor `..`, and isn't too long for a name.
+fn fits_piece(piece: &[u8]) -> bool
+    ensures { result ≡ fits_piece piece.now }
 {
     !piece.is_empty()
         && piece != b".".as_slice()
-        && (ups || piece != b"..".as_slice())
+        && piece != b"..".as_slice()
         && !(piece.len() > NAME_MAX)
 }
 
 // Whether each piece between the slashes is so.
-fn are_pieces(ups: bool, text: &[u8]) -> bool
-    ensures { result ≡ list_all (fits_piece ups) (between_slashes text.now) }
+fn are_pieces(text: &[u8]) -> bool
+    ensures { result ≡ list_all fits_piece (between_slashes text.now) }
 {
     for piece in text.split(|byte| *byte == SLASH) {
-        if !fits_piece(ups, piece) {
+        if !fits_piece(piece) {
             return false;
         }
     }
@@ -43,18 +42,11 @@ fn has_nul(text: &[u8]) -> bool
 fn are_names(text: &[u8]) -> bool
     ensures { result ≡ list_all is_name (between_slashes text.now) }
 {
-    !has_nul(text) && are_pieces(false, text)
-}
-
-// Whether each is a name or `..`.
-pub(crate) fn are_steps(text: &[u8]) -> bool
-    ensures { result ≡ list_all is_step (between_slashes text.now) }
-{
-    !has_nul(text) && are_pieces(true, text)
+    !has_nul(text) && are_pieces(text)
 }
 
 // Whether it is a slash before each of one or more names.
-pub(crate) fn has_names(place: &[u8]) -> bool
+fn has_names(place: &[u8]) -> bool
     ensures { result ≡ has_names (names_read place.now) }
 {
     match place.split_first() {
@@ -65,7 +57,7 @@ pub(crate) fn has_names(place: &[u8]) -> bool
 }
 
 // Whether the path is the place's, with the slash at its beginning or without.
-pub(crate) fn spells_place(path: &[u8], place: &[u8]) -> bool
+fn spells_place(path: &[u8], place: &[u8]) -> bool
     ensures { result ≡ spells_place path.now place.now }
 {
     match place.split_first() {
@@ -75,7 +67,7 @@ pub(crate) fn spells_place(path: &[u8], place: &[u8]) -> bool
 }
 
 // Whether a call of this number opens what is of this kind, and follows no link there.
-pub(crate) fn opens_kind(op: u8, kind: u8) -> bool
+fn opens_kind(op: u8, kind: u8) -> bool
     ensures { result ≡ opens_kind op (kind_of kind) }
 {
     op == 2 || (op == 1 && kind != 3) || (op == 10 && kind == 1)

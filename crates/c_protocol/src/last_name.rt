@@ -32,7 +32,7 @@ fn refused(error: Errno) -> Parted
 }
 
 // How much comes before the last piece of a text that ends in one.
-pub(crate) fn before_piece(text: &[u8]) -> usize
+fn before_piece(text: &[u8]) -> usize
     requires some { text.now ≢ [] }
     requires last { ends_with_slash text.now ≡ false }
     ensures { IsCutAt text.now result }

@@ -1,17 +1,11 @@
 //! What a C program's call tells in a history: laws, each the contract of a function without a body.
-ghost use Rattle.std.specs.Prelude.{◌≡◌, ◌<◌, ℕ, Bool, true, drop, take};
-ghost use Rattle.path_text.specs.Print.{names_read};
-ghost use Rattle.open_through_links.specs.declared.passage.TheConstants.{END, LINK, UP};
-ghost use Rattle.c_protocol.specs.AtOnce.{has_names, FailsAtOnceTell, OpensAtOnceTell};
+ghost use Rattle.c_protocol.specs.AtOnce.{FailsAtOnceTell, OpensAtOnceTell};
 ghost use Rattle.c_protocol.specs.FollowedAtOnce.{LinksSeenBelow};
 ghost use Rattle.c_protocol.specs.History.{ConversationsAreCalls};
 ghost use Rattle.c_protocol.specs.Outright.{ConversationsTell};
 ghost use Rattle.c_protocol.specs.OwnExchanges.{ConversationsClose, UnmadeStepsEndCalls};
 ghost use Rattle.c_protocol.specs.Refusals.{StepsAreRefusedSo};
-ghost use Rattle.c_protocol.specs.RunHistory.{ConversationsWithRunsTell};
 ghost use Rattle.c_protocol.specs.SeenBelow.{PlainSeenBelow, ResolvesSeenBelow};
-ghost use Rattle.c_protocol.specs.Through.{comes_up, OpensThroughTell, Stand};
-ghost use Rattle.c_protocol.specs.ThroughAhead.{count_in, leads_on, look_ahead};
 ghost use Rattle.c_protocol.specs.Turns.{StepsToldWholeAreOne};
 
 use root_ops::{calls_tell, calls_tell_by_any_numbers, each_call_tells, opened_are_closed};
@@ -51,17 +45,6 @@ pub fn steps_told_whole_are_one()
     ensures { StepsToldWholeAreOne }
 {}
 
-/// A conversation in which names are passed by one system call, where `names_ahead` says that they come next and
-/// `pass_names` how many of them count: each run stands for the turns of these names, each opened as a directory in the
-/// one before it. Between two of these turns the next step is heard whole. With them in the place of the runs it is a
-/// conversation of single turns to the same reply, so that all other laws of conversations speak of it, and
-/// `conversations_tell` holds of its call.
-pub fn conversations_with_runs_tell()
-    ensures { ConversationsWithRunsTell }
-{
-    conversations_tell();
-}
-
 /// A call of which `opens_at_once` is true, by whatever handles each name was opened in the directory before it: the
 /// opens, the closes between them and the question where the last one stands are the lines of that call, which replies
 /// that it opened the last one. In each legal history in which these lines are the program's own events, it tells what
@@ -81,30 +64,6 @@ pub fn fails_at_once_tell()
 {
     each_call_tells();
 }
-
-/// A call of which `begins_through` is true; then `goes_through` at each link, with the text that was read there, and
-/// `rises_through` at each `..`, with the place that was asked for, each of the path that the one before it gave; and
-/// `ends_through` of the last path. By whatever handles: the opens, the closes between them, the links' texts and the
-/// places are the lines of that call, which replies that it opened the last one. In each legal history in which these
-/// lines are the program's own events, it tells what `conversations_tell` says of a call.
-pub fn opens_through_tell()
-    ensures { OpensThroughTell }
-{
-    each_call_tells();
-}
-
-/// What `look_ahead` says of a path on which a call goes on, as `begins_through` and `goes_through` see to it: nothing
-/// but names comes, also behind a link that is hinted at; or `..` comes, and some name was passed. Any other path is
-/// left to the single steps.
-pub fn paths_that_lead_on()
-    ensures names { (s : Stand) (link upper : ℕ) (left : Bool) → leads_on s ≡ true
-        → (look_ahead s link left upper).comes ≡ END → has_names (names_read (drop s.at s.path)) ≡ true }
-    ensures link { (s : Stand) (link upper : ℕ) (left : Bool) → leads_on s ≡ true
-        → (look_ahead s link left upper).comes ≡ LINK → has_names (names_read (drop s.at s.path)) ≡ true }
-    ensures up { (s : Stand) (link upper : ℕ) (left : Bool) → leads_on s ≡ true
-        → (look_ahead s link left upper).comes ≡ UP
-        → (comes_up s ≡ true) × (0 < count_in (take s.at s.path)) }
-{}
 
 /// Of no history, so whatever the program answers, and however many handles that takes: where only an Open, a Dup or
 /// a Parent is answered by a handle, a call tells a Close of each handle as often as it was answered that it was

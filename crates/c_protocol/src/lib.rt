@@ -6,14 +6,9 @@
 //! spelled exactly, and that each answer is taken as the one that its numbers and bytes spell. Between two turns the
 //! C program keeps the call by its pointer, as a `Kept`. Where it has passed all names of a path by one system call, it
 //! needs no turns: `opens_at_once` says exactly for which calls, and the law `opens_at_once_tell` what holds of them.
-//! Nor where it has read each link on the way: `begins_through`, `goes_through`, `rises_through` and `ends_through` say
-//! how the path goes on, and exactly where it ends; by `opens_through_tell` that is such a call.
 //! Nor where one system call has followed the links: `follows_at_once` says for which calls, and
-//! `links_seen_below_tell` what holds of them.
-//! In the midst of a call `names_ahead` says which names come next, and `pass_names` takes the call past those that one
-//! system call passed, and says whether the step behind them is about what that opened; by the law
-//! `conversations_with_runs_tell` this is as good as single turns. A path is taken apart into its directory's path and
-//! its last name by `split`, as the calls on one entry do it.
+//! `links_seen_below_tell` what holds of them. A path is taken apart into its directory's path and its last name by
+//! `split`, as the calls on one entry do it.
 //! Whatever the answers are, a call closes what it opened (`conversations_close`), and after a step that wasn't made it
 //! does nothing else (`unmade_steps_end_calls`). Which errors of a system call are a step's own says `step_calls`, and
 //! `steps_are_refused_so` that the step table has no others.
@@ -26,11 +21,7 @@ mod followed;
 mod kept;
 mod last_name;
 mod laws;
-mod left;
 mod numbers;
-mod runs;
-mod through;
-mod through_ahead;
 mod told;
 mod turns;
 
@@ -39,14 +30,9 @@ pub use followed::follows_at_once;
 pub use kept::Kept;
 pub use last_name::{Parted, split};
 pub use laws::{
-    conversations_are_calls, conversations_close, conversations_tell, conversations_with_runs_tell,
-    fails_at_once_tell, links_seen_below_tell, opens_at_once_tell, opens_through_tell,
-    paths_that_lead_on, seen_below_tell, steps_are_refused_so, steps_told_whole_are_one,
-    unmade_steps_end_calls,
+    conversations_are_calls, conversations_close, conversations_tell, fails_at_once_tell,
+    links_seen_below_tell, opens_at_once_tell, seen_below_tell, steps_are_refused_so,
+    steps_told_whole_are_one, unmade_steps_end_calls,
 };
-pub use left::{Left, parts_ahead};
 pub use numbers::{Answered, Asked, Told};
-pub use runs::{Ahead, Ran, names_ahead, pass_names};
-pub use through::{NextPath, begins_through, ends_through, goes_through, rises_through};
-pub use through_ahead::{PathAhead, look_ahead};
 pub use turns::{begin, next};

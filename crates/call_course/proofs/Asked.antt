@@ -2,15 +2,10 @@
 use Rattle.std.proofs.Common.{◌≡◌, ℕ, zero, suc, true, refl, arith}
 use Rattle.std.proofs.lemmas.Bool.{false≢true}
 use Rattle.call_course.specs.History.{is_question}
-use Rattle.call_course.specs.declared.calling.TheConstants.{BEGIN, JOIN, AT_ONCE, SECOND, FIND_PROC, OWN_ROOT, PLACE, CONVERSE, TAKE, LET_GO, CLOSE, LOOK_AT_PROC, ANOTHER_PROC, CLOSE_PROC, GO_HOME, LOOK_AT_ROOT}
+use Rattle.call_course.specs.declared.calling.TheConstants.{BEGIN, PLACE, CONVERSE, TAKE, LET_GO, CLOSE, LOOK_AT_PROC, ANOTHER_PROC, CLOSE_PROC, LOOK_AT_ROOT}
 
 pub data Asked (next : ℕ) : Type 0 where
   is_begin : next ≡ BEGIN → Asked next
-  is_join : next ≡ JOIN → Asked next
-  is_at_once : next ≡ AT_ONCE → Asked next
-  is_second : next ≡ SECOND → Asked next
-  is_find_proc : next ≡ FIND_PROC → Asked next
-  is_own_root : next ≡ OWN_ROOT → Asked next
   is_place : next ≡ PLACE → Asked next
   is_converse : next ≡ CONVERSE → Asked next
   is_take : next ≡ TAKE → Asked next
@@ -19,29 +14,18 @@ pub data Asked (next : ℕ) : Type 0 where
   is_look_at_proc : next ≡ LOOK_AT_PROC → Asked next
   is_another_proc : next ≡ ANOTHER_PROC → Asked next
   is_close_proc : next ≡ CLOSE_PROC → Asked next
-  is_go_home : next ≡ GO_HOME → Asked next
   is_look_at_root : next ≡ LOOK_AT_ROOT → Asked next
 
 pub asked_is : (next : ℕ) → is_question next ≡ true → Asked next
 asked_is zero h = absurd (false≢true h)
 asked_is (suc zero) h = is_begin refl
-asked_is (suc (suc zero)) h = is_join refl
-asked_is (suc (suc (suc zero))) h = is_at_once refl
-asked_is (suc (suc (suc (suc zero)))) h = is_second refl
-asked_is (suc (suc (suc (suc (suc zero))))) h = is_find_proc refl
-asked_is (suc (suc (suc (suc (suc (suc zero)))))) h = is_own_root refl
-asked_is (suc (suc (suc (suc (suc (suc (suc zero))))))) h = is_place refl
-asked_is (suc (suc (suc (suc (suc (suc (suc (suc zero)))))))) h = is_converse refl
-asked_is (suc (suc (suc (suc (suc (suc (suc (suc (suc zero))))))))) h = is_take refl
-asked_is (suc (suc (suc (suc (suc (suc (suc (suc (suc (suc zero)))))))))) h = is_let_go refl
-asked_is (suc (suc (suc (suc (suc (suc (suc (suc (suc (suc (suc zero))))))))))) h = is_close refl
-asked_is (suc (suc (suc (suc (suc (suc (suc (suc (suc (suc (suc (suc zero)))))))))))) h = is_look_at_proc refl
-asked_is (suc (suc (suc (suc (suc (suc (suc (suc (suc (suc (suc (suc (suc zero))))))))))))) h = is_another_proc refl
-asked_is (suc (suc (suc (suc (suc (suc (suc (suc (suc (suc (suc (suc (suc (suc zero)))))))))))))) h =
-    is_close_proc refl
-asked_is (suc (suc (suc (suc (suc (suc (suc (suc (suc (suc (suc (suc (suc (suc (suc zero))))))))))))))) h =
-    is_go_home refl
-asked_is (suc (suc (suc (suc (suc (suc (suc (suc (suc (suc (suc (suc (suc (suc (suc (suc zero)))))))))))))))) h =
-    is_look_at_root refl
-asked_is (suc (suc (suc (suc (suc (suc (suc (suc (suc (suc (suc (suc (suc (suc (suc (suc (suc n))))))))))))))))) h =
-    absurd (grind (arith, h))
+asked_is (suc (suc zero)) h = is_place refl
+asked_is (suc (suc (suc zero))) h = is_converse refl
+asked_is (suc (suc (suc (suc zero)))) h = is_take refl
+asked_is (suc (suc (suc (suc (suc zero))))) h = is_let_go refl
+asked_is (suc (suc (suc (suc (suc (suc zero)))))) h = is_close refl
+asked_is (suc (suc (suc (suc (suc (suc (suc zero))))))) h = is_look_at_proc refl
+asked_is (suc (suc (suc (suc (suc (suc (suc (suc zero)))))))) h = is_another_proc refl
+asked_is (suc (suc (suc (suc (suc (suc (suc (suc (suc zero))))))))) h = is_close_proc refl
+asked_is (suc (suc (suc (suc (suc (suc (suc (suc (suc (suc zero)))))))))) h = is_look_at_root refl
+asked_is (suc (suc (suc (suc (suc (suc (suc (suc (suc (suc (suc n))))))))))) h = absurd (grind (arith, h))

@@ -5,16 +5,16 @@ use Rattle.system_calls.specs.Errors.{EAGAIN}
 use Rattle.system_calls.specs.Tries.{TRIES, pauses_after}
 use Rattle.std.proofs.lemmas.Bool.{eqb-true, false≢true}
 use Rattle.call_course.specs.History.{next_after, Exchange, IsHistory}
-use Rattle.call_course.specs.Promises.{away_after, begun_after, changed_after, given, open_after, owns_after, pauses_of, stepped_after, value_after, why_after, HomeFailed, LastWas}
+use Rattle.call_course.specs.Promises.{begun_after, changed_after, given, open_after, owns_after, pauses_of, stepped_after, value_after, why_after, LastWas}
 use Rattle.call_course.specs.declared.calling.Calling.{Calling}
 use Rattle.call_course.specs.declared.calling.Facts.{Facts}
 use Rattle.call_course.specs.declared.calling.TheConstants.{BEGIN, CLOSE, ANOTHER_PROC, CLOSE_PROC, LOOK_AT_ROOT, ENDS, FAILS}
-use Rattle.call_course.proofs.Ends.{again_is, again_ok, home_is, looked_last, none_yet, root_is_seen, root_seen}
-use Rattle.call_course.proofs.Fields.{away_is, begun_is, changed_is, owns_is, stepped_is, value_is, why_is}
+use Rattle.call_course.proofs.Ends.{again_is, again_ok, looked_last, none_yet, root_is_seen, root_seen}
+use Rattle.call_course.proofs.Fields.{begun_is, changed_is, owns_is, stepped_is, value_is, why_is}
 use Rattle.call_course.proofs.Open.{held, open_is, together}
 use Rattle.call_course.proofs.Pauses.{few_are, few_ok, rank, room, paid, pauses_are, pauses_most, pauses_ok}
-use Rattle.call_course.proofs.Rule.{has_facts, is_sound, sound_changed, sound_error, sound_holds, sound_made, sound_moved, sound_owns, sound_root, sound_tries}
-use Rattle.call_course.proofs.Sound.{changed_ok, error_ok, holds_ok, made_ok, moved_ok, owns_ok, root_ok, tries_ok}
+use Rattle.call_course.proofs.Rule.{has_facts, is_sound, sound_changed, sound_error, sound_holds, sound_made, sound_owns, sound_root, sound_tries}
+use Rattle.call_course.proofs.Sound.{changed_ok, error_ok, holds_ok, made_ok, owns_ok, root_ok, tries_ok}
 
 -- ---- descriptors
 
@@ -155,49 +155,21 @@ again_only facts history h at =
     again_why facts history (next_after facts history) (again_is facts history h) (has_facts facts history h)
     (why_is facts history h) at
 
--- ---- the way home
-
-away_none : (c : Calling) → moved_ok c ≡ true → (c.next ≡ ENDS) ⊎ (c.next ≡ BEGIN) → c.moved ≡ false
-away_none c h (inl at) = grind (arith, at, h)
-away_none c h (inr at) = grind (arith, at, h)
-
-pub home_ends : (facts : Facts) (history : List Exchange) → IsHistory facts history
-    → ((next_after facts history).next ≡ ENDS) ⊎ ((next_after facts history).next ≡ BEGIN) → away_after history ≡ false
-home_ends facts history h at =
-    let s = is_sound facts history h in
-    away_is facts history h ∙ away_none (next_after facts history) (sound_moved (next_after facts history) s) at
-
-away_or : (c : Calling) → moved_ok c ≡ true → c.next ≡ FAILS → (c.moved ≡ false) ⊎ (c.stuck ≡ true)
-away_or c h at = grind (arith, at, h)
-
-pub home_fails : (facts : Facts) (history : List Exchange) → IsHistory facts history
-    → (next_after facts history).next ≡ FAILS
-    → (away_after history ≡ false) ⊎ HomeFailed (next_after facts history).error history
-home_fails facts history h at =
-    let s = is_sound facts history h in
-    elim (away_or (next_after facts history) (sound_moved (next_after facts history) s) at) [
-      | inl home ↦ inl (away_is facts history h ∙ home)
-      | inr stuck ↦ inr (home_is facts history h stuck)
-    ]
-
 -- ---- the root
 
 root_facts : (c : Calling) → root_ok c ≡ true → error_ok c ≡ true → c.next ≡ LOOK_AT_ROOT
-    → (c.stepped ≡ false) × ((c.facts.jailed ≡ false) × (c.error ≢ 0))
+    → (c.stepped ≡ false) × (c.error ≢ 0)
 root_facts c h k at = grind (arith, at, h, k)
 
 pub root_only : (facts : Facts) (history : List Exchange) → IsHistory facts history
     → (next_after facts history).next ≡ LOOK_AT_ROOT
-    → (stepped_after history ≡ false) × ((facts.jailed ≡ false) × (why_after facts history ≢ 0))
+    → (stepped_after history ≡ false) × (why_after facts history ≢ 0)
 root_only facts history h at =
     let s = is_sound facts history h in
     let r = root_facts (next_after facts history) (sound_root (next_after facts history) s)
     (sound_error (next_after facts history) s) at in (
       stepped_is facts history h ∙ r.0,
-      (
-        subst (λ f. f.jailed ≡ false) (has_facts facts history h) r.1.0,
-        subst (λ n. n ≢ 0) (sym (why_is facts history h)) r.1.1,
-      ),
+      subst (λ n. n ≢ 0) (sym (why_is facts history h)) r.1,
     )
 
 looked_is : (history : List Exchange) → looked_last history ≡ true → LastWas LOOK_AT_ROOT history
@@ -205,21 +177,15 @@ looked_is [] is = absurd (false≢true is)
 looked_is (e ∷ older) is = eqb-true e.asked LOOK_AT_ROOT is
 
 root_or : (c : Calling) (looked : Bool) → root_seen looked c ≡ true → c.next ≡ FAILS → c.stepped ≡ false
-    → c.facts.jailed ≡ false
-    → (looked ≡ true) ⊎ (c.stuck ≡ true)
-root_or c looked h at none own = grind (arith, at, h, none, own)
+    → looked ≡ true
+root_or c looked h at none = grind (arith, at, h, none)
 
 pub root_always : (facts : Facts) (history : List Exchange) → IsHistory facts history
     → (next_after facts history).next ≡ FAILS
-    → stepped_after history ≡ false → facts.jailed ≡ false
-    → LastWas LOOK_AT_ROOT history ⊎ HomeFailed (next_after facts history).error history
-root_always facts history h at none own =
-    elim (root_or (next_after facts history) (looked_last history) (root_is_seen facts history h) at
-    (sym (stepped_is facts history h) ∙ none)
-    (subst (λ f. f.jailed ≡ false) (sym (has_facts facts history h)) own)) [
-      | inl looked ↦ inl (looked_is history looked)
-      | inr stuck ↦ inr (home_is facts history h stuck)
-    ]
+    → stepped_after history ≡ false → LastWas LOOK_AT_ROOT history
+root_always facts history h at none =
+    looked_is history (root_or (next_after facts history) (looked_last history) (root_is_seen facts history h) at
+    (sym (stepped_is facts history h) ∙ none))
 
 -- ---- errors
 
@@ -253,21 +219,21 @@ value_ends facts history h at = sym (value_is facts history h)
 
 -- ---- how many
 
-few_number : (count more most : ℕ) → count + more ≤ most → most ≤ 705 → count ≤ 705
+few_number : (count more most : ℕ) → count + more ≤ most → most ≤ 481 → count ≤ 481
 few_number count more most few h = omega (arith, few, h)
 
 tries_before : (c : Calling) → tries_ok c ≡ true → (c.next == BEGIN) ≡ true → c.tries < TRIES
 tries_before c h at = grind (arith, h, at)
 
 room_by : (c : Calling) → tries_ok c ≡ true → (b : Bool) → (c.next == BEGIN) ≡ b
-    → 22 * c.tries + (if b then 23 else 1) ≤ 705
+    → 15 * c.tries + (if b then 16 else 1) ≤ 481
 room_by c h true at = let few = tries_before c h at in omega (arith, few)
 room_by c h false at = let few = tries_most c h in omega (arith, few)
 
-few_room : (count : ℕ) (c : Calling) → few_ok count c → tries_ok c ≡ true → count ≤ 22 * TRIES + 1
+few_room : (count : ℕ) (c : Calling) → few_ok count c → tries_ok c ≡ true → count ≤ 15 * TRIES + 1
 few_room count c few h = few_number count (rank c) (room c) few (room_by c h (c.next == BEGIN) refl)
 
-pub exchanges : (facts : Facts) (history : List Exchange) → IsHistory facts history → length history ≤ 22 * TRIES + 1
+pub exchanges : (facts : Facts) (history : List Exchange) → IsHistory facts history → length history ≤ 15 * TRIES + 1
 exchanges facts history h =
     let s = is_sound facts history h in
     few_room (length history) (next_after facts history) (few_are facts history h)

@@ -2,13 +2,10 @@ pub mod Asked
 pub mod Ends
 pub mod Fields
 pub mod Given
-pub mod GivenOrder
 pub mod LawLemmas
 pub mod Leads
-pub mod Needed
 pub mod Open
 pub mod Others
-pub mod Own
 pub mod Pauses
 pub mod Rule
 pub mod Sound

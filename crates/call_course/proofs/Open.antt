@@ -9,9 +9,9 @@ use Rattle.call_course.specs.declared.calling.Calling.{Calling}
 use Rattle.call_course.specs.declared.calling.Answer.{Answer}
 use Rattle.call_course.specs.declared.calling.Facts.{Facts}
 use Rattle.call_course.specs.declared.calling.TheConstants.{CLOSE}
-use Rattle.call_course.proofs.Leads.{Leads, Turn, to_proc, to_close, to_home, to_root, to_end, to_again, to_fail, t_begin, t_join, t_join_held, t_no_join, t_once, t_missing, t_not_once, t_not_once_held, t_there_place, t_there_walk, t_there_given, t_alone, t_proc, t_none_place, t_none_walk, t_none_given, t_own_place, t_own_walk, t_own_given, t_no_own, t_place, t_no_place, t_opened, t_text, t_cut, t_done, t_made, t_lost, t_unopened, t_count, t_fault, t_took, t_not_took, t_let_go, t_close_made, t_closed, t_closed_stuck, t_same_proc, t_lost_proc, t_another, t_no_other, t_proc_closed, t_home, t_stuck_holds, t_stuck, t_root, t_bad_root}
-use Rattle.call_course.proofs.Sound.{error_ok, holds_ok, made_ok, stuck_ok}
-use Rattle.call_course.proofs.Rule.{always, sound_error, sound_holds, sound_made, sound_stuck}
+use Rattle.call_course.proofs.Leads.{Leads, Turn, to_proc, to_close, to_root, to_end, to_again, to_fail, t_begin, t_place, t_no_place, t_opened, t_text, t_cut, t_done, t_made, t_lost, t_unopened, t_count, t_fault, t_took, t_not_took, t_let_go, t_close_made, t_closed, t_same_proc, t_lost_proc, t_another, t_no_other, t_proc_closed, t_root, t_bad_root}
+use Rattle.call_course.proofs.Sound.{error_ok, holds_ok, made_ok}
+use Rattle.call_course.proofs.Rule.{always, sound_error, sound_holds, sound_made}
 
 abbrev of_result : Calling → List ℕ
 of_result c = if c.holds then c.value ∷ [] else []
@@ -31,68 +31,19 @@ together_leads seen may c n l =
     elim l [
       | to_proc p0 p1 p2 ↦ subst (λ m. together m ≡ held c) (sym p2) refl
       | to_close p0 p1 ↦ subst (λ m. together m ≡ held c) (sym p1) refl
-      | to_home p0 p1 p2 ↦ subst (λ m. together m ≡ held c) (sym p2) refl
-      | to_root p0 p1 p2 p3 p4 ↦ subst (λ m. together m ≡ held c) (sym p4) refl
-      | to_end p0 p1 p2 p3 ↦ subst (λ m. together m ≡ held c) (sym p3) refl
-      | to_again p0 p1 p2 p3 p4 p5 ↦ subst (λ m. together m ≡ held c) (sym p5) refl
-      | to_fail p0 p1 p2 p3 p4 ↦ subst (λ m. together m ≡ held c) (sym p4) refl
+      | to_root p0 p1 p2 p3 ↦ subst (λ m. together m ≡ held c) (sym p3) refl
+      | to_end p0 p1 p2 ↦ subst (λ m. together m ≡ held c) (sym p2) refl
+      | to_again p0 p1 p2 p3 p4 ↦ subst (λ m. together m ≡ held c) (sym p4) refl
+      | to_fail p0 p1 p2 p3 ↦ subst (λ m. together m ≡ held c) (sym p3) refl
     ]
 
 open_turn : (c : Calling) (a : Answer) (n : Calling) (was : List ℕ) → holds_ok c ≡ true → made_ok c ≡ true
-    → error_ok c ≡ true → stuck_ok c ≡ true → was ≡ together c → Turn c a n
+    → error_ok c ≡ true → was ≡ together c → Turn c a n
     → (opened_by (exchange c a) ++ closed_by (exchange c a) was) ≡ together n
-open_turn c a n was h1 h2 h3 h4 w t =
+open_turn c a n was h1 h2 h3 w t =
     elim t [
       | t_begin p0 is ↦ subst (λ m. (opened_by (exchange c a) ++ closed_by (exchange c a) was) ≡ together m) (sym is)
           (grind (arith, p0))
-      | t_join p0 p1 p2 is ↦ subst (λ m. (opened_by (exchange c a) ++ closed_by (exchange c a) was) ≡ together m)
-          (sym is) (grind (arith, p0, p1, p2))
-      | t_join_held p0 p1 p2 is ↦
-          subst (λ m. (opened_by (exchange c a) ++ closed_by (exchange c a) was) ≡ together m) (sym is)
-          (grind (arith, p0, p1, p2))
-      | t_no_join p0 p1 is ↦ subst (λ m. (opened_by (exchange c a) ++ closed_by (exchange c a) was) ≡ together m)
-          (sym is) (grind (arith, p0, p1))
-      | t_once p0 p1 l ↦ grind (arith, p0, p1, together_leads false true (gains a.value true (noted a c)) n l)
-      | t_missing p0 p1 p2 l ↦ grind (arith, p0, p1, p2, together_leads false true (lacks a.error (noted a c)) n l)
-      | t_not_once p0 p1 pf p2 is ↦
-          subst (λ m. (opened_by (exchange c a) ++ closed_by (exchange c a) was) ≡ together m) (sym is)
-          (grind (arith, p0, p1, pf, p2))
-      | t_not_once_held p0 p1 pf p2 is ↦
-          subst (λ m. (opened_by (exchange c a) ++ closed_by (exchange c a) was) ≡ together m) (sym is)
-          (grind (arith, p0, p1, pf, p2))
-      | t_there_place p0 p1 p2 p3 is ↦
-          subst (λ m. (opened_by (exchange c a) ++ closed_by (exchange c a) was) ≡ together m) (sym is)
-          (grind (arith, p0, p1, p2, p3))
-      | t_there_walk p0 p1 p2 p3 is ↦
-          subst (λ m. (opened_by (exchange c a) ++ closed_by (exchange c a) was) ≡ together m) (sym is)
-          (grind (arith, p0, p1, p2, p3))
-      | t_there_given p0 p1 p2 is ↦
-          subst (λ m. (opened_by (exchange c a) ++ closed_by (exchange c a) was) ≡ together m) (sym is)
-          (grind (arith, p0, p1, p2))
-      | t_none_place p0 p1 p2 p3 is ↦
-          subst (λ m. (opened_by (exchange c a) ++ closed_by (exchange c a) was) ≡ together m) (sym is)
-          (grind (arith, p0, p1, p2, p3))
-      | t_none_walk p0 p1 p2 p3 is ↦
-          subst (λ m. (opened_by (exchange c a) ++ closed_by (exchange c a) was) ≡ together m) (sym is)
-          (grind (arith, p0, p1, p2, p3))
-      | t_none_given p0 p1 p2 is ↦
-          subst (λ m. (opened_by (exchange c a) ++ closed_by (exchange c a) was) ≡ together m) (sym is)
-          (grind (arith, p0, p1, p2))
-      | t_alone p0 p1 is ↦ subst (λ m. (opened_by (exchange c a) ++ closed_by (exchange c a) was) ≡ together m)
-          (sym is) (grind (arith, p0, p1))
-      | t_proc p0 p1 is ↦ subst (λ m. (opened_by (exchange c a) ++ closed_by (exchange c a) was) ≡ together m)
-          (sym is) (grind (arith, p0, p1))
-      | t_own_place p0 p1 p2 p3 is ↦
-          subst (λ m. (opened_by (exchange c a) ++ closed_by (exchange c a) was) ≡ together m) (sym is)
-          (grind (arith, p0, p1, p2, p3))
-      | t_own_walk p0 p1 p2 p3 is ↦
-          subst (λ m. (opened_by (exchange c a) ++ closed_by (exchange c a) was) ≡ together m) (sym is)
-          (grind (arith, p0, p1, p2, p3))
-      | t_own_given p0 p1 p2 is ↦
-          subst (λ m. (opened_by (exchange c a) ++ closed_by (exchange c a) was) ≡ together m) (sym is)
-          (grind (arith, p0, p1, p2))
-      | t_no_own p0 p1 is ↦ subst (λ m. (opened_by (exchange c a) ++ closed_by (exchange c a) was) ≡ together m)
-          (sym is) (grind (arith, p0, p1))
       | t_place p0 p1 l ↦ grind (arith, p0, p1, together_leads false true (gains a.length false (noted a c)) n l)
       | t_no_place p0 p1 l ↦ grind (arith, p0, p1, together_leads false true (lacks a.error (noted a c)) n l)
       | t_opened p0 p1 is ↦ subst (λ m. (opened_by (exchange c a) ++ closed_by (exchange c a) was) ≡ together m)
@@ -129,11 +80,8 @@ open_turn c a n was h1 h2 h3 h4 w t =
       | t_close_made p0 p1 is ↦
           subst (λ m. (opened_by (exchange c a) ++ closed_by (exchange c a) was) ≡ together m) (sym is)
           (grind (arith, p0, p1))
-      | t_closed p0 p1 l ↦ grind
-          (arith, p0, p1, together_leads false true (c) n l, without_held c.holds c.value c.about)
-      | t_closed_stuck p0 p1 is ↦
-          subst (λ m. (opened_by (exchange c a) ++ closed_by (exchange c a) was) ≡ together m) (sym is)
-          (grind (arith, p0, p1, without_held c.holds c.value c.about))
+      | t_closed p0 l ↦ grind
+          (arith, p0, together_leads false true (c) n l, without_held c.holds c.value c.about)
       | t_same_proc p0 p1 l ↦ grind (arith, p0, p1, together_leads false false (c) n l)
       | t_lost_proc p0 p1 is ↦
           subst (λ m. (opened_by (exchange c a) ++ closed_by (exchange c a) was) ≡ together m) (sym is)
@@ -142,12 +90,6 @@ open_turn c a n was h1 h2 h3 h4 w t =
           (sym is) (grind (arith, p0, p1))
       | t_no_other p0 p1 l ↦ grind (arith, p0, p1, together_leads false false (lacks a.error c) n l)
       | t_proc_closed p0 l ↦ grind (arith, p0, together_leads false false (record c { owns_proc = false }) n l)
-      | t_home p0 p1 l ↦ grind (arith, p0, p1, together_leads false false (record c { moved = false }) n l)
-      | t_stuck_holds p0 p1 p2 is ↦
-          subst (λ m. (opened_by (exchange c a) ++ closed_by (exchange c a) was) ≡ together m) (sym is)
-          (grind (arith, p0, p1, p2))
-      | t_stuck p0 p1 p2 is ↦ subst (λ m. (opened_by (exchange c a) ++ closed_by (exchange c a) was) ≡ together m)
-          (sym is) (grind (arith, p0, p1, p2))
       | t_root p0 p1 l ↦ grind (arith, p0, p1, together_leads true false (c) n l)
       | t_bad_root p0 p1 is ↦ subst (λ m. (opened_by (exchange c a) ++ closed_by (exchange c a) was) ≡ together m)
           (sym is) (grind (arith, p0, p1))
@@ -160,5 +102,4 @@ pub open_is : (facts : Facts) (history : List Exchange) → IsHistory facts hist
     → open_after history ≡ together (next_after facts history)
 open_is facts =
     always facts (λ h c. open_after h ≡ together c) (open_start facts)
-    (λ older c a n s same t w. open_turn c a n (open_after older) (sound_holds c s) (sound_made c s) (sound_error c s)
-    (sound_stuck c s) w t)
+    (λ older c a n s same t w. open_turn c a n (open_after older) (sound_holds c s) (sound_made c s) (sound_error c s) w t)

@@ -1,5 +1,5 @@
 -- How many exchanges and pauses there are.
-use Rattle.std.proofs.Common.{◌≡◌, ◌+◌, ◌-◌, ◌*◌, ◌≤◌, ℕ, zero, suc, List, length, Bool, true, false, ◌||◌, refl, ap, sym, subst, ◌∙◌, arith}
+use Rattle.std.proofs.Common.{◌≡◌, ◌+◌, ◌-◌, ◌*◌, ◌≤◌, ℕ, zero, suc, List, length, Bool, true, false, refl, ap, sym, subst, ◌∙◌, arith}
 use Rattle.std.specs.Prelude.{◌==◌, if◌then◌else◌}
 use Rattle.std.proofs.Math.Nat.{add-suc, add-zero}
 use Rattle.system_calls.specs.Tries.{pause_after, pauses_after}
@@ -9,10 +9,10 @@ use Rattle.call_course.specs.Promises.{pauses_of}
 use Rattle.call_course.specs.declared.calling.Calling.{Calling}
 use Rattle.call_course.specs.declared.calling.Answer.{Answer}
 use Rattle.call_course.specs.declared.calling.Facts.{Facts}
-use Rattle.call_course.specs.declared.calling.TheConstants.{BEGIN, JOIN, AT_ONCE, SECOND, FIND_PROC, OWN_ROOT, PLACE, CONVERSE, TAKE, LET_GO, CLOSE, LOOK_AT_PROC, ANOTHER_PROC, CLOSE_PROC, GO_HOME, LOOK_AT_ROOT}
-use Rattle.call_course.proofs.Leads.{away, Leads, Turn, to_proc, to_close, to_home, to_root, to_end, to_again, to_fail, t_begin, t_join, t_join_held, t_no_join, t_once, t_missing, t_not_once, t_not_once_held, t_there_place, t_there_walk, t_there_given, t_alone, t_proc, t_none_place, t_none_walk, t_none_given, t_own_place, t_own_walk, t_own_given, t_no_own, t_place, t_no_place, t_opened, t_text, t_cut, t_done, t_made, t_lost, t_unopened, t_count, t_fault, t_took, t_not_took, t_let_go, t_close_made, t_closed, t_closed_stuck, t_same_proc, t_lost_proc, t_another, t_no_other, t_proc_closed, t_home, t_stuck_holds, t_stuck, t_root, t_bad_root}
-use Rattle.call_course.proofs.Sound.{another_ok, moved_ok, owns_ok, sound, stuck_ok, tries_ok}
-use Rattle.call_course.proofs.Rule.{always, sound_another, sound_moved, sound_owns, sound_stuck, sound_tries}
+use Rattle.call_course.specs.declared.calling.TheConstants.{BEGIN, PLACE, CONVERSE, TAKE, LET_GO, CLOSE, LOOK_AT_PROC, ANOTHER_PROC, CLOSE_PROC, LOOK_AT_ROOT}
+use Rattle.call_course.proofs.Leads.{Leads, Turn, to_proc, to_close, to_root, to_end, to_again, to_fail, t_begin, t_place, t_no_place, t_opened, t_text, t_cut, t_done, t_made, t_lost, t_unopened, t_count, t_fault, t_took, t_not_took, t_let_go, t_close_made, t_closed, t_same_proc, t_lost_proc, t_another, t_no_other, t_proc_closed, t_root, t_bad_root}
+use Rattle.call_course.proofs.Sound.{another_ok, owns_ok, sound, tries_ok}
+use Rattle.call_course.proofs.Rule.{always, sound_another, sound_owns, sound_tries}
 
 -- ---- pauses
 
@@ -38,12 +38,11 @@ pauses_leads seen may c n pauses w l =
     elim l [
       | to_proc p0 p1 p2 ↦ subst (λ m. pauses_ok pauses m) (sym p2) (add-zero pauses ∙ w)
       | to_close p0 p1 ↦ subst (λ m. pauses_ok pauses m) (sym p1) (add-zero pauses ∙ w)
-      | to_home p0 p1 p2 ↦ subst (λ m. pauses_ok pauses m) (sym p2) (add-zero pauses ∙ w)
-      | to_root p0 p1 p2 p3 p4 ↦ subst (λ m. pauses_ok pauses m) (sym p4) (add-zero pauses ∙ w)
-      | to_end p0 p1 p2 p3 ↦ subst (λ m. pauses_ok pauses m) (sym p3) (add-zero pauses ∙ w)
-      | to_again p0 p1 p2 p3 p4 p5 ↦
-          subst (λ m. pauses_ok pauses m) (sym p5) (ap (λ p. p + pause_after c.tries) w ∙ pauses_step c.tries)
-      | to_fail p0 p1 p2 p3 p4 ↦ subst (λ m. pauses_ok pauses m) (sym p4) (add-zero pauses ∙ w)
+      | to_root p0 p1 p2 p3 ↦ subst (λ m. pauses_ok pauses m) (sym p3) (add-zero pauses ∙ w)
+      | to_end p0 p1 p2 ↦ subst (λ m. pauses_ok pauses m) (sym p2) (add-zero pauses ∙ w)
+      | to_again p0 p1 p2 p3 p4 ↦
+          subst (λ m. pauses_ok pauses m) (sym p4) (ap (λ p. p + pause_after c.tries) w ∙ pauses_step c.tries)
+      | to_fail p0 p1 p2 p3 ↦ subst (λ m. pauses_ok pauses m) (sym p3) (add-zero pauses ∙ w)
     ]
 
 pauses_turn : (c : Calling) (a : Answer) (n : Calling) (was : ℕ) → sound c ≡ true → pauses_ok was c → Turn c a n
@@ -54,61 +53,6 @@ pauses_turn c a n was s w t =
       | t_begin p0 is ↦ subst (λ m. pauses_ok
           (if (exchange c a).asked == BEGIN then was + (exchange c a).about else was) m) (sym is)
           (grind (arith, p0, w, so))
-      | t_join p0 p1 p2 is ↦ subst
-          (λ m. pauses_ok (if (exchange c a).asked == BEGIN then was + (exchange c a).about else was) m) (sym is)
-          (grind (arith, p0, w))
-      | t_join_held p0 p1 p2 is ↦
-          subst (λ m. pauses_ok (if (exchange c a).asked == BEGIN then was + (exchange c a).about else was) m) (sym is)
-          (grind (arith, p0, w))
-      | t_no_join p0 p1 is ↦ subst
-          (λ m. pauses_ok (if (exchange c a).asked == BEGIN then was + (exchange c a).about else was) m) (sym is)
-          (grind (arith, p0, w))
-      | t_once p0 p1 l ↦ pauses_leads false true (gains a.value true (noted a c)) n
-          (if (exchange c a).asked == BEGIN then was + (exchange c a).about else was) (grind (arith, p0, w)) l
-      | t_missing p0 p1 p2 l ↦ pauses_leads false true (lacks a.error (noted a c)) n
-          (if (exchange c a).asked == BEGIN then was + (exchange c a).about else was) (grind (arith, p0, w)) l
-      | t_not_once p0 p1 pf p2 is ↦
-          subst (λ m. pauses_ok (if (exchange c a).asked == BEGIN then was + (exchange c a).about else was) m) (sym is)
-          (grind (arith, p0, w))
-      | t_not_once_held p0 p1 pf p2 is ↦
-          subst (λ m. pauses_ok (if (exchange c a).asked == BEGIN then was + (exchange c a).about else was) m) (sym is)
-          (grind (arith, p0, w))
-      | t_there_place p0 p1 p2 p3 is ↦
-          subst (λ m. pauses_ok (if (exchange c a).asked == BEGIN then was + (exchange c a).about else was) m) (sym is)
-          (grind (arith, p0, w))
-      | t_there_walk p0 p1 p2 p3 is ↦
-          subst (λ m. pauses_ok (if (exchange c a).asked == BEGIN then was + (exchange c a).about else was) m) (sym is)
-          (grind (arith, p0, w))
-      | t_there_given p0 p1 p2 is ↦
-          subst (λ m. pauses_ok (if (exchange c a).asked == BEGIN then was + (exchange c a).about else was) m) (sym is)
-          (grind (arith, p0, w))
-      | t_none_place p0 p1 p2 p3 is ↦
-          subst (λ m. pauses_ok (if (exchange c a).asked == BEGIN then was + (exchange c a).about else was) m) (sym is)
-          (grind (arith, p0, w))
-      | t_none_walk p0 p1 p2 p3 is ↦
-          subst (λ m. pauses_ok (if (exchange c a).asked == BEGIN then was + (exchange c a).about else was) m) (sym is)
-          (grind (arith, p0, w))
-      | t_none_given p0 p1 p2 is ↦
-          subst (λ m. pauses_ok (if (exchange c a).asked == BEGIN then was + (exchange c a).about else was) m) (sym is)
-          (grind (arith, p0, w))
-      | t_alone p0 p1 is ↦ subst
-          (λ m. pauses_ok (if (exchange c a).asked == BEGIN then was + (exchange c a).about else was) m) (sym is)
-          (grind (arith, p0, w))
-      | t_proc p0 p1 is ↦ subst
-          (λ m. pauses_ok (if (exchange c a).asked == BEGIN then was + (exchange c a).about else was) m) (sym is)
-          (grind (arith, p0, w))
-      | t_own_place p0 p1 p2 p3 is ↦
-          subst (λ m. pauses_ok (if (exchange c a).asked == BEGIN then was + (exchange c a).about else was) m) (sym is)
-          (grind (arith, p0, w))
-      | t_own_walk p0 p1 p2 p3 is ↦
-          subst (λ m. pauses_ok (if (exchange c a).asked == BEGIN then was + (exchange c a).about else was) m) (sym is)
-          (grind (arith, p0, w))
-      | t_own_given p0 p1 p2 is ↦
-          subst (λ m. pauses_ok (if (exchange c a).asked == BEGIN then was + (exchange c a).about else was) m) (sym is)
-          (grind (arith, p0, w))
-      | t_no_own p0 p1 is ↦ subst
-          (λ m. pauses_ok (if (exchange c a).asked == BEGIN then was + (exchange c a).about else was) m) (sym is)
-          (grind (arith, p0, w))
       | t_place p0 p1 l ↦ pauses_leads false true (gains a.length false (noted a c)) n
           (if (exchange c a).asked == BEGIN then was + (exchange c a).about else was) (grind (arith, p0, w)) l
       | t_no_place p0 p1 l ↦ pauses_leads false true (lacks a.error (noted a c)) n
@@ -151,11 +95,8 @@ pauses_turn c a n was s w t =
       | t_close_made p0 p1 is ↦
           subst (λ m. pauses_ok (if (exchange c a).asked == BEGIN then was + (exchange c a).about else was) m) (sym is)
           (grind (arith, p0, w))
-      | t_closed p0 p1 l ↦ pauses_leads false true (c) n
+      | t_closed p0 l ↦ pauses_leads false true (c) n
           (if (exchange c a).asked == BEGIN then was + (exchange c a).about else was) (grind (arith, p0, w)) l
-      | t_closed_stuck p0 p1 is ↦
-          subst (λ m. pauses_ok (if (exchange c a).asked == BEGIN then was + (exchange c a).about else was) m) (sym is)
-          (grind (arith, p0, w))
       | t_same_proc p0 p1 l ↦ pauses_leads false false (c) n
           (if (exchange c a).asked == BEGIN then was + (exchange c a).about else was) (grind (arith, p0, w)) l
       | t_lost_proc p0 p1 is ↦
@@ -168,14 +109,6 @@ pauses_turn c a n was s w t =
           (if (exchange c a).asked == BEGIN then was + (exchange c a).about else was) (grind (arith, p0, w)) l
       | t_proc_closed p0 l ↦ pauses_leads false false (record c { owns_proc = false }) n
           (if (exchange c a).asked == BEGIN then was + (exchange c a).about else was) (grind (arith, p0, w)) l
-      | t_home p0 p1 l ↦ pauses_leads false false (record c { moved = false }) n
-          (if (exchange c a).asked == BEGIN then was + (exchange c a).about else was) (grind (arith, p0, w)) l
-      | t_stuck_holds p0 p1 p2 is ↦
-          subst (λ m. pauses_ok (if (exchange c a).asked == BEGIN then was + (exchange c a).about else was) m) (sym is)
-          (grind (arith, p0, w))
-      | t_stuck p0 p1 p2 is ↦ subst
-          (λ m. pauses_ok (if (exchange c a).asked == BEGIN then was + (exchange c a).about else was) m) (sym is)
-          (grind (arith, p0, w))
       | t_root p0 p1 l ↦ pauses_leads true false (c) n
           (if (exchange c a).asked == BEGIN then was + (exchange c a).about else was) (grind (arith, p0, w)) l
       | t_bad_root p0 p1 is ↦ subst
@@ -209,47 +142,40 @@ pauses_most few most h =
 
 -- so many exchanges may come until the call ends or another try begins
 abbrev pub far : Calling → ℕ
-far c = if c.by_another then 0 else 10
+far c = if c.by_another then 0 else 7
 
 abbrev pub rank : Calling → ℕ
 rank c =
-    if c.next == BEGIN then 22
-    else (if (c.next == JOIN) || (c.next == AT_ONCE) then 11 + far c
-    else (if c.next == SECOND then 10 + far c
-    else (if c.next == FIND_PROC then 9 + far c
-    else (if c.next == OWN_ROOT then 8 + far c
-    else (if c.next == CONVERSE then 7 + far c
-    else (if c.next == TAKE then 6 + far c
-    else (if c.next == LET_GO then 5 + far c
-    else (if c.next == PLACE then 4 + far c
-    else (if c.next == CLOSE then (if c.stuck then 1 else 4 + far c)
-    else (if c.next == LOOK_AT_PROC then 13
-    else (if c.next == ANOTHER_PROC then 12
-    else (if c.next == CLOSE_PROC then 3
-    else (if c.next == GO_HOME then 2
-    else (if c.next == LOOK_AT_ROOT then 1 else 0))))))))))))))
+    if c.next == BEGIN then 15
+    else (if c.next == CONVERSE then 6 + far c
+    else (if c.next == TAKE then 5 + far c
+    else (if c.next == LET_GO then 4 + far c
+    else (if c.next == PLACE then 3 + far c
+    else (if c.next == CLOSE then 3 + far c
+    else (if c.next == LOOK_AT_PROC then 9
+    else (if c.next == ANOTHER_PROC then 8
+    else (if c.next == CLOSE_PROC then 2
+    else (if c.next == LOOK_AT_ROOT then 1 else 0)))))))))
 
 abbrev pub room : Calling → ℕ
-room c = 22 * c.tries + (if c.next == BEGIN then 23 else 1)
+room c = 15 * c.tries + (if c.next == BEGIN then 16 else 1)
 
 abbrev pub few_ok : ℕ → Calling → Type 0
 few_ok count c = count + rank c ≤ room c
 
 few_leads : (seen may : Bool) (c n : Calling) (count : ℕ)
-    → (may ≡ true → may_go_by_another c ≡ true → count + 13 ≤ 22 * c.tries + 1)
-    → (c.owns_proc ≡ true → count + 3 ≤ 22 * c.tries + 1)
-    → (c.owns_proc ≡ false → c.moved ≡ true → count + 2 ≤ 22 * c.tries + 1)
-    → (seen ≡ false → count + 1 ≤ 22 * c.tries + 1)
-    → count ≤ 22 * c.tries + 1 → Leads seen may c n → few_ok count n
-few_leads seen may c n count f1 f2 f3 f4 f5 l =
+    → (may ≡ true → may_go_by_another c ≡ true → count + 9 ≤ 15 * c.tries + 1)
+    → (c.owns_proc ≡ true → count + 2 ≤ 15 * c.tries + 1)
+    → (seen ≡ false → count + 1 ≤ 15 * c.tries + 1)
+    → count ≤ 15 * c.tries + 1 → Leads seen may c n → few_ok count n
+few_leads seen may c n count f1 f2 f4 f5 l =
     elim l [
       | to_proc p0 p1 p2 ↦ subst (λ m. few_ok count m) (sym p2) (omega (arith, f1 p0 p1))
       | to_close p0 p1 ↦ subst (λ m. few_ok count m) (sym p1) (omega (arith, f2 p0))
-      | to_home p0 p1 p2 ↦ subst (λ m. few_ok count m) (sym p2) (omega (arith, f3 p0 p1))
-      | to_root p0 p1 p2 p3 p4 ↦ subst (λ m. few_ok count m) (sym p4) (omega (arith, f4 p0))
-      | to_end p0 p1 p2 p3 ↦ subst (λ m. few_ok count m) (sym p3) (omega (arith, f5))
-      | to_again p0 p1 p2 p3 p4 p5 ↦ subst (λ m. few_ok count m) (sym p5) (omega (arith, f5))
-      | to_fail p0 p1 p2 p3 p4 ↦ subst (λ m. few_ok count m) (sym p4) (omega (arith, f5))
+      | to_root p0 p1 p2 p3 ↦ subst (λ m. few_ok count m) (sym p3) (omega (arith, f4 p0))
+      | to_end p0 p1 p2 ↦ subst (λ m. few_ok count m) (sym p2) (omega (arith, f5))
+      | to_again p0 p1 p2 p3 p4 ↦ subst (λ m. few_ok count m) (sym p4) (omega (arith, f5))
+      | to_fail p0 p1 p2 p3 ↦ subst (λ m. few_ok count m) (sym p3) (omega (arith, f5))
     ]
 
 few_via : (k : ℕ) (c : Calling) (was : ℕ) (G : Type 0) → c.next ≡ k → (few_ok was (record c { next = k }) → G)
@@ -257,74 +183,17 @@ few_via : (k : ℕ) (c : Calling) (was : ℕ) (G : Type 0) → c.next ≡ k → 
 few_via k c was G at f w = f (subst (λ j. few_ok was (record c { next = j })) at w)
 
 few_turn : (c : Calling) (a : Answer) (n : Calling) (was : ℕ) → owns_ok c ≡ true → another_ok c ≡ true
-    → stuck_ok c ≡ true
-    → tries_ok c ≡ true → moved_ok c ≡ true → Turn c a n → few_ok was c → few_ok (suc was) n
-few_turn c a n was so sa ss st sm t =
+    → tries_ok c ≡ true → Turn c a n → few_ok was c → few_ok (suc was) n
+few_turn c a n was so sa st t =
     elim t [
       | t_begin p0 is ↦ few_via BEGIN c was (few_ok (suc was) n) p0
           (λ w. subst (λ m. few_ok (suc was) m) (sym is) (grind (arith, p0, w, st)))
-      | t_join p0 p1 p2 is ↦ few_via JOIN c was (few_ok (suc was) n) p0
-          (λ w. subst (λ m. few_ok (suc was) m) (sym is) (grind (arith, p0, p1, p2, w)))
-      | t_join_held p0 p1 p2 is ↦
-          few_via JOIN c was (few_ok (suc was) n) p0
-          (λ w. subst (λ m. few_ok (suc was) m) (sym is) (grind (arith, p0, p1, p2, w)))
-      | t_no_join p0 p1 is ↦ few_via JOIN c was (few_ok (suc was) n) p0
-          (λ w. subst (λ m. few_ok (suc was) m) (sym is) (grind (arith, p0, p1, w)))
-      | t_once p0 p1 l ↦ few_via AT_ONCE c was (few_ok (suc was) n) p0
-          (λ w. few_leads false true (gains a.value true (noted a c)) n (suc was)
-          (λ is can. grind (arith, p0, p1, w, can)) (λ is. grind (arith, p0, p1, so, w, is))
-          (λ is away. grind (arith, p0, p1, w, away)) (λ is. grind (arith, p0, p1, w)) (grind (arith, p0, p1, w)) l)
-      | t_missing p0 p1 p2 l ↦ few_via AT_ONCE c was (few_ok (suc was) n) p0
-          (λ w. few_leads false true (lacks a.error (noted a c)) n (suc was)
-          (λ is can. grind (arith, p0, p1, p2, w, can))
-          (λ is. grind (arith, p0, p1, p2, so, w, is)) (λ is away. grind (arith, p0, p1, p2, w, away))
-          (λ is. grind (arith, p0, p1, p2, w)) (grind (arith, p0, p1, p2, w)) l)
-      | t_not_once p0 p1 pf p2 is ↦
-          few_via AT_ONCE c was (few_ok (suc was) n) p0
-          (λ w. subst (λ m. few_ok (suc was) m) (sym is) (grind (arith, p0, p1, pf, p2, w)))
-      | t_not_once_held p0 p1 pf p2 is ↦
-          few_via AT_ONCE c was (few_ok (suc was) n) p0
-          (λ w. subst (λ m. few_ok (suc was) m) (sym is) (grind (arith, p0, p1, pf, p2, w)))
-      | t_there_place p0 p1 p2 p3 is ↦
-          few_via SECOND c was (few_ok (suc was) n) p0
-          (λ w. subst (λ m. few_ok (suc was) m) (sym is) (grind (arith, p0, p1, p2, p3, w)))
-      | t_there_walk p0 p1 p2 p3 is ↦
-          few_via SECOND c was (few_ok (suc was) n) p0
-          (λ w. subst (λ m. few_ok (suc was) m) (sym is) (grind (arith, p0, p1, p2, p3, w)))
-      | t_there_given p0 p1 p2 is ↦
-          few_via SECOND c was (few_ok (suc was) n) p0
-          (λ w. subst (λ m. few_ok (suc was) m) (sym is) (grind (arith, p0, p1, p2, w)))
-      | t_none_place p0 p1 p2 p3 is ↦
-          few_via FIND_PROC c was (few_ok (suc was) n) p0
-          (λ w. subst (λ m. few_ok (suc was) m) (sym is) (grind (arith, p0, p1, p2, p3, w)))
-      | t_none_walk p0 p1 p2 p3 is ↦
-          few_via FIND_PROC c was (few_ok (suc was) n) p0
-          (λ w. subst (λ m. few_ok (suc was) m) (sym is) (grind (arith, p0, p1, p2, p3, w)))
-      | t_none_given p0 p1 p2 is ↦
-          few_via FIND_PROC c was (few_ok (suc was) n) p0
-          (λ w. subst (λ m. few_ok (suc was) m) (sym is) (grind (arith, p0, p1, p2, w)))
-      | t_alone p0 p1 is ↦ few_via SECOND c was (few_ok (suc was) n) p0
-          (λ w. subst (λ m. few_ok (suc was) m) (sym is) (grind (arith, p0, p1, w)))
-      | t_proc p0 p1 is ↦ few_via FIND_PROC c was (few_ok (suc was) n) p0
-          (λ w. subst (λ m. few_ok (suc was) m) (sym is) (grind (arith, p0, p1, w)))
-      | t_own_place p0 p1 p2 p3 is ↦
-          few_via OWN_ROOT c was (few_ok (suc was) n) p0
-          (λ w. subst (λ m. few_ok (suc was) m) (sym is) (grind (arith, p0, p1, p2, p3, w)))
-      | t_own_walk p0 p1 p2 p3 is ↦
-          few_via OWN_ROOT c was (few_ok (suc was) n) p0
-          (λ w. subst (λ m. few_ok (suc was) m) (sym is) (grind (arith, p0, p1, p2, p3, w)))
-      | t_own_given p0 p1 p2 is ↦
-          few_via OWN_ROOT c was (few_ok (suc was) n) p0
-          (λ w. subst (λ m. few_ok (suc was) m) (sym is) (grind (arith, p0, p1, p2, w)))
-      | t_no_own p0 p1 is ↦ few_via OWN_ROOT c was (few_ok (suc was) n) p0
-          (λ w. subst (λ m. few_ok (suc was) m) (sym is) (grind (arith, p0, p1, w)))
       | t_place p0 p1 l ↦ few_via PLACE c was (few_ok (suc was) n) p0
           (λ w. few_leads false true (gains a.length false (noted a c)) n (suc was)
-          (λ is can. grind (arith, p0, p1, w, can)) (λ is. grind (arith, p0, p1, so, w, is))
-          (λ is away. grind (arith, p0, p1, w, away)) (λ is. grind (arith, p0, p1, w)) (grind (arith, p0, p1, w)) l)
+          (λ is can. grind (arith, p0, p1, w, can)) (λ is. grind (arith, p0, p1, so, w, is)) (λ is. grind (arith, p0, p1, w)) (grind (arith, p0, p1, w)) l)
       | t_no_place p0 p1 l ↦ few_via PLACE c was (few_ok (suc was) n) p0
           (λ w. few_leads false true (lacks a.error (noted a c)) n (suc was) (λ is can. grind (arith, p0, p1, w, can))
-          (λ is. grind (arith, p0, p1, so, w, is)) (λ is away. grind (arith, p0, p1, w, away))
+          (λ is. grind (arith, p0, p1, so, w, is))
           (λ is. grind (arith, p0, p1, w)) (grind (arith, p0, p1, w)) l)
       | t_opened p0 p1 is ↦ few_via CONVERSE c was (few_ok (suc was) n) p0
           (λ w. subst (λ m. few_ok (suc was) m) (sym is) (grind (arith, p0, p1, w)))
@@ -358,21 +227,18 @@ few_turn c a n was so sa ss st sm t =
           (λ w. subst (λ m. few_ok (suc was) m) (sym is) (grind (arith, p0, p1, w)))
       | t_let_go p0 p1 l ↦ few_via LET_GO c was (few_ok (suc was) n) p0
           (λ w. few_leads false true (c) n (suc was) (λ is can. grind (arith, p0, p1, w, can))
-          (λ is. grind (arith, p0, p1, so, w, is)) (λ is away. grind (arith, p0, p1, w, away))
+          (λ is. grind (arith, p0, p1, so, w, is))
           (λ is. grind (arith, p0, p1, w)) (grind (arith, p0, p1, w)) l)
       | t_close_made p0 p1 is ↦
           few_via LET_GO c was (few_ok (suc was) n) p0
-          (λ w. subst (λ m. few_ok (suc was) m) (sym is) (grind (arith, p0, p1, w, ss)))
-      | t_closed p0 p1 l ↦ few_via CLOSE c was (few_ok (suc was) n) p0
-          (λ w. few_leads false true (c) n (suc was) (λ is can. grind (arith, p0, p1, w, can))
-          (λ is. grind (arith, p0, p1, so, w, is)) (λ is away. grind (arith, p0, p1, w, away))
-          (λ is. grind (arith, p0, p1, w)) (grind (arith, p0, p1, w)) l)
-      | t_closed_stuck p0 p1 is ↦
-          few_via CLOSE c was (few_ok (suc was) n) p0
-          (λ w. subst (λ m. few_ok (suc was) m) (sym is) (grind (arith, p0, p1, w, ss)))
+          (λ w. subst (λ m. few_ok (suc was) m) (sym is) (grind (arith, p0, p1, w)))
+      | t_closed p0 l ↦ few_via CLOSE c was (few_ok (suc was) n) p0
+          (λ w. few_leads false true (c) n (suc was) (λ is can. grind (arith, p0, w, can))
+          (λ is. grind (arith, p0, so, w, is))
+          (λ is. grind (arith, p0, w)) (grind (arith, p0, w)) l)
       | t_same_proc p0 p1 l ↦ few_via LOOK_AT_PROC c was (few_ok (suc was) n) p0
           (λ w. few_leads false false (c) n (suc was) (λ is can. absurd (grind (arith, is)))
-          (λ is. grind (arith, p0, p1, so, w, is)) (λ is away. grind (arith, p0, p1, w, away))
+          (λ is. grind (arith, p0, p1, so, w, is))
           (λ is. grind (arith, p0, p1, w)) (grind (arith, p0, p1, w)) l)
       | t_lost_proc p0 p1 is ↦
           few_via LOOK_AT_PROC c was (few_ok (suc was) n) p0
@@ -381,24 +247,14 @@ few_turn c a n was so sa ss st sm t =
           (λ w. subst (λ m. few_ok (suc was) m) (sym is) (grind (arith, p0, p1, w, sa)))
       | t_no_other p0 p1 l ↦ few_via ANOTHER_PROC c was (few_ok (suc was) n) p0
           (λ w. few_leads false false (lacks a.error c) n (suc was) (λ is can. absurd (grind (arith, is)))
-          (λ is. grind (arith, p0, p1, so, w, is)) (λ is away. grind (arith, p0, p1, w, away))
+          (λ is. grind (arith, p0, p1, so, w, is))
           (λ is. grind (arith, p0, p1, w)) (grind (arith, p0, p1, w)) l)
       | t_proc_closed p0 l ↦ few_via CLOSE_PROC c was (few_ok (suc was) n) p0
           (λ w. few_leads false false (record c { owns_proc = false }) n (suc was)
-          (λ is can. absurd (grind (arith, is))) (λ is. grind (arith, p0, so, w, is))
-          (λ is away. grind (arith, p0, w, away)) (λ is. grind (arith, p0, w)) (grind (arith, p0, w)) l)
-      | t_home p0 p1 l ↦ few_via GO_HOME c was (few_ok (suc was) n) p0
-          (λ w. few_leads false false (record c { moved = false }) n (suc was) (λ is can. absurd (grind (arith, is)))
-          (λ is. grind (arith, p0, p1, so, w, is)) (λ is away. grind (arith, p0, p1, w, away))
-          (λ is. grind (arith, p0, p1, w)) (grind (arith, p0, p1, w)) l)
-      | t_stuck_holds p0 p1 p2 is ↦
-          few_via GO_HOME c was (few_ok (suc was) n) p0
-          (λ w. subst (λ m. few_ok (suc was) m) (sym is) (grind (arith, p0, p1, p2, w)))
-      | t_stuck p0 p1 p2 is ↦ few_via GO_HOME c was (few_ok (suc was) n) p0
-          (λ w. subst (λ m. few_ok (suc was) m) (sym is) (grind (arith, p0, p1, p2, w)))
+          (λ is can. absurd (grind (arith, is))) (λ is. grind (arith, p0, so, w, is)) (λ is. grind (arith, p0, w)) (grind (arith, p0, w)) l)
       | t_root p0 p1 l ↦ few_via LOOK_AT_ROOT c was (few_ok (suc was) n) p0
           (λ w. few_leads true false (c) n (suc was) (λ is can. absurd (grind (arith, is)))
-          (λ is. grind (arith, p0, p1, so, w, is)) (λ is away. grind (arith, p0, p1, w, away, sm))
+          (λ is. grind (arith, p0, p1, so, w, is))
           (λ is. absurd (grind (arith, is))) (grind (arith, p0, p1, w)) l)
       | t_bad_root p0 p1 is ↦ few_via LOOK_AT_ROOT c was (few_ok (suc was) n) p0
           (λ w. subst (λ m. few_ok (suc was) m) (sym is) (grind (arith, p0, p1, w)))
@@ -411,5 +267,5 @@ pub few_are : (facts : Facts) (history : List Exchange) → IsHistory facts hist
     → few_ok (length history) (next_after facts history)
 few_are facts =
     always facts (λ h c. few_ok (length h) c) (few_start facts)
-    (λ older c a n s same t w. few_turn c a n (length older) (sound_owns c s) (sound_another c s) (sound_stuck c s)
-    (sound_tries c s) (sound_moved c s) t w)
+    (λ older c a n s same t w. few_turn c a n (length older) (sound_owns c s) (sound_another c s)
+    (sound_tries c s) t w)

@@ -1,35 +1,32 @@
 -- What holds of each turn holds of every history.
-use Rattle.std.proofs.Common.{◌≡◌, List, [], ◌∷◌, length, Bool, true, false, ◌&&◌, refl, ap, sym, subst, ◌∙◌, arith}
+use Rattle.std.proofs.Common.{◌≡◌, List, [], ◌∷◌, Bool, true, false, ◌&&◌, refl, ap, sym, subst, ◌∙◌, arith}
 use Rattle.call_course.specs.Turns.{after_answer, asks, gains, lacks, noted, start}
 use Rattle.call_course.specs.History.{exchange, is_question, next_after, Exchange, IsHistory}
 use Rattle.call_course.specs.declared.calling.Calling.{Calling}
 use Rattle.call_course.specs.declared.calling.Answer.{Answer}
 use Rattle.call_course.specs.declared.calling.Facts.{Facts}
-use Rattle.call_course.specs.declared.calling.TheConstants.{GO_HOME, LOOK_AT_ROOT}
+use Rattle.call_course.specs.declared.calling.TheConstants.{LOOK_AT_ROOT}
 use Rattle.call_course.proofs.Asked.{asked_is}
-use Rattle.call_course.proofs.Leads.{turn_at, Leads, Turn, to_proc, to_close, to_home, to_root, to_end, to_again, to_fail, t_begin, t_join, t_join_held, t_no_join, t_once, t_missing, t_not_once, t_not_once_held, t_there_place, t_there_walk, t_there_given, t_alone, t_proc, t_none_place, t_none_walk, t_none_given, t_own_place, t_own_walk, t_own_given, t_no_own, t_place, t_no_place, t_opened, t_text, t_cut, t_done, t_made, t_lost, t_unopened, t_count, t_fault, t_took, t_not_took, t_let_go, t_close_made, t_closed, t_closed_stuck, t_same_proc, t_lost_proc, t_another, t_no_other, t_proc_closed, t_home, t_stuck_holds, t_stuck, t_root, t_bad_root}
-use Rattle.call_course.proofs.Sound.{another_ok, changed_ok, error_ok, holds_ok, made_ok, moved_ok, owns_ok, root_ok, sound, sound_start, sound_turn, stuck_ok, tries_ok}
+use Rattle.call_course.proofs.Leads.{turn_at, Leads, Turn, to_proc, to_close, to_root, to_end, to_again, to_fail, t_begin, t_place, t_no_place, t_opened, t_text, t_cut, t_done, t_made, t_lost, t_unopened, t_count, t_fault, t_took, t_not_took, t_let_go, t_close_made, t_closed, t_same_proc, t_lost_proc, t_another, t_no_other, t_proc_closed, t_root, t_bad_root}
+use Rattle.call_course.proofs.Sound.{another_ok, changed_ok, error_ok, holds_ok, made_ok, owns_ok, root_ok, sound, sound_start, sound_turn, tries_ok}
 
 -- ---- what sound says
 
-abbrev Ten : Bool → Bool → Bool → Bool → Bool → Bool → Bool → Bool → Bool → Bool → Type 0
-Ten a b c d e f g h i j =
-    (a ≡ true) × ((b ≡ true) × ((c ≡ true) × ((d ≡ true) × ((e ≡ true) × ((f ≡ true) × ((g ≡ true) × ((h ≡ true)
-    × ((i ≡ true) × (j ≡ true)))))))))
+abbrev Eight : Bool → Bool → Bool → Bool → Bool → Bool → Bool → Bool → Type 0
+Eight a b c d e f g h =
+    (a ≡ true) × ((b ≡ true) × ((c ≡ true) × ((d ≡ true) × ((e ≡ true) × ((f ≡ true) × ((g ≡ true) × (h ≡ true)))))))
 
-ten : (a b c d e f g h i j : Bool)
-    → (a && (b && (c && (d && (e && (f && (g && (h && (i && j))))))))) ≡ true → Ten a b c d e f g h i j
-ten a b c d e f g h i j k = grind (arith, k)
+eight : (a b c d e f g h : Bool)
+    → (a && (b && (c && (d && (e && (f && (g && h))))))) ≡ true → Eight a b c d e f g h
+eight a b c d e f g h k = grind (arith, k)
 
 abbrev sound_parts : (c : Calling) → Type 0
 sound_parts c =
-    Ten (holds_ok c) (error_ok c) (made_ok c) (stuck_ok c) (owns_ok c) (moved_ok c) (changed_ok c) (another_ok c)
-    (tries_ok c) (root_ok c)
+    Eight (holds_ok c) (error_ok c) (made_ok c) (owns_ok c) (changed_ok c) (another_ok c) (tries_ok c) (root_ok c)
 
 parts : (c : Calling) → sound c ≡ true → sound_parts c
 parts c h =
-    ten (holds_ok c) (error_ok c) (made_ok c) (stuck_ok c) (owns_ok c) (moved_ok c) (changed_ok c) (another_ok c)
-    (tries_ok c) (root_ok c) h
+    eight (holds_ok c) (error_ok c) (made_ok c) (owns_ok c) (changed_ok c) (another_ok c) (tries_ok c) (root_ok c) h
 
 pub sound_holds : (c : Calling) → sound c ≡ true → holds_ok c ≡ true
 sound_holds c h = (parts c h).0
@@ -40,26 +37,20 @@ sound_error c h = (parts c h).1.0
 pub sound_made : (c : Calling) → sound c ≡ true → made_ok c ≡ true
 sound_made c h = (parts c h).1.1.0
 
-pub sound_stuck : (c : Calling) → sound c ≡ true → stuck_ok c ≡ true
-sound_stuck c h = (parts c h).1.1.1.0
-
 pub sound_owns : (c : Calling) → sound c ≡ true → owns_ok c ≡ true
-sound_owns c h = (parts c h).1.1.1.1.0
-
-pub sound_moved : (c : Calling) → sound c ≡ true → moved_ok c ≡ true
-sound_moved c h = (parts c h).1.1.1.1.1.0
+sound_owns c h = (parts c h).1.1.1.0
 
 pub sound_changed : (c : Calling) → sound c ≡ true → changed_ok c ≡ true
-sound_changed c h = (parts c h).1.1.1.1.1.1.0
+sound_changed c h = (parts c h).1.1.1.1.0
 
 pub sound_another : (c : Calling) → sound c ≡ true → another_ok c ≡ true
-sound_another c h = (parts c h).1.1.1.1.1.1.1.0
+sound_another c h = (parts c h).1.1.1.1.1.0
 
 pub sound_tries : (c : Calling) → sound c ≡ true → tries_ok c ≡ true
-sound_tries c h = (parts c h).1.1.1.1.1.1.1.1.0
+sound_tries c h = (parts c h).1.1.1.1.1.1.0
 
 pub sound_root : (c : Calling) → sound c ≡ true → root_ok c ≡ true
-sound_root c h = (parts c h).1.1.1.1.1.1.1.1.1
+sound_root c h = (parts c h).1.1.1.1.1.1.1
 
 -- ---- where a try that has ended leads, only what comes next differs
 
@@ -68,11 +59,10 @@ leads_same seen may c n l =
     elim l [
       | to_proc p0 p1 p2 ↦ (p2 ∙ ap (λ m. asks m.next m.about c) (sym p2))
       | to_close p0 p1 ↦ (p1 ∙ ap (λ m. asks m.next m.about c) (sym p1))
-      | to_home p0 p1 p2 ↦ (p2 ∙ ap (λ m. asks m.next m.about c) (sym p2))
-      | to_root p0 p1 p2 p3 p4 ↦ (p4 ∙ ap (λ m. asks m.next m.about c) (sym p4))
-      | to_end p0 p1 p2 p3 ↦ (p3 ∙ ap (λ m. asks m.next m.about c) (sym p3))
-      | to_again p0 p1 p2 p3 p4 p5 ↦ (p5 ∙ ap (λ m. asks m.next m.about c) (sym p5))
-      | to_fail p0 p1 p2 p3 p4 ↦ (p4 ∙ ap (λ m. asks m.next m.about c) (sym p4))
+      | to_root p0 p1 p2 p3 ↦ (p3 ∙ ap (λ m. asks m.next m.about c) (sym p3))
+      | to_end p0 p1 p2 ↦ (p2 ∙ ap (λ m. asks m.next m.about c) (sym p2))
+      | to_again p0 p1 p2 p3 p4 ↦ (p4 ∙ ap (λ m. asks m.next m.about c) (sym p4))
+      | to_fail p0 p1 p2 p3 ↦ (p3 ∙ ap (λ m. asks m.next m.about c) (sym p3))
     ]
 
 -- ---- what is known before stays
@@ -81,25 +71,6 @@ pub facts_turn : (c : Calling) (a : Answer) (n : Calling) → Turn c a n → n.f
 facts_turn c a n t =
     elim t [
       | t_begin p0 is ↦ ap (λ m. m.facts) is
-      | t_join p0 p1 p2 is ↦ ap (λ m. m.facts) is
-      | t_join_held p0 p1 p2 is ↦ ap (λ m. m.facts) is
-      | t_no_join p0 p1 is ↦ ap (λ m. m.facts) is
-      | t_once p0 p1 l ↦ ap (λ m. m.facts) (leads_same false true (gains a.value true (noted a c)) n l)
-      | t_missing p0 p1 p2 l ↦ ap (λ m. m.facts) (leads_same false true (lacks a.error (noted a c)) n l)
-      | t_not_once p0 p1 pf p2 is ↦ ap (λ m. m.facts) is
-      | t_not_once_held p0 p1 pf p2 is ↦ ap (λ m. m.facts) is
-      | t_there_place p0 p1 p2 p3 is ↦ ap (λ m. m.facts) is
-      | t_there_walk p0 p1 p2 p3 is ↦ ap (λ m. m.facts) is
-      | t_there_given p0 p1 p2 is ↦ ap (λ m. m.facts) is
-      | t_none_place p0 p1 p2 p3 is ↦ ap (λ m. m.facts) is
-      | t_none_walk p0 p1 p2 p3 is ↦ ap (λ m. m.facts) is
-      | t_none_given p0 p1 p2 is ↦ ap (λ m. m.facts) is
-      | t_alone p0 p1 is ↦ ap (λ m. m.facts) is
-      | t_proc p0 p1 is ↦ ap (λ m. m.facts) is
-      | t_own_place p0 p1 p2 p3 is ↦ ap (λ m. m.facts) is
-      | t_own_walk p0 p1 p2 p3 is ↦ ap (λ m. m.facts) is
-      | t_own_given p0 p1 p2 is ↦ ap (λ m. m.facts) is
-      | t_no_own p0 p1 is ↦ ap (λ m. m.facts) is
       | t_place p0 p1 l ↦ ap (λ m. m.facts) (leads_same false true (gains a.length false (noted a c)) n l)
       | t_no_place p0 p1 l ↦ ap (λ m. m.facts) (leads_same false true (lacks a.error (noted a c)) n l)
       | t_opened p0 p1 is ↦ ap (λ m. m.facts) is
@@ -115,35 +86,25 @@ facts_turn c a n t =
       | t_not_took p0 p1 is ↦ ap (λ m. m.facts) is
       | t_let_go p0 p1 l ↦ ap (λ m. m.facts) (leads_same false true (c) n l)
       | t_close_made p0 p1 is ↦ ap (λ m. m.facts) is
-      | t_closed p0 p1 l ↦ ap (λ m. m.facts) (leads_same false true (c) n l)
-      | t_closed_stuck p0 p1 is ↦ ap (λ m. m.facts) is
+      | t_closed p0 l ↦ ap (λ m. m.facts) (leads_same false true (c) n l)
       | t_same_proc p0 p1 l ↦ ap (λ m. m.facts) (leads_same false false (c) n l)
       | t_lost_proc p0 p1 is ↦ ap (λ m. m.facts) is
       | t_another p0 p1 is ↦ ap (λ m. m.facts) is
       | t_no_other p0 p1 l ↦ ap (λ m. m.facts) (leads_same false false (lacks a.error c) n l)
       | t_proc_closed p0 l ↦ ap (λ m. m.facts) (leads_same false false (record c { owns_proc = false }) n l)
-      | t_home p0 p1 l ↦ ap (λ m. m.facts) (leads_same false false (record c { moved = false }) n l)
-      | t_stuck_holds p0 p1 p2 is ↦ ap (λ m. m.facts) is
-      | t_stuck p0 p1 p2 is ↦ ap (λ m. m.facts) is
       | t_root p0 p1 l ↦ ap (λ m. m.facts) (leads_same true false (c) n l)
       | t_bad_root p0 p1 is ↦ ap (λ m. m.facts) is
     ]
 
 -- ---- histories
 
-home_owns : (c : Calling) → sound c ≡ true → c.next ≡ GO_HOME → c.owns_proc ≡ false
-home_owns c h at = let o = sound_owns c h in grind (arith, at, o)
-
 root_owns : (c : Calling) → sound c ≡ true → c.next ≡ LOOK_AT_ROOT → c.owns_proc ≡ false
 root_owns c h at = let o = sound_owns c h in grind (arith, at, o)
-
-root_moved : (c : Calling) → sound c ≡ true → c.next ≡ LOOK_AT_ROOT → c.moved ≡ false
-root_moved c h at = let o = sound_moved c h in grind (arith, at, o)
 
 pub a_turn : (c : Calling) (a : Answer) → sound c ≡ true → is_question c.next ≡ true
     → Turn c a (after_answer c.next a c)
 a_turn c a h question =
-    turn_at c a (asked_is c.next question) (home_owns c h) (root_owns c h) (root_moved c h)
+    turn_at c a (asked_is c.next question) (root_owns c h)
 
 start_facts : (facts : Facts) → (start facts).facts ≡ facts
 start_facts facts = refl

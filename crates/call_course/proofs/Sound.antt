@@ -6,8 +6,8 @@ use Rattle.call_course.specs.Turns.{asks, began, begun, first, gains, lacks, not
 use Rattle.call_course.specs.declared.calling.Calling.{Calling}
 use Rattle.call_course.specs.declared.calling.Answer.{Answer}
 use Rattle.call_course.specs.declared.calling.Facts.{Facts}
-use Rattle.call_course.specs.declared.calling.TheConstants.{BEGIN, JOIN, AT_ONCE, SECOND, FIND_PROC, OWN_ROOT, PLACE, CONVERSE, TAKE, LET_GO, CLOSE, LOOK_AT_PROC, ANOTHER_PROC, CLOSE_PROC, GO_HOME, LOOK_AT_ROOT, ENDS, FAILS}
-use Rattle.call_course.proofs.Leads.{First, f_given, f_check, f_check_place, f_place, f_join, f_once, first_is, made_of, Leads, Turn, to_proc, to_close, to_home, to_root, to_end, to_again, to_fail, t_begin, t_join, t_join_held, t_no_join, t_once, t_missing, t_not_once, t_not_once_held, t_there_place, t_there_walk, t_there_given, t_alone, t_proc, t_none_place, t_none_walk, t_none_given, t_own_place, t_own_walk, t_own_given, t_no_own, t_place, t_no_place, t_opened, t_text, t_cut, t_done, t_made, t_lost, t_unopened, t_count, t_fault, t_took, t_not_took, t_let_go, t_close_made, t_closed, t_closed_stuck, t_same_proc, t_lost_proc, t_another, t_no_other, t_proc_closed, t_home, t_stuck_holds, t_stuck, t_root, t_bad_root}
+use Rattle.call_course.specs.declared.calling.TheConstants.{BEGIN, PLACE, CONVERSE, TAKE, LET_GO, CLOSE, LOOK_AT_PROC, ANOTHER_PROC, CLOSE_PROC, LOOK_AT_ROOT, ENDS, FAILS}
+use Rattle.call_course.proofs.Leads.{First, f_given, f_place, f_walk, first_is, made_of, Leads, Turn, to_proc, to_close, to_root, to_end, to_again, to_fail, t_begin, t_place, t_no_place, t_opened, t_text, t_cut, t_done, t_made, t_lost, t_unopened, t_count, t_fault, t_took, t_not_took, t_let_go, t_close_made, t_closed, t_same_proc, t_lost_proc, t_another, t_no_other, t_proc_closed, t_root, t_bad_root}
 
 abbrev pub within : ℕ → ℕ → ℕ → Bool
 within low high n = nat_le low n && nat_le n high
@@ -16,11 +16,10 @@ within low high n = nat_le low n && nat_le n high
 abbrev pub holds_ok : Calling → Bool
 holds_ok c = (nat_lt TAKE c.next && (c.error == 0)) || not c.holds
 
--- there is no error yet, but that of a call that has failed before; or there is one
+-- there is no error yet; or there is one
 abbrev pub error_ok : Calling → Bool
 error_ok c =
-    (not (within JOIN TAKE c.next || (c.next == ENDS)) ||
-    ((c.error == 0) || (within SECOND OWN_ROOT c.next && not (c.facts.error == 0))))
+    (not (within PLACE TAKE c.next || (c.next == ENDS)) || (c.error == 0))
     && (not (within LOOK_AT_PROC ANOTHER_PROC c.next || ((c.next == LOOK_AT_ROOT) || (c.next == FAILS))) || not
     (c.error == 0))
 
@@ -28,20 +27,11 @@ error_ok c =
 abbrev pub made_ok : Calling → Bool
 made_ok c = within TAKE LET_GO c.next || (c.made == 0)
 
--- the thread could not go home
-abbrev pub stuck_ok : Calling → Bool
-stuck_ok c = (((c.next == CLOSE) || (c.next == FAILS)) && (not (c.error == 0) && (not c.owns_proc && not c.holds))) ||
-    not c.stuck
-
 -- the call's own /proc isn't closed yet
 abbrev pub owns_ok : Calling → Bool
 owns_ok c =
-    ((within JOIN CLOSE c.next || (c.next == CLOSE_PROC)) || not c.owns_proc) &&
+    ((within PLACE CLOSE c.next || (c.next == CLOSE_PROC)) || not c.owns_proc) &&
     (not (c.next == CLOSE_PROC) || c.owns_proc)
-
--- the thread isn't home yet, or can't go there
-abbrev pub moved_ok : Calling → Bool
-moved_ok c = (within JOIN GO_HOME c.next || ((c.next == FAILS) && c.stuck)) || not c.moved
 
 abbrev pub changed_ok : Calling → Bool
 changed_ok c = (not (within LOOK_AT_PROC ANOTHER_PROC c.next) && not (c.next == BEGIN)) || not c.changed
@@ -54,30 +44,28 @@ tries_ok c = nat_le c.tries TRIES && (not (c.next == BEGIN) || nat_lt c.tries TR
 
 -- nobody has looked at the root
 abbrev pub root_ok : Calling → Bool
-root_ok c = (not (c.next == LOOK_AT_ROOT) || (not c.stepped && not c.facts.jailed)) &&
+root_ok c = (not (c.next == LOOK_AT_ROOT) || not c.stepped) &&
     ((c.next == FAILS) || not c.is_root)
 
 abbrev pub sound : Calling → Bool
 sound c =
-    holds_ok c && (error_ok c && (made_ok c && (stuck_ok c && (owns_ok c && (moved_ok c && (changed_ok c
-    && (another_ok c && (tries_ok c && root_ok c))))))))
+    holds_ok c && (error_ok c && (made_ok c && (owns_ok c && (changed_ok c && (another_ok c && (tries_ok c && root_ok c))))))
 
 -- what is so before a try has ended
 abbrev pub ready : Calling → Bool
 ready c =
     ((c.error == 0) || not c.holds)
-    && ((c.made == 0) && (not c.stuck && (nat_le c.tries TRIES && not c.is_root)))
+    && ((c.made == 0) && (nat_le c.tries TRIES && not c.is_root))
 
 pub sound_leads : (seen may : Bool) (c n : Calling) → Leads seen may c n → ready c ≡ true → sound n ≡ true
 sound_leads seen may c n l r =
     elim l [
       | to_proc p0 p1 p2 ↦ grind (arith, p0, p1, p2, r)
       | to_close p0 p1 ↦ grind (arith, p0, p1, r)
-      | to_home p0 p1 p2 ↦ grind (arith, p0, p1, p2, r)
-      | to_root p0 p1 p2 p3 p4 ↦ grind (arith, p0, p1, p2, p3, p4, r)
-      | to_end p0 p1 p2 p3 ↦ grind (arith, p0, p1, p2, p3, r)
-      | to_again p0 p1 p2 p3 p4 p5 ↦ grind (arith, p0, p1, p2, p3, p4, p5, r)
-      | to_fail p0 p1 p2 p3 p4 ↦ grind (arith, p0, p1, p2, p3, p4, r)
+      | to_root p0 p1 p2 p3 ↦ grind (arith, p0, p1, p2, p3, r)
+      | to_end p0 p1 p2 ↦ grind (arith, p0, p1, p2, r)
+      | to_again p0 p1 p2 p3 p4 ↦ grind (arith, p0, p1, p2, p3, p4, r)
+      | to_fail p0 p1 p2 p3 ↦ grind (arith, p0, p1, p2, p3, r)
     ]
 
 -- with the number of what comes next in its place
@@ -92,12 +80,9 @@ sound_begun : (c : Calling) (k : ℕ) → sound (record c { next = BEGIN }) ≡ 
     → sound (begins c k) ≡ true
 sound_begun c k g f =
     elim f [
-      | f_given p0 p1 at ↦ subst (λ j. sound (begins c j) ≡ true) (sym at) (grind (arith, p0, p1, g))
-      | f_check p0 p1 at ↦ subst (λ j. sound (begins c j) ≡ true) (sym at) (grind (arith, p0, p1, g))
-      | f_check_place p0 p1 at ↦ subst (λ j. sound (begins c j) ≡ true) (sym at) (grind (arith, p0, p1, g))
-      | f_place p0 p1 at ↦ subst (λ j. sound (begins c j) ≡ true) (sym at) (grind (arith, p0, p1, g))
-      | f_join p0 at ↦ subst (λ j. sound (begins c j) ≡ true) (sym at) (grind (arith, p0, g))
-      | f_once p0 at ↦ subst (λ j. sound (begins c j) ≡ true) (sym at) (grind (arith, p0, g))
+      | f_given p0 at ↦ subst (λ j. sound (begins c j) ≡ true) (sym at) (grind (arith, p0, g))
+      | f_place p0 at ↦ subst (λ j. sound (begins c j) ≡ true) (sym at) (grind (arith, p0, g))
+      | f_walk p0 at ↦ subst (λ j. sound (begins c j) ≡ true) (sym at) (grind (arith, p0, g))
     ]
 
 abbrev anew : Calling → Answer → ℕ → Calling
@@ -107,12 +92,9 @@ sound_anew : (c : Calling) (a : Answer) (k : ℕ) → sound (record c { next = A
     → sound (anew c a k) ≡ true
 sound_anew c a k g f =
     elim f [
-      | f_given p0 p1 at ↦ subst (λ j. sound (anew c a j) ≡ true) (sym at) (grind (arith, p0, p1, g))
-      | f_check p0 p1 at ↦ subst (λ j. sound (anew c a j) ≡ true) (sym at) (grind (arith, p0, p1, g))
-      | f_check_place p0 p1 at ↦ subst (λ j. sound (anew c a j) ≡ true) (sym at) (grind (arith, p0, p1, g))
-      | f_place p0 p1 at ↦ subst (λ j. sound (anew c a j) ≡ true) (sym at) (grind (arith, p0, p1, g))
-      | f_join p0 at ↦ subst (λ j. sound (anew c a j) ≡ true) (sym at) (grind (arith, p0, g))
-      | f_once p0 at ↦ subst (λ j. sound (anew c a j) ≡ true) (sym at) (grind (arith, p0, g))
+      | f_given p0 at ↦ subst (λ j. sound (anew c a j) ≡ true) (sym at) (grind (arith, p0, g))
+      | f_place p0 at ↦ subst (λ j. sound (anew c a j) ≡ true) (sym at) (grind (arith, p0, g))
+      | f_walk p0 at ↦ subst (λ j. sound (anew c a j) ≡ true) (sym at) (grind (arith, p0, g))
     ]
 
 -- whichever error it is
@@ -125,44 +107,6 @@ sound_turn c a n t =
     elim t [
       | t_begin p0 is ↦ via BEGIN c (sound n ≡ true) p0
           (λ g. subst (λ m. sound m ≡ true) (sym is) (sound_begun c (first c.facts) g (first_is c.facts)))
-      | t_join p0 p1 p2 is ↦ via JOIN c (sound n ≡ true) p0
-          (λ g. subst (λ m. sound m ≡ true) (sym is) (grind (arith, p1, p2, g)))
-      | t_join_held p0 p1 p2 is ↦
-          via JOIN c (sound n ≡ true) p0 (λ g. subst (λ m. sound m ≡ true) (sym is) (grind (arith, p1, p2, g)))
-      | t_no_join p0 p1 is ↦ via JOIN c (sound n ≡ true) p0
-          (λ g. subst (λ m. sound m ≡ true) (sym is) (grind (arith, p1, g)))
-      | t_once p0 p1 l ↦ via AT_ONCE c (sound n ≡ true) p0
-          (λ g. sound_leads false true (gains a.value true (noted a c)) n l (grind (arith, p1, g)))
-      | t_missing p0 p1 p2 l ↦ via AT_ONCE c (sound n ≡ true) p0
-          (λ g. sound_leads false true (lacks a.error (noted a c)) n l (grind (arith, p1, g)))
-      | t_not_once p0 p1 pf p2 is ↦
-          via AT_ONCE c (sound n ≡ true) p0 (λ g. subst (λ m. sound m ≡ true) (sym is) (grind (arith, p1, pf, p2, g)))
-      | t_not_once_held p0 p1 pf p2 is ↦
-          via AT_ONCE c (sound n ≡ true) p0 (λ g. subst (λ m. sound m ≡ true) (sym is) (grind (arith, p1, pf, p2, g)))
-      | t_there_place p0 p1 p2 p3 is ↦
-          via SECOND c (sound n ≡ true) p0 (λ g. subst (λ m. sound m ≡ true) (sym is) (grind (arith, p1, p2, p3, g)))
-      | t_there_walk p0 p1 p2 p3 is ↦
-          via SECOND c (sound n ≡ true) p0 (λ g. subst (λ m. sound m ≡ true) (sym is) (grind (arith, p1, p2, p3, g)))
-      | t_there_given p0 p1 p2 is ↦
-          via SECOND c (sound n ≡ true) p0 (λ g. subst (λ m. sound m ≡ true) (sym is) (grind (arith, p1, p2, g)))
-      | t_none_place p0 p1 p2 p3 is ↦
-          via FIND_PROC c (sound n ≡ true) p0 (λ g. subst (λ m. sound m ≡ true) (sym is) (grind (arith, p1, p2, p3, g)))
-      | t_none_walk p0 p1 p2 p3 is ↦
-          via FIND_PROC c (sound n ≡ true) p0 (λ g. subst (λ m. sound m ≡ true) (sym is) (grind (arith, p1, p2, p3, g)))
-      | t_none_given p0 p1 p2 is ↦
-          via FIND_PROC c (sound n ≡ true) p0 (λ g. subst (λ m. sound m ≡ true) (sym is) (grind (arith, p1, p2, g)))
-      | t_alone p0 p1 is ↦ via SECOND c (sound n ≡ true) p0
-          (λ g. subst (λ m. sound m ≡ true) (sym is) (grind (arith, p1, g)))
-      | t_proc p0 p1 is ↦ via FIND_PROC c (sound n ≡ true) p0
-          (λ g. subst (λ m. sound m ≡ true) (sym is) (grind (arith, p1, g)))
-      | t_own_place p0 p1 p2 p3 is ↦
-          via OWN_ROOT c (sound n ≡ true) p0 (λ g. subst (λ m. sound m ≡ true) (sym is) (grind (arith, p1, p2, p3, g)))
-      | t_own_walk p0 p1 p2 p3 is ↦
-          via OWN_ROOT c (sound n ≡ true) p0 (λ g. subst (λ m. sound m ≡ true) (sym is) (grind (arith, p1, p2, p3, g)))
-      | t_own_given p0 p1 p2 is ↦
-          via OWN_ROOT c (sound n ≡ true) p0 (λ g. subst (λ m. sound m ≡ true) (sym is) (grind (arith, p1, p2, g)))
-      | t_no_own p0 p1 is ↦ via OWN_ROOT c (sound n ≡ true) p0
-          (λ g. subst (λ m. sound m ≡ true) (sym is) (grind (arith, p1, g)))
       | t_place p0 p1 l ↦ via PLACE c (sound n ≡ true) p0
           (λ g. sound_leads false true (gains a.length false (noted a c)) n l (grind (arith, p1, g)))
       | t_no_place p0 p1 l ↦ via PLACE c (sound n ≡ true) p0
@@ -198,9 +142,7 @@ sound_turn c a n t =
       | t_let_go p0 p1 l ↦ via LET_GO c (sound n ≡ true) p0 (λ g. sound_leads false true (c) n l (grind (arith, p1, g)))
       | t_close_made p0 p1 is ↦
           via LET_GO c (sound n ≡ true) p0 (λ g. subst (λ m. sound m ≡ true) (sym is) (grind (arith, p1, g)))
-      | t_closed p0 p1 l ↦ via CLOSE c (sound n ≡ true) p0 (λ g. sound_leads false true (c) n l (grind (arith, p1, g)))
-      | t_closed_stuck p0 p1 is ↦
-          via CLOSE c (sound n ≡ true) p0 (λ g. subst (λ m. sound m ≡ true) (sym is) (grind (arith, p1, g)))
+      | t_closed p0 l ↦ via CLOSE c (sound n ≡ true) p0 (λ g. sound_leads false true (c) n l (grind (arith, g)))
       | t_same_proc p0 p1 l ↦ via LOOK_AT_PROC c (sound n ≡ true) p0
           (λ g. sound_leads false false (c) n l (grind (arith, p1, g)))
       | t_lost_proc p0 p1 is ↦
@@ -211,12 +153,6 @@ sound_turn c a n t =
           (λ g. sound_leads false false (lacks a.error c) n l (grind (arith, p1, g)))
       | t_proc_closed p0 l ↦ via CLOSE_PROC c (sound n ≡ true) p0
           (λ g. sound_leads false false (record c { owns_proc = false }) n l (grind (arith, g)))
-      | t_home p0 p1 l ↦ via GO_HOME c (sound n ≡ true) p0
-          (λ g. sound_leads false false (record c { moved = false }) n l (grind (arith, p1, g)))
-      | t_stuck_holds p0 p1 p2 is ↦
-          via GO_HOME c (sound n ≡ true) p0 (λ g. subst (λ m. sound m ≡ true) (sym is) (grind (arith, p1, p2, g)))
-      | t_stuck p0 p1 p2 is ↦ via GO_HOME c (sound n ≡ true) p0
-          (λ g. subst (λ m. sound m ≡ true) (sym is) (grind (arith, p1, p2, g)))
       | t_root p0 p1 l ↦ via LOOK_AT_ROOT c (sound n ≡ true) p0
           (λ g. sound_leads true false (c) n l (grind (arith, p1, g)))
       | t_bad_root p0 p1 is ↦ via LOOK_AT_ROOT c (sound n ≡ true) p0

@@ -1,5 +1,5 @@
 -- What holds of every history.
-use Rattle.std.specs.Prelude.{◌≡◌, ◌≢◌, ℕ, suc, ◌+◌, ◌-◌, List, [], ◌∷◌, ◌++◌, ◌==◌, ◌⊎◌, Bool, true, false, ◌&&◌, ◌||◌, not, if◌then◌else◌, nat_le}
+use Rattle.std.specs.Prelude.{◌≡◌, ℕ, suc, ◌+◌, ◌-◌, List, [], ◌∷◌, ◌++◌, ◌==◌, Bool, false, ◌&&◌, ◌||◌, not, if◌then◌else◌, nat_le}
 use Rattle.system_calls.specs.Errors.{EAGAIN, ENOMEM}
 use Rattle.system_calls.specs.Held.{without}
 use Rattle.call_course.specs.Turns.{reply_error, root_error, COUNT, DONE, OPENED, TEXT}
@@ -7,21 +7,21 @@ use Rattle.call_course.specs.History.{Exchange}
 use Rattle.call_course.specs.declared.calling.Answer.{Answer}
 use Rattle.call_course.specs.declared.calling.Calling.{Calling}
 use Rattle.call_course.specs.declared.calling.Facts.{Facts}
-use Rattle.call_course.specs.declared.calling.TheConstants.{BEGIN, JOIN, AT_ONCE, SECOND, FIND_PROC, OWN_ROOT, PLACE, CONVERSE, TAKE, CLOSE, ANOTHER_PROC, CLOSE_PROC, GO_HOME, LOOK_AT_ROOT}
+use Rattle.call_course.specs.declared.calling.TheConstants.{BEGIN, PLACE, CONVERSE, TAKE, CLOSE, ANOTHER_PROC, CLOSE_PROC, LOOK_AT_ROOT}
 
 -- what a try does: its answers say what is known of the try
 abbrev pub is_walk : ℕ → Bool
-is_walk asked = nat_le JOIN asked && nat_le asked TAKE
+is_walk asked = nat_le PLACE asked && nat_le asked TAKE
 
 abbrev pub went_well : ℕ → Exchange → Bool
 went_well asked e = (e.asked == asked) && (e.gave.error == 0)
 
 -- ---- descriptors
 
--- those that a thing opened: what one system call opened, or was taken out of its handle; and what was made
+-- those that a thing opened: what was taken out of its handle; and what was made
 abbrev pub opened_by : Exchange → List ℕ
 opened_by e =
-    if went_well AT_ONCE e || went_well TAKE e then e.gave.value ∷ []
+    if went_well TAKE e then e.gave.value ∷ []
     else (if (e.asked == CONVERSE) && not (e.gave.made == 0) then (e.gave.made - 1) ∷ [] else [])
 
 abbrev pub closed_by : Exchange → List ℕ → List ℕ
@@ -69,14 +69,6 @@ abbrev pub others_after : List Exchange → ℕ
 others_after [] = 0
 others_after (e ∷ older) = others_by e (others_after older)
 
--- whether the thread is away from its root directory
-abbrev pub away_by : Exchange → Bool → Bool
-away_by e was = if is_walk e.asked then e.gave.moved else (if went_well GO_HOME e then false else was)
-
-abbrev pub away_after : List Exchange → Bool
-away_after [] = false
-away_after (e ∷ older) = away_by e (away_after older)
-
 -- whether a step was made since the try began, or began anew
 abbrev pub stepped_by : Exchange → Bool → Bool
 stepped_by e was =
@@ -105,17 +97,14 @@ error_of facts a =
 abbrev pub last_error : ℕ → ℕ → ℕ
 last_error error before = if error == 0 then before else error
 
--- The error of the last thing that has one. That openat2(2) isn't there, or no /proc, is none of the call.
+-- the error of the last thing that has one
 abbrev pub why_by : Facts → Exchange → ℕ → ℕ
 why_by facts e before =
     if e.asked == BEGIN then facts.error
-    else (if e.asked == AT_ONCE then (if e.gave.fails then e.gave.error else 0)
     else (if e.asked == CONVERSE then error_of facts e.gave
     else (if e.asked == ANOTHER_PROC then last_error e.gave.error facts.error
-    else (if (e.asked == OWN_ROOT) || (e.asked == GO_HOME) then last_error e.gave.error before
-    else (if (e.asked == SECOND) || (e.asked == FIND_PROC) then before
     else (if is_walk e.asked then e.gave.error
-    else (if e.asked == LOOK_AT_ROOT then last_error (root_error e.gave) before else before)))))))
+    else (if e.asked == LOOK_AT_ROOT then last_error (root_error e.gave) before else before))))
 
 abbrev pub why_after : Facts → List Exchange → ℕ
 why_after facts [] = facts.error
@@ -130,53 +119,6 @@ abbrev pub RootHas : ℕ → List Exchange → Type 0
 RootHas error [] = ⊥
 RootHas error (e ∷ older) = (e.asked ≡ LOOK_AT_ROOT) × (root_error e.gave ≡ error)
 
--- ---- the thread's own root
-
--- what its check asks for
-abbrev pub is_check : ℕ → Bool
-is_check asked = nat_le SECOND asked && nat_le asked OWN_ROOT
-
--- Nothing is in the way: the thread has openat2(2); or there is no /proc to be read; or that can distinguish the root.
-abbrev pub passes : Exchange → Bool
-passes e =
-    if e.asked == FIND_PROC then not (e.gave.error == 0)
-    else ((e.asked == SECOND) || (e.asked == OWN_ROOT)) && (e.gave.error == 0)
-
--- whether it was checked since the try began, or began anew
-abbrev pub checked_by : Exchange → Bool → Bool
-checked_by e was =
-    if (e.asked == BEGIN) || went_well ANOTHER_PROC e then false
-    else (if (e.asked == OWN_ROOT) || passes e then true else was)
-
-abbrev pub checked_after : List Exchange → Bool
-checked_after [] = false
-checked_after (e ∷ older) = checked_by e (checked_after older)
-
--- the error of that check in this try, or why there was no other /proc for it; or 0
-abbrev pub check_error_by : Exchange → ℕ → ℕ
-check_error_by e before =
-    if e.asked == BEGIN then 0
-    else (if (e.asked == OWN_ROOT) || (e.asked == ANOTHER_PROC) then e.gave.error else before)
-
-abbrev pub check_error_after : List Exchange → ℕ
-check_error_after [] = 0
-check_error_after (e ∷ older) = check_error_by e (check_error_after older)
-
--- it was checked last, and nothing is in the way
-abbrev pub IsChecked : List Exchange → Type 0
-IsChecked [] = ⊥
-IsChecked (e ∷ older) = passes e ≡ true
-
--- openat2(2) was asked for last, and isn't there
-abbrev pub IsAlone : List Exchange → Type 0
-IsAlone [] = ⊥
-IsAlone (e ∷ older) = (e.asked ≡ SECOND) × (e.gave.error ≢ 0)
-
--- a /proc was found last, and right before openat2(2) wasn't there
-abbrev pub IsNeeded : List Exchange → Type 0
-IsNeeded [] = ⊥
-IsNeeded (e ∷ older) = (e.asked ≡ FIND_PROC) × ((e.gave.error ≡ 0) × IsAlone older)
-
 -- ---- the result
 
 abbrev pub reply_value : Facts → Answer → ℕ → ℕ
@@ -190,7 +132,7 @@ reply_value facts a before =
 abbrev pub value_by : Facts → Exchange → ℕ → ℕ
 value_by facts e before =
     if e.asked == BEGIN then 0
-    else (if went_well AT_ONCE e || went_well TAKE e then e.gave.value
+    else (if went_well TAKE e then e.gave.value
     else (if went_well PLACE e then e.gave.length
     else (if e.asked == CONVERSE then reply_value facts e.gave before
     else (if went_well ANOTHER_PROC e then 0 else before))))
@@ -198,14 +140,6 @@ value_by facts e before =
 abbrev pub value_after : Facts → List Exchange → ℕ
 value_after facts [] = 0
 value_after facts (e ∷ older) = value_by facts e (value_after facts older)
-
--- ---- the way home
-
--- The thread could not go home, by this error. Then what the call had was closed.
-abbrev pub HomeFailed : ℕ → List Exchange → Type 0
-HomeFailed error [] = ⊥
-HomeFailed error (e ∷ older) =
-    ((e.asked ≡ GO_HOME) × (e.gave.error ≡ error)) ⊎ ((e.asked ≡ CLOSE) × HomeFailed error older)
 
 -- ---- the end
 

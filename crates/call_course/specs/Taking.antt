@@ -3,13 +3,9 @@ use Rattle.std.specs.Prelude.{◌≡◌, ℕ, List, [], ◌∷◌, ◌==◌, ◌
 use Rattle.system_calls.specs.Errors.{ENOMEM}
 use Rattle.call_course.specs.declared.taking.Taking.{Taking}
 
--- The handle's descriptor is shared with the caller, whose own it is; it is a copy of that; it is held.
-abbrev pub taken : Bool → Bool → Bool → Taking
-taken shared copied held = record {
-  error = if shared || held then 0 else ENOMEM;
-  anew = shared || (copied && held);
-  closes = copied && (held && not shared);
-}
+-- The handle's descriptor is shared with the caller, whose own it is; it is held.
+abbrev pub taken : Bool → Bool → Taking
+taken shared held = record { error = if shared || held then 0 else ENOMEM; anew = shared }
 
 -- ---- what a driver has that does so
 
@@ -25,14 +21,10 @@ had shared held fd = if held && not shared then fd ∷ [] else []
 abbrev pub opened_by : Taking → Option ℕ → List ℕ
 opened_by t anew = if t.anew then listed anew else []
 
-abbrev pub closed_by : Taking → ℕ → List ℕ
-closed_by t fd = if t.closes then fd ∷ [] else []
-
 abbrev pub given_by : Taking → ℕ → Option ℕ → Option ℕ
 given_by t fd anew = if not (t.error == 0) then None else (if t.anew then anew else Some fd)
 
 -- the handle's own descriptor, of which the caller has none yet; or one that was opened anew
-abbrev pub IsOwn : Bool → Bool → Bool → ℕ → Option ℕ → ℕ → Type 0
-IsOwn shared copied held fd anew given =
-    ((held ≡ true) × (((shared || copied) ≡ false) × (given ≡ fd)))
-    ⊎ (opened_by (taken shared copied held) anew ≡ given ∷ [])
+abbrev pub IsOwn : Bool → Bool → ℕ → Option ℕ → ℕ → Type 0
+IsOwn shared held fd anew given =
+    ((held ≡ true) × ((shared ≡ false) × (given ≡ fd))) ⊎ (opened_by (taken shared held) anew ≡ given ∷ [])

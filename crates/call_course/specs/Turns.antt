@@ -6,7 +6,7 @@ use Rattle.system_calls.specs.Tries.{is_due, pause_after, TRIES}
 use Rattle.call_course.specs.declared.calling.Answer.{Answer}
 use Rattle.call_course.specs.declared.calling.Calling.{Calling}
 use Rattle.call_course.specs.declared.calling.Facts.{Facts}
-use Rattle.call_course.specs.declared.calling.TheConstants.{BEGIN, JOIN, AT_ONCE, SECOND, FIND_PROC, OWN_ROOT, PLACE, CONVERSE, TAKE, LET_GO, CLOSE, LOOK_AT_PROC, ANOTHER_PROC, CLOSE_PROC, GO_HOME, LOOK_AT_ROOT, ENDS, FAILS}
+use Rattle.call_course.specs.declared.calling.TheConstants.{BEGIN, PLACE, CONVERSE, TAKE, LET_GO, CLOSE, LOOK_AT_PROC, ANOTHER_PROC, CLOSE_PROC, LOOK_AT_ROOT, ENDS, FAILS}
 
 abbrev pub OPENED : ℕ
 OPENED = 32
@@ -47,16 +47,13 @@ over c =
 
 -- no step was made, so that nobody has looked at the root yet
 abbrev pub is_unseen : Calling → Bool
-is_unseen c = not (c.error == 0) && (not c.stepped && not c.facts.jailed)
+is_unseen c = not (c.error == 0) && not c.stepped
 
 abbrev pub judged : Calling → Calling
 judged c = if is_unseen c then asks LOOK_AT_ROOT 0 c else over c
 
-abbrev pub homeward : Calling → Calling
-homeward c = if c.moved then asks GO_HOME 0 c else judged c
-
 abbrev pub after_proc : Calling → Calling
-after_proc c = if c.owns_proc then asks CLOSE_PROC 0 c else homeward c
+after_proc c = if c.owns_proc then asks CLOSE_PROC 0 c else judged c
 
 -- It failed as it would without a /proc (ENOSYS, ENOTDIR; inroot.h), changed nothing, and had one that is the
 -- library's: the first one of the try.
@@ -79,31 +76,15 @@ abbrev pub noted : Answer → Calling → Calling
 noted a c = record c {
   stepped = c.stepped || a.stepped;
   changed = c.changed || (a.changed && not c.facts.finds_again);
-  moved = a.moved;
   has_proc = a.has_proc;
   owns_proc = c.owns_proc || a.owns_proc;
 }
 
--- Where the root is a directory that is held, no place is asked for by a text. In a jail the text is that of the
--- thread's own root.
-abbrev pub needs_no_check : Facts → Bool
-needs_no_check facts = facts.held || facts.jailed
-
--- Else the thread's own root is checked before, which begins with the question whether openat2(2) is there.
-abbrev pub checked : ℕ → Facts → ℕ
-checked next facts = if needs_no_check facts then next else SECOND
-
--- what comes after that check
-abbrev pub after_own_root : Facts → ℕ
-after_own_root facts = if not (facts.error == 0) then LET_GO else (if facts.places then PLACE else CONVERSE)
-
--- a try of a call that has failed before makes that check, and nothing else
+-- a try of a call that has failed before does nothing
 abbrev pub first : Facts → ℕ
-first facts =
-    if not (facts.error == 0) || facts.places then checked (after_own_root facts) facts
-    else (if facts.from then JOIN else AT_ONCE)
+first facts = if not (facts.error == 0) then LET_GO else (if facts.places then PLACE else CONVERSE)
 
--- nothing but where the thread is, and the error by which the call has failed before
+-- nothing but the error by which the call has failed before
 abbrev pub begun : Calling → Calling
 begun c = record c {
   value = 0;
@@ -120,23 +101,7 @@ begun c = record c {
 }
 
 abbrev pub began : Calling → Calling
-began c = record (begun c) { tries = (if nat_lt c.tries TRIES then suc c.tries else c.tries); moved = false }
-
-abbrev pub answered : Answer → ℕ → Calling → Calling
-answered a next c = if a.error == 0 then asks next 0 (noted a c) else asks LET_GO 0 (lacks a.error (noted a c))
-
-abbrev pub at_once : Answer → Calling → Calling
-at_once a c =
-    if a.error == 0 then ended (gains a.value true (noted a c))
-    else (if a.fails then ended (lacks a.error (noted a c)) else asks (checked CONVERSE c.facts) 0 (noted a c))
-
--- With openat2(2) /proc has not to distinguish anything: a second witness says what is below the root.
-abbrev pub has_second : Answer → Calling → Calling
-has_second a c = asks (if a.error == 0 then after_own_root c.facts else FIND_PROC) 0 (noted a c)
-
--- Without a /proc there is nothing to check: the first question for a place says why there is none.
-abbrev pub found_proc : Answer → Calling → Calling
-found_proc a c = asks (if a.error == 0 then OWN_ROOT else after_own_root c.facts) 0 (noted a c)
+began c = record (begun c) { tries = (if nat_lt c.tries TRIES then suc c.tries else c.tries) }
 
 abbrev pub placed : Answer → Calling → Calling
 placed a c = if a.error == 0 then ended (gains a.length false (noted a c)) else ended (lacks a.error (noted a c))
@@ -176,9 +141,6 @@ took a c =
 
 -- ---- behind a try
 
-abbrev pub after_close : Calling → Calling
-after_close c = if c.stuck then asks FAILS 0 c else ended c
-
 abbrev pub looked_at_proc : Answer → Calling → Calling
 looked_at_proc a c = if a.error == 0 then after_proc c else asks ANOTHER_PROC 0 c
 
@@ -186,15 +148,6 @@ abbrev pub went_by_another : Answer → Calling → Calling
 went_by_another a c =
     if a.error == 0 then record (begun c) { has_proc = true; owns_proc = a.owns_proc; by_another = true }
     else after_proc (lacks a.error c)
-
--- the thread can't go home: the call fails by that, and what it has is closed
-abbrev pub stuck : ℕ → Calling → Calling
-stuck error c =
-    if c.holds then asks CLOSE c.value (record c { error = error; holds = false; stuck = true })
-    else asks FAILS 0 (record c { error = error; holds = false; stuck = true })
-
-abbrev pub went_home : Answer → Calling → Calling
-went_home a c = if a.error == 0 then judged (record c { moved = false }) else stuck a.error c
 
 -- fstat(2)'s error; or it is no directory
 abbrev pub directory_error : ℕ → ℕ → ℕ
@@ -223,29 +176,21 @@ start facts = record {
   is_root = false;
   stepped = false;
   changed = false;
-  moved = false;
   has_proc = false;
   owns_proc = false;
   by_another = false;
-  stuck = false;
 }
 
 -- after what came next gave this
 abbrev pub after_answer : ℕ → Answer → Calling → Calling
 after_answer asked a c =
     if asked == BEGIN then began c
-    else (if asked == JOIN then answered a (checked CONVERSE c.facts) c
-    else (if asked == AT_ONCE then at_once a c
-    else (if asked == SECOND then has_second a c
-    else (if asked == FIND_PROC then found_proc a c
-    else (if asked == OWN_ROOT then answered a (after_own_root c.facts) c
     else (if asked == PLACE then placed a c
     else (if asked == CONVERSE then conversed a c
     else (if asked == TAKE then took a c
     else (if asked == LET_GO then let_go c
-    else (if asked == CLOSE then after_close c
+    else (if asked == CLOSE then ended c
     else (if asked == LOOK_AT_PROC then looked_at_proc a c
     else (if asked == ANOTHER_PROC then went_by_another a c
-    else (if asked == CLOSE_PROC then homeward (record c { owns_proc = false })
-    else (if asked == GO_HOME then went_home a c
-    else looked_at_root a c))))))))))))))
+    else (if asked == CLOSE_PROC then judged (record c { owns_proc = false })
+    else looked_at_root a c))))))))

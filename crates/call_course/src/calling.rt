@@ -2,80 +2,55 @@
 ghost use Rattle.std.specs.Prelude.{◌≡◌, List, [], ◌∷◌, true, false};
 ghost use Rattle.call_course.specs.History.{exchange, is_question, Exchange, IsAt};
 
-use crate::ending::{homeward, let_go};
+use crate::ending::{ended, judged, let_go};
 use crate::turns::{
-    after_close, after_own_root, answered, at_once, began, checked, conversed, found_proc,
-    has_second, looked_at_proc, looked_at_root, placed, took, went_by_another, went_home,
+    began, conversed, looked_at_proc, looked_at_root, placed, took, went_by_another,
 };
 
 /// A try begins, after a pause of so many nanoseconds: nothing is known of it.
 pub const BEGIN: u8 = 1;
 
-/// The place of the directory at which the paths begin is asked for, and its names are put before them.
-pub const JOIN: u8 = 2;
-
-/// One system call opens the whole path.
-pub const AT_ONCE: u8 = 3;
-
-/// It is asked whether the thread has openat2(2), the second witness for a place.
-pub const SECOND: u8 = 4;
-
-/// A /proc is found for the call.
-pub const FIND_PROC: u8 = 5;
-
-/// It is checked that this /proc can distinguish the thread's own root directory from outside.
-pub const OWN_ROOT: u8 = 6;
-
 /// The place of the object is asked for, which is the call's reply.
-pub const PLACE: u8 = 7;
+pub const PLACE: u8 = 2;
 
 /// The proved call is driven to its reply.
-pub const CONVERSE: u8 = 8;
+pub const CONVERSE: u8 = 3;
 
 /// What it opened is taken out of its handle.
-pub const TAKE: u8 = 9;
+pub const TAKE: u8 = 4;
 
 /// All that a try holds beside is closed.
-pub const LET_GO: u8 = 10;
+pub const LET_GO: u8 = 5;
 
 /// This descriptor is closed.
-pub const CLOSE: u8 = 11;
+pub const CLOSE: u8 = 6;
 
 /// It is looked at whether the number of /proc is another file's by now.
-pub const LOOK_AT_PROC: u8 = 12;
+pub const LOOK_AT_PROC: u8 = 7;
 
-/// Another /proc is opened, and the try begins anew by it: nothing is known but where the thread is.
-pub const ANOTHER_PROC: u8 = 13;
+/// Another /proc is opened, and the try begins anew by it.
+pub const ANOTHER_PROC: u8 = 8;
 
 /// The /proc that is the call's own is closed.
-pub const CLOSE_PROC: u8 = 14;
-
-/// The thread goes to its root directory: chdir(2).
-pub const GO_HOME: u8 = 15;
+pub const CLOSE_PROC: u8 = 9;
 
 /// The root is looked at: fstat(2).
-pub const LOOK_AT_ROOT: u8 = 16;
+pub const LOOK_AT_ROOT: u8 = 10;
 
 /// Nothing comes: the call has its result.
-pub const ENDS: u8 = 17;
+pub const ENDS: u8 = 11;
 
 /// Nothing comes: it failed by an error.
-pub const FAILS: u8 = 18;
+pub const FAILS: u8 = 12;
 
 /// What is known of a call before its first try.
 #[repr(C)]
 #[derive(Clone, Copy, Debug, PartialEq, Eq)]
 pub struct Facts {
-    /// 0; or it has failed by this error, which comes behind those of its root, and of OWN_ROOT.
+    /// 0; or it has failed by this error, which comes behind those of its root.
     pub error: u32,
-    /// Its root is the thread's own root directory.
-    pub jailed: bool,
-    /// Its paths begin at a directory below the root.
-    pub from: bool,
     /// It asks for the place of an object, and walks nothing.
     pub places: bool,
-    /// Its root is a directory that another call has come to: no place is asked for by a text.
-    pub held: bool,
     /// It makes an entry, and gives a descriptor of it.
     pub gives: bool,
     /// What it makes, another try finds: it makes all missing directories of a path.
@@ -88,14 +63,12 @@ pub struct Facts {
 #[repr(C)]
 #[derive(Clone, Copy, Debug, PartialEq, Eq)]
 pub struct Answer {
-    /// Of AT_ONCE and TAKE without an error, the descriptor. Of CONVERSE a count. Of LOOK_AT_ROOT the kind
+    /// Of TAKE without an error, the descriptor. Of CONVERSE a count. Of LOOK_AT_ROOT the kind
     /// (`system_calls::kind_of`).
     pub value: u64,
     /// How long a text is: of CONVERSE, and of PLACE.
     pub length: u64,
-    /// 0, or the number of an error (errno(3)). Of AT_ONCE any number but 0 says that it opened nothing; the steps
-    /// decide then, unless it `fails`. Of SECOND any says that openat2(2) isn't there, and of FIND_PROC that no /proc
-    /// is. Of LOOK_AT_PROC one says that the number is another file's by now.
+    /// 0, or the number of an error (errno(3)). Of LOOK_AT_PROC any number but 0 says that it is another file's by now.
     pub error: u32,
     /// Of CONVERSE: 0, or the kernel's error for which a step wasn't made.
     pub unmade: u32,
@@ -107,14 +80,10 @@ pub struct Answer {
     pub reply: u8,
     /// Of CONVERSE: the text is whole.
     pub whole: bool,
-    /// Of AT_ONCE: the call fails by the error.
-    pub fails: bool,
     /// Of a try's things: a step was made.
     pub stepped: bool,
     /// An entry was made, removed or renamed.
     pub changed: bool,
-    /// The thread isn't at its root directory.
-    pub moved: bool,
     /// A /proc is in use.
     pub has_proc: bool,
     /// It is the call's own, also after ANOTHER_PROC.
@@ -144,13 +113,10 @@ pub struct Calling {
     pub is_root: bool,
     pub stepped: bool,
     pub changed: bool,
-    pub moved: bool,
     pub has_proc: bool,
     pub owns_proc: bool,
     /// The try has begun anew by another /proc.
     pub by_another: bool,
-    /// The thread could not go home.
-    pub stuck: bool,
 }
 
 /// Begins a call. Takes no memory.
@@ -169,11 +135,9 @@ pub fn begin(facts: &Facts) -> Calling
         is_root: false,
         stepped: false,
         changed: false,
-        moved: false,
         has_proc: false,
         owns_proc: false,
         by_another: false,
-        stuck: false,
     }
 }
 
@@ -186,23 +150,17 @@ pub fn next(calling: Calling, answer: &Answer) -> Calling
 {
     match calling.next {
         BEGIN => began(calling),
-        JOIN => answered(calling, answer, checked(calling.facts, CONVERSE)),
-        AT_ONCE => at_once(calling, answer),
-        SECOND => has_second(calling, answer),
-        FIND_PROC => found_proc(calling, answer),
-        OWN_ROOT => answered(calling, answer, after_own_root(calling.facts)),
         PLACE => placed(calling, answer),
         CONVERSE => conversed(calling, answer),
         TAKE => took(calling, answer),
         LET_GO => let_go(calling),
-        CLOSE => after_close(calling),
+        CLOSE => ended(calling),
         LOOK_AT_PROC => looked_at_proc(calling, answer),
         ANOTHER_PROC => went_by_another(calling, answer),
-        CLOSE_PROC => homeward(Calling {
+        CLOSE_PROC => judged(Calling {
             owns_proc: false,
             ..calling
         }),
-        GO_HOME => went_home(calling, answer),
         LOOK_AT_ROOT => looked_at_root(calling, answer),
         _ => calling,
     }

@@ -1,9 +1,9 @@
-//! From a try to the call's end: what is closed, the way home, the root's own errors, another try.
+//! From a try to the call's end: what is closed, the root's own errors, another try.
 ghost use Rattle.std.specs.Prelude.{◌≡◌};
-ghost use Rattle.call_course.specs.Turns.{after_proc, asks, ended, gains, homeward, judged, lacks, let_go, may_go_by_another, over};
+ghost use Rattle.call_course.specs.Turns.{after_proc, asks, ended, gains, judged, lacks, let_go, may_go_by_another, over};
 
 use crate::calling::{
-    BEGIN, CLOSE, CLOSE_PROC, Calling, ENDS, FAILS, GO_HOME, LOOK_AT_PROC, LOOK_AT_ROOT,
+    BEGIN, CLOSE, CLOSE_PROC, Calling, ENDS, FAILS, LOOK_AT_PROC, LOOK_AT_ROOT,
 };
 use system_calls::errors::{ENOSYS, ENOTDIR};
 use system_calls::next_try;
@@ -45,20 +45,10 @@ pub(crate) fn over(c: Calling) -> Calling
 pub(crate) fn judged(c: Calling) -> Calling
     ensures { result ≡ judged c }
 {
-    if c.error != 0 && !c.stepped && !c.facts.jailed {
+    if c.error != 0 && !c.stepped {
         asks(c, LOOK_AT_ROOT, 0)
     } else {
         over(c)
-    }
-}
-
-pub(crate) fn homeward(c: Calling) -> Calling
-    ensures { result ≡ homeward c }
-{
-    if c.moved {
-        asks(c, GO_HOME, 0)
-    } else {
-        judged(c)
     }
 }
 
@@ -68,7 +58,7 @@ pub(crate) fn after_proc(c: Calling) -> Calling
     if c.owns_proc {
         asks(c, CLOSE_PROC, 0)
     } else {
-        homeward(c)
+        judged(c)
     }
 }
 

@@ -3,11 +3,10 @@ ghost use Rattle.std.specs.Prelude.{◌≡◌, ◌≢◌, ◌≤◌, ◌⊎◌, 
 ghost use Rattle.system_calls.specs.Errors.{EAGAIN, ENOMEM};
 ghost use Rattle.system_calls.specs.Tries.{TRIES};
 ghost use Rattle.call_course.specs.History.{next_after, Exchange, IsHistory};
-ghost use Rattle.call_course.specs.Promises.{away_after, begun_after, changed_after, check_error_after, checked_after, given, is_check, is_own_error, is_walk, last_error, open_after, others_after, owns_after, pauses_of, stepped_after, value_after, why_after, HomeFailed, IsChecked, IsNeeded, LastWas, RootHas};
-ghost use Rattle.call_course.specs.Taking.{closed_by, given_by, had, listed, opened_by, taken, IsOwn};
-ghost use Rattle.call_course.specs.Turns.{needs_no_check};
+ghost use Rattle.call_course.specs.Promises.{begun_after, changed_after, given, is_own_error, is_walk, open_after, others_after, owns_after, pauses_of, stepped_after, value_after, why_after, LastWas, RootHas};
+ghost use Rattle.call_course.specs.Taking.{given_by, had, listed, opened_by, taken, IsOwn};
 ghost use Rattle.call_course.specs.declared.calling.Facts.{Facts};
-ghost use Rattle.call_course.specs.declared.calling.TheConstants.{BEGIN, OWN_ROOT, PLACE, CONVERSE, CLOSE, ANOTHER_PROC, CLOSE_PROC, LOOK_AT_ROOT, ENDS, FAILS};
+ghost use Rattle.call_course.specs.declared.calling.TheConstants.{BEGIN, CLOSE, ANOTHER_PROC, CLOSE_PROC, LOOK_AT_ROOT, ENDS, FAILS};
 
 /// What a call gives is what it gained last. If that is a descriptor, it is open, and nothing else is that the call
 /// opened. A call that fails has closed all of it. It closes what is open.
@@ -25,17 +24,16 @@ pub fn what_is_given_is_all_that_stays_open()
         → (next_after facts history).next ≡ BEGIN → open_after history ≡ [] }
 {}
 
-/// What a call takes out of a handle is the handle's descriptor, which is neither the caller's own nor a copy of that;
-/// or one that was opened anew. The handle's descriptor, unless it is the caller's own, and the one that was opened are
-/// each given or closed, once. There is no error but ENOMEM of a descriptor that was let go, and that of the opening.
+/// What a call takes out of a handle is the handle's descriptor, which isn't the caller's own; or one that was opened
+/// anew. The handle's descriptor, unless it is the caller's own, and the one that was opened are each given, once. There
+/// is no error but ENOMEM of a descriptor that was let go, and that of the opening.
 pub fn what_is_taken_is_the_calls_own()
-    ensures own { (shared copied held : Bool) (fd given : ℕ) (anew : Option ℕ)
-        → given_by (taken shared copied held) fd anew ≡ Some given → IsOwn shared copied held fd anew given }
-    ensures once { (shared copied held : Bool) (fd : ℕ) (anew : Option ℕ)
-        → opened_by (taken shared copied held) anew ++ had shared held fd
-        ≡ listed (given_by (taken shared copied held) fd anew) ++ closed_by (taken shared copied held) fd }
-    ensures fails { (shared copied held : Bool) → (taken shared copied held).error ≢ 0
-        → ((taken shared copied held).error ≡ ENOMEM) × (held ≡ false) }
+    ensures own { (shared held : Bool) (fd given : ℕ) (anew : Option ℕ)
+        → given_by (taken shared held) fd anew ≡ Some given → IsOwn shared held fd anew given }
+    ensures once { (shared held : Bool) (fd : ℕ) (anew : Option ℕ)
+        → opened_by (taken shared held) anew ++ had shared held fd ≡ listed (given_by (taken shared held) fd anew) }
+    ensures fails { (shared held : Bool) → (taken shared held).error ≢ 0
+        → ((taken shared held).error ≡ ENOMEM) × (held ≡ false) }
 {}
 
 /// A /proc of the call's own is closed while it is open, and is closed in the end, and before another try.
@@ -71,52 +69,28 @@ pub fn tries_are_few()
         → (history ≡ []) ⊎ ((facts.may_retry ≡ true) × (why_after facts history ≡ EAGAIN)) }
 {}
 
-/// In the end, and before another try, the thread is at its root directory. Or it could not go there: then the call
-/// fails by that.
-pub fn the_thread_goes_home()
-    ensures ends { (facts : Facts) (history : List Exchange) → IsHistory facts history
-        → ((next_after facts history).next ≡ ENDS) ⊎ ((next_after facts history).next ≡ BEGIN)
-        → away_after history ≡ false }
-    ensures fails { (facts : Facts) (history : List Exchange) → IsHistory facts history
-        → (next_after facts history).next ≡ FAILS
-        → (away_after history ≡ false) ⊎ HomeFailed (next_after facts history).error history }
-{}
-
-/// The root is looked at where a try failed, made no step, and the root isn't the thread's own. Such a call fails right
-/// after that look, unless the thread could not go home. An error is the root's own only by that look.
+/// The root is looked at where a try failed and made no step. Such a call fails right after that look. An error is the
+/// root's own only by that look.
 pub fn the_roots_errors_come_first()
     ensures only_then { (facts : Facts) (history : List Exchange) → IsHistory facts history
         → (next_after facts history).next ≡ LOOK_AT_ROOT
-        → (stepped_after history ≡ false) × ((facts.jailed ≡ false) × (why_after facts history ≢ 0)) }
+        → (stepped_after history ≡ false) × (why_after facts history ≢ 0) }
     ensures always { (facts : Facts) (history : List Exchange) → IsHistory facts history
-        → (next_after facts history).next ≡ FAILS → stepped_after history ≡ false → facts.jailed ≡ false
-        → LastWas LOOK_AT_ROOT history ⊎ HomeFailed (next_after facts history).error history }
+        → (next_after facts history).next ≡ FAILS → stepped_after history ≡ false → LastWas LOOK_AT_ROOT history }
     ensures own { (facts : Facts) (history : List Exchange) → IsHistory facts history
         → is_own_error (next_after facts history) ≡ true → RootHas (next_after facts history).error history }
 {}
 
-/// Right before a path is walked by steps, and before a place is asked for, the thread's own root is checked, and
-/// nothing is in the way; but not in a jail, nor where the root is held. It is checked only where openat2(2) isn't
-/// there and a /proc is. A call that has failed before makes that check, and nothing else of a try, and fails. The
-/// root's own error comes first, then that of the check, then the one by which it has failed before; but an error of
-/// the way home hides all of them.
-pub fn the_own_root_is_checked_first()
-    ensures walks { (facts : Facts) (history : List Exchange) → IsHistory facts history → needs_no_check facts ≡ false
-        → ((next_after facts history).next ≡ PLACE) ⊎ ((next_after facts history).next ≡ CONVERSE) → IsChecked history }
-    ensures spared { (facts : Facts) (history : List Exchange) → IsHistory facts history → needs_no_check facts ≡ true
-        → is_check (next_after facts history).next ≡ false }
-    ensures needed { (facts : Facts) (history : List Exchange) → IsHistory facts history
-        → (next_after facts history).next ≡ OWN_ROOT → IsNeeded history }
-    ensures alone { (facts : Facts) (history : List Exchange) → IsHistory facts history → facts.error ≢ 0
-        → is_walk (next_after facts history).next ≡ true → is_check (next_after facts history).next ≡ true }
-    ensures before { (facts : Facts) (history : List Exchange) → IsHistory facts history → facts.error ≢ 0
-        → needs_no_check facts ≡ false → (next_after facts history).next ≡ FAILS → checked_after history ≡ true }
+/// A call that has failed before does nothing of a try, and never ends: it fails by the root's own error, or else by
+/// the one by which it has failed before.
+pub fn what_has_failed_before_fails()
+    ensures walks_not { (facts : Facts) (history : List Exchange) → IsHistory facts history → facts.error ≢ 0
+        → is_walk (next_after facts history).next ≡ false }
     ensures never_ends { (facts : Facts) (history : List Exchange) → IsHistory facts history → facts.error ≢ 0
         → (next_after facts history).next ≢ ENDS }
     ensures order { (facts : Facts) (history : List Exchange) → IsHistory facts history → facts.error ≢ 0
         → (next_after facts history).next ≡ FAILS
-        → (is_own_error (next_after facts history) ≡ true) ⊎ (HomeFailed (next_after facts history).error history
-        ⊎ ((next_after facts history).error ≡ last_error (check_error_after history) facts.error)) }
+        → (is_own_error (next_after facts history) ≡ true) ⊎ ((next_after facts history).error ≡ facts.error) }
 {}
 
 /// A call fails by the last error that it met. Where it ends, none is left.
@@ -128,7 +102,7 @@ pub fn why_it_fails()
         → (next_after facts history).next ≡ ENDS → why_after facts history ≡ 0 }
 {}
 
-/// It comes to an end: there are 22 exchanges for each try at most, and one.
+/// It comes to an end: there are 15 exchanges for each try at most, and one.
 pub fn exchanges_are_few()
-    ensures { (facts : Facts) (history : List Exchange) → IsHistory facts history → length history ≤ 22 * TRIES + 1 }
+    ensures { (facts : Facts) (history : List Exchange) → IsHistory facts history → length history ≤ 15 * TRIES + 1 }
 {}

@@ -12,23 +12,17 @@ pub struct Taking {
     pub error: u32,
     /// The directory is opened anew: what that gives is handed out. Else it is the handle's own descriptor.
     pub anew: bool,
-    /// The handle's own descriptor is closed then, whatever the opening gave.
-    pub closes: bool,
 }
 
 /// What is done with a handle as a call hands out what it is on. The handle's descriptor is `held` unless it was let
-/// go. It is `shared` where it is the caller's own, and `copied` where it is a copy of that (fcntl(2),
-/// F_DUPFD_CLOEXEC), which shares all with it: neither is ever handed out. Of a jail's root the caller has none, and it
-/// is opened anew all the same. Takes no memory.
+/// go. It is `shared` where it is the caller's own, which is never handed out. Takes no memory.
 ///
 /// Errors: ENOMEM (12) of a descriptor that was let go.
-pub fn take(shared: bool, copied: bool, held: bool) -> Taking
-    ensures { result ≡ taken shared copied held }
+pub fn take(shared: bool, held: bool) -> Taking
+    ensures { result ≡ taken shared held }
 {
-    let anew = shared || copied && held;
     Taking {
         error: if shared || held { 0 } else { ENOMEM },
-        anew,
-        closes: copied && held && !shared,
+        anew: shared,
     }
 }

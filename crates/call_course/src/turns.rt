@@ -1,12 +1,9 @@
 //! What a thing gave, and what it leads to.
 ghost use Rattle.std.specs.Prelude.{◌≡◌};
-ghost use Rattle.call_course.specs.Turns.{after_close, after_own_root, answered, at_once, began, begun, checked, conversed, directory_error, done, first, looked_at_proc, looked_at_root, noted, placed, replied, reply_error, stuck, took, went_by_another, went_home, found_proc, has_second, needs_no_check};
+ghost use Rattle.call_course.specs.Turns.{began, begun, conversed, directory_error, done, first, looked_at_proc, looked_at_root, noted, placed, replied, reply_error, took, went_by_another};
 
-use crate::calling::{
-    ANOTHER_PROC, AT_ONCE, Answer, CLOSE, CONVERSE, Calling, FAILS, FIND_PROC, Facts, JOIN, LET_GO,
-    OWN_ROOT, PLACE, SECOND, TAKE,
-};
-use crate::ending::{after_proc, asks, ended, gains, judged, lacks, over};
+use crate::calling::{ANOTHER_PROC, Answer, CONVERSE, Calling, FAILS, Facts, LET_GO, PLACE, TAKE};
+use crate::ending::{after_proc, asks, ended, gains, lacks, over};
 use system_calls::errors::{EAGAIN, EIO, ENOMEM, ENOTDIR};
 
 // What the proved call's reply is, by its number (c_protocol).
@@ -30,29 +27,15 @@ fn noted(c: Calling, a: &Answer) -> Calling
     Calling {
         stepped: c.stepped || a.stepped,
         changed: c.changed || (a.changed && !c.facts.finds_again),
-        moved: a.moved,
         has_proc: a.has_proc,
         owns_proc: c.owns_proc || a.owns_proc,
         ..c
     }
 }
 
-// No place is asked for by a text, or it is that of the thread's own root.
-fn needs_no_check(facts: Facts) -> bool
-    ensures { result ≡ needs_no_check facts }
-{
-    facts.held || facts.jailed
-}
-
-// Else the thread's own root is checked before.
-pub(crate) fn checked(facts: Facts, next: u8) -> u8
-    ensures { result ≡ checked next facts }
-{
-    if needs_no_check(facts) { next } else { SECOND }
-}
-
-pub(crate) fn after_own_root(facts: Facts) -> u8
-    ensures { result ≡ after_own_root facts }
+// A try of a call that has failed before does nothing.
+fn first(facts: Facts) -> u8
+    ensures { result ≡ first facts }
 {
     if facts.error != 0 {
         LET_GO
@@ -63,20 +46,7 @@ pub(crate) fn after_own_root(facts: Facts) -> u8
     }
 }
 
-// A call that has failed before only makes that check.
-fn first(facts: Facts) -> u8
-    ensures { result ≡ first facts }
-{
-    if facts.error != 0 || facts.places {
-        checked(facts, after_own_root(facts))
-    } else if facts.from {
-        JOIN
-    } else {
-        AT_ONCE
-    }
-}
-
-// Nothing is known of the try but where the thread is, and the error that was there before.
+// Nothing is known of the try but the error that was there before.
 fn begun(c: Calling) -> Calling
     ensures { result ≡ begun c }
 {
@@ -105,62 +75,8 @@ pub(crate) fn began(c: Calling) -> Calling
         } else {
             c.tries
         },
-        moved: false,
         ..begun(c)
     }
-}
-
-// After a thing of a try that has no reply of its own: an error ends the try.
-pub(crate) fn answered(c: Calling, a: &Answer, next: u8) -> Calling
-    ensures { result ≡ answered a.now next c }
-{
-    if a.error == 0 {
-        asks(noted(c, a), next, 0)
-    } else {
-        asks(lacks(noted(c, a), a.error), LET_GO, 0)
-    }
-}
-
-pub(crate) fn at_once(c: Calling, a: &Answer) -> Calling
-    ensures { result ≡ at_once a.now c }
-{
-    if a.error == 0 {
-        ended(gains(noted(c, a), a.value, true))
-    } else if a.fails {
-        ended(lacks(noted(c, a), a.error))
-    } else {
-        asks(noted(c, a), checked(c.facts, CONVERSE), 0)
-    }
-}
-
-// A second witness says what is below the root.
-pub(crate) fn has_second(c: Calling, a: &Answer) -> Calling
-    ensures { result ≡ has_second a.now c }
-{
-    asks(
-        noted(c, a),
-        if a.error == 0 {
-            after_own_root(c.facts)
-        } else {
-            FIND_PROC
-        },
-        0,
-    )
-}
-
-// Without a /proc the first question for a place says why there is none.
-pub(crate) fn found_proc(c: Calling, a: &Answer) -> Calling
-    ensures { result ≡ found_proc a.now c }
-{
-    asks(
-        noted(c, a),
-        if a.error == 0 {
-            OWN_ROOT
-        } else {
-            after_own_root(c.facts)
-        },
-        0,
-    )
 }
 
 pub(crate) fn placed(c: Calling, a: &Answer) -> Calling
@@ -243,12 +159,6 @@ pub(crate) fn took(c: Calling, a: &Answer) -> Calling
     }
 }
 
-pub(crate) fn after_close(c: Calling) -> Calling
-    ensures { result ≡ after_close c }
-{
-    if c.stuck { asks(c, FAILS, 0) } else { ended(c) }
-}
-
 pub(crate) fn looked_at_proc(c: Calling, a: &Answer) -> Calling
     ensures { result ≡ looked_at_proc a.now c }
 {
@@ -271,33 +181,6 @@ pub(crate) fn went_by_another(c: Calling, a: &Answer) -> Calling
         }
     } else {
         after_proc(lacks(c, a.error))
-    }
-}
-
-// The thread isn't where it was: nothing is handed out.
-fn stuck(c: Calling, error: u32) -> Calling
-    ensures { result ≡ stuck error c }
-{
-    let away = Calling {
-        error,
-        holds: false,
-        stuck: true,
-        ..c
-    };
-    if c.holds {
-        asks(away, CLOSE, c.value)
-    } else {
-        asks(away, FAILS, 0)
-    }
-}
-
-pub(crate) fn went_home(c: Calling, a: &Answer) -> Calling
-    ensures { result ≡ went_home a.now c }
-{
-    if a.error == 0 {
-        judged(Calling { moved: false, ..c })
-    } else {
-        stuck(c, a.error)
     }
 }
 

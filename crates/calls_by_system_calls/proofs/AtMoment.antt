@@ -169,8 +169,7 @@ module _ (x : Linux) (nodes : ℕ → ℕ) (m calls : ℕ) (table : Descriptors)
       (λ n. directory_later x m n dir made.directory) made.says made.is in
       let found = stood.0 made.tells.0 in
       let told : (outcome (w.states found.0) 0 (steps.Parent 0)).answer ≡ Opened 1 (made.on (moment made.history)) kind.Dir =
-      above (λ e. e) (λ gone. absurd (false≢true (sym (made.lived gone.1 found.0 (omega (arith, found.1, made.all))) ∙ gone.0)))
-      (λ e. absurd (made.could_ask e)) found.2 in
+      ⊎_elim (λ e. e) (λ e. absurd (made.could_ask e)) found.2 in
       record {
         at = record {
           n = found.0;
@@ -185,9 +184,6 @@ module _ (x : Linux) (nodes : ℕ → ℕ) (m calls : ℕ) (table : Descriptors)
         effect = opens_one j y k refl room (λ f i. refl) refl;
         by_handles = λ f g same. ap (λ i. steps.Parent i) (same h dir on);
       }
-    where
-      above : {A B C D : Type 0} → (A → D) → (B → D) → (C → D) → A ⊎ (B ⊎ C) → D
-      above p q r o = ⊎_elim p (λ s. ⊎_elim q r s) o
   at_parent h dir (Refused error) room on made =
       let w = world x m dir [] made.on [] in
       let stood = parents-stood w made.layered made.facts made.history made.what
@@ -224,7 +220,6 @@ module _ (x : Linux) (nodes : ℕ → ℕ) (m calls : ℕ) (table : Descriptors)
   at_text h link (Text bytes) within on made =
       let w = world x m link [] (λ n. 0) made.text in
       let read = links-were-read w made.facts made.history made.what (is_world x m link [] (λ n. 0) made.text within)
-      (λ e. subst (λ (i : ℕ). object_at (state_at x i).nodes link ≡ Some (object.Link made.text)) (omega arith) (made.was_read e))
       made.none made.says made.is in
       let found = read.0 made.tells.0 in
       record {
@@ -241,7 +236,6 @@ module _ (x : Linux) (nodes : ℕ → ℕ) (m calls : ℕ) (table : Descriptors)
   at_text h link (Refused error) within on made =
       let w = world x m link [] (λ n. 0) made.text in
       let read = links-were-read w made.facts made.history made.what (is_world x m link [] (λ n. 0) made.text within)
-      (λ e. subst (λ (i : ℕ). object_at (state_at x i).nodes link ≡ Some (object.Link made.text)) (omega arith) (made.was_read e))
       made.none made.says made.is in
       let none = read.1 made.tells.0 in
       let own = refusals-are-own made.facts made.history (λ e. absurd (omega (arith, e, made.what))) made.is made.tells.0 in

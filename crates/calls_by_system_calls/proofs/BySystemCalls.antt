@@ -16,14 +16,12 @@ use Rattle.root_ops.specs.Renumbered.{Numbering, told_by}
 use Rattle.c_protocol.specs.History.{Heard, Exchange, LinesOf, IsWantAtOnce}
 use Rattle.c_protocol.specs.Numbers.{answer_of, below_answer, errno_of, kind_of, listed_answer}
 use Rattle.c_protocol.specs.Outright.{ConversationsTell, IsCallThatTells}
-use Rattle.c_protocol.specs.RunHistory.{ConversationsWithRunsTell}
 use Rattle.c_protocol.specs.declared.numbers.Answered.{Answered}
 use Rattle.c_protocol.specs.declared.numbers.Asked.{Asked}
 use Rattle.calls_by_system_calls.specs.Linux.{Linux}
 use Rattle.calls_by_system_calls.specs.Lines.{Descriptors, AreMade, AllDiffer, number_opened, numbers_opened}
 use Rattle.calls_by_system_calls.specs.Joined.{ExchangesAreMade, AreMadeBySystemCalls, CallsTellBySystemCalls, ComesTo, TellsInHistory, called, descriptors_before, numbers_given}
 use Rattle.calls_by_system_calls.specs.AtOnce.{LinesAreMade}
-use Rattle.calls_by_system_calls.specs.Runs.{CallsWithRunsTellBySystemCalls}
 use Rattle.calls_by_system_calls.proofs.AtMoment.{numbering}
 use Rattle.calls_by_system_calls.proofs.LinesJoined.{joined, root_held, root_is}
 
@@ -108,7 +106,7 @@ numbers_are_given heard (e ∷ exchanges) (not_made error ∷ lines) of =
 -- ---- the call
 
 -- these lines are one in a history
-pub tells_in_history : (x : Linux) (asked : Asked) (op : Op) (room : Bool) (nodes : ℕ → ℕ) (root node : ℕ) (lines : List Line)
+tells_in_history : (x : Linux) (asked : Asked) (op : Op) (room : Bool) (nodes : ℕ → ℕ) (root node : ℕ) (lines : List Line)
     (counts : List ℕ) (reply : Reply) → LinesAreMade x asked nodes root node lines counts
     → ((f : Numbering) (window : List Event) → IsCallInHistory (called x asked op room lines node f window)
     → CallTells (called x asked op room lines node f window) (told_by f reply))
@@ -170,13 +168,3 @@ pub calls_tell_by_system_calls : ConversationsTell → CallsTellBySystemCalls
 calls_tell_by_system_calls tell asked first second op heard exchanges named begins onward x nodes root node counts made =
     let it = tell asked first second op heard exchanges named begins onward in
     (it.0, (it.1.0, ends_so asked op heard exchanges it.0 x nodes root node counts made it.1.1))
-
-pub calls_with_runs_tell_by_system_calls : ConversationsWithRunsTell → CallsWithRunsTellBySystemCalls
-calls_with_runs_tell_by_system_calls tell asked first second op heard exchanges named begins onward =
-    let it = tell asked first second op heard exchanges named begins onward in
-    record {
-      turns = it.turns;
-      stand = it.stand;
-      tells = λ x nodes root node counts made.
-          (it.reply, (it.told, ends_so asked op heard it.turns it.reply x nodes root node counts made it.tells));
-    }

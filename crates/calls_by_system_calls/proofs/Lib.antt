@@ -9,13 +9,8 @@ mod Joining
 mod JoiningLines
 mod LinesJoined
 mod BySystemCalls
-mod RunLines
 mod AtOnce
 mod SeenBelow
 mod Places
-mod Passing
-mod FromDirectory
 mod WorkedRace
-mod WorkedReport
-mod WorkedRun
 mod WorkedChange

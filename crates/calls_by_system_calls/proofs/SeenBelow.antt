@@ -1,26 +1,23 @@
 -- A resolve whose last check is the kernel's, by system calls, is one in a history.
-use Rattle.std.proofs.Common.{◌≡◌, ℕ, true, List, [], ◌∷◌, ◌++◌, Some, reverse, refl, sym, ap, ◌∙◌, subst}
-use Rattle.tree_model.specs.declared.step.Kind.{Kind}
-use Rattle.tree_model.specs.declared.step.Kind.TheVariants.{Dir}
+use Rattle.std.proofs.Common.{◌≡◌, ℕ, true, List, [], ◌∷◌, ◌++◌, refl, sym, ap, ◌∙◌, subst}
 use Rattle.walk_plan.specs.declared.goal.Goal.{Goal}
 use Rattle.step_resolver.specs.Order.{Line, Handle}
 use Rattle.root_ops.specs.declared.op.Op.{Op}
 use Rattle.root_ops.specs.declared.op.Op.TheVariants as ops
 use Rattle.root_ops.specs.CallHistory.{IsCallInHistory}
 use Rattle.root_ops.specs.Order.{opened, starts, ends, CallTurn, LeadsTo}
-use Rattle.root_ops.specs.Renumbered.{Numbering, handle_by, lines_by, numbers_by, op_by}
+use Rattle.root_ops.specs.Renumbered.{Numbering, handle_by, lines_by, op_by}
 use Rattle.root_ops.proofs.Blind.Calls.{calls_begin_blindly}
 use Rattle.root_ops.proofs.Blind.Lines.{lines_lead_blindly}
-use Rattle.c_protocol.specs.AtOnce.{closes, names_passed, opens, Passed}
-use Rattle.c_protocol.specs.Numbers.{below_asked, kind_of}
+use Rattle.c_protocol.specs.Numbers.{below_asked}
 use Rattle.c_protocol.specs.Outright.{call_in}
-use Rattle.c_protocol.specs.SeenBelow.{asks, handle_of, opens_from, walk_in, IsResolve, IsSeenBelow, PlainSeenBelow, ResolvesSeenBelow, SeenBelow}
+use Rattle.c_protocol.specs.SeenBelow.{asks, walk_in, IsResolve, IsSeenBelow, ResolvesSeenBelow, SeenBelow}
 use Rattle.c_protocol.specs.declared.numbers.Asked.{Asked}
 use Rattle.calls_by_system_calls.specs.AtOnce.{in_history, LinesAreMade}
 use Rattle.calls_by_system_calls.specs.Linux.{Linux}
-use Rattle.calls_by_system_calls.specs.SeenBelow.{and_asks, asked_by, LinesAreSeenBelow, PlainSeenBelowBySystemCalls, ResolvesSeenBelowBySystemCalls}
+use Rattle.calls_by_system_calls.specs.SeenBelow.{and_asks, asked_by, LinesAreSeenBelow, ResolvesSeenBelowBySystemCalls}
 use Rattle.calls_by_system_calls.proofs.AtMoment.{numbering}
-use Rattle.calls_by_system_calls.proofs.AtOnce.{all_by, closes_by, lines_append, names_passed_by, passed_by}
+use Rattle.calls_by_system_calls.proofs.AtOnce.{lines_append}
 use Rattle.calls_by_system_calls.proofs.LinesJoined.{joined, root_held, root_is}
 
 module _ (x : Linux) (asked : Asked) (op : Op) (goal : Goal) (path : List ℕ) (nodes : ℕ → ℕ) (root node : ℕ)
@@ -60,33 +57,6 @@ module _ (x : Linux) (asked : Asked) (op : Op) (goal : Goal) (path : List ℕ) (
             (subst (λ (ls : List Line). IsCallInHistory (call_in (asked_by numbers asked) op true ls x.opening [] all.window node))
             asks_by is_call));
       }
-
--- ---- a path of plain names
-
-from_by : (f : Numbering) (dir : ℕ) (held : List ℕ) (ps : List Passed) (last : Passed) (kind : Kind)
-    → lines_by f (opens_from dir held ps last kind)
-    ≡ opens_from (f.handle dir) (numbers_by f held) (all_by f ps) (passed_by f last) kind
-from_by f dir held [] last kind =
-    ap (λ (zs : List Line). opens (f.handle dir) (passed_by f last) kind ∷ zs) (closes_by f held)
-from_by f dir held (p ∷ ps) last kind =
-    ap (λ (zs : List Line). opens (f.handle dir) (passed_by f p) Dir ∷ zs)
-    (lines_append f (closes held) (opens_from p.number (p.number ∷ []) ps last kind)
-    ∙ ap (λ (zs : List Line). zs ++ lines_by f (opens_from p.number (p.number ∷ []) ps last kind)) (closes_by f held)
-    ∙ ap (λ (zs : List Line). closes (numbers_by f held) ++ zs) (from_by f p.number (p.number ∷ []) ps last kind))
-
-pub plain_seen_below : PlainSeenBelow → PlainSeenBelowBySystemCalls
-plain_seen_below tell asked path second place kind op goal ps last others e1 resolves e2 e3 x nodes root node counts made =
-    let k = kind_of kind in
-    let lines = opens_from asked.root [] ps last k in
-    let f = numbers x asked op goal path nodes root node lines (handle_of last k) others (reverse (names_passed ps last)) counts made in
-    seen_below x asked op goal path nodes root node lines (handle_of last k) others (reverse (names_passed ps last)) counts made
-    (subst (λ (ls : List Line). IsSeenBelow (asked_by f asked) op goal path ls (handle_by f (handle_of last k))
-    (reverse (names_passed ps last))) (sym (from_by f asked.root [] ps last k))
-    (subst (λ (ns : List (List ℕ)). IsSeenBelow (asked_by f asked) op goal path
-    (opens_from (f.handle asked.root) [] (all_by f ps) (passed_by f last) k) (handle_by f (handle_of last k)) (reverse ns))
-    (names_passed_by f ps last)
-    (tell (asked_by f asked) path second place kind op goal (all_by f ps) (passed_by f last) e1 resolves e2
-    (e3 ∙ ap Some (sym (names_passed_by f ps last))))))
 
 -- ---- any resolve
 

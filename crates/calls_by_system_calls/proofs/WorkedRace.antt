@@ -22,17 +22,8 @@ facts_of what = record {
   mode = 0;
   directory = true;
   mount = false;
-  no_magic = false;
   is_last = false;
   takes_link = false;
-  named = false;
-  single = false;
-  goes_on = false;
-  jailed = false;
-  clears = false;
-  one_by_one = false;
-  second = false;
-  known = 0;
   follows = false;
   link = false;
   second_name = false;
@@ -103,7 +94,6 @@ opens_above = record {
       (((λ e. record { above = inr refl; is = refl }), (λ e. absurd (omega (arith, e)))), tt),
     ),
   );
-  lived = λ e n by. absurd (false≢true e);
   could_ask = λ o. ⊎_elim (λ failed. failed refl) (λ none. absurd none) o;
   tells = (refl, refl, refl);
 }

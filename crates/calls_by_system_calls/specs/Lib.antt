@@ -3,13 +3,8 @@ pub mod Changes
 pub mod Lines
 pub mod Window
 pub mod Joined
-pub mod Runs
-pub mod RunLines
 pub mod AtOnce
 pub mod SeenBelow
 pub mod Places
-pub mod FromDirectory
 pub mod WorkedRace
-pub mod WorkedReport
-pub mod WorkedRun
 pub mod WorkedChange

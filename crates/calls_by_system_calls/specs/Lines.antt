@@ -15,8 +15,8 @@ use Rattle.tree_model.specs.declared.step.StepOf.TheVariants as steps
 use Rattle.tree_model.specs.State.{child, is_dir, names_in, object_at, parent, sorted_names}
 use Rattle.tree_model.specs.Steps.{kind_of}
 use Rattle.tree_model.specs.StepWith.{StepWith}
-use Rattle.step_calls.specs.History.{is_known_there, is_read_already, next_after, Exchange, IsHistory, Next}
-use Rattle.step_calls.specs.Moments.{moment, number_of_kind, AreAnswers, CouldNotAsk, IsNoLink, IsThere, LinkSays, OpenSays, ParentSays, World}
+use Rattle.step_calls.specs.History.{next_after, Exchange, IsHistory, Next}
+use Rattle.step_calls.specs.Moments.{moment, number_of_kind, AreAnswers, CouldNotAsk, IsNoLink, LinkSays, OpenSays, ParentSays, World}
 use Rattle.step_calls.specs.declared.course.TheConstants.{OPENED, TEXT, REFUSED}
 use Rattle.step_calls.specs.declared.facts.Facts.{Facts}
 use Rattle.step_calls.specs.declared.facts.TheConstants.{OPEN, PARENT, READ_TEXT}
@@ -89,9 +89,8 @@ pub record OpenIsMade (x : Linux) (nodes : ℕ → ℕ) (m calls dir : ℕ) (nam
   pub says : AreAnswers (OpenSays (world x m dir name on [])) history
   pub tells : TellsOpened nodes (on (moment history)) (next_after facts history) answer
 
--- Parent of a directory. `parents_stood` has three exceptions; here they are supposed not to be met: a child that isn't
--- asked whether it is there, since it had an entry at the step before, is there still; and its file system, and a
--- directory of one that keeps links (overlayfs, cgroups, btrfs), could be asked.
+-- Parent of a directory. `parents_stood` has two exceptions; here they are supposed not to be met: the child's file
+-- system, and a directory of one that keeps links (overlayfs, cgroups, btrfs), could be asked.
 pub record ParentIsMade (x : Linux) (nodes : ℕ → ℕ) (m calls dir : ℕ) (answer : Answer) : Type 0 where
   pub facts : Facts
   pub history : List Exchange
@@ -102,7 +101,6 @@ pub record ParentIsMade (x : Linux) (nodes : ℕ → ℕ) (m calls dir : ℕ) (a
   pub is : IsHistory facts history
   pub directory : is_dir (state_at x m).nodes dir ≡ true
   pub says : AreAnswers (ParentSays (world x m dir [] on []) layered) history
-  pub lived : is_known_there facts ≡ true → (n : ℕ) → n ≤ calls → IsThere (world x m dir [] on []) n
   pub could_ask : CouldNotAsk history → ⊥
   pub tells : TellsAbove nodes (on (moment history)) (next_after facts history) answer
 
@@ -114,7 +112,6 @@ pub record TextIsRead (x : Linux) (m calls link : ℕ) (answer : Answer) : Type 
   pub what : facts.what ≡ READ_TEXT
   pub all : moment history ≡ calls
   pub is : IsHistory facts history
-  pub was_read : is_read_already facts ≡ true → object_at (state_at x m).nodes link ≡ Some (object.Link text)
   pub none : facts.link ≡ false → IsNoLink (world x m link [] (λ n. 0) text)
   pub says : AreAnswers (LinkSays (world x m link [] (λ n. 0) text)) history
   pub tells : TellsText text (next_after facts history) answer

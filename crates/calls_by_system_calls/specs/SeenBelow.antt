@@ -1,7 +1,6 @@
--- The same of a resolve with INROOT_BELOW. Its last check is the kernel's (openat2(2), RESOLVE_BENEATH): at a moment
--- of the system call the object stood below the root, at names that the program doesn't learn.
-use Rattle.std.specs.Prelude.{◌≡◌, ℕ, List, [], ◌∷◌, ◌++◌, true, Some, reverse}
-use Rattle.path_text.specs.Print.{names_read}
+-- The same of a resolve whose last check is the kernel's (openat2(2), RESOLVE_BENEATH): at a moment of the system call
+-- the object stood below the root, at names that the program doesn't learn.
+use Rattle.std.specs.Prelude.{◌≡◌, ℕ, List, [], ◌∷◌, ◌++◌, true}
 use Rattle.tree_model.specs.declared.answer.Event.{Event}
 use Rattle.walk_plan.specs.declared.goal.Goal.{Goal}
 use Rattle.step_resolver.specs.Order.{Line, Handle}
@@ -9,9 +8,8 @@ use Rattle.root_ops.specs.declared.op.Op.{Op}
 use Rattle.root_ops.specs.CallHistory.{IsCallInHistory}
 use Rattle.root_ops.specs.Order.{opened, starts, ends, LeadsTo}
 use Rattle.root_ops.specs.Renumbered.{Numbering, handle_by, lines_by}
-use Rattle.c_protocol.specs.AtOnce.{names_passed, opens_at_once, Passed}
-use Rattle.c_protocol.specs.Numbers.{below_asked, kind_of, op_of}
-use Rattle.c_protocol.specs.SeenBelow.{asks, handle_of, opens_from, walk_in, IsResolve, SeenBelow}
+use Rattle.c_protocol.specs.Numbers.{below_asked}
+use Rattle.c_protocol.specs.SeenBelow.{asks, walk_in, IsResolve, SeenBelow}
 use Rattle.c_protocol.specs.declared.numbers.Asked.{Asked}
 use Rattle.calls_by_system_calls.specs.AtOnce.{in_history, LinesAreMade}
 use Rattle.calls_by_system_calls.specs.Linux.{Linux}
@@ -39,20 +37,7 @@ pub record LinesAreSeenBelow (x : Linux) (asked : Asked) (op : Op) (goal : Goal)
   pub seen : SeenBelow (walk_in (asked_by f asked) op goal path (lines_by f lines) x.opening [] window node)
       (handle_by f handle) names
 
--- So it is of a path of plain names, all of which one system call passes,
-abbrev pub PlainSeenBelowBySystemCalls : Type 0
-PlainSeenBelowBySystemCalls =
-    (asked : Asked) (path second place : List ℕ) (kind : ℕ) (op : Op) (goal : Goal) (ps : List Passed) (last : Passed)
-    (others : List (List ℕ)) → op_of asked path second ≡ Some op → IsResolve op goal path
-    → opens_at_once asked path kind place ≡ true → names_read place ≡ Some (names_passed ps last)
-    → (x : Linux) (nodes : ℕ → ℕ) (root node : ℕ) (counts : List ℕ)
-    → LinesAreMade x asked nodes root node
-    (and_asks asked (opens_from asked.root [] ps last (kind_of kind)) (handle_of last (kind_of kind)) others) counts
-    → LinesAreSeenBelow x asked op goal path nodes root node
-    (and_asks asked (opens_from asked.root [] ps last (kind_of kind)) (handle_of last (kind_of kind)) others) counts
-    (handle_of last (kind_of kind)) (reverse (names_passed ps last))
-
--- and of each resolve that is led by its lines and the question to the reply that the object was opened, where it is
+-- So it is of each resolve that is led by its lines and the question to the reply that the object was opened, where it is
 -- told the names that it passed. If one system call walks the path as a whole, its lines are the steps that the kernel
 -- took, each at a moment within that call.
 abbrev pub ResolvesSeenBelowBySystemCalls : Type 0

@@ -9,9 +9,6 @@
 mod laws;
 
 pub use laws::{
-    asked_places_stood, calls_from_directories_tell_by_system_calls, calls_tell_by_system_calls,
-    calls_with_runs_tell_by_system_calls, fails_at_once_by_system_calls,
-    lines_with_runs_tell_by_system_calls, opens_at_once_by_system_calls,
-    opens_through_by_system_calls, seen_below_by_system_calls, worked_change_is_made,
-    worked_race_is_made, worked_report_is_made, worked_run_is_made,
+    asked_places_stood, calls_tell_by_system_calls, fails_at_once_by_system_calls,
+    seen_below_by_system_calls, worked_change_is_made, worked_race_is_made,
 };

@@ -255,14 +255,12 @@ const NOTHING: Request = Request {
     opens: false,
     gives: false,
     walks: false,
-    takes_below: false,
 };
 
 #[test]
 fn a_call_is_asked_for_by_the_flags(rt: HostRuntime) -> Result<(), Fail> {
     let found = Request {
         op: 1,
-        takes_below: true,
         ..NOTHING
     };
     assert!(rt; request_of(&opening(0, 0), 0, FIND) == found);

@@ -27,6 +27,16 @@ fn laws_of_missing_parts() {
 }
 
 #[test]
+fn laws_of_parts_of_paths() {
+    open_partial::what_is_given_is_there();
+    open_partial::the_whole_path_is_tried_first();
+    open_partial::parts_are_opened_as_directories();
+    open_partial::each_descriptor_is_closed_once_or_given();
+    open_partial::why_it_fails();
+    open_partial::tries_are_few();
+}
+
+#[test]
 fn laws_of_removed_trees() {
     remove_by_calls::places_are_kept_and_closed();
     remove_by_calls::the_end_is_at_the_root();
@@ -51,32 +61,4 @@ fn laws_of_listings() {
     list_directory::a_signal_ends_nothing();
     list_directory::what_is_listed_was_sorted();
     list_directory::calls_are_few();
-}
-
-#[test]
-fn laws_of_walks() {
-    walk_directory::each_entry_is_given_once();
-    walk_directory::what_is_given_is_an_entry();
-    walk_directory::no_error_is_passed_over();
-    walk_directory::why_it_breaks_off();
-    walk_directory::what_is_lost_is_left();
-    walk_directory::directories_are_gone_into_to_the_depth();
-    walk_directory::a_signal_ends_nothing();
-    walk_directory::calls_are_few();
-    walk_tree::a_directory_is_opened_first_or_in_one_that_is_listed();
-    walk_tree::each_directory_is_closed_once();
-    walk_tree::nothing_but_closing_comes_of_a_close();
-    walk_tree::the_one_opened_last_is_listed();
-    walk_tree::what_is_asked_for_can_be_done();
-    walk_tree::what_is_skipped_is_not_gone_into();
-    walk_tree::why_it_fails();
-}
-
-#[test]
-fn laws_of_walks_into_directories() {
-    enter_directory::what_is_entered_was_found_below();
-    enter_directory::each_descriptor_is_closed_once();
-    enter_directory::why_it_fails();
-    enter_directory::the_directory_above_is_lost_by_its_path();
-    enter_directory::calls_are_few();
 }

@@ -1,17 +1,13 @@
-//! Which call comes next as files are opened and made, trees removed, and directories listed, walked and gone into, by
+//! Which call comes next as files are opened and made, paths opened in part, trees removed and directories listed, by
 //! answers that a kernel gives.
 #![tactic(auto)]
 
 #[cfg(test)]
 mod courses;
 #[cfg(test)]
-mod enterings;
-#[cfg(test)]
 mod givings;
 #[cfg(test)]
 mod laws;
-#[cfg(test)]
-mod levels;
 #[cfg(test)]
 mod listings;
 #[cfg(test)]
@@ -19,4 +15,4 @@ mod makings;
 #[cfg(test)]
 mod removals;
 #[cfg(test)]
-mod walkings;
+mod searches;

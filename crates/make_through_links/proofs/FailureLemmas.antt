@@ -35,7 +35,7 @@ loops_by asked e older Link is read many =
 loops_by asked e older LinkAtEnd is read many =
     let t = moved (stand_after asked older) e LinkAtEnd in
     link_many (nat_lt LINKS t.links) (nat_lt TEXT_MAX (length (whole t))) (fails ELOOP STEP_READ_LINK e.path)
-    (fails ENAMETOOLONG STEP_READ_LINK e.path) (asks t FIND 0 t.base (whole t))
+    (fails ENAMETOOLONG STEP_READ_LINK e.path) (asks FIND 0 (whole t))
     (lt-ltb LINKS t.links (omega (arith, many)))
 loops_by asked e older Missing is read many = elim (false≢true read) [ ]
 loops_by asked e older Directory is read many = elim (false≢true read) [ ]
@@ -67,7 +67,7 @@ long_by asked e older Link read few long =
 long_by asked e older LinkAtEnd read few long =
     let t = moved (stand_after asked older) e LinkAtEnd in
     link_long (nat_lt LINKS t.links) (nat_lt TEXT_MAX (length (whole t))) (fails ELOOP STEP_READ_LINK e.path)
-    (fails ENAMETOOLONG STEP_READ_LINK e.path) (asks t FIND 0 t.base (whole t))
+    (fails ENAMETOOLONG STEP_READ_LINK e.path) (asks FIND 0 (whole t))
     (le-ltb LINKS t.links (omega (arith, few))) (lt-ltb TEXT_MAX (length (whole t)) long)
 long_by asked e older Missing read few long = elim (false≢true read) [ ]
 long_by asked e older Directory read few long = elim (false≢true read) [ ]
@@ -107,7 +107,7 @@ gives_up_by asked e older (inr is) isnt =
     let t = moved (stand_after asked older) e BetweenAtEnd in
     due_at asked e older BetweenAtEnd is
     ∙ (cond-false (is_due t.between asked.may_retry EAGAIN false)
-    (asks t FIND (pause_after t.between) t.base (whole t)) (fails EAGAIN STEP_MAKE_DIR (whole t)) isnt
+    (asks FIND (pause_after t.between) (whole t)) (fails EAGAIN STEP_MAKE_DIR (whole t)) isnt
     ∙ ap (λ n. fails EAGAIN STEP_MAKE_DIR (tried_path n (stand_after asked older))) (sym is))
 
 pub gives_up : (asked : Asked) (e : Exchange) (older : List Exchange) → IsLastTry asked older e
@@ -192,7 +192,7 @@ why_by asked e older Link is h failed =
     why_link asked e older Link h is refl (link_reasons t e (makes asked t 0) (makes_goes asked.file) failed)
 why_by asked e older LinkAtEnd is h failed =
     let t = moved (stand_after asked older) e LinkAtEnd in
-    why_link asked e older LinkAtEnd h is refl (link_reasons t e (asks t FIND 0 t.base (whole t)) find_goes failed)
+    why_link asked e older LinkAtEnd h is refl (link_reasons t e (asks FIND 0 (whole t)) find_goes failed)
 why_by asked e older Between is h failed =
     let t = moved (stand_after asked older) e Between in
     why_last asked e older h (inl is)
@@ -202,7 +202,7 @@ why_by asked e older BetweenAtEnd is h failed =
     let t = moved (stand_after asked older) e BetweenAtEnd in
     why_last asked e older h (inr is)
     (again_why (is_due t.between asked.may_retry EAGAIN false) (fails EAGAIN STEP_MAKE_DIR (whole t))
-    (asks t FIND (pause_after t.between) t.base (whole t)) find_goes failed)
+    (asks FIND (pause_after t.between) (whole t)) find_goes failed)
 why_by asked e older Missing is h failed = absurd (omega (arith, failed))
 why_by asked e older Parted is h failed = absurd (omega (arith, failed))
 why_by asked e older Above is h failed = absurd (omega (arith, failed))

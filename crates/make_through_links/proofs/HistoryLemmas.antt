@@ -288,7 +288,7 @@ few_by asked older e Link is w =
     (omega (arith, was_at asked older e READ_LINK w is)))
 few_by asked older e LinkAtEnd is w =
     let s = moved (stand_after asked older) e LinkAtEnd in
-    few_by_link asked s e (asks s FIND 0 s.base (whole s)) (suc (length older)) (w.all)
+    few_by_link asked s e (asks FIND 0 (whole s)) (suc (length older)) (w.all)
     (λ few. few_call FIND s.links s.between (suc (length older)) few w.between (omega arith)
     (omega (arith, was_at asked older e READ_END w is.0)))
 few_by asked older e Between is w =
@@ -304,7 +304,7 @@ few_by asked older e Between is w =
 few_by asked older e BetweenAtEnd is w =
     let s = moved (stand_after asked older) e BetweenAtEnd in
     few_again (is_due s.between asked.may_retry EAGAIN false)
-    (asks s FIND (pause_after s.between) s.base (whole s)) s.links s.between (suc (length older)) w.all
+    (asks FIND (pause_after s.between) (whole s)) s.links s.between (suc (length older)) w.all
     (λ due. few_call FIND s.links s.between (suc (length older)) w.links (due_few s.between asked.may_retry due)
     (omega arith) (omega (arith, was_at asked older e READ_END w is)))
 few_by asked older e Directory is w = few_end FAILS (stand_after asked older).links (stand_after asked older).between

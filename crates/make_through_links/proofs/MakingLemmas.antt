@@ -1,9 +1,11 @@
 -- What is kept of a call after each outcome.
-use Rattle.std.proofs.Common.{◌≡◌, ℕ, ◌+◌, ◌-◌, ◌≤◌, ◌<◌, min, Bool, true, false, if◌then◌else◌, List, ◌∷◌, ◌++◌, length, take, drop, refl, sym, ap, subst, ◌∙◌, arith, nat_lt, take-take, take-append-drop, length-append, length-take, length-take-le, length-drop, take_at, drop_at, append-nil}
+use Rattle.std.proofs.Common.{◌≡◌, ℕ, ◌+◌, ◌-◌, ◌≤◌, ◌<◌, min, Bool, true, false, if◌then◌else◌, List, [], ◌∷◌, ◌++◌, length, take, drop, refl, sym, ap, subst, ◌∙◌, arith, nat_lt, take-take, take-append-drop, length-append, length-take, length-take-le, length-drop, take_at, drop_at, append-nil, append_assoc}
 use Rattle.std.specs.Prelude.{◌==◌}
 use Rattle.std.proofs.lemmas.Bool.{cond-false, cond-true, false≢true, le-ltb, ltb-false}
+use Rattle.std.proofs.lemmas.List.{take_min}
 use Rattle.std.proofs.lemmas.List.{drop-drop, drop_min, drop-take}
-use Rattle.path_text.specs.Text.{is_empty, name_size}
+use Rattle.path_text.specs.Text.{begins_with_slash, is_empty, name_size}
+use Rattle.path_text.specs.declared.name.TheConstants.{SLASH}
 use Rattle.path_text.specs.declared.path.TheConstants.{TEXT_MAX}
 use Rattle.path_text.proofs.TextLemmas.{is_empty-length}
 use Rattle.system_calls.specs.Errors.{EAGAIN, ENAMETOOLONG, ELOOP}
@@ -12,76 +14,39 @@ use Rattle.system_calls.specs.declared.tries.NextTry.{NextTry}
 use Rattle.open_or_make.specs.History.{LINKS, STEP_READ_LINK}
 use Rattle.make_through_links.specs.History.{asks, due_met, fails, follows_link, is_call, meets, met_of, moved, stand_after, tries_again, whole, Asked, Due, Exchange, Stand, STEP_MAKE_DIR}
 use Rattle.make_through_links.specs.Making.{due_of, exchange, path_in, IsAt, Keeps, Tells}
-use Rattle.make_through_links.specs.Paths.{before_rest, first_name, rest_behind}
+use Rattle.make_through_links.specs.Paths.{before_rest, first_name, front_of, rest_behind}
 use Rattle.make_through_links.specs.declared.making.Making.{Making}
 use Rattle.make_through_links.specs.declared.making.Outcome.{Outcome}
 use Rattle.make_through_links.specs.declared.meets.Met.{Met}
 use Rattle.make_through_links.specs.declared.meets.Met.TheVariants.{Link, LinkAtEnd, Parted, Partly}
 use Rattle.make_through_links.specs.declared.meets.TheConstants.{FAILS}
-use Rattle.make_through_links.proofs.PathLemmas.{joined_before, led_whole, tail_is}
+use Rattle.make_through_links.proofs.PathLemmas.{joined_before, led_whole, tail_is, take_both}
 
 -- ---- a call comes next
 
-pub tells_asks : (asked : Asked) (s : Stand) (making : Making) (room path : List ℕ) (call pause from start size : ℕ)
-    → Keeps asked s making room
-    → take size (drop start room) ≡ path
-    → Tells asked s (asks s call pause from path)
-    (record making {
-      next = call;
-      pause = pause;
-      error = 0;
-      step = 0;
-      from = from;
-      start = start;
-      size = size;
-      gives
-          = 0;
-    }) room
-tells_asks asked s making room path call pause from start size keeps is =
-    let base_is : (b : ℕ) → making.base ≡ b → ◌≡◌ {A = Due}
-    (record {
-      next = call;
-      pause = pause;
-      error = 0;
-      step = 0;
-      base = making.base;
-      from = from;
-      path = path;
-      gives =
-          0;
-    })
-    (record { next = call; pause = pause; error = 0; step = 0; base = b; from = from; path = path; gives = 0 }) =
-    λ b h. ap (λ n. record
-    { next = call; pause = pause; error = 0; step = 0; base = n; from = from; path = path; gives = 0 }) h in
-    record {
-      due = ap (λ (p : List ℕ). record
-          { next = call; pause = pause; error = 0; step = 0; base = making.base; from = from; path = p; gives = 0 }) is
-          ∙ base_is s.base keeps.base;
-      keeps = λ call. record {
-        path = keeps.path;
-        above = keeps.above;
-        base = keeps.base;
-        cut = keeps.cut;
-        links = keeps.links;
-        between = keeps.between;
-        file = keeps.file;
-        follows = keeps.follows;
-        may_retry = keeps.may_retry;
-      };
-    }
+pub tells_asks : (asked : Asked) (s : Stand) (making : Making) (room path : List ℕ) (call pause size : ℕ)
+    → Keeps asked s making room → take size room ≡ path
+    → Tells asked s (asks call pause path)
+    (record making { next = call; pause = pause; error = 0; step = 0; size = size; gives = 0 }) room
+tells_asks asked s making room path call pause size keeps is = record {
+  due = ap (λ (p : List ℕ). record { next = call; pause = pause; error = 0; step = 0; path = p; gives = 0 }) is;
+  keeps = λ call. record {
+    path = keeps.path;
+    above = keeps.above;
+    cut = keeps.cut;
+    links = keeps.links;
+    between = keeps.between;
+    file = keeps.file;
+    follows = keeps.follows;
+    may_retry = keeps.may_retry;
+  };
+}
 
--- where the directories' path lies in the room, and the file's name
+-- where the directories' path lies in the room
 pub in_above : (room above name : List ℕ) (end k : ℕ) → take end room ≡ above ++ name → k ≡ length above → k ≤ end
     → take k room ≡ above
 in_above room above name end k is long within =
     sym (take-take k end room within) ∙ (ap (take k) is ∙ take_at above name k (sym long))
-
-pub in_name : (room above name : List ℕ) (end k : ℕ) → take end room ≡ above ++ name → k ≡ length above → k ≤ end
-    → take (end - k) (drop k room) ≡ name
-in_name room above name end k is long within =
-    let sum : k + (end - k) ≡ end = omega (arith, within) in
-    sym (drop-take k (end - k) room)
-    ∙ (ap (λ n. drop k (take n room)) sum ∙ (ap (drop k) is ∙ drop_at above name k (sym long)))
 
 -- ---- the last name is taken apart
 
@@ -95,7 +60,6 @@ keeps_parted asked s making room e rest k keeps within said is =
       path = keeps.path ∙ sym (take-append-drop e.rest (whole s));
       above = is ∙ (ap (min rest) (sym size)
           ∙ (ap (λ n. min n (length (whole s))) (sym said) ∙ sym (length-take e.rest (whole s))));
-      base = keeps.base;
       cut = keeps.cut;
       links = keeps.links;
       between = keeps.between;
@@ -107,7 +71,7 @@ keeps_parted asked s making room e rest k keeps within said is =
 -- ---- a link is read
 
 -- the name behind what is there of the directories' path
-pub name_at : (room above name : List ℕ) (end high rest start size : ℕ) → take end room ≡ above ++ name
+name_at : (room above name : List ℕ) (end high rest start size : ℕ) → take end room ≡ above ++ name
     → high ≡ length above → high ≤ end
     → start ≡ min rest high → size ≡ name_size (take (high - start) (drop start room)) → size ≤ high - start
     → take size (drop start room) ≡ first_name (drop rest above)
@@ -120,13 +84,32 @@ name_at room above name end high rest start size is long within start_is size_is
     sym (take-take size (high - start) (drop start room) less)
     ∙ (ap (take size) there ∙ ap (λ k. take k (drop rest above)) (size_is ∙ ap name_size there))
 
+-- so many bytes of the directories' path
+pub front_at : (room above name : List ℕ) (end high rest start : ℕ) → take end room ≡ above ++ name → high ≡ length above
+    → high ≤ end → start ≡ min rest high → take start room ≡ take rest above
+front_at room above name end high rest start is long within start_is =
+    sym (take-take start high room (omega (arith, start_is)))
+    ∙ (ap (take start) (in_above room above name end high is long within)
+    ∙ (ap (λ k. take k above) (start_is ∙ ap (min rest) long) ∙ take_min rest above))
+
+-- the link behind what is there of it
+pub link_at : (room above name : List ℕ) (end high rest start size : ℕ) → take end room ≡ above ++ name
+    → high ≡ length above → high ≤ end
+    → start ≡ min rest high → size ≡ name_size (take (high - start) (drop start room)) → size ≤ high - start
+    → take (start + size) room ≡ take rest above ++ first_name (drop rest above)
+link_at room above name end high rest start size is long within start_is size_is less =
+    take_both start size room
+    ∙ (ap (λ (l : List ℕ). l ++ take size (drop start room))
+    (front_at room above name end high rest start is long within start_is)
+    ∙ ap (λ (l : List ℕ). take rest above ++ l)
+    (name_at room above name end high rest start size is long within start_is size_is less))
+
 pub keeps_partly : (asked : Asked) (s : Stand) (making : Making) (room : List ℕ) (e : Exchange) (rest : ℕ)
     → Keeps asked s making room → e.rest ≡ rest
     → Keeps asked (moved s e Partly) (record making { cut = rest }) room
 keeps_partly asked s making room e rest keeps said = record {
   path = keeps.path;
   above = keeps.above;
-  base = keeps.base;
   cut = sym said;
   links = keeps.links;
   between = keeps.between;
@@ -160,7 +143,6 @@ keeps_between asked s n making room keeps is =
     subst (λ (m : Stand). Keeps asked m (record making { between = making.between + 1 }) room) (sym is) record {
       path = keeps.path;
       above = keeps.above;
-      base = keeps.base;
       cut = keeps.cut;
       links = keeps.links;
       between = ap (λ k. k + 1) keeps.between;
@@ -191,7 +173,7 @@ pub again_fails : (asked : Asked) (s : Stand) (making asks_it new : Making) (roo
     → ((times : ℕ) → making.between + 1 ≤ times → is_due times making.may_retry EAGAIN false ≡ false)
     → (due_of asks_it room).path ≡ d.path
     → new ≡ record asks_it
-    { next = FAILS; pause = 0; error = EAGAIN; step = STEP_MAKE_DIR; base = 0; from = 0; gives = 0 }
+    { next = FAILS; pause = 0; error = EAGAIN; step = STEP_MAKE_DIR; gives = 0 }
     → Tells asked (record s { between = s.between + 1 })
     (tries_again asked (record s { between = s.between + 1 }) d) new room
 again_fails asked s making asks_it new room d keeps isnt path is =
@@ -201,7 +183,7 @@ again_fails asked s making asks_it new room d keeps isnt path is =
     ∙ isnt (s.between + 1) (omega (arith, keeps.between)) in
     subst (λ (n : Making). Tells asked t (tries_again asked t d) n room) (sym is)
     (subst (λ (x : Due). Tells asked t x
-    (record asks_it { next = FAILS; pause = 0; error = EAGAIN; step = STEP_MAKE_DIR; base = 0; from = 0; gives = 0 })
+    (record asks_it { next = FAILS; pause = 0; error = EAGAIN; step = STEP_MAKE_DIR; gives = 0 })
     room)
     (sym (cond-false (is_due (s.between + 1) asked.may_retry EAGAIN false) d (fails EAGAIN STEP_MAKE_DIR d.path) now))
     record { due = ap (fails EAGAIN STEP_MAKE_DIR) path; keeps = λ call. elim (false≢true call) [ ] })
@@ -245,14 +227,14 @@ link_goes s e due links size error is many long none =
 -- it fails, and is about what the last call was about
 pub tells_fails : (asked : Asked) (s : Stand) (e : Exchange) (due : Due) (making new : Making) (room : List ℕ)
     (error step : ℕ) → due ≡ fails error step e.path → e.path ≡ path_in making room
-    → new ≡ record making { next = FAILS; pause = 0; error = error; step = step; base = 0; from = 0; gives = 0 }
+    → new ≡ record making { next = FAILS; pause = 0; error = error; step = step; gives = 0 }
     → Tells asked s due new room
 tells_fails asked s e due making new room error step is path new_is =
     subst (λ (n : Making). Tells asked s due n room) (sym new_is)
     record { due = ap (fails error step) (sym path) ∙ sym is; keeps = λ call. elim (false≢true call) [ ] }
 
 -- a link in the directories' path: where its text leads, by the bytes of the room
-pub record Link_at (s : Stand) (e : Exchange) (making : Making) (room text : List ℕ) (cut at n size : ℕ) : Type 0 where
+pub record Link_at (s : Stand) (e : Exchange) (making : Making) (room text : List ℕ) (cut at n front size : ℕ) : Type 0 where
   pub path : take making.length room ≡ whole s
   pub above : making.above ≡ length s.above
   pub cut_is : making.cut ≡ s.cut
@@ -264,12 +246,13 @@ pub record Link_at (s : Stand) (e : Exchange) (making : Making) (room text : Lis
   pub rest : drop n (take (making.above - cut) (drop cut room)) ≡ rest_behind
       (take (making.above - cut) (drop cut room))
   pub less : n ≤ making.above - cut
-  pub sized : size ≡ (if (making.length - at) == 0 then length text else length text + 1 + (making.length - at))
+  pub before : front ≡ (if begins_with_slash text then 0 else cut)
+  pub sized : size ≡ front + (if (making.length - at) == 0 then length text else length text + 1 + (making.length - at))
 
-link_tail : (s : Stand) (e : Exchange) (making : Making) (room text : List ℕ) (cut at n size : ℕ)
-    → Link_at s e making room text cut at n size
+link_tail : (s : Stand) (e : Exchange) (making : Making) (room text : List ℕ) (cut at n front size : ℕ)
+    → Link_at s e making room text cut at n front size
     → drop at (take making.length room) ≡ rest_behind (drop s.cut s.above) ++ s.name
-link_tail s e making room text cut at n size l =
+link_tail s e making room text cut at n front size l =
     let cut_s : cut ≡ min s.cut (length s.above) = omega (arith, l.start, l.cut_is, l.above) in
     let sum : cut + (making.above - cut) ≡ making.above = omega (arith, l.start) in
     let left : take (making.above - cut) (drop cut room) ≡ drop s.cut s.above =
@@ -282,36 +265,69 @@ link_tail s e making room text cut at n size l =
     (omega (arith, l.place, cut_s)) rest
     (omega (arith, l.place, l.less, l.start, l.above))
 
-pub link_whole : (s : Stand) (e : Exchange) (making : Making) (room text : List ℕ) (cut at n size : ℕ)
-    → Link_at s e making room text cut at n size
-    → whole (moved s e Link) ≡ before_rest text (drop at (take making.length room))
-link_whole s e making room text cut at n size l =
-    let rest = rest_behind (drop s.cut s.above) in
-    led_whole e.text rest s.name ∙ (ap (λ (t : List ℕ). before_rest t (rest ++ s.name)) l.said
-    ∙ ap (before_rest text) (sym (link_tail s e making room text cut at n size l)))
+front_is : (s : Stand) (e : Exchange) (making : Making) (room text : List ℕ) (cut at n front size : ℕ)
+    → Link_at s e making room text cut at n front size
+    → take front room ≡ front_of text (take s.cut s.above)
+front_is s e making room text cut at n front size l =
+    by (begins_with_slash text) (l.before)
+  where
+    there : take cut room ≡ take s.cut s.above
+    there =
+        front_at room s.above s.name making.length making.above making.cut cut l.path l.above l.within l.start
+        ∙ ap (λ k. take k s.above) l.cut_is
+    by : (b : Bool) → front ≡ (if b then 0 else cut)
+        → take front room ≡ (if b then [] else take s.cut s.above)
+    by true is = ap (λ k. take k room) is
+    by false is = ap (λ k. take k room) is ∙ there
 
-pub link_size : (s : Stand) (e : Exchange) (making : Making) (room text : List ℕ) (cut at n size : ℕ)
-    → Link_at s e making room text cut at n size
+pub link_whole : (s : Stand) (e : Exchange) (making : Making) (room text : List ℕ) (cut at n front size : ℕ)
+    → Link_at s e making room text cut at n front size
+    → whole (moved s e Link) ≡ take front room ++ before_rest text (drop at (take making.length room))
+link_whole s e making room text cut at n front size l =
+    let rest = rest_behind (drop s.cut s.above) in
+    let dir = take s.cut s.above in
+    append_assoc (front_of e.text dir) (if is_empty (rest ++ s.name) then e.text else e.text ++ SLASH ∷ rest) s.name
+    ∙ (ap (λ (t : List ℕ). front_of e.text dir ++ t) (led_whole e.text rest s.name)
+    ∙ (ap (λ (t : List ℕ). front_of t dir ++ before_rest t (rest ++ s.name)) l.said
+    ∙ (ap (λ (f : List ℕ). f ++ before_rest text (rest ++ s.name)) (sym (front_is s e making room text cut at n front size l))
+    ∙ ap (λ (r : List ℕ). take front room ++ before_rest text r)
+    (sym (link_tail s e making room text cut at n front size l)))))
+
+front_within : (s : Stand) (e : Exchange) (making : Making) (room text : List ℕ) (cut at n front size : ℕ)
+    → Link_at s e making room text cut at n front size → front ≤ cut
+front_within s e making room text cut at n front size l = by (begins_with_slash text) l.before
+  where
+    by : (b : Bool) → front ≡ (if b then 0 else cut) → front ≤ cut
+    by true is = omega (arith, is)
+    by false is = omega (arith, is)
+
+pub link_size : (s : Stand) (e : Exchange) (making : Making) (room text : List ℕ) (cut at n front size : ℕ)
+    → Link_at s e making room text cut at n front size
     → size ≡ length (whole (moved s e Link))
-link_size s e making room text cut at n size l =
-    let tail : length (drop at (take making.length room)) ≡ making.length - at =
+link_size s e making room text cut at n front size l =
+    let behind = drop at (take making.length room) in
+    let tail : length behind ≡ making.length - at =
     omega (arith, length-drop at (take making.length room), length-take-le making.length room l.end) in
-    l.sized ∙ (sym (joined_before text (drop at (take making.length room)) (making.length - at) tail)
-    ∙ ap length (sym (link_whole s e making room text cut at n size l)))
+    let first : length (take front room) ≡ front =
+    length-take-le front room
+    (omega (arith, front_within s e making room text cut at n front size l, l.start, l.within, l.end)) in
+    let joined = joined_before text behind (making.length - at) tail in
+    omega (
+      arith,
+      l.sized,
+      joined,
+      first,
+      length-append (take front room) (before_rest text behind),
+      ap length (link_whole s e making room text cut at n front size l),
+    )
 
 pub keeps_led : (asked : Asked) (s : Stand) (e : Exchange) (making : Making) (room new text : List ℕ)
-    (cut at n size : ℕ) → Keeps asked s making room
-    → Link_at s e making room text cut at n size → e.from ≡ making.from
-    → take size new ≡ before_rest text (drop at (take making.length room))
+    (cut at n front size : ℕ) → Keeps asked s making room
+    → Link_at s e making room text cut at n front size
+    → take size new ≡ take front room ++ before_rest text (drop at (take making.length room))
     → Keeps asked (moved s e Link)
-    (record making {
-      length = size;
-      above = size -
-          (making.length - making.above);
-      base = making.from;
-      links = making.links + 1;
-    }) new
-keeps_led asked s e making room new text cut at n size keeps l from laid =
+    (record making { length = size; above = size - (making.length - making.above); links = making.links + 1 }) new
+keeps_led asked s e making room new text cut at n front size keeps l laid =
     let name : length s.name ≡ making.length - making.above =
     omega (
       arith,
@@ -322,9 +338,8 @@ keeps_led asked s e making room new text cut at n size keeps l from laid =
     ) in
     let both = length-append (moved s e Link).above s.name in
     record {
-      path = laid ∙ sym (link_whole s e making room text cut at n size l);
-      above = omega (arith, name, both, link_size s e making room text cut at n size l);
-      base = sym from;
+      path = laid ∙ sym (link_whole s e making room text cut at n front size l);
+      above = omega (arith, name, both, link_size s e making room text cut at n front size l);
       cut = keeps.cut;
       links = ap (λ k. k + 1) keeps.links;
       between = keeps.between;
@@ -333,39 +348,74 @@ keeps_led asked s e making room new text cut at n size keeps l from laid =
       may_retry = keeps.may_retry;
     }
 
+-- what is laid behind the front
+pub laid_behind : (front size : ℕ) (room part text : List ℕ) → front ≤ length room → take size part ≡ text
+    → take (front + size) (take front room ++ part) ≡ take front room ++ text
+laid_behind front size room part text within is =
+    let first : length (take front room) ≡ front = length-take-le front room within in
+    take_both front size (take front room ++ part)
+    ∙ (ap (λ (l : List ℕ). l ++ take size (drop front (take front room ++ part))) (take_at (take front room) part front first)
+    ∙ ap (λ (l : List ℕ). take front room ++ l)
+    (ap (take size) (drop_at (take front room) part front first) ∙ is))
+
+-- the same of a link at the path's end
+pub end_front : (s : Stand) (making : Making) (room text : List ℕ) (front : ℕ) → take making.length room ≡ whole s
+    → making.above ≡ length s.above → making.above ≤ making.length
+    → front ≡ (if begins_with_slash text then 0 else making.above)
+    → take front room ≡ front_of text s.above
+end_front s making room text front path above within is = by (begins_with_slash text) is
+  where
+    by : (b : Bool) → front ≡ (if b then 0 else making.above) → take front room ≡ (if b then [] else s.above)
+    by true is = ap (λ k. take k room) is
+    by false is = ap (λ k. take k room) is ∙ in_above room s.above s.name making.length making.above path above within
+
+pub end_whole : (s : Stand) (e : Exchange) (making : Making) (room text : List ℕ) (front : ℕ)
+    → take making.length room ≡ whole s → making.above ≡ length s.above → making.above ≤ making.length
+    → front ≡ (if begins_with_slash text then 0 else making.above) → e.text ≡ text
+    → whole (moved s e LinkAtEnd) ≡ take front room ++ text
+end_whole s e making room text front path above within is said =
+    append-nil (front_of e.text s.above ++ e.text)
+    ∙ (ap (λ (t : List ℕ). front_of t s.above ++ t) said
+    ∙ ap (λ (f : List ℕ). f ++ text) (sym (end_front s making room text front path above within is)))
+
 pub keeps_led_at_end : (asked : Asked) (s : Stand) (e : Exchange) (making : Making) (room new text : List ℕ)
-    (size : ℕ) → Keeps asked s making room
-    → size ≡ length text → e.text ≡ text → e.from ≡ making.from → take size new ≡ text
+    (front size : ℕ) → Keeps asked s making room → making.above ≤ making.length → front ≤ length room
+    → front ≡ (if begins_with_slash text then 0 else making.above) → size ≡ front + length text → e.text ≡ text
+    → take size new ≡ take front room ++ text
     → Keeps asked (moved s e LinkAtEnd)
-    (record making { length = size; above = size; base = making.from; links = making.links + 1 }) new
-keeps_led_at_end asked s e making room new text size keeps long said from laid = record {
-  path = laid ∙ (sym said ∙ sym (append-nil e.text));
-  above = long ∙ ap length (sym said);
-  base = sym from;
-  cut = keeps.cut;
-  links = ap (λ k. k + 1) keeps.links;
-  between = keeps.between;
-  file = keeps.file;
-  follows = keeps.follows;
-  may_retry = keeps.may_retry;
-}
+    (record making { length = size; above = size; links = making.links + 1 }) new
+keeps_led_at_end asked s e making room new text front size keeps within fits is long said laid =
+    let whole_is = end_whole s e making room text front keeps.path keeps.above within is said in
+    let first : length (take front room) ≡ front = length-take-le front room fits in
+    record {
+      path = laid ∙ sym whole_is;
+      above = omega (
+        arith,
+        long,
+        first,
+        length-append (take front room) text,
+        ap length whole_is,
+        length-append (moved s e LinkAtEnd).above [],
+      );
+      cut = keeps.cut;
+      links = ap (λ k. k + 1) keeps.links;
+      between = keeps.between;
+      file = keeps.file;
+      follows = keeps.follows;
+      may_retry = keeps.may_retry;
+    }
 
 -- ---- what an outcome says
 
--- the bytes from there on of a part of the room
-pub part_behind : (room : List ℕ) (start size rest k : ℕ) → k ≡ min rest size → start + size ≤ length room
-    → take ((start + size) - (start + k)) (drop (start + k) room) ≡ drop rest (take size (drop start room))
-part_behind room start size rest k is within =
-    let long : length (take size (drop start room)) ≡ size = length-take-le size (drop start room)
-    (omega (arith, length-drop start room, within)) in
-    let left : (start + size) - (start + k) ≡ size - k = omega arith in
+-- the bytes from there on of the room's first bytes
+pub part_behind : (room : List ℕ) (size rest k : ℕ) → k ≡ min rest size → size ≤ length room
+    → take (size - k) (drop k room) ≡ drop rest (take size room)
+part_behind room size rest k is within =
+    let long : length (take size room) ≡ size = length-take-le size room within in
     let sum : k + (size - k) ≡ size = omega (arith, is) in
-    ap (λ n. take n (drop (start + k) room)) left
-    ∙ (ap (take (size - k)) (sym (drop-drop k start room))
-    ∙ (sym (drop-take k (size - k) (drop start room))
-    ∙ (ap (λ n. drop k (take n (drop start room))) sum
-    ∙ (ap (λ n. drop n (take size (drop start room))) (is ∙ ap (min rest) (sym long))
-    ∙ drop_min rest (take size (drop start room))))))
+    sym (drop-take k (size - k) room)
+    ∙ (ap (λ n. drop k (take n room)) sum
+    ∙ (ap (λ n. drop n (take size room)) (is ∙ ap (min rest) (sym long)) ∙ drop_min rest (take size room)))
 
 pub no_bytes : (text : List ℕ) (n : ℕ) → length text ≡ n → (n == 0) ≡ is_empty text
 no_bytes text n is = ap (λ k. k == 0) (sym is) ∙ sym (is_empty-length text)
@@ -403,9 +453,7 @@ at_next asked older making new room after text outcome m at call is tells =
         record {
           call = ap (λ (d : Due). d.next) due;
           is = call;
-          from = ap (λ (d : Due). d.from) due;
-          path = ap
-              (λ (d : Due). d.path) due;
+          path = ap (λ (d : Due). d.path) due;
         },
         at.0,
       ),

@@ -15,7 +15,7 @@ use Rattle.make_through_links.specs.Paths.{before_rest, slashes_size}
 take_one_more : (n x : ℕ) (xs : List ℕ) → take (1 + n) (x ∷ xs) ≡ x ∷ take n xs
 take_one_more n x xs = let e : 1 + n ≡ suc n = omega arith in ap (λ k. take k (x ∷ xs)) e
 
-take_both : (a b : ℕ) (xs : List ℕ) → take (a + b) xs ≡ take a xs ++ take b (drop a xs)
+pub take_both : (a b : ℕ) (xs : List ℕ) → take (a + b) xs ≡ take a xs ++ take b (drop a xs)
 take_both a b xs =
     let first : take a (take (a + b) xs) ≡ take a xs = take-take a (a + b) xs (omega arith) in
     sym (take-append-drop a (take (a + b) xs))

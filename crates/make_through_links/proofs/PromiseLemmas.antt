@@ -4,13 +4,14 @@ use Rattle.std.specs.Prelude.{◌==◌}
 use Rattle.std.specs.List.{AllByRecursion}
 use Rattle.std.proofs.lemmas.Bool.{cond-true, false≢true, ltb-false, or_parts}
 use Rattle.path_text.specs.declared.path.TheConstants.{TEXT_MAX}
-use Rattle.path_text.specs.Text.{name_size}
+use Rattle.path_text.specs.Text.{is_empty, name_size}
+use Rattle.path_text.specs.declared.name.TheConstants.{SLASH}
 use Rattle.system_calls.specs.Errors.{EAGAIN, ENAMETOOLONG, ELOOP}
 use Rattle.system_calls.specs.Tries.{is_due, pause_after}
 use Rattle.open_or_make.specs.History.{LINKS, STEP_READ_LINK}
-use Rattle.make_through_links.specs.History.{asks, due_after, due_met, fails, follows_link, is_call, makes, met_of, moved, stand_after, whole, Asked, Due, Exchange, IsHistory, IsNext, Stand, STEP_MAKE_DIR}
-use Rattle.make_through_links.specs.Paths.{first_name, rest_behind, slashes_size}
-use Rattle.make_through_links.specs.Promises.{is_followed, part_for, GaveNone, IsGiven, IsLed, IsPathOf}
+use Rattle.make_through_links.specs.History.{asks, due_after, due_met, fails, follows_link, is_call, link_path, makes, met_of, moved, stand_after, whole, Asked, Due, Exchange, IsHistory, IsNext, Stand, STEP_MAKE_DIR}
+use Rattle.make_through_links.specs.Paths.{first_name, front_of, rest_behind, slashes_size}
+use Rattle.make_through_links.specs.Promises.{directory_for, is_followed, part_for, GaveNone, IsGiven, IsLed, IsPathOf}
 use Rattle.make_through_links.specs.declared.meets.Met.{Met}
 use Rattle.make_through_links.specs.declared.meets.Met.TheVariants.{Missing, Directory, Parted, Refused, Above, Gone, Partly, Link, NoText, Between, Stands, LinkAtEnd, Unfollowed, BetweenAtEnd, Ended}
 use Rattle.make_through_links.specs.declared.meets.TheConstants.{FIND, SPLIT, MAKE_ABOVE, MAKE, PARTIAL, READ_LINK, CREATE, READ_END, ENDS, FAILS}
@@ -69,14 +70,14 @@ next_of asked s e Link =
     (inr (inr refl)) (inr (inr refl)) (makes_next asked.file)
 next_of asked s e LinkAtEnd =
     link_next (NextOf LinkAtEnd) (nat_lt LINKS s.links) (nat_lt TEXT_MAX (length (whole s)))
-    (fails ELOOP STEP_READ_LINK e.path) (fails ENAMETOOLONG STEP_READ_LINK e.path) (asks s FIND 0 s.base (whole s))
+    (fails ELOOP STEP_READ_LINK e.path) (fails ENAMETOOLONG STEP_READ_LINK e.path) (asks FIND 0 (whole s))
     (inr refl) (inr refl) (inl refl)
 next_of asked s e Between =
     again_next (NextOf Between) (is_due s.between asked.may_retry EAGAIN false) (fails EAGAIN STEP_MAKE_DIR s.above)
     (makes asked s (pause_after s.between)) (makes_next asked.file) (inr (inr refl))
 next_of asked s e BetweenAtEnd =
     again_next (NextOf BetweenAtEnd) (is_due s.between asked.may_retry EAGAIN false)
-    (fails EAGAIN STEP_MAKE_DIR (whole s)) (asks s FIND (pause_after s.between) s.base (whole s)) (inl refl)
+    (fails EAGAIN STEP_MAKE_DIR (whole s)) (asks FIND (pause_after s.between) (whole s)) (inl refl)
     (inr refl)
 
 -- what is asked for in one case alone
@@ -187,13 +188,13 @@ part_by asked s e Link call =
     (makes asked s 0) (part_makes asked.file s) call
 part_by asked s e LinkAtEnd call =
     part_link (nat_lt LINKS s.links) (nat_lt TEXT_MAX (length (whole s))) s e.path ELOOP ENAMETOOLONG
-    (asks s FIND 0 s.base (whole s)) refl call
+    (asks FIND 0 (whole s)) refl call
 part_by asked s e Between call =
     part_again (is_due s.between asked.may_retry EAGAIN false) s (makes asked s (pause_after s.between))
     (part_makes asked.file s) call
 part_by asked s e BetweenAtEnd call =
     part_again (is_due s.between asked.may_retry EAGAIN false) s
-    (asks s FIND (pause_after s.between) s.base (whole s)) refl call
+    (asks FIND (pause_after s.between) (whole s)) refl call
 part_by asked s e Directory call = elim (false≢true call) [ ]
 part_by asked s e Refused call = elim (false≢true call) [ ]
 part_by asked s e NoText call = elim (false≢true call) [ ]
@@ -231,22 +232,18 @@ part_at asked e older call h is = walks_part asked e older h ∙ ap (λ n. part_
 pub made_above : (asked : Asked) (e above : Exchange) (older : List Exchange) → IsHistory asked (e ∷ (above ∷ older))
     → e.call ≡ CREATE
     → (above.call ≡ MAKE_ABOVE)
-    × ((above.error ≡ 0) × ((e.from ≡ above.gave) × (above.path ++ e.path ≡ whole (stand_after asked older))))
+    × ((above.error ≡ 0) × ((e.path ≡ whole (stand_after asked older))
+    × (e.path ≡ above.path ++ (stand_after asked older).name)))
 made_above asked e above older h creates =
     let met : met_of asked above ≡ Above = (only_after asked above older).create (sym h.0.call ∙ creates) in
     let is = means asked above Above h.1.0.is met in
     let due = due_at asked above older Above met in
-    let from : e.from ≡ above.gave = h.0.from ∙ ap (λ (d : Due). d.from) due in
-    let name : e.path ≡ (stand_after asked older).name = h.0.path ∙ ap (λ (d : Due). d.path) due in
+    let all : e.path ≡ whole (stand_after asked older) = h.0.path ∙ ap (λ (d : Due). d.path) due in
     let front : above.path ≡ (stand_after asked older).above = part_at asked above older MAKE_ABOVE h.1 is.0 in (
       is.0,
       (
         is.1,
-        (
-          from,
-          ap (λ (l : List ℕ). l ++ e.path) front
-              ∙ ap (λ (l : List ℕ). (stand_after asked older).above ++ l) name,
-        ),
+        (all, all ∙ ap (λ (l : List ℕ). l ++ (stand_after asked older).name) (sym front)),
       ),
     )
 
@@ -356,10 +353,10 @@ none_followed asked (e ∷ older) h never =
 
 -- it stands at the same path
 same_path : (asked : Asked) (e : Exchange) (older : List Exchange) (s t : Stand) → whole t ≡ whole s
-    → t.base ≡ s.base → is_followed (met_of asked e) ≡ false → IsPathOf asked older s
+    → is_followed (met_of asked e) ≡ false → IsPathOf asked older s
     → IsPathOf asked (e ∷ older) t
-same_path asked e older s t path base isnt (inl own) = inl (path ∙ own.0, (base ∙ own.1.0, (isnt, own.1.1)))
-same_path asked e older s t path base isnt (inr last) =
+same_path asked e older s t path isnt (inl own) = inl (path ∙ own.0, (isnt, own.1))
+same_path asked e older s t path isnt (inr last) =
     inr record {
       newer = e ∷ last.newer;
       link = last.link;
@@ -367,44 +364,49 @@ same_path asked e older s t path base isnt (inr last) =
       order = ap (λ l. e ∷ l) last.order;
       none = (isnt, last.none);
       read = last.read;
-      led = subst (λ (p : List ℕ). IsLed (whole (stand_after asked last.before)) p last.link) (sym path) last.led;
-      base = base ∙ last.base;
+      led = subst (λ (p : List ℕ). IsLed (directory_for last.link.call (stand_after asked last.before))
+          (whole (stand_after asked last.before)) p last.link) (sym path) last.led;
       fits = omega (arith, last.fits, ap length path);
     }
 
-led_above : (s : Stand) (e : Exchange) → e.path ≡ first_name (drop s.cut s.above)
-    → IsLed (whole s) (whole (moved s e Link)) e
-led_above s e name =
+led_above : (s : Stand) (e : Exchange) → e.path ≡ link_path s
+    → IsLed (take s.cut s.above) (whole s) (whole (moved s e Link)) e
+led_above s e path =
+    let dir = take s.cut s.above in
     let left = drop s.cut s.above in
+    let name = first_name left in
     let behind = drop (name_size left) left in
     let slashes = take (slashes_size behind) behind in
     let rest = rest_behind left in
-    let first : left ≡ e.path ++ behind = sym (take-append-drop (name_size left) left)
-    ∙ ap (λ (l : List ℕ). l ++ behind) (sym name) in
+    let first : left ≡ name ++ behind = sym (take-append-drop (name_size left) left) in
     let second : behind ≡ slashes ++ rest = sym (take-append-drop (slashes_size behind) behind) in
-    let all : s.above ≡ take s.cut s.above ++ (e.path ++ (slashes ++ rest)) =
-    sym (take-append-drop s.cut s.above) ∙ ap (λ (l : List ℕ). take s.cut s.above ++ l)
-    (first ∙ ap (λ (l : List ℕ). e.path ++ l) second) in
+    let all : s.above ≡ dir ++ (name ++ (slashes ++ rest)) =
+    sym (take-append-drop s.cut s.above) ∙ ap (λ (l : List ℕ). dir ++ l)
+    (first ∙ ap (λ (l : List ℕ). name ++ l) second) in
     record {
-      front = take s.cut s.above;
+      name = name;
       slashes = slashes;
       rest = rest ++ s.name;
+      path = path;
       place = ap (λ (l : List ℕ). l ++ s.name) all
-          ∙ (append_assoc (take s.cut s.above) (e.path ++ (slashes ++ rest)) s.name
-          ∙ ap (λ (l : List ℕ). take s.cut s.above ++ l) (append_assoc e.path (slashes ++ rest) s.name
-          ∙ ap (λ (l : List ℕ). e.path ++ l) (append_assoc slashes rest s.name)));
+          ∙ (append_assoc dir (name ++ (slashes ++ rest)) s.name
+          ∙ ap (λ (l : List ℕ). dir ++ l) (append_assoc name (slashes ++ rest) s.name
+          ∙ ap (λ (l : List ℕ). name ++ l) (append_assoc slashes rest s.name)));
       only = only_slashes behind;
-      leads = led_whole e.text rest s.name;
+      leads = append_assoc (front_of e.text dir)
+          (if is_empty (rest ++ s.name) then e.text else e.text ++ SLASH ∷ rest) s.name
+          ∙ ap (λ (l : List ℕ). front_of e.text dir ++ l) (led_whole e.text rest s.name);
     }
 
-led_at_end : (s : Stand) (e : Exchange) → e.path ≡ s.name → IsLed (whole s) (whole (moved s e LinkAtEnd)) e
-led_at_end s e name = record {
-  front = s.above;
+led_at_end : (s : Stand) (e : Exchange) → e.path ≡ whole s → IsLed s.above (whole s) (whole (moved s e LinkAtEnd)) e
+led_at_end s e path = record {
+  name = s.name;
   slashes = [];
   rest = [];
-  place = ap (λ (l : List ℕ). s.above ++ l) (sym name ∙ sym (append-nil e.path));
+  path = path;
+  place = ap (λ (l : List ℕ). s.above ++ l) (sym (append-nil s.name));
   only = refl;
-  leads = append-nil e.text;
+  leads = append-nil (front_of e.text s.above ++ e.text);
 }
 
 link_fits : (many long : Bool) (a b due : Due) → is_call a.next ≡ false → is_call b.next ≡ false
@@ -420,11 +422,12 @@ followed_fits s e due call =
     (fails ELOOP STEP_READ_LINK e.path) (fails ENAMETOOLONG STEP_READ_LINK e.path) due refl refl call)
 
 new_path : (asked : Asked) (e : Exchange) (older : List Exchange) (m : Met) → met_of asked e ≡ m
-    → is_followed m ≡ true → IsLed (whole (stand_after asked older)) (whole (moved (stand_after asked older) e m)) e
-    → (moved (stand_after asked older) e m).base ≡ e.from
+    → is_followed m ≡ true
+    → IsLed (directory_for e.call (stand_after asked older)) (whole (stand_after asked older))
+    (whole (moved (stand_after asked older) e m)) e
     → length (whole (moved (stand_after asked older) e m)) ≤ TEXT_MAX
     → IsPathOf asked (e ∷ older) (moved (stand_after asked older) e m)
-new_path asked e older m is read led base fits = inr record {
+new_path asked e older m is read led fits = inr record {
   newer = [];
   link = e;
   before = older;
@@ -432,7 +435,6 @@ new_path asked e older m is read led base fits = inr record {
   none = tt;
   read = ap is_followed is ∙ read;
   led = led;
-  base = base;
   fits = fits;
 }
 
@@ -441,46 +443,50 @@ path_by : (asked : Asked) (e : Exchange) (older : List Exchange) (m : Met) → m
     → IsPathOf asked older (stand_after asked older) → IsPathOf asked (e ∷ older) (moved (stand_after asked older) e m)
 path_by asked e older Link is h call path =
     let s = stand_after asked older in
+    let reads = means asked e Link h.0.is is in
     new_path asked e older Link is refl
-    (led_above s e (part_at asked e older READ_LINK h (means asked e Link h.0.is is))) refl
+    (subst (λ n. IsLed (directory_for n s) (whole s) (whole (moved s e Link)) e) (sym reads)
+    (led_above s e (part_at asked e older READ_LINK h reads)))
     (followed_fits (moved s e Link) e (makes asked (moved s e Link) 0) call)
 path_by asked e older LinkAtEnd is h call path =
     let s = stand_after asked older in
     let t = moved s e LinkAtEnd in
+    let reads = (means asked e LinkAtEnd h.0.is is).0 in
     new_path asked e older LinkAtEnd is refl
-    (led_at_end s e (part_at asked e older READ_END h (means asked e LinkAtEnd h.0.is is).0)) refl
-    (followed_fits t e (asks t FIND 0 t.base (whole t)) call)
+    (subst (λ n. IsLed (directory_for n s) (whole s) (whole t) e) (sym reads)
+    (led_at_end s e (part_at asked e older READ_END h reads)))
+    (followed_fits t e (asks FIND 0 (whole t)) call)
 path_by asked e older Parted is h call path =
     let s = stand_after asked older in
-    same_path asked e older s (moved s e Parted) (take-append-drop e.rest (whole s)) refl (ap is_followed is) path
+    same_path asked e older s (moved s e Parted) (take-append-drop e.rest (whole s)) (ap is_followed is) path
 path_by asked e older Missing is h call path = same_path asked e older (stand_after asked older)
-    (moved (stand_after asked older) e Missing) refl refl (ap is_followed is) path
+    (moved (stand_after asked older) e Missing) refl (ap is_followed is) path
 path_by asked e older Directory is h call path = same_path asked e older (stand_after asked older)
-    (moved (stand_after asked older) e Directory) refl refl (ap is_followed is) path
+    (moved (stand_after asked older) e Directory) refl (ap is_followed is) path
 path_by asked e older Refused is h call path = same_path asked e older (stand_after asked older)
-    (moved (stand_after asked older) e Refused) refl refl (ap is_followed is) path
+    (moved (stand_after asked older) e Refused) refl (ap is_followed is) path
 path_by asked e older Above is h call path = same_path asked e older (stand_after asked older)
-    (moved (stand_after asked older) e Above) refl refl (ap is_followed is) path
+    (moved (stand_after asked older) e Above) refl (ap is_followed is) path
 path_by asked e older Gone is h call path = same_path asked e older (stand_after asked older)
-    (moved (stand_after asked older) e Gone) refl refl (ap is_followed is) path
+    (moved (stand_after asked older) e Gone) refl (ap is_followed is) path
 path_by asked e older Partly is h call path = same_path asked e older (stand_after asked older)
-    (moved (stand_after asked older) e Partly) refl refl (ap is_followed is) path
+    (moved (stand_after asked older) e Partly) refl (ap is_followed is) path
 path_by asked e older NoText is h call path = same_path asked e older (stand_after asked older)
-    (moved (stand_after asked older) e NoText) refl refl (ap is_followed is) path
+    (moved (stand_after asked older) e NoText) refl (ap is_followed is) path
 path_by asked e older Between is h call path = same_path asked e older (stand_after asked older)
-    (moved (stand_after asked older) e Between) refl refl (ap is_followed is) path
+    (moved (stand_after asked older) e Between) refl (ap is_followed is) path
 path_by asked e older Stands is h call path = same_path asked e older (stand_after asked older)
-    (moved (stand_after asked older) e Stands) refl refl (ap is_followed is) path
+    (moved (stand_after asked older) e Stands) refl (ap is_followed is) path
 path_by asked e older Unfollowed is h call path = same_path asked e older (stand_after asked older)
-    (moved (stand_after asked older) e Unfollowed) refl refl (ap is_followed is) path
+    (moved (stand_after asked older) e Unfollowed) refl (ap is_followed is) path
 path_by asked e older BetweenAtEnd is h call path = same_path asked e older (stand_after asked older)
-    (moved (stand_after asked older) e BetweenAtEnd) refl refl (ap is_followed is) path
+    (moved (stand_after asked older) e BetweenAtEnd) refl (ap is_followed is) path
 path_by asked e older Ended is h call path = same_path asked e older (stand_after asked older)
-    (moved (stand_after asked older) e Ended) refl refl (ap is_followed is) path
+    (moved (stand_after asked older) e Ended) refl (ap is_followed is) path
 
 path_is : (asked : Asked) (history : List Exchange) → IsHistory asked history
     → is_call (due_after asked history).next ≡ true → IsPathOf asked history (stand_after asked history)
-path_is asked [] h call = inl (append-nil asked.path, (refl, tt))
+path_is asked [] h call = inl (append-nil asked.path, tt)
 path_is asked (e ∷ older) h call =
     path_by asked e older (met_of asked e) refl h call (path_is asked older h.1 (called asked e older h.0))
 

@@ -7,7 +7,7 @@ use Rattle.path_text.specs.declared.path.TheConstants.{TEXT_MAX}
 use Rattle.system_calls.specs.Errors.{ENOENT, EAGAIN, EEXIST, EISDIR, EINVAL, ENAMETOOLONG, ELOOP}
 use Rattle.system_calls.specs.Tries.{is_due, pause_after}
 use Rattle.open_or_make.specs.History.{LINKS, STEP_MAKE_FILE, STEP_READ_LINK}
-use Rattle.make_through_links.specs.Paths.{first_name, rest_behind}
+use Rattle.make_through_links.specs.Paths.{first_name, front_of, rest_behind}
 use Rattle.make_through_links.specs.declared.meets.TheConstants.{FIND, SPLIT, MAKE_ABOVE, MAKE, PARTIAL, READ_LINK, CREATE, READ_END, ENDS, FAILS}
 use Rattle.make_through_links.specs.declared.meets.Met.{Met}
 use Rattle.make_through_links.specs.declared.meets.Met.TheVariants.{Missing, Directory, Parted, Refused, Above, Gone, Partly, Link, NoText, Between, Stands, LinkAtEnd, Unfollowed, BetweenAtEnd, Ended}
@@ -37,12 +37,11 @@ abbrev pub asked_of : List ℕ → Bool → Bool → Bool → Asked
 asked_of path file follows may_retry =
     record { path = path; file = file; follows = follows; may_retry = may_retry }
 
--- One call: the directory in which its path begins, 0 for the root, and the path. What it gave: an error's number, or
--- 0; the descriptor that it gave, by its number and one; how many bytes of the path come before what is missing, or
--- before the last name; whether it found a directory; and a link's text.
+-- One call, and its path. What it gave: an error's number, or 0; the descriptor that it gave, by its number and one, or
+-- 0; how many bytes of the path come before what is missing, or before the last name; whether it found a directory; and
+-- a link's text.
 pub record Exchange : Type 0 where
   pub call : ℕ
-  pub from : ℕ
   pub path : List ℕ
   pub error : ℕ
   pub gave : ℕ
@@ -117,12 +116,11 @@ met_of asked e = meets asked.follows e.call (seen e)
 -- ---- where it stands
 
 -- The path is two texts, one behind the other: that of the directories, and behind it the file's name, once that was
--- taken apart. It begins in the directory `base`. `cut`: so many bytes of it are there. So many links were followed,
--- and so many times somebody came in between.
+-- taken apart. `cut`: so many bytes of it are there. So many links were followed, and so many times somebody came in
+-- between.
 pub record Stand : Type 0 where
   pub above : List ℕ
   pub name : List ℕ
-  pub base : ℕ
   pub cut : ℕ
   pub links : ℕ
   pub between : ℕ
@@ -130,48 +128,48 @@ pub record Stand : Type 0 where
 abbrev pub whole : Stand → List ℕ
 whole s = s.above ++ s.name
 
--- A link is followed: its text stands before what comes behind it, and begins in the directory in which it was read.
+-- the link at the first name that is missing
+abbrev pub link_path : Stand → List ℕ
+link_path s = take s.cut s.above ++ first_name (drop s.cut s.above)
+
+-- A link is followed: its text stands in its place, behind the path of its directory and before what comes behind it.
 abbrev pub moved : Stand → Exchange → Met → Stand
 moved s e Parted = record s { above = take e.rest (whole s); name = drop e.rest (whole s) }
 moved s e Partly = record s { cut = e.rest }
 moved s e Link =
     let rest = rest_behind (drop s.cut s.above) in
     record s {
-      above = if is_empty (rest ++ s.name) then e.text else e.text ++ SLASH ∷ rest;
-      base = e.from;
+      above = front_of e.text (take s.cut s.above)
+          ++ (if is_empty (rest ++ s.name) then e.text else e.text ++ SLASH ∷ rest);
       links = s.links + 1;
     }
-moved s e LinkAtEnd = record s { above = e.text; name = []; base = e.from; links = s.links + 1 }
+moved s e LinkAtEnd = record s { above = front_of e.text s.above ++ e.text; name = []; links = s.links + 1 }
 moved s e Between = record s { between = s.between + 1 }
 moved s e BetweenAtEnd = record s { between = s.between + 1 }
 moved s e other = s
 
 abbrev pub stand_after : Asked → List Exchange → Stand
-stand_after asked [] = record { above = asked.path; name = []; base = 0; cut = 0; links = 0; between = 0 }
+stand_after asked [] = record { above = asked.path; name = []; cut = 0; links = 0; between = 0 }
 stand_after asked (e ∷ older) = moved (stand_after asked older) e (met_of asked e)
 
 -- ---- what comes next
 
--- A call, the nanoseconds before it, and where its path begins; or no call, and a descriptor, or an error with its step
--- and what it is about. Of the directories that were opened, `base` and `from` stay open.
+-- A call, the nanoseconds before it, and its path; or no call, and a descriptor, or an error with its step and what it is
+-- about.
 pub record Due : Type 0 where
   pub next : ℕ
   pub pause : ℕ
   pub error : ℕ
   pub step : ℕ
-  pub base : ℕ
-  pub from : ℕ
   pub path : List ℕ
   pub gives : ℕ
 
-abbrev pub asks : Stand → ℕ → ℕ → ℕ → List ℕ → Due
-asks s call pause from path = record {
+abbrev pub asks : ℕ → ℕ → List ℕ → Due
+asks call pause path = record {
   next = call;
   pause = pause;
   error = 0;
   step = NO_STEP;
-  base = s.base;
-  from = from;
   path = path;
   gives = 0;
 }
@@ -182,8 +180,6 @@ fails error step path = record {
   pause = 0;
   error = error;
   step = step;
-  base = 0;
-  from = 0;
   path = path;
   gives = 0;
 }
@@ -194,15 +190,13 @@ ends gives = record {
   pause = 0;
   error = 0;
   step = NO_STEP;
-  base = 0;
-  from = 0;
   path = [];
   gives = gives;
 }
 
 -- the directories are made
 abbrev pub makes : Asked → Stand → ℕ → Due
-makes asked s pause = asks s (if asked.file then MAKE_ABOVE else MAKE) pause s.base s.above
+makes asked s pause = asks (if asked.file then MAKE_ABOVE else MAKE) pause s.above
 
 -- a link is followed, if there weren't too many, and it makes no path that is too long
 abbrev pub follows_link : Stand → Exchange → Due → Due
@@ -216,26 +210,25 @@ tries_again asked s due =
     if is_due s.between asked.may_retry EAGAIN false then due else fails EAGAIN STEP_MAKE_DIR due.path
 
 abbrev pub due_met : Asked → Stand → Exchange → Met → Due
-due_met asked s e Missing = asks s SPLIT 0 s.base (whole s)
+due_met asked s e Missing = asks SPLIT 0 (whole s)
 due_met asked s e Directory = fails EISDIR NO_STEP e.path
-due_met asked s e Parted = asks s MAKE_ABOVE 0 s.base s.above
+due_met asked s e Parted = asks MAKE_ABOVE 0 s.above
 due_met asked s e Refused = fails e.error NO_STEP e.path
-due_met asked s e Above = asks s CREATE 0 e.gave s.name
-due_met asked s e Gone = asks s PARTIAL 0 s.base s.above
-due_met asked s e Partly = asks s READ_LINK 0 e.gave (first_name (drop s.cut s.above))
+due_met asked s e Above = asks CREATE 0 (whole s)
+due_met asked s e Gone = asks PARTIAL 0 s.above
+due_met asked s e Partly = asks READ_LINK 0 (link_path s)
 due_met asked s e Link = follows_link s e (makes asked s 0)
 due_met asked s e NoText = fails ENOENT STEP_READ_LINK e.path
 due_met asked s e Between = tries_again asked s (makes asked s (pause_after s.between))
-due_met asked s e Stands = asks s READ_END 0 e.from s.name
-due_met asked s e LinkAtEnd = follows_link s e (asks s FIND 0 s.base (whole s))
+due_met asked s e Stands = asks READ_END 0 (whole s)
+due_met asked s e LinkAtEnd = follows_link s e (asks FIND 0 (whole s))
 due_met asked s e Unfollowed = fails ENOENT STEP_MAKE_FILE e.path
-due_met asked s e BetweenAtEnd = tries_again asked s (asks s FIND (pause_after s.between) s.base (whole s))
+due_met asked s e BetweenAtEnd = tries_again asked s (asks FIND (pause_after s.between) (whole s))
 due_met asked s e Ended = ends (if e.error == 0 then e.gave else 0)
 
 -- what comes first, and after these calls
 abbrev pub due_after : Asked → List Exchange → Due
-due_after asked [] =
-    let s = stand_after asked [] in asks s (if asked.file then FIND else MAKE) 0 0 asked.path
+due_after asked [] = asks (if asked.file then FIND else MAKE) 0 asked.path
 due_after asked (e ∷ older) = due_met asked (stand_after asked (e ∷ older)) e (met_of asked e)
 
 -- ---- histories
@@ -244,7 +237,6 @@ due_after asked (e ∷ older) = due_met asked (stand_after asked (e ∷ older)) 
 pub record IsNext (asked : Asked) (older : List Exchange) (e : Exchange) : Type 0 where
   pub call : e.call ≡ (due_after asked older).next
   pub is : is_call e.call ≡ true
-  pub from : e.from ≡ (due_after asked older).from
   pub path : e.path ≡ (due_after asked older).path
 
 -- each call was the next one after those before it

@@ -1,12 +1,12 @@
 -- What C keeps of a call says where it stands after the calls that were made.
-use Rattle.std.specs.Prelude.{◌≡◌, ◌≤◌, ◌+◌, ℕ, List, true, length, take, drop}
+use Rattle.std.specs.Prelude.{◌≡◌, ◌≤◌, ℕ, List, true, length, take}
 use Rattle.make_through_links.specs.History.{due_after, is_call, stand_after, whole, Asked, Due, Exchange, IsHistory, Stand}
 use Rattle.make_through_links.specs.declared.making.Making.{Making}
 use Rattle.make_through_links.specs.declared.making.Outcome.{Outcome}
 
 -- the bytes of the room that the next call's path is
 abbrev pub path_in : Making → List ℕ → List ℕ
-path_in making room = take making.size (drop making.start room)
+path_in making room = take making.size room
 
 abbrev pub due_of : Making → List ℕ → Due
 due_of making room = record {
@@ -14,8 +14,6 @@ due_of making room = record {
   pause = making.pause;
   error = making.error;
   step = making.step;
-  base = making.base;
-  from = making.from;
   path = path_in making room;
   gives = making.gives;
 }
@@ -24,7 +22,6 @@ due_of making room = record {
 abbrev pub exchange : Making → List ℕ → Outcome → List ℕ → Exchange
 exchange making room outcome text = record {
   call = making.next;
-  from = making.from;
   path = path_in making room;
   error = outcome.error;
   gave = outcome.descriptor;
@@ -37,13 +34,12 @@ exchange making room outcome text = record {
 pub record IsWithin (making : Making) (size : ℕ) : Type 0 where
   pub above : making.above ≤ making.length
   pub length : making.length ≤ size
-  pub path : making.start + making.size ≤ making.length
+  pub path : making.size ≤ making.length
 
 -- the path lies at the room's beginning, and the numbers are those of where it stands
 pub record Keeps (asked : Asked) (s : Stand) (making : Making) (room : List ℕ) : Type 0 where
   pub path : take making.length room ≡ whole s
   pub above : making.above ≡ length s.above
-  pub base : making.base ≡ s.base
   pub cut : making.cut ≡ s.cut
   pub links : making.links ≡ s.links
   pub between : making.between ≡ s.between

@@ -1,13 +1,13 @@
 -- What holds of every history.
-use Rattle.std.specs.Prelude.{◌≡◌, ◌≢◌, ◌<◌, ◌≤◌, ℕ, ◌+◌, List, ◌∷◌, ◌++◌, ◌==◌, ◌⊎◌, Bool, true, false, if◌then◌else◌, length, drop}
+use Rattle.std.specs.Prelude.{◌≡◌, ◌≢◌, ◌<◌, ◌≤◌, ℕ, ◌+◌, List, ◌∷◌, ◌++◌, ◌==◌, ◌⊎◌, Bool, true, false, if◌then◌else◌, length, take}
 use Rattle.std.specs.List.{list_all, AllByRecursion}
 use Rattle.path_text.specs.declared.name.TheConstants.{SLASH}
 use Rattle.path_text.specs.declared.path.TheConstants.{TEXT_MAX}
 use Rattle.system_calls.specs.Errors.{ENOENT, EAGAIN, EISDIR, ENAMETOOLONG, ELOOP}
 use Rattle.system_calls.specs.Tries.{TRIES}
 use Rattle.open_or_make.specs.History.{LINKS, STEP_MAKE_FILE, STEP_READ_LINK}
-use Rattle.make_through_links.specs.History.{due_after, fails, met_of, stand_after, whole, Asked, Due, Exchange, Stand, NO_STEP, STEP_MAKE_DIR}
-use Rattle.make_through_links.specs.Paths.{before_rest, first_name}
+use Rattle.make_through_links.specs.History.{due_after, fails, link_path, met_of, stand_after, whole, Asked, Due, Exchange, Stand, NO_STEP, STEP_MAKE_DIR}
+use Rattle.make_through_links.specs.Paths.{before_rest, front_of}
 use Rattle.make_through_links.specs.declared.meets.TheConstants.{FIND, SPLIT, MAKE_ABOVE, MAKE, PARTIAL, READ_LINK, CREATE}
 use Rattle.make_through_links.specs.declared.meets.Met.{Met}
 use Rattle.make_through_links.specs.declared.meets.Met.TheVariants.{Directory, Refused, Link, NoText, Between, LinkAtEnd, Unfollowed, BetweenAtEnd}
@@ -38,18 +38,22 @@ part_for call s =
     else (if call == MAKE_ABOVE then s.above
     else (if call == MAKE then s.above
     else (if call == PARTIAL then s.above
-    else (if call == READ_LINK then first_name (drop s.cut s.above)
-    else s.name)))))
+    else (if call == READ_LINK then link_path s else whole s)))))
 
--- The link's name stands in the old path. In the new one its text stands before what comes behind the name and the
--- slashes there.
-pub record IsLed (old new : List ℕ) (link : Exchange) : Type 0 where
-  pub front : List ℕ
+-- the path of the directory in which a link was read, on the way or at the path's end
+abbrev pub directory_for : ℕ → Stand → List ℕ
+directory_for call s = if call == READ_LINK then take s.cut s.above else s.above
+
+-- The link's name stands in the old path, behind that of its directory. In the new one its text stands there, or at the
+-- beginning if it begins with a slash, before what comes behind the name and the slashes there.
+pub record IsLed (dir old new : List ℕ) (link : Exchange) : Type 0 where
+  pub name : List ℕ
   pub slashes : List ℕ
   pub rest : List ℕ
-  pub place : old ≡ front ++ (link.path ++ (slashes ++ rest))
+  pub path : link.path ≡ dir ++ name
+  pub place : old ≡ dir ++ (name ++ (slashes ++ rest))
   pub only : list_all (λ b. b == SLASH) slashes ≡ true
-  pub leads : new ≡ before_rest link.text rest
+  pub leads : new ≡ front_of link.text dir ++ before_rest link.text rest
 
 abbrev pub is_followed : Met → Bool
 is_followed Link = true
@@ -60,7 +64,7 @@ is_followed other = false
 abbrev pub NoneFollowed : Asked → List Exchange → Type 0
 NoneFollowed asked history = AllByRecursion (λ e. is_followed (met_of asked e) ≡ false) history
 
--- the path is the one to which the link leads that was followed last, and begins in the directory where it was read
+-- the path is the one to which the link leads that was followed last
 pub record IsOfLastLink (asked : Asked) (history : List Exchange) (s : Stand) : Type 0 where
   pub newer : List Exchange
   pub link : Exchange
@@ -68,14 +72,13 @@ pub record IsOfLastLink (asked : Asked) (history : List Exchange) (s : Stand) : 
   pub order : history ≡ newer ++ (link ∷ before)
   pub none : NoneFollowed asked newer
   pub read : is_followed (met_of asked link) ≡ true
-  pub led : IsLed (whole (stand_after asked before)) (whole s) link
-  pub base : s.base ≡ link.from
+  pub led : IsLed (directory_for link.call (stand_after asked before)) (whole (stand_after asked before)) (whole s) link
   pub fits : length (whole s) ≤ TEXT_MAX
 
--- where it stands has the program's own path, which begins at the root, as long as no link was followed
+-- where it stands has the program's own path, as long as no link was followed
 abbrev pub IsPathOf : Asked → List Exchange → Stand → Type 0
 IsPathOf asked history s =
-    ((whole s ≡ asked.path) × ((s.base ≡ 0) × NoneFollowed asked history)) ⊎ IsOfLastLink asked history s
+    ((whole s ≡ asked.path) × NoneFollowed asked history) ⊎ IsOfLastLink asked history s
 
 -- ---- why it fails by an error that isn't the last call's
 

@@ -5,7 +5,7 @@ ghost use Rattle.std.specs.List.{AllByRecursion};
 ghost use Rattle.path_text.specs.declared.path.TheConstants.{TEXT_MAX};
 ghost use Rattle.system_calls.specs.Errors.{ENOENT, EAGAIN, EISDIR, ENAMETOOLONG, ELOOP};
 ghost use Rattle.open_or_make.specs.History.{LINKS, STEP_MAKE_FILE, STEP_READ_LINK};
-ghost use Rattle.make_through_links.specs.Closing.{is, is_named, one, times_closed};
+ghost use Rattle.make_through_links.specs.Closing.{closed, is};
 ghost use Rattle.make_through_links.specs.History.{asks, due_after, ends, fails, is_call, makes, met_of, stand_after, whole, Asked, Exchange, IsHistory, NO_STEP, STEP_MAKE_DIR};
 ghost use Rattle.make_through_links.specs.Promises.{is_followed, part_for, tried_path, IsGiven, IsLastTry, IsOneTooMany, IsPathOf, IsTooLong, IsWhy, CALLS_MAX};
 ghost use Rattle.make_through_links.specs.declared.meets.TheConstants.{CREATE, ENDS, FAILS, FIND, MAKE, MAKE_ABOVE, PARTIAL, READ_END, READ_LINK, SPLIT};
@@ -28,24 +28,23 @@ pub fn what_is_there_is_given()
         → due_after asked (e ∷ older) ≡ ends e.gave }
 {}
 
-/// A file is made in the directory that the call right before gave. That one made the directories of the path, and the
-/// file's name is what comes behind them.
-pub fn files_are_made_in_the_directory_above()
+/// A file is made right after the call that made the directories of its path, and its name is what comes behind them.
+pub fn files_are_made_once_their_directories_are_there()
     ensures { (asked : Asked) (e above : Exchange) (older : List Exchange) → IsHistory asked (e ∷ (above ∷ older))
-        → e.call ≡ CREATE → (above.call ≡ MAKE_ABOVE) × ((above.error ≡ 0) × ((e.from ≡ above.gave)
-        × (above.path ++ e.path ≡ whole (stand_after asked older)))) }
+        → e.call ≡ CREATE → (above.call ≡ MAKE_ABOVE) × ((above.error ≡ 0) × ((e.path ≡ whole (stand_after asked older))
+        × (e.path ≡ above.path ++ (stand_after asked older).name))) }
 {}
 
-/// Each call walks its part of the path: all of it to find a file and to take the name apart; the directories' part to
-/// make them and to see how much is there; the name that is missing to read a link; and the file's name.
+/// Each call walks its part of the path: the directories' part to make them and to see how much is there; what is there of
+/// that part, and the next name, to read a link; and else all of it.
 pub fn each_call_walks_its_part()
     ensures { (asked : Asked) (e : Exchange) (older : List Exchange) → IsHistory asked (e ∷ older)
         → e.path ≡ part_for e.call (stand_after asked older) }
 {}
 
-/// The path is the program's own, and begins at the root, as long as no link was followed. Then it is the text of the
-/// link that was followed last, before what came behind that link in the path of that moment; it begins in the
-/// directory in which the link was read, and has 4,095 bytes at most. At most 40 links are followed.
+/// The path is the program's own as long as no link was followed. Then it has the text of the link that was followed last
+/// in the place of that link, behind the path of its directory and before what came behind it in the path of that moment;
+/// or at the beginning, if the text begins with a slash. It has 4,095 bytes at most. At most 40 links are followed.
 pub fn links_are_followed_in_turn()
     ensures path { (asked : Asked) (e : Exchange) (older : List Exchange) → IsHistory asked (e ∷ older)
         → IsPathOf asked older (stand_after asked older) }
@@ -67,23 +66,21 @@ pub fn no_link_is_followed_without_leave()
 /// file is looked for.
 pub fn what_is_missing_is_made()
     ensures first { (asked : Asked) → due_after asked []
-        ≡ asks (stand_after asked []) (if asked.file then FIND else MAKE) 0 0 asked.path }
+        ≡ asks (if asked.file then FIND else MAKE) 0 asked.path }
     ensures missing { (asked : Asked) (e : Exchange) (older : List Exchange) → met_of asked e ≡ Missing
-        → due_after asked (e ∷ older) ≡ asks (stand_after asked older) SPLIT 0 (stand_after asked older).base
-        (whole (stand_after asked older)) }
+        → due_after asked (e ∷ older) ≡ asks SPLIT 0 (whole (stand_after asked older)) }
     ensures parted { (asked : Asked) (e : Exchange) (older : List Exchange) → met_of asked e ≡ Parted
         → (due_after asked (e ∷ older)).next ≡ MAKE_ABOVE
         × (due_after asked (e ∷ older)).path ≡ take e.rest (whole (stand_after asked older)) }
     ensures above { (asked : Asked) (e : Exchange) (older : List Exchange) → met_of asked e ≡ Above
-        → due_after asked (e ∷ older) ≡ asks (stand_after asked older) CREATE 0 e.gave (stand_after asked older).name }
+        → due_after asked (e ∷ older) ≡ asks CREATE 0 (whole (stand_after asked older)) }
     ensures gone { (asked : Asked) (e : Exchange) (older : List Exchange) → met_of asked e ≡ Gone
-        → due_after asked (e ∷ older) ≡ asks (stand_after asked older) PARTIAL 0 (stand_after asked older).base
-        (stand_after asked older).above }
+        → due_after asked (e ∷ older) ≡ asks PARTIAL 0 (stand_after asked older).above }
     ensures partly { (asked : Asked) (e : Exchange) (older : List Exchange) → met_of asked e ≡ Partly
         → (due_after asked (e ∷ older)).next ≡ READ_LINK }
     ensures stands { (asked : Asked) (e : Exchange) (older : List Exchange) → met_of asked e ≡ Stands
         → due_after asked (e ∷ older)
-        ≡ asks (stand_after asked older) READ_END 0 e.from (stand_after asked older).name }
+        ≡ asks READ_END 0 (whole (stand_after asked older)) }
     ensures link { (asked : Asked) (e : Exchange) (older : List Exchange) → met_of asked e ≡ Link
         → (stand_after asked older).links < LINKS → length (whole (stand_after asked (e ∷ older))) ≤ TEXT_MAX
         → due_after asked (e ∷ older) ≡ makes asked (stand_after asked (e ∷ older)) 0 }
@@ -118,19 +115,11 @@ pub fn calls_are_few()
     ensures { (asked : Asked) (history : List Exchange) → IsHistory asked history → length history ≤ CALLS_MAX }
 {}
 
-/// What comes next names no descriptor but those that were open, and the one that the last call gave. If the kernel
-/// gives none the number of an open one (open(2)), each of these is closed once, or it is named and stays open. So in
-/// the end all are closed but the one that is given.
+/// What a call gave is closed right after it, unless it is the reply. So in the end nothing is open but that.
 pub fn each_descriptor_is_closed_once()
-    ensures named { (asked : Asked) (e : Exchange) (older : List Exchange) → IsHistory asked (e ∷ older) → (held : ℕ)
-        → held ≢ 0 → is_named (due_after asked (e ∷ older)) held ≡ true
-        → (is_named (due_after asked older) held ≡ true) ⊎ (held ≡ e.gave) }
-    ensures once { (asked : Asked) (e : Exchange) (older : List Exchange) → IsHistory asked (e ∷ older)
-        → (e.gave ≢ 0 → is_named (due_after asked older) e.gave ≡ false) → (held : ℕ) → held ≢ 0
-        → times_closed (due_after asked older) e.gave (due_after asked (e ∷ older)) held
-        + one (is_named (due_after asked (e ∷ older)) held)
-        ≡ one (is_named (due_after asked older) held) + is held e.gave }
-    ensures ended { (asked : Asked) (history : List Exchange) (held : ℕ) → held ≢ 0
-        → is_call (due_after asked history).next ≡ false → is_named (due_after asked history) held ≡ true
-        → held ≡ (due_after asked history).gives }
+    ensures given { (asked : Asked) (e : Exchange) (older : List Exchange) → (due_after asked (e ∷ older)).gives ≢ 0
+        → ((due_after asked (e ∷ older)).gives ≡ e.gave) × ((due_after asked (e ∷ older)).next ≡ ENDS) }
+    ensures once { (asked : Asked) (e : Exchange) (older : List Exchange) (held : ℕ) → held ≢ 0
+        → is held (closed e.gave (due_after asked (e ∷ older)).gives) + is held (due_after asked (e ∷ older)).gives
+        ≡ is held e.gave }
 {}

@@ -14,7 +14,7 @@ mod turns;
 
 pub use laws::{
     calls_are_few, each_call_walks_its_part, each_descriptor_is_closed_once,
-    files_are_made_in_the_directory_above, links_are_followed_in_turn,
+    files_are_made_once_their_directories_are_there, links_are_followed_in_turn,
     no_link_is_followed_without_leave, what_is_given_was_found_or_made, what_is_missing_is_made,
     what_is_there_is_given, why_it_fails,
 };

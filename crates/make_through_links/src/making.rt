@@ -11,7 +11,7 @@ use crate::meets::{
     CREATE, ENDS, FAILS, FIND, MAKE, MAKE_ABOVE, Met, PARTIAL, READ_END, READ_LINK, SPLIT, Seen,
     meets,
 };
-use crate::paths::{joined_length, lay, lay_before, rest_at};
+use crate::paths::{front_length, joined_length, lay, lay_before, rest_at};
 use path_text::{TEXT_MAX, name_length};
 use system_calls::errors::{EAGAIN, EISDIR, ELOOP, ENAMETOOLONG, ENOENT};
 use system_calls::{NextTry, next_try};
@@ -28,8 +28,7 @@ const STEP_MAKE_DIR: u8 = 8;
 
 const STEP_MAKE_FILE: u8 = 9;
 
-/// How far a call has come. C keeps it, beside a room of bytes that has the path at its beginning, and keeps open the
-/// directories that it names.
+/// How far a call has come. C keeps it, beside a room of bytes that has the path at its beginning.
 #[repr(C)]
 #[derive(Clone, Copy, Debug, PartialEq, Eq)]
 pub struct Making {
@@ -39,21 +38,12 @@ pub struct Making {
     pub above: usize,
     /// So many bytes of that path come before the name that is missing.
     pub cut: usize,
-    /// The next call's path begins behind so many bytes; or what the error is about.
-    pub start: usize,
-    /// It has so many bytes.
+    /// So many bytes are the next call's path; or what the error is about.
     pub size: usize,
-    /// The directory in which the path begins: its descriptor's number and one, or 0 for the root.
-    pub base: u32,
-    /// The directory in which the next call's path begins, in the same way.
-    pub from: u32,
-    /// If the next is ENDS, the descriptor that is the reply, in the same way; or 0, if the last call's error is.
+    /// If the next is ENDS, the descriptor that is the reply, its number and one; or 0, if the last call's error is.
     pub gives: u32,
-    /// What is closed before the next call, in the same way: what was `base`, what was `from`, and what the last call
-    /// gave; or 0 for each.
-    pub closes_base: u32,
-    pub closes_from: u32,
-    pub closes_given: u32,
+    /// The descriptor that the last call gave, in the same way, if it is to be closed now; or 0.
+    pub closes: u32,
     /// If it is FAILS, the number of the error (errno(3)). Else 0.
     pub error: u32,
     /// So many nanoseconds are waited before the next call.
@@ -88,15 +78,13 @@ pub struct Outcome {
     pub directory: bool,
 }
 
-// A call on so many bytes of the path comes next, from this directory on.
-fn asks(making: Making, call: u8, pause: u32, from: u32, start: usize, size: usize) -> Making
+// A call on so many bytes of the path comes next.
+fn asks(making: Making, call: u8, pause: u32, size: usize) -> Making
     ensures { result ≡ record making {
       next = call;
       pause = pause;
       error = 0;
       step = 0;
-      from = from;
-      start = start;
       size = size;
       gives = 0;
     } }
@@ -106,8 +94,6 @@ fn asks(making: Making, call: u8, pause: u32, from: u32, start: usize, size: usi
         pause,
         error: 0,
         step: NO_STEP,
-        from,
-        start,
         size,
         gives: 0,
         ..making
@@ -117,39 +103,21 @@ fn asks(making: Making, call: u8, pause: u32, from: u32, start: usize, size: usi
 fn asks_whole(making: Making, call: u8, pause: u32) -> Making
     requires { making.above ≤ making.length }
     ensures goes { (asked : Asked) (s : Stand) (room : List ℕ) → Keeps asked s making room
-        → Tells asked s (asks s call pause s.base (whole s)) result room }
+        → Tells asked s (asks call pause (whole s)) result room }
     ensures within { (size : ℕ) → making.length ≤ size → IsWithin result size }
     ensures call { (result.next ≡ call) × (result.length ≡ making.length) }
 {
-    asks(making, call, pause, making.base, 0, making.length)
+    asks(making, call, pause, making.length)
 }
 
 fn asks_above(making: Making, call: u8, pause: u32) -> Making
     requires { making.above ≤ making.length }
     ensures goes { (asked : Asked) (s : Stand) (room : List ℕ) → Keeps asked s making room
-        → Tells asked s (asks s call pause s.base s.above) result room }
+        → Tells asked s (asks call pause s.above) result room }
     ensures within { (size : ℕ) → making.length ≤ size → IsWithin result size }
     ensures call { (result.next ≡ call) × (result.length ≡ making.length) }
 {
-    asks(making, call, pause, making.base, 0, making.above)
-}
-
-// On the file's name, in this directory.
-fn asks_name(making: Making, call: u8, from: u32) -> Making
-    requires { making.above ≤ making.length }
-    ensures goes { (asked : Asked) (s : Stand) (room : List ℕ) → Keeps asked s making room
-        → Tells asked s (asks s call 0 from s.name) result room }
-    ensures within { (size : ℕ) → making.length ≤ size → IsWithin result size }
-    ensures call { (result.next ≡ call) × (result.length ≡ making.length) }
-{
-    asks(
-        making,
-        call,
-        0,
-        from,
-        making.above,
-        making.length - making.above,
-    )
+    asks(making, call, pause, making.above)
 }
 
 fn make_call(file: bool) -> u8
@@ -177,8 +145,6 @@ fn fails(making: Making, error: u32, step: u8) -> Making
       pause = 0;
       error = error;
       step = step;
-      base = 0;
-      from = 0;
       gives = 0;
     } }
 {
@@ -187,8 +153,6 @@ fn fails(making: Making, error: u32, step: u8) -> Making
         pause: 0,
         error,
         step,
-        base: 0,
-        from: 0,
         gives: 0,
         ..making
     }
@@ -201,9 +165,6 @@ fn ends(making: Making, outcome: Outcome) -> Making
       pause = 0;
       error = 0;
       step = 0;
-      base = 0;
-      from = 0;
-      start = 0;
       size = 0;
       gives = (if outcome.error == 0 then outcome.descriptor else 0);
     } }
@@ -213,9 +174,6 @@ fn ends(making: Making, outcome: Outcome) -> Making
         pause: 0,
         error: 0,
         step: NO_STEP,
-        base: 0,
-        from: 0,
-        start: 0,
         size: 0,
         gives: if outcome.error == 0 {
             outcome.descriptor
@@ -247,7 +205,6 @@ fn read_link(making: Making, outcome: Outcome, room: &[u8]) -> Making
     requires above { making.above ≤ making.length }
     requires path { making.length ≤ length room.now }
     ensures goes { (asked : Asked) (s : Stand) (e : Exchange) → Keeps asked s making room.now → e.rest ≡ outcome.rest
-        → e.gave ≡ outcome.descriptor
         → Tells asked (moved s e Met.Partly) (due_met asked (moved s e Met.Partly) e Met.Partly) result room.now }
     ensures within { (size : ℕ) → making.length ≤ size → IsWithin result size }
     ensures call { is_call result.next ≡ true }
@@ -258,7 +215,7 @@ fn read_link(making: Making, outcome: Outcome, room: &[u8]) -> Making
         cut: outcome.rest,
         ..making
     };
-    asks(there, READ_LINK, 0, outcome.descriptor, start, size)
+    asks(there, READ_LINK, 0, start + size)
 }
 
 // Whether another try is due, as somebody came in between once more.
@@ -335,54 +292,55 @@ fn link_error(links: u32, path_length: usize) -> u32
     }
 }
 
-// A link stands in the directories' path, which has this text: the text stands before what comes behind it.
+// A link stands in the directories' path, which has this text: the text stands in its place.
 fn follow(making: Making, text: &[u8], room: &mut [u8]) -> Making
     requires within { IsWithin making (length room.old) }
     requires room { TEXT_MAX ≤ length room.old }
     ensures goes { (asked : Asked) (s : Stand) (e : Exchange) → Keeps asked s making room.old → e.text ≡ text.now
-        → e.from ≡ making.from → e.path ≡ path_in making room.old
+        → e.path ≡ path_in making room.old
         → Tells asked (moved s e Met.Link) (due_met asked (moved s e Met.Link) e Met.Link) result room.new }
     ensures within { IsWithin result (length room.new) }
     ensures ends { is_call result.next ≡ false → (room.new ≡ room.old) × (result.length ≡ making.length) }
 {
     let cut = making.cut.min(making.above);
     let at = cut + rest_at(&room[cut..making.above]);
-    let length = joined_length(text, making.length - at);
+    let front = front_length(text, cut);
+    let length = joined_length(front, text, making.length - at);
     let error = link_error(making.links, length);
     if error != 0 {
         return fails(making, error, STEP_READ_LINK);
     }
-    lay_before(text, at, making.length, room);
+    lay_before(text, at - front, making.length - front, &mut room[front..]);
     let led = Making {
         length,
         above: length - (making.length - making.above),
-        base: making.from,
         links: making.links + 1,
         ..making
     };
     makes(led, 0)
 }
 
-// The same of a link at the path's end: its text is the path.
+// The same of a link at the path's end: its text stands behind the directories' path.
 fn follow_at_end(making: Making, text: &[u8], room: &mut [u8]) -> Making
     requires within { IsWithin making (length room.old) }
     requires room { TEXT_MAX ≤ length room.old }
     ensures goes { (asked : Asked) (s : Stand) (e : Exchange) → Keeps asked s making room.old → e.text ≡ text.now
-        → e.from ≡ making.from → e.path ≡ path_in making room.old
+        → e.path ≡ path_in making room.old
         → Tells asked (moved s e Met.LinkAtEnd) (due_met asked (moved s e Met.LinkAtEnd) e Met.LinkAtEnd)
         result room.new }
     ensures within { IsWithin result (length room.new) }
     ensures ends { is_call result.next ≡ false → (room.new ≡ room.old) × (result.length ≡ making.length) }
 {
-    let error = link_error(making.links, text.len());
+    let front = front_length(text, making.above);
+    let length = joined_length(front, text, 0);
+    let error = link_error(making.links, length);
     if error != 0 {
         return fails(making, error, STEP_READ_LINK);
     }
-    lay(text, room);
+    lay(text, &mut room[front..]);
     let led = Making {
-        length: text.len(),
-        above: text.len(),
-        base: making.from,
+        length,
+        above: length,
         links: making.links + 1,
         ..making
     };
@@ -395,13 +353,12 @@ fn met(making: Making, outcome: Outcome, text: &[u8], room: &[u8]) -> Met
     ensures { (asked : Asked) → making.follows ≡ asked.follows
         → result ≡ met_of asked (exchange making room.now outcome text.now) }
 {
-    let end = making.start + making.size;
-    let start = making.start + outcome.rest.min(making.size);
+    let start = outcome.rest.min(making.size);
     let seen = Seen {
         error: outcome.error,
         directory: outcome.directory,
         nothing: making.size == 0,
-        whole: name_length(&room[start..end]) == 0,
+        whole: name_length(&room[start..making.size]) == 0,
         no_text: text.is_empty(),
     };
     meets(making.follows, making.next, seen)
@@ -426,14 +383,9 @@ pub fn begin(path_length: usize, file: bool, follows: bool, may_retry: bool) -> 
         length: path_length,
         above: path_length,
         cut: 0,
-        start: 0,
         size: path_length,
-        base: 0,
-        from: 0,
         gives: 0,
-        closes_base: 0,
-        closes_from: 0,
-        closes_given: 0,
+        closes: 0,
         error: 0,
         pause: 0,
         links: 0,
@@ -461,13 +413,13 @@ pub(crate) fn go_on(making: Making, outcome: Outcome, text: &[u8], room: &mut [u
         Met::Directory => fails(making, EISDIR, NO_STEP),
         Met::Parted => part(making, outcome.rest),
         Met::Refused => fails(making, outcome.error, NO_STEP),
-        Met::Above => asks_name(making, CREATE, outcome.descriptor),
+        Met::Above => asks_whole(making, CREATE, 0),
         Met::Gone => asks_above(making, PARTIAL, 0),
         Met::Partly => read_link(making, outcome, room),
         Met::Link => follow(making, text, room),
         Met::NoText => fails(making, ENOENT, STEP_READ_LINK),
         Met::Between => make_again(making),
-        Met::Stands => asks_name(making, READ_END, making.from),
+        Met::Stands => asks_whole(making, READ_END, 0),
         Met::LinkAtEnd => follow_at_end(making, text, room),
         Met::Unfollowed => fails(making, ENOENT, STEP_MAKE_FILE),
         Met::BetweenAtEnd => find_again(making),

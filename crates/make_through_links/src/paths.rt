@@ -1,9 +1,10 @@
 //! Where a path goes on behind a link.
 ghost use Rattle.std.specs.Prelude.{◌≡◌, ◌+◌, ◌-◌, ◌≤◌, ◌<◌, ◌^◌, ◌∷◌, ◌==◌, if◌then◌else◌, length, take, drop};
+ghost use Rattle.path_text.specs.Text.{begins_with_slash};
 ghost use Rattle.path_text.specs.declared.name.TheConstants.{SLASH};
 ghost use Rattle.make_through_links.specs.Paths.{before_rest, rest_behind, slashes_size};
 
-use path_text::{SLASH, name_length};
+use path_text::{SLASH, begins_with_slash, name_length};
 
 // How many slashes a text begins with.
 fn slashes_length(text: &[u8]) -> usize
@@ -25,15 +26,23 @@ pub(crate) fn rest_at(text: &[u8]) -> usize
     name + slashes_length(&text[name..])
 }
 
-// How long a link's text is before so many bytes that come behind the link.
-pub(crate) fn joined_length(text: &[u8], rest: usize) -> usize
-    requires { rest < 2 ^ 63 }
-    ensures { result ≡ (if rest == 0 then length text.now else length text.now + 1 + rest) }
+// How long the path of a link's directory is, of so many bytes, before this text.
+pub(crate) fn front_length(text: &[u8], dir: usize) -> usize
+    ensures exact { result ≡ (if begins_with_slash text.now then 0 else dir) }
+    ensures within { result ≤ dir }
+{
+    if begins_with_slash(text) { 0 } else { dir }
+}
+
+// How long a link's text is behind so many bytes, and before those that come behind the link.
+pub(crate) fn joined_length(front: usize, text: &[u8], rest: usize) -> usize
+    requires { front + rest < 2 ^ 63 }
+    ensures { result ≡ front + (if rest == 0 then length text.now else length text.now + 1 + rest) }
 {
     if rest == 0 {
-        text.len()
+        front + text.len()
     } else {
-        text.len() + 1 + rest
+        front + rest + 1 + text.len()
     }
 }
 

@@ -1,37 +1,24 @@
 //! What comes next, and what is closed before.
 ghost use Rattle.std.specs.Prelude.{◌≡◌, ◌≤◌, ◌∷◌, List, true, false, length};
 ghost use Rattle.path_text.specs.declared.path.TheConstants.{TEXT_MAX};
-ghost use Rattle.make_through_links.specs.Closing.{closing, names, unused};
+ghost use Rattle.make_through_links.specs.Closing.{closed};
 ghost use Rattle.make_through_links.specs.History.{is_call, Asked, Exchange};
 ghost use Rattle.make_through_links.specs.Making.{exchange, IsAt, IsWithin};
 
 use crate::making::{Making, Outcome, go_on};
 
-fn names(making: &Making, held: u32) -> bool
-    ensures { result ≡ names making.now.base making.now.from making.now.gives held }
+// What a call gave is closed, if it isn't the reply.
+fn closed(gave: u32, gives: u32) -> u32
+    ensures { result ≡ closed gave gives }
 {
-    held == making.base || held == making.from || held == making.gives
+    if gave == gives { 0 } else { gave }
 }
 
-// A descriptor that nothing names any more.
-fn unused(making: &Making, held: u32) -> u32
-    ensures { result ≡ unused making.now.base making.now.from making.now.gives held }
-{
-    if names(making, held) { 0 } else { held }
-}
-
-// What was open, or was given, is closed if what comes next doesn't name it.
-fn closing(before: &Making, given: u32, due: Making) -> Making
-    ensures { result ≡ closing before.now given due }
+fn closing(given: u32, due: Making) -> Making
+    ensures { result ≡ record due { closes = closed given due.gives } }
 {
     Making {
-        closes_base: unused(&due, before.base),
-        closes_from: if before.from == before.base {
-            0
-        } else {
-            unused(&due, before.from)
-        },
-        closes_given: unused(&due, given),
+        closes: closed(given, due.gives),
         ..due
     }
 }
@@ -39,16 +26,15 @@ fn closing(before: &Making, given: u32, due: Making) -> Making
 /// Takes what the last call gave, with a link's text, and says what comes next. The room has the path at its
 /// beginning. It stays as it was where no call comes next. Takes no memory.
 ///
-/// A descriptor that isn't used any more is closed: each of `closes_base`, `closes_from` and `closes_given` that isn't
-/// 0.
+/// What the last call gave is closed, if `closes` isn't 0: so each call walks its path from the root.
 ///
-/// The directories of the path are made. If their path leads to what is missing, and links may be followed, as much of
-/// the path as is there is opened, and the link is read that stands there. Its text takes the link's place in the path,
-/// which then begins in the directory of the link. This goes on at most 40 times.
+/// The directories of the path are made. If their path leads to what is missing, and links may be followed, it is seen
+/// how much of the path is there, and the link is read that stands there. Its text takes the link's place in the path,
+/// or that of all up to there if it begins with a slash. This goes on at most 40 times.
 ///
 /// If a file is wanted, it is looked for first. If nothing is there, the last name is taken apart, the directories
-/// above are made, and the file is made in the last of them. If an entry is there by then, it is read as a link, and
-/// followed like that, if it may be.
+/// above are made, and then the file is. If an entry is there by then, it is read as a link, and followed like that, if
+/// it may be.
 ///
 /// If somebody came in between, so that what stood there is no link or is gone, the path is walked once more: there
 /// are 32 tries at most.
@@ -63,13 +49,9 @@ pub fn next(making: Making, outcome: Outcome, text: &[u8], room: &mut [u8]) -> M
     ensures goes { (asked : Asked) (history : List Exchange) → IsAt asked history making room.old
         → is_call making.next ≡ true
         → IsAt asked (exchange making room.old outcome text.now ∷ history) result room.new }
-    ensures closes { result ≡ closing making outcome.descriptor result }
+    ensures closes { result.closes ≡ closed outcome.descriptor result.gives }
     ensures within { IsWithin result (length room.new) }
     ensures ends { is_call result.next ≡ false → (room.new ≡ room.old) × (result.length ≡ making.length) }
 {
-    closing(
-        &making,
-        outcome.descriptor,
-        go_on(making, outcome, text, room),
-    )
+    closing(outcome.descriptor, go_on(making, outcome, text, room))
 }

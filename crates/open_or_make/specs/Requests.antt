@@ -21,7 +21,7 @@ MKFILE = 4
 abbrev pub S_IFREG : ℕ
 S_IFREG = 2 ^ 15
 
--- O_NOFOLLOW and O_DIRECTORY are the walk's; whether its last check may be the kernel's, too
+-- O_NOFOLLOW and O_DIRECTORY are the walk's
 abbrev pub finding : Opening → Request
 finding opening =
     record {
@@ -33,7 +33,6 @@ finding opening =
       opens = false;
       gives = false;
       walks = false;
-      takes_below = true;
     }
 
 -- Under O_PATH open(2) makes nothing. So the file is made by mknod(2), which takes its kind, and its name is opened.
@@ -48,7 +47,6 @@ creating opening mode =
       opens = not opening.by_path;
       gives = opening.by_path;
       walks = false;
-      takes_below = false;
     }
 
 abbrev pub reading : Request
@@ -62,7 +60,6 @@ reading =
       opens = false;
       gives = false;
       walks = true;
-      takes_below = false;
     }
 
 abbrev pub request_of : Opening → ℕ → ℕ → Request

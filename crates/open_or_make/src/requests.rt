@@ -36,8 +36,6 @@ pub struct Request {
     pub gives: bool,
     /// The text that is read is walked afterwards.
     pub walks: bool,
-    /// It may leave its last check to the kernel.
-    pub takes_below: bool,
 }
 
 const NOTHING: Request = Request {
@@ -49,7 +47,6 @@ const NOTHING: Request = Request {
     opens: false,
     gives: false,
     walks: false,
-    takes_below: false,
 };
 
 fn finding(opening: &Opening) -> Request
@@ -63,7 +60,6 @@ fn finding(opening: &Opening) -> Request
         },
         directory: opening.directory,
         asks_kind: opening.asks_kind,
-        takes_below: true,
         ..NOTHING
     }
 }

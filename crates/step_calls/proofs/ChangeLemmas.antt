@@ -18,7 +18,7 @@ use Rattle.tree_model.specs.Steps.{held, refused}
 use Rattle.tree_model.specs.Steps as tree
 use Rattle.tree_model.specs.StepWith.{StepWith}
 use Rattle.step_calls.specs.Changes.{DirectoryRemovalSays, MakeSays, MakesStood, RemovalSays, RemovalsStood, WasRefused}
-use Rattle.step_calls.specs.History.{after_exchange, asked, asks, ends_by, fails, first, next_after, Exchange, opens_directory, opens_any, spares, asks_mount, asks_kind, asks_holder, asks_magic, asks_root, looks_above, compares_above, closes_above, asks_links, asks_layers, opens_to_read, reads, closes_read, asks_follow, reads_link, changes, closes, IsHistory, Next}
+use Rattle.step_calls.specs.History.{after_exchange, asked, asks, ends_by, fails, first, next_after, Exchange, opens_directory, opens_any, spares, asks_mount, asks_kind, asks_holder, asks_magic, asks_links, asks_layers, opens_to_read, reads, closes_read, asks_follow, reads_link, changes, closes, IsHistory, Next}
 use Rattle.step_calls.specs.Moments.{moment, table, AreAnswers, IsWorld, World}
 use Rattle.step_calls.specs.Refusals.{is_refusal, is_too_long}
 use Rattle.step_calls.specs.declared.course.TheConstants.{CHANGE, DONE, REFUSED, UNMADE}
@@ -61,10 +61,6 @@ module _ (w : World) (f : Facts) (it : StepWith ℕ) (Says : ℕ → Exchange �
   step said now (asks_kind error kind) due says was = absurd was
   step said now (asks_holder error type) due says was = absurd was
   step said now (asks_magic error) due says was = absurd was
-  step said now (asks_root error) due says was = absurd was
-  step said now (looks_above error) due says was = absurd was
-  step said now (compares_above error) due says was = absurd was
-  step said now closes_above due says was = absurd was
   step said now (asks_links error links) due says was = absurd was
   step said now (asks_layers error type) due says was = absurd was
   step said now (opens_to_read error) due says was = absurd was

@@ -3,8 +3,8 @@ use Rattle.std.proofs.Common.{◌≡◌, ℕ, true, false, if◌then◌else◌, 
 use Rattle.std.specs.Prelude.{◌==◌}
 use Rattle.system_calls.specs.Errors.{ENOENT, EINTR, ENFILE, EMFILE}
 use Rattle.step_calls.specs.Refusals.{is_refusal}
-use Rattle.step_calls.specs.History.{asks, bars_magic, came_to, ends_by, fails, first_above, gone, is_known_there, knows, may_look_above, not_opened, opened, stayed, there, unasked, waits, Next}
-use Rattle.step_calls.specs.declared.course.TheConstants.{OPEN_DIRECTORY, SPARE, MOUNT, KIND, MAY_HOLD_MAGIC, IS_ROOT, LOOK_ABOVE, LINKS, CLOSE, OPENED, DONE, REFUSED, UNMADE}
+use Rattle.step_calls.specs.History.{asks, bars_magic, came_to, ends_by, fails, gone, knows, not_opened, opened, stayed, there, unasked, waits, Next}
+use Rattle.step_calls.specs.declared.course.TheConstants.{SPARE, MOUNT, KIND, MAY_HOLD_MAGIC, LINKS, CLOSE, OPENED, DONE, REFUSED, UNMADE}
 use Rattle.step_calls.specs.declared.facts.Facts.{Facts}
 use Rattle.step_calls.specs.declared.facts.TheConstants.{PARENT, DIRECTORY, LINK}
 use Rattle.step_calls.proofs.MomentLemmas.{if_elim}
@@ -17,9 +17,9 @@ ends_all P f error r u =
 pub came_all : (P : Next → Type 0) (f : Facts) (k : ℕ) → ((f.what == PARENT) ≡ true → P (asks LINKS))
     → P (knows MAY_HOLD_MAGIC k) → P (knows OPENED k) → P (came_to f k)
 came_all P f k links magic opened =
-    if_elim P (f.what == PARENT) (if is_known_there f then knows OPENED k else asks LINKS)
+    if_elim P (f.what == PARENT) (asks LINKS)
     (if bars_magic f && (k == LINK) then knows MAY_HOLD_MAGIC k else knows OPENED k)
-    (λ b. if_elim P (is_known_there f) (knows OPENED k) (asks LINKS) (λ c. opened) (λ c. links b))
+    links
     (λ b. if_elim P (bars_magic f && (k == LINK)) (knows MAY_HOLD_MAGIC k) (knows OPENED k) (λ c. magic) (λ c. opened))
 
 pub stayed_all : (P : Next → Type 0) (f : Facts) (k : ℕ) → P (asks KIND) → ((f.what == PARENT) ≡ true → P (asks LINKS))
@@ -55,13 +55,3 @@ pub unasked_all : (P : Next → Type 0) (f : Facts) (error : ℕ)
     → ((f.what == PARENT) ≡ true → P (waits CLOSE UNMADE error)) → ((f.what == PARENT) ≡ false → P (fails UNMADE error))
     → P (unasked f error)
 unasked_all P f error c u = if_elim P (f.what == PARENT) (waits CLOSE UNMADE error) (fails UNMADE error) c u
-
-pub first_above_all : (P : Next → Type 0) (f : Facts) → P (asks IS_ROOT) → P (asks LOOK_ABOVE) → P (asks OPEN_DIRECTORY)
-    → P (first_above f)
-first_above_all P f root look up =
-    if_elim P (may_look_above f) _ (asks OPEN_DIRECTORY)
-    (λ b. if_elim P f.single (if f.goes_on then asks IS_ROOT else asks OPEN_DIRECTORY)
-    (if f.jailed then asks OPEN_DIRECTORY else asks LOOK_ABOVE)
-    (λ c. if_elim P f.goes_on (asks IS_ROOT) (asks OPEN_DIRECTORY) (λ d. root) (λ d. up))
-    (λ c. if_elim P f.jailed (asks OPEN_DIRECTORY) (asks LOOK_ABOVE) (λ d. up) (λ d. look)))
-    (λ b. up)

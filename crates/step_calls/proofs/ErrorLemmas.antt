@@ -4,9 +4,9 @@ use Rattle.std.specs.Prelude.{◌==◌}
 use Rattle.std.specs.List.{AllByRecursion}
 use Rattle.std.proofs.lemmas.Bool.{eqb-true, false≢true}
 use Rattle.system_calls.specs.Errors.{ENOENT, EINTR, EEXIST, EXDEV, ENOTDIR, ELOOP}
-use Rattle.step_calls.specs.History.{after_exchange, asked, asks, came_to, ends_by, fails, gone, has_followed, has_magic, is_ordinary, keeps_links, knows, next_after, not_ordinary, not_read, opened, stayed, there, unasked, waits, opens_directory, opens_any, spares, asks_mount, asks_kind, asks_holder, asks_magic, asks_root, looks_above, compares_above, closes_above, asks_links, asks_layers, opens_to_read, reads, closes_read, asks_follow, reads_link, changes, closes, is_read_already, Exchange, IsHistory, Next}
+use Rattle.step_calls.specs.History.{after_exchange, asked, asks, came_to, ends_by, fails, gone, has_followed, has_magic, is_ordinary, keeps_links, knows, next_after, not_ordinary, not_read, opened, stayed, there, unasked, waits, opens_directory, opens_any, spares, asks_mount, asks_kind, asks_holder, asks_magic, asks_links, asks_layers, opens_to_read, reads, closes_read, asks_follow, reads_link, changes, closes, Exchange, IsHistory, Next}
 use Rattle.step_calls.specs.Promises.{is_no_error, is_none_left, NoError}
-use Rattle.step_calls.specs.declared.course.TheConstants.{OPEN_DIRECTORY, OPEN_ANY, MAGIC, COMPARE_ABOVE, CLOSE_ABOVE, LAYERS, OPEN_TO_READ, READ, CLOSE_READ, NO_FOLLOW, READ_LINK, CLOSE, OPENED, TEXT, REFUSED, UNMADE, DONE}
+use Rattle.step_calls.specs.declared.course.TheConstants.{OPEN_DIRECTORY, OPEN_ANY, MAGIC, LAYERS, OPEN_TO_READ, READ, CLOSE_READ, NO_FOLLOW, READ_LINK, CLOSE, OPENED, TEXT, REFUSED, UNMADE, DONE}
 use Rattle.step_calls.specs.declared.facts.Facts.{Facts}
 use Rattle.step_calls.specs.declared.facts.TheConstants.{OPEN, DIRECTORY}
 use Rattle.step_calls.proofs.Ends.{came_all, ends_all, gone_all, opened_all, stayed_all, there_all, unasked_all, unopened_all}
@@ -85,18 +85,6 @@ well f (asks_magic error) due =
     (λ b h. (first_is (error == EINTR) (is_ordinary error) b, refl))
     (λ b. if_elim P (is_ordinary error) (knows OPENED due.kind) (waits CLOSE UNMADE (not_ordinary error))
     (λ c h. (second_is (error == EINTR) (is_ordinary error) c, refl)) (λ c. no_way))
-well f (asks_root error) due =
-    if_elim (Well f (asks_root error) due) (error == 0) (came_to f DIRECTORY) (asks OPEN_DIRECTORY)
-    (λ b. came_all (Well f (asks_root error) due) f DIRECTORY (λ l h. (refl, refl)) (λ h. (refl, refl)) (λ h. (refl, refl)))
-    (λ b h. (refl, refl))
-well f (looks_above error) due =
-    if_elim (Well f (looks_above error) due) (error == 0) (asks COMPARE_ABOVE) (asks OPEN_DIRECTORY) (λ b h. (refl, refl))
-    (λ b h. (refl, refl))
-well f (compares_above error) due =
-    if_elim (Well f (compares_above error) due) (error == 0) (came_to f DIRECTORY) (asks CLOSE_ABOVE)
-    (λ b. came_all (Well f (compares_above error) due) f DIRECTORY (λ l h. (refl, refl)) (λ h. (refl, refl)) (λ h. (refl, refl)))
-    (λ b h. (refl, refl))
-well f closes_above due = λ h. (refl, refl)
 well f (asks_links error links) due =
     let P = Well f (asks_links error links) due in
     if_elim P (error == 0) (if links == 0 then gone f else asks LAYERS) (unasked f error)
@@ -134,10 +122,9 @@ well f (asks_follow error flags) due =
     let P = Well f (asks_follow error flags) due in
     if_elim P (error == EINTR) (asks NO_FOLLOW) _
     (λ b h. (first_is (error == EINTR) ((error == 0) && has_followed flags) b, refl))
-    (λ b. if_elim P ((error == 0) && has_followed flags) (if is_read_already f then asks TEXT else asks READ_LINK)
+    (λ b. if_elim P ((error == 0) && has_followed flags) (asks READ_LINK)
     (fails UNMADE (if error == 0 then ELOOP else error))
-    (λ c. let ok = second_is (error == EINTR) _ c in
-    if_elim P (is_read_already f) (asks TEXT) (asks READ_LINK) (λ d h. (ok, refl)) (λ d h. (ok, refl))) (λ c. no_way))
+    (λ c h. (second_is (error == EINTR) _ c, refl)) (λ c. no_way))
 well f (reads_link error) due =
     let P = Well f (reads_link error) due in
     if_elim P (error == 0) (asks TEXT) _ (λ b h. (first_is (error == 0) (error == EINTR) b, refl))

@@ -2,22 +2,18 @@
 use Rattle.std.proofs.Common.{◌≡◌, ◌≤◌, ◌+◌, ℕ, suc, List, [], ◌∷◌, Bool, true, if◌then◌else◌, ◌&&◌, not, length, ap, arith}
 use Rattle.std.specs.Prelude.{◌==◌}
 use Rattle.system_calls.specs.Errors.{ENOENT, EINTR, EEXIST, EXDEV, ENOTDIR, ELOOP}
-use Rattle.step_calls.specs.History.{after_exchange, asked, asks, came_to, ends_by, fails, first, first_above, gone, has_followed, has_magic, is_ordinary, keeps_links, knows, next_after, not_ordinary, not_read, opened, stayed, there, unasked, waits, opens_directory, opens_any, spares, asks_mount, asks_kind, asks_holder, asks_magic, asks_root, looks_above, compares_above, closes_above, asks_links, asks_layers, opens_to_read, reads, closes_read, asks_follow, reads_link, changes, closes, is_read_already, wants_own_text, Exchange, IsHistory, Next}
+use Rattle.step_calls.specs.History.{after_exchange, asked, asks, came_to, ends_by, fails, first, gone, has_followed, has_magic, is_ordinary, keeps_links, knows, next_after, not_ordinary, not_read, opened, stayed, there, unasked, waits, opens_directory, opens_any, spares, asks_mount, asks_kind, asks_holder, asks_magic, asks_links, asks_layers, opens_to_read, reads, closes_read, asks_follow, reads_link, changes, closes, wants_own_text, Exchange, IsHistory, Next}
 use Rattle.step_calls.specs.Promises.{cost_of, costs}
-use Rattle.step_calls.specs.declared.course.TheConstants.{OPEN_DIRECTORY, OPEN_ANY, SPARE, MOUNT, KIND, MAY_HOLD_MAGIC, MAGIC, IS_ROOT, LOOK_ABOVE, COMPARE_ABOVE, CLOSE_ABOVE, LINKS, LAYERS, OPEN_TO_READ, READ, CLOSE_READ, NO_FOLLOW, READ_LINK, CHANGE, CLOSE, OPENED, TEXT, REFUSED, UNMADE, DONE}
+use Rattle.step_calls.specs.declared.course.TheConstants.{OPEN_DIRECTORY, OPEN_ANY, SPARE, MOUNT, KIND, MAY_HOLD_MAGIC, MAGIC, LINKS, LAYERS, OPEN_TO_READ, READ, CLOSE_READ, NO_FOLLOW, READ_LINK, CHANGE, CLOSE, OPENED, TEXT, REFUSED, UNMADE, DONE}
 use Rattle.step_calls.specs.declared.facts.Facts.{Facts}
 use Rattle.step_calls.specs.declared.facts.TheConstants.{IS_THERE, OPEN, DUP, PARENT, READ_TEXT, DIRECTORY}
-use Rattle.step_calls.proofs.Ends.{came_all, ends_all, first_above_all, gone_all, opened_all, stayed_all, there_all, unasked_all, unopened_all}
+use Rattle.step_calls.proofs.Ends.{came_all, ends_all, gone_all, opened_all, stayed_all, there_all, unasked_all, unopened_all}
 use Rattle.step_calls.proofs.MomentLemmas.{if_elim}
 
 -- so many exchanges may follow, at most
 abbrev rank : ℕ → ℕ
 rank next =
-    if next == LOOK_ABOVE then 13
-    else (if next == COMPARE_ABOVE then 12
-    else (if next == IS_ROOT then 11
-    else (if next == CLOSE_ABOVE then 11
-    else (if next == OPEN_DIRECTORY then 10
+    if next == OPEN_DIRECTORY then 10
     else (if next == OPEN_ANY then 9
     else (if next == MOUNT then 8
     else (if next == SPARE then 8
@@ -32,7 +28,7 @@ rank next =
     else (if next == CLOSE_READ then 2
     else (if next == READ_LINK then 2
     else (if next == CHANGE then 2
-    else (if next == CLOSE then 1 else 0)))))))))))))))))))
+    else (if next == CLOSE then 1 else 0)))))))))))))))
 
 abbrev Falls : Exchange → Next → Type 0
 Falls e n = suc (rank n.next) ≤ rank (asked e) + cost_of e
@@ -76,17 +72,6 @@ falls f (asks_magic error) due =
     let P = Falls (asks_magic error) in
     if_elim P (error == EINTR) (knows MAGIC due.kind) _ (λ b. omega (arith, one error b))
     (λ b. if_elim P (is_ordinary error) (knows OPENED due.kind) (waits CLOSE UNMADE (not_ordinary error)) (λ c. omega arith) (λ c. omega arith))
-falls f (asks_root error) due =
-    if_elim (Falls (asks_root error)) (error == 0) (came_to f DIRECTORY) (asks OPEN_DIRECTORY)
-    (λ b. came_all (Falls (asks_root error)) f DIRECTORY (λ l. omega arith) (omega arith) (omega arith)) (λ b. omega arith)
-falls f (looks_above error) due =
-    if_elim (Falls (looks_above error)) (error == 0) (asks COMPARE_ABOVE) (asks OPEN_DIRECTORY) (λ b. omega arith)
-    (λ b. omega arith)
-falls f (compares_above error) due =
-    if_elim (Falls (compares_above error)) (error == 0) (came_to f DIRECTORY) (asks CLOSE_ABOVE)
-    (λ b. came_all (Falls (compares_above error)) f DIRECTORY (λ l. omega arith) (omega arith) (omega arith))
-    (λ b. omega arith)
-falls f closes_above due = omega arith
 falls f (asks_links error links) due =
     let P = Falls (asks_links error links) in
     if_elim P (error == 0) (if links == 0 then gone f else asks LAYERS) (unasked f error)
@@ -117,9 +102,9 @@ falls f closes_read due =
 falls f (asks_follow error flags) due =
     let P = Falls (asks_follow error flags) in
     if_elim P (error == EINTR) (asks NO_FOLLOW) _ (λ b. omega (arith, one error b))
-    (λ b. if_elim P ((error == 0) && has_followed flags) (if is_read_already f then asks TEXT else asks READ_LINK)
+    (λ b. if_elim P ((error == 0) && has_followed flags) (asks READ_LINK)
     (fails UNMADE (if error == 0 then ELOOP else error))
-    (λ c. if_elim P (is_read_already f) (asks TEXT) (asks READ_LINK) (λ d. omega arith) (λ d. omega arith)) (λ c. omega arith))
+    (λ c. omega arith) (λ c. omega arith))
 falls f (reads_link error) due =
     let P = Falls (reads_link error) in
     if_elim P (error == 0) (asks TEXT) _ (λ b. omega arith)
@@ -135,21 +120,20 @@ falls f closes due =
     if_elim (Falls closes) (due.behind == REFUSED) (fails REFUSED due.error) (fails UNMADE due.error)
     (λ b. omega arith) (λ b. omega arith)
 
-rank_first : (f : Facts) → rank (first f).next ≤ 13
+rank_first : (f : Facts) → rank (first f).next ≤ 10
 rank_first f =
-    let P = λ (n : Next). rank n.next ≤ 13 in
+    let P = λ (n : Next). rank n.next ≤ 10 in
     if_elim P (f.what == OPEN) (if f.directory then asks OPEN_DIRECTORY else asks OPEN_ANY) _
     (λ b. if_elim P f.directory (asks OPEN_DIRECTORY) (asks OPEN_ANY) (λ c. omega arith) (λ c. omega arith))
-    (λ b. if_elim P (f.what == DUP) (if f.goes_on then asks IS_ROOT else asks OPEN_DIRECTORY) _
-    (λ c. if_elim P f.goes_on (asks IS_ROOT) (asks OPEN_DIRECTORY) (λ g. omega arith) (λ g. omega arith))
-    (λ c. if_elim P (f.what == PARENT) (first_above f) _
-    (λ d. first_above_all P f (omega arith) (omega arith) (omega arith))
+    (λ b. if_elim P (f.what == DUP) (asks OPEN_DIRECTORY) _
+    (λ c. omega arith)
+    (λ c. if_elim P (f.what == PARENT) (asks OPEN_DIRECTORY) _ (λ d. omega arith)
     (λ d. if_elim P (f.what == READ_TEXT) (if wants_own_text f then asks READ_LINK else asks NO_FOLLOW) _
     (λ g. if_elim P (wants_own_text f) (asks READ_LINK) (asks NO_FOLLOW) (λ h. omega arith) (λ h. omega arith))
     (λ g. if_elim P (f.what == IS_THERE) (asks LINKS) (asks CHANGE) (λ h. omega arith) (λ h. omega arith)))))
 
 few_step : (f : Facts) (history : List Exchange) → IsHistory f history
-    → length history + rank (next_after f history).next ≤ costs history + 13
+    → length history + rank (next_after f history).next ≤ costs history + 10
 few_step f [] is = let least = rank_first f in omega (arith, least)
 few_step f (e ∷ older) is =
     let before = few_step f older is.1 in
@@ -157,5 +141,5 @@ few_step f (e ∷ older) is =
     let fall = falls f e (next_after f older) in
     omega (arith, before, same, fall)
 
-pub few : (f : Facts) (history : List Exchange) → IsHistory f history → length history ≤ costs history + 13
+pub few : (f : Facts) (history : List Exchange) → IsHistory f history → length history ≤ costs history + 10
 few f history is = let step = few_step f history is in omega (arith, step)

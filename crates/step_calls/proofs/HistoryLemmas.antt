@@ -3,12 +3,12 @@ use Rattle.std.proofs.Common.{◌≡◌, ℕ, List, [], ◌∷◌, Bool, true, f
 use Rattle.std.specs.Prelude.{◌==◌}
 use Rattle.std.proofs.lemmas.Bool.{false≢true}
 use Rattle.system_calls.specs.Errors.{ENOENT, EINTR, EEXIST, EXDEV, ENOTDIR, ELOOP}
-use Rattle.step_calls.specs.History.{after_exchange, asked, asks, came_to, ends_by, fails, first, first_above, gone, has_followed, has_magic, is_ordinary, keeps_links, knows, next_after, not_ordinary, not_read, opened, stayed, there, unasked, waits, opens_directory, opens_any, spares, asks_mount, asks_kind, asks_holder, asks_magic, asks_root, looks_above, compares_above, closes_above, asks_links, asks_layers, opens_to_read, reads, closes_read, asks_follow, reads_link, changes, closes, is_read_already, wants_own_text, Exchange, IsHistory, Next}
+use Rattle.step_calls.specs.History.{after_exchange, asked, asks, came_to, ends_by, fails, first, gone, has_followed, has_magic, is_ordinary, keeps_links, knows, next_after, not_ordinary, not_read, opened, stayed, there, unasked, waits, opens_directory, opens_any, spares, asks_mount, asks_kind, asks_holder, asks_magic, asks_links, asks_layers, opens_to_read, reads, closes_read, asks_follow, reads_link, changes, closes, wants_own_text, Exchange, IsHistory, Next}
 use Rattle.step_calls.specs.Promises.{holds_after, holds_by, needs_opened, needs_read, reads_after, reads_by}
-use Rattle.step_calls.specs.declared.course.TheConstants.{OPEN_DIRECTORY, OPEN_ANY, IS_ROOT, READ, CLOSE_READ, NO_FOLLOW, COMPARE_ABOVE, CLOSE_ABOVE, LINKS, LAYERS, OPEN_TO_READ, READ_LINK, MAGIC, CHANGE, CLOSE, OPENED, TEXT, DONE, REFUSED, UNMADE}
+use Rattle.step_calls.specs.declared.course.TheConstants.{OPEN_DIRECTORY, OPEN_ANY, READ, CLOSE_READ, NO_FOLLOW, LINKS, LAYERS, OPEN_TO_READ, READ_LINK, MAGIC, CHANGE, CLOSE, OPENED, TEXT, DONE, REFUSED, UNMADE}
 use Rattle.step_calls.specs.declared.facts.Facts.{Facts}
 use Rattle.step_calls.specs.declared.facts.TheConstants.{IS_THERE, OPEN, DUP, PARENT, READ_TEXT, DIRECTORY}
-use Rattle.step_calls.proofs.Ends.{came_all, ends_all, first_above_all, gone_all, opened_all, stayed_all, there_all, unasked_all, unopened_all}
+use Rattle.step_calls.proofs.Ends.{came_all, ends_all, gone_all, opened_all, stayed_all, there_all, unasked_all, unopened_all}
 use Rattle.step_calls.proofs.MomentLemmas.{if_elim}
 
 -- ---- any property, turn by turn
@@ -19,8 +19,6 @@ pub record Each (P : Next → Type 0) (f : Facts) (e : Exchange) (due : Next) : 
   pub kind : P (asks 5)
   pub holder : (k : ℕ) → P (knows 6 k)
   pub magic : (k : ℕ) → P (knows MAGIC k)
-  pub compare : P (asks COMPARE_ABOVE)
-  pub close_above : P (asks CLOSE_ABOVE)
   pub links : P (asks LINKS)
   pub layers : P (asks LAYERS)
   pub to_read : P (asks OPEN_TO_READ)
@@ -68,15 +66,6 @@ each P f (asks_magic error) due c =
     if_elim P (error == EINTR) (knows MAGIC due.kind) _ (λ b. c.magic due.kind)
     (λ b. if_elim P (is_ordinary error) (knows OPENED due.kind) (waits CLOSE UNMADE (not_ordinary error)) (λ d. c.is_open due.kind)
     (λ d. c.close UNMADE (not_ordinary error)))
-each P f (asks_root error) due c =
-    if_elim P (error == 0) (came_to f DIRECTORY) (asks OPEN_DIRECTORY)
-    (λ b. came_all P f DIRECTORY (λ l. c.links) (c.holder DIRECTORY) (c.is_open DIRECTORY)) (λ b. c.directory)
-each P f (looks_above error) due c =
-    if_elim P (error == 0) (asks COMPARE_ABOVE) (asks OPEN_DIRECTORY) (λ b. c.compare) (λ b. c.directory)
-each P f (compares_above error) due c =
-    if_elim P (error == 0) (came_to f DIRECTORY) (asks CLOSE_ABOVE)
-    (λ b. came_all P f DIRECTORY (λ l. c.links) (c.holder DIRECTORY) (c.is_open DIRECTORY)) (λ b. c.close_above)
-each P f closes_above due c = c.directory
 each P f (asks_links error links) due c =
     if_elim P (error == 0) (if links == 0 then gone f else asks LAYERS) (unasked f error)
     (λ b. if_elim P (links == 0) (gone f) (asks LAYERS)
@@ -103,9 +92,9 @@ each P f closes_read due c =
     (λ h. unasked_all P f due.error (λ x. c.close UNMADE due.error) (λ x. c.unmade due.error)))
 each P f (asks_follow error flags) due c =
     if_elim P (error == EINTR) (asks NO_FOLLOW) _ (λ b. c.no_follow)
-    (λ b. if_elim P ((error == 0) && has_followed flags) (if is_read_already f then asks TEXT else asks READ_LINK)
+    (λ b. if_elim P ((error == 0) && has_followed flags) (asks READ_LINK)
     (fails UNMADE (if error == 0 then ELOOP else error))
-    (λ d. if_elim P (is_read_already f) (asks TEXT) (asks READ_LINK) (λ g. c.text) (λ g. c.read_link))
+    (λ d. c.read_link)
     (λ d. c.unmade (if error == 0 then ELOOP else error)))
 each P f (reads_link error) due c =
     if_elim P (error == 0) (asks TEXT) _ (λ b. c.text)
@@ -130,8 +119,6 @@ no_change f e due =
       kind = refl;
       holder = λ k. refl;
       magic = λ k. refl;
-      compare = refl;
-      close_above = refl;
       links = refl;
       layers = refl;
       to_read = refl;
@@ -228,16 +215,6 @@ holds_step f (asks_magic error) due was is =
     let P = λ (n : Next). was ≡ needs_opened f n.next in
     if_elim P (error == EINTR) (knows MAGIC due.kind) _ (λ b. is)
     (λ b. if_elim P (is_ordinary error) (knows OPENED due.kind) (waits CLOSE UNMADE (not_ordinary error)) (λ c. is) (λ c. is))
-holds_step f (asks_root error) due was is =
-    if_elim (λ (n : Next). (error == 0) ≡ needs_opened f n.next) (error == 0) (came_to f DIRECTORY) (asks OPEN_DIRECTORY)
-    (λ b. came_holds f (error == 0) DIRECTORY b) (λ b. b ∙ none (f.what == PARENT))
-holds_step f (looks_above error) due was is =
-    if_elim (λ (n : Next). (error == 0) ≡ needs_opened f n.next) (error == 0) (asks COMPARE_ABOVE) (asks OPEN_DIRECTORY)
-    (λ b. b) (λ b. b ∙ none (f.what == PARENT))
-holds_step f (compares_above error) due was is =
-    if_elim (λ (n : Next). was ≡ needs_opened f n.next) (error == 0) (came_to f DIRECTORY) (asks CLOSE_ABOVE)
-    (λ b. came_holds f was DIRECTORY is) (λ b. is)
-holds_step f closes_above due was is = none (f.what == PARENT)
 holds_step f (asks_links error links) due was is =
     let P = λ (n : Next). was ≡ needs_opened f n.next in
     if_elim P (error == 0) (if links == 0 then gone f else asks LAYERS) (unasked f error)
@@ -263,9 +240,9 @@ holds_step f closes_read due was is =
 holds_step f (asks_follow error flags) due was is =
     let P = λ (n : Next). was ≡ needs_opened f n.next in
     if_elim P (error == EINTR) (asks NO_FOLLOW) _ (λ b. is)
-    (λ b. if_elim P ((error == 0) && has_followed flags) (if is_read_already f then asks TEXT else asks READ_LINK)
+    (λ b. if_elim P ((error == 0) && has_followed flags) (asks READ_LINK)
     (fails UNMADE (if error == 0 then ELOOP else error))
-    (λ c. if_elim P (is_read_already f) (asks TEXT) (asks READ_LINK) (λ d. is) (λ d. is)) (λ c. is))
+    (λ c. is) (λ c. is))
 holds_step f (reads_link error) due was is =
     let P = λ (n : Next). was ≡ needs_opened f n.next in
     if_elim P (error == 0) (asks TEXT) _ (λ b. is)
@@ -292,9 +269,9 @@ holds_first f =
     let n = none (f.what == PARENT) in
     if_elim P (f.what == OPEN) (if f.directory then asks OPEN_DIRECTORY else asks OPEN_ANY) _
     (λ b. if_elim P f.directory (asks OPEN_DIRECTORY) (asks OPEN_ANY) (λ c. n) (λ c. n))
-    (λ b. if_elim P (f.what == DUP) (if f.goes_on then asks IS_ROOT else asks OPEN_DIRECTORY) _
-    (λ c. if_elim P f.goes_on (asks IS_ROOT) (asks OPEN_DIRECTORY) (λ g. n) (λ g. n))
-    (λ c. if_elim P (f.what == PARENT) (first_above f) _ (λ d. first_above_all P f n n n)
+    (λ b. if_elim P (f.what == DUP) (asks OPEN_DIRECTORY) _
+    (λ c. n)
+    (λ c. if_elim P (f.what == PARENT) (asks OPEN_DIRECTORY) _ (λ d. n)
     (λ d. if_elim P (f.what == READ_TEXT) (if wants_own_text f then asks READ_LINK else asks NO_FOLLOW) _
     (λ g. if_elim P (wants_own_text f) (asks READ_LINK) (asks NO_FOLLOW) (λ h. n) (λ h. n))
     (λ g. if_elim P (f.what == IS_THERE) (asks LINKS) (asks CHANGE) (λ h. shut (f.what == PARENT) d) (λ h. n)))))
@@ -352,15 +329,6 @@ reads_step f (asks_magic error) due was is =
     let P = λ (n : Next). was ≡ needs_read n.next in
     if_elim P (error == EINTR) (knows MAGIC due.kind) _ (λ b. is)
     (λ b. if_elim P (is_ordinary error) (knows OPENED due.kind) (waits CLOSE UNMADE (not_ordinary error)) (λ c. is) (λ c. is))
-reads_step f (asks_root error) due was is =
-    let P = λ (n : Next). was ≡ needs_read n.next in
-    if_elim P (error == 0) (came_to f DIRECTORY) (asks OPEN_DIRECTORY) (λ b. came_all P f DIRECTORY (λ l. is) is is) (λ b. is)
-reads_step f (looks_above error) due was is =
-    if_elim (λ (n : Next). was ≡ needs_read n.next) (error == 0) (asks COMPARE_ABOVE) (asks OPEN_DIRECTORY) (λ b. is) (λ b. is)
-reads_step f (compares_above error) due was is =
-    let P = λ (n : Next). was ≡ needs_read n.next in
-    if_elim P (error == 0) (came_to f DIRECTORY) (asks CLOSE_ABOVE) (λ b. came_all P f DIRECTORY (λ l. is) is is) (λ b. is)
-reads_step f closes_above due was is = is
 reads_step f (asks_links error links) due was is =
     let P = λ (n : Next). was ≡ needs_read n.next in
     if_elim P (error == 0) (if links == 0 then gone f else asks LAYERS) (unasked f error)
@@ -373,9 +341,9 @@ reads_step f (asks_layers error type) due was is =
 reads_step f (asks_follow error flags) due was is =
     let P = λ (n : Next). was ≡ needs_read n.next in
     if_elim P (error == EINTR) (asks NO_FOLLOW) _ (λ b. is)
-    (λ b. if_elim P ((error == 0) && has_followed flags) (if is_read_already f then asks TEXT else asks READ_LINK)
+    (λ b. if_elim P ((error == 0) && has_followed flags) (asks READ_LINK)
     (fails UNMADE (if error == 0 then ELOOP else error))
-    (λ c. if_elim P (is_read_already f) (asks TEXT) (asks READ_LINK) (λ d. is) (λ d. is)) (λ c. is))
+    (λ c. is) (λ c. is))
 reads_step f (reads_link error) due was is =
     let P = λ (n : Next). was ≡ needs_read n.next in
     if_elim P (error == 0) (asks TEXT) _ (λ b. is)
@@ -396,9 +364,9 @@ reads_first f =
     let P = λ (n : Next). false ≡ needs_read n.next in
     if_elim P (f.what == OPEN) (if f.directory then asks OPEN_DIRECTORY else asks OPEN_ANY) _
     (λ b. if_elim P f.directory (asks OPEN_DIRECTORY) (asks OPEN_ANY) (λ c. refl) (λ c. refl))
-    (λ b. if_elim P (f.what == DUP) (if f.goes_on then asks IS_ROOT else asks OPEN_DIRECTORY) _
-    (λ c. if_elim P f.goes_on (asks IS_ROOT) (asks OPEN_DIRECTORY) (λ g. refl) (λ g. refl))
-    (λ c. if_elim P (f.what == PARENT) (first_above f) _ (λ d. first_above_all P f refl refl refl)
+    (λ b. if_elim P (f.what == DUP) (asks OPEN_DIRECTORY) _
+    (λ c. refl)
+    (λ c. if_elim P (f.what == PARENT) (asks OPEN_DIRECTORY) _ (λ d. refl)
     (λ d. if_elim P (f.what == READ_TEXT) (if wants_own_text f then asks READ_LINK else asks NO_FOLLOW) _
     (λ g. if_elim P (wants_own_text f) (asks READ_LINK) (asks NO_FOLLOW) (λ h. refl) (λ h. refl))
     (λ g. if_elim P (f.what == IS_THERE) (asks LINKS) (asks CHANGE) (λ h. refl) (λ h. refl)))))

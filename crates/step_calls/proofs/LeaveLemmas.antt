@@ -4,9 +4,9 @@ use Rattle.std.specs.Prelude.{◌==◌, MatchBool}
 use Rattle.std.specs.List.{list_any}
 use Rattle.std.proofs.lemmas.Bool.{false≢true}
 use Rattle.system_calls.specs.Errors.{ENOENT, EINTR, EEXIST, EXDEV, ENOTDIR, ELOOP}
-use Rattle.step_calls.specs.History.{after_exchange, asked, asks, came_to, ends_by, fails, first, gone, has_followed, has_magic, is_ordinary, keeps_links, knows, next_after, not_ordinary, not_read, opened, stayed, there, unasked, waits, opens_directory, opens_any, spares, asks_mount, asks_kind, asks_holder, asks_magic, asks_root, looks_above, compares_above, closes_above, asks_links, asks_layers, opens_to_read, reads, closes_read, asks_follow, reads_link, changes, closes, is_known_there, is_read_already, wants_own_text, bars_magic, Exchange, IsHistory, Next}
+use Rattle.step_calls.specs.History.{after_exchange, asked, asks, came_to, ends_by, fails, first, gone, has_followed, has_magic, is_ordinary, keeps_links, knows, next_after, not_ordinary, not_read, opened, stayed, there, unasked, waits, opens_directory, opens_any, spares, asks_mount, asks_kind, asks_holder, asks_magic, asks_links, asks_layers, opens_to_read, reads, closes_read, asks_follow, reads_link, changes, closes, wants_own_text, bars_magic, Exchange, IsHistory, Next}
 use Rattle.step_calls.specs.Leave.{says_followed, says_ordinary, NoMagicIsOpened, TextsAreFollowed}
-use Rattle.step_calls.specs.declared.course.TheConstants.{OPEN_DIRECTORY, OPEN_ANY, MOUNT, KIND, MAY_HOLD_MAGIC, MAGIC, COMPARE_ABOVE, CLOSE_ABOVE, LINKS, LAYERS, OPEN_TO_READ, READ, CLOSE_READ, READ_LINK, NO_FOLLOW, CLOSE, OPENED, TEXT, DONE, REFUSED, UNMADE}
+use Rattle.step_calls.specs.declared.course.TheConstants.{OPEN_DIRECTORY, OPEN_ANY, MOUNT, KIND, MAY_HOLD_MAGIC, MAGIC, LINKS, LAYERS, OPEN_TO_READ, READ, CLOSE_READ, READ_LINK, NO_FOLLOW, CLOSE, OPENED, TEXT, DONE, REFUSED, UNMADE}
 use Rattle.step_calls.specs.declared.facts.Facts.{Facts}
 use Rattle.step_calls.specs.declared.facts.TheConstants.{DIRECTORY, LINK, OPEN, PARENT, READ_TEXT}
 use Rattle.step_calls.proofs.Ends.{ends_all, gone_all, there_all, unasked_all, unopened_all}
@@ -22,7 +22,7 @@ Plain said due = MatchBool (due.next == OPENED) ((due.kind == LINK) ≡ true →
 module _ (f : Facts) (above : (f.what == PARENT) ≡ false) (magic : bars_magic f ≡ true) (said : Bool) where
   came : (k : ℕ) → Plain said (came_to f k)
   came k =
-      if_elim (Plain said) (f.what == PARENT) (if is_known_there f then knows OPENED k else asks LINKS) _
+      if_elim (Plain said) (f.what == PARENT) (asks LINKS) _
       (λ b. absurd (false≢true (sym above ∙ b)))
       (λ b. if_elim (Plain said) (bars_magic f && (k == LINK)) (knows MAY_HOLD_MAGIC k) (knows OPENED k) (λ c. tt)
       (λ c h. absurd (false≢true (sym c ∙ ap (λ t. t && (k == LINK)) magic ∙ h))))
@@ -69,15 +69,6 @@ magic_step f (asks_magic error) due said above magic =
     if_elim P (error == EINTR) (knows MAGIC due.kind) _ (λ b. tt)
     (λ b. if_elim P (is_ordinary error) (knows OPENED due.kind) (waits CLOSE UNMADE (not_ordinary error))
     (λ c h. first_is (is_ordinary error) said c) (λ c. tt))
-magic_step f (asks_root error) due said above magic =
-    if_elim (Plain said) (error == 0) (came_to f DIRECTORY) (asks OPEN_DIRECTORY) (λ b. came f above magic said DIRECTORY)
-    (λ b. tt)
-magic_step f (looks_above error) due said above magic =
-    if_elim (Plain said) (error == 0) (asks COMPARE_ABOVE) (asks OPEN_DIRECTORY) (λ b. tt) (λ b. tt)
-magic_step f (compares_above error) due said above magic =
-    if_elim (Plain said) (error == 0) (came_to f DIRECTORY) (asks CLOSE_ABOVE) (λ b. came f above magic said DIRECTORY)
-    (λ b. tt)
-magic_step f closes_above due said above magic = tt
 magic_step f (asks_links error links) due said above magic =
     let P = Plain said in
     if_elim P (error == 0) (if links == 0 then gone f else asks LAYERS) (unasked f error)
@@ -103,9 +94,9 @@ magic_step f closes_read due said above magic =
 magic_step f (asks_follow error flags) due said above magic =
     let P = Plain said in
     if_elim P (error == EINTR) (asks NO_FOLLOW) _ (λ b. tt)
-    (λ b. if_elim P ((error == 0) && has_followed flags) (if is_read_already f then asks TEXT else asks READ_LINK)
+    (λ b. if_elim P ((error == 0) && has_followed flags) (asks READ_LINK)
     (fails UNMADE (if error == 0 then ELOOP else error))
-    (λ c. if_elim P (is_read_already f) (asks TEXT) (asks READ_LINK) (λ d. tt) (λ d. tt)) (λ c. tt))
+    (λ c. tt) (λ c. tt))
 magic_step f (reads_link error) due said above magic =
     let P = Plain said in
     if_elim P (error == 0) (asks TEXT) _ (λ b. tt)
@@ -154,10 +145,10 @@ text_step : (f : Facts) (e : Exchange) (due : Next) (said : Bool) → Says said 
 text_step f (asks_follow error flags) due said was =
     let P = Followed (((error == 0) && has_followed flags) || said) in
     if_elim P (error == EINTR) (asks NO_FOLLOW) _ (λ b. tt)
-    (λ b. if_elim P ((error == 0) && has_followed flags) (if is_read_already f then asks TEXT else asks READ_LINK)
+    (λ b. if_elim P ((error == 0) && has_followed flags) (asks READ_LINK)
     (fails UNMADE (if error == 0 then ELOOP else error))
     (λ c. let is = first_is ((error == 0) && has_followed flags) said c in
-    if_elim P (is_read_already f) (asks TEXT) (asks READ_LINK) (λ d. is) (λ d. is)) (λ c. tt))
+    is) (λ c. tt))
 text_step f (reads_link error) due said was =
     let P = Followed said in
     if_elim P (error == 0) (asks TEXT) _ (λ b. was)
@@ -171,10 +162,6 @@ text_step f (asks_mount error) due said was = absurd was
 text_step f (asks_kind error kind) due said was = absurd was
 text_step f (asks_holder error type) due said was = absurd was
 text_step f (asks_magic error) due said was = absurd was
-text_step f (asks_root error) due said was = absurd was
-text_step f (looks_above error) due said was = absurd was
-text_step f (compares_above error) due said was = absurd was
-text_step f closes_above due said was = absurd was
 text_step f (asks_links error links) due said was = absurd was
 text_step f (asks_layers error type) due said was = absurd was
 text_step f (opens_to_read error) due said was = absurd was

@@ -1,13 +1,11 @@
-pub mod AboveLemmas
 pub mod Ends
 pub mod ErrorLemmas
 pub mod FewLemmas
 pub mod HistoryLemmas
-pub mod LackLemmas
-pub mod LastStepLemmas
 pub mod LeaveLemmas
 pub mod LinkLemmas
 pub mod MomentLemmas
+pub mod MountLemmas
 pub mod OpenLemmas
 pub mod ParentLemmas
 pub mod RefusalLemmas

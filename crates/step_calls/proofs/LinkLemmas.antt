@@ -1,5 +1,5 @@
 -- A text that was read was the link's.
-use Rattle.std.proofs.Common.{◌≡◌, ◌≢◌, ◌≤◌, ℕ, suc, List, [], ◌∷◌, true, false, if◌then◌else◌, ◌&&◌, refl, sym, subst, arith}
+use Rattle.std.proofs.Common.{◌≡◌, ◌≢◌, ◌≤◌, ℕ, suc, List, [], ◌∷◌, false, if◌then◌else◌, ◌&&◌, refl, sym, subst, arith}
 use Rattle.std.specs.Prelude.{◌==◌, Option, Some, None, MatchBool}
 use Rattle.std.proofs.lemmas.Bool.{eqb-true}
 use Rattle.path_text.specs.declared.errno.Errno.TheVariants.{Invalid}
@@ -10,7 +10,7 @@ use Rattle.tree_model.specs.declared.inode.Object.TheVariants as object
 use Rattle.tree_model.specs.declared.step.StepOf.TheVariants.{ReadLink}
 use Rattle.tree_model.specs.State.{State, object_at}
 use Rattle.tree_model.specs.Steps.{held, outcome, reads as reads_node}
-use Rattle.step_calls.specs.History.{after_exchange, asks, asked, ends_by, fails, first, has_followed, next_after, not_read, opens_directory, opens_any, spares, asks_mount, asks_kind, asks_holder, asks_magic, asks_root, looks_above, compares_above, closes_above, asks_links, asks_layers, opens_to_read, reads, closes_read, asks_follow, reads_link, changes, closes, is_read_already, wants_own_text, Exchange, IsHistory, Next}
+use Rattle.step_calls.specs.History.{after_exchange, asks, asked, ends_by, fails, first, has_followed, next_after, not_read, opens_directory, opens_any, spares, asks_mount, asks_kind, asks_holder, asks_magic, asks_links, asks_layers, opens_to_read, reads, closes_read, asks_follow, reads_link, changes, closes, wants_own_text, Exchange, IsHistory, Next}
 use Rattle.step_calls.specs.Moments.{moment, AreAnswers, IsNoLink, LinkSays, LinksWereRead, World}
 use Rattle.step_calls.specs.declared.course.TheConstants.{NO_FOLLOW, READ_LINK, TEXT, REFUSED, UNMADE}
 use Rattle.step_calls.specs.declared.facts.Facts.{Facts}
@@ -37,37 +37,31 @@ not_text w f now error links none =
     (if_elim (Stood w now) (error == 22) (fails REFUSED error) (fails UNMADE error) (λ b. none) (λ b. tt))
 
 step : (w : World) (f : Facts) (now : ℕ) (e : Exchange) (due : Next) → f.what ≡ READ_TEXT
-    → (is_read_already f ≡ true → object_at (w.states 0).nodes w.node ≡ Some (object.Link w.text))
     → (f.link ≡ false → IsNoLink w) → LinkSays w now e → Says w now (asked e) → Stood w (suc now) (after_exchange f e due)
-step w f now (asks_follow error flags) due links read none says was =
+step w f now (asks_follow error flags) due links none says was =
     if_elim (Stood w (suc now)) (error == EINTR) (asks NO_FOLLOW) _ (λ b. tt)
-    (λ b. if_elim (Stood w (suc now)) ((error == 0) && has_followed flags) (if is_read_already f then asks TEXT else asks READ_LINK)
+    (λ b. if_elim (Stood w (suc now)) ((error == 0) && has_followed flags) (asks READ_LINK)
     (fails UNMADE (if error == 0 then ELOOP else error))
-    (λ c. if_elim (Stood w (suc now)) (is_read_already f) (asks TEXT) (asks READ_LINK)
-    (λ d. (0, omega arith, read d)) (λ d. tt)) (λ c. tt))
-step w f now (reads_link error) due links read none says was =
+    (λ c. tt) (λ c. tt))
+step w f now (reads_link error) due links none says was =
     if_elim (Stood w (suc now)) (error == 0) (asks TEXT) _ (λ b. (suc now, omega arith, says (eqb-true error 0 b)))
     (λ b. if_elim (Stood w (suc now)) (error == EINTR) (asks READ_LINK) _ (λ c. tt)
     (λ c. if_elim (Stood w (suc now)) f.link (fails UNMADE (not_read error)) (ends_by f (not_read error)) (λ d. tt)
     (λ d. not_text w f (suc now) (not_read error) links (none d))))
-step w f now (opens_directory error) due links read none says was = absurd was
-step w f now (opens_any error) due links read none says was = absurd was
-step w f now (spares error) due links read none says was = absurd was
-step w f now (asks_mount error) due links read none says was = absurd was
-step w f now (asks_kind error kind) due links read none says was = absurd was
-step w f now (asks_holder error type) due links read none says was = absurd was
-step w f now (asks_magic error) due links read none says was = absurd was
-step w f now (asks_root error) due links read none says was = absurd was
-step w f now (looks_above error) due links read none says was = absurd was
-step w f now (compares_above error) due links read none says was = absurd was
-step w f now closes_above due links read none says was = absurd was
-step w f now (asks_links error count) due links read none says was = absurd was
-step w f now (asks_layers error type) due links read none says was = absurd was
-step w f now (opens_to_read error) due links read none says was = absurd was
-step w f now (reads error) due links read none says was = absurd was
-step w f now closes_read due links read none says was = absurd was
-step w f now (changes error) due links read none says was = absurd was
-step w f now closes due links read none says was = absurd was
+step w f now (opens_directory error) due links none says was = absurd was
+step w f now (opens_any error) due links none says was = absurd was
+step w f now (spares error) due links none says was = absurd was
+step w f now (asks_mount error) due links none says was = absurd was
+step w f now (asks_kind error kind) due links none says was = absurd was
+step w f now (asks_holder error type) due links none says was = absurd was
+step w f now (asks_magic error) due links none says was = absurd was
+step w f now (asks_links error count) due links none says was = absurd was
+step w f now (asks_layers error type) due links none says was = absurd was
+step w f now (opens_to_read error) due links none says was = absurd was
+step w f now (reads error) due links none says was = absurd was
+step w f now closes_read due links none says was = absurd was
+step w f now (changes error) due links none says was = absurd was
+step w f now closes due links none says was = absurd was
 
 begins : (w : World) (f : Facts) → f.what ≡ READ_TEXT → Stood w 0 (first f)
 begins w f links =
@@ -75,13 +69,12 @@ begins w f links =
     (if_elim (Stood w 0) (wants_own_text f) (asks READ_LINK) (asks NO_FOLLOW) (λ b. tt) (λ b. tt))
 
 stood : (w : World) (f : Facts) (history : List Exchange) → f.what ≡ READ_TEXT
-    → (is_read_already f ≡ true → object_at (w.states 0).nodes w.node ≡ Some (object.Link w.text))
     → (f.link ≡ false → IsNoLink w) → AreAnswers (LinkSays w) history → IsHistory f history
     → Stood w (moment history) (next_after f history)
-stood w f [] links read none says is = begins w f links
-stood w f (e ∷ older) links read none says is =
-    step w f (moment older) e (next_after f older) links read none says.0
-    (subst (Says w (moment older)) (sym is.0) (stood w f older links read none says.1 is.1))
+stood w f [] links none says is = begins w f links
+stood w f (e ∷ older) links none says is =
+    step w f (moment older) e (next_after f older) links none says.0
+    (subst (Says w (moment older)) (sym is.0) (stood w f older links none says.1 is.1))
 
 -- ---- the step table
 
@@ -102,8 +95,8 @@ table_refuses : (s : State) (a h x : ℕ) → held s a h ≡ Some x
 table_refuses s a h x e none = rw e (reads_none s (object_at s.nodes x) none)
 
 pub links-were-read : LinksWereRead
-links-were-read w f history links world read none says is =
-    let all = stood w f history links read none says is in (
+links-were-read w f history links world none says is =
+    let all = stood w f history links none says is in (
       (λ ends.
           let known = subst (Says w (moment history)) ends all in
           (known.0, known.1, table_reads (w.states known.0) w.actor w.handle w.node w.text (world.held known.0) known.2)),

@@ -11,9 +11,9 @@ use Rattle.tree_model.specs.declared.inode.Object.TheVariants as object
 use Rattle.tree_model.specs.declared.step.StepOf.TheVariants.{Open}
 use Rattle.tree_model.specs.State.{State, child, is_dir, object_at}
 use Rattle.tree_model.specs.Steps.{held, is_full, kind_of, outcome}
-use Rattle.step_calls.specs.History.{after_close, after_exchange, asks, came_to, ends_by, fails, first, has_magic, is_ordinary, knows, next_after, not_opened, not_ordinary, opened, stayed, waits, opens_directory, opens_any, spares, asks_mount, asks_kind, asks_holder, asks_magic, asks_root, looks_above, compares_above, closes_above, asks_links, asks_layers, opens_to_read, reads, closes_read, asks_follow, reads_link, changes, closes, asked, bars_magic, Exchange, IsHistory, Next}
+use Rattle.step_calls.specs.History.{after_close, after_exchange, asks, came_to, ends_by, fails, first, has_magic, is_ordinary, knows, next_after, not_opened, not_ordinary, opened, stayed, waits, opens_directory, opens_any, spares, asks_mount, asks_kind, asks_holder, asks_magic, asks_links, asks_layers, opens_to_read, reads, closes_read, asks_follow, reads_link, changes, closes, asked, bars_magic, Exchange, IsHistory, Next}
 use Rattle.step_calls.specs.Moments.{has_kind, moment, AreAnswers, HasNoEntry, IsWorld, OpenSays, OpensName, OpensStood, Stays, World}
-use Rattle.step_calls.specs.declared.course.TheConstants.{OPEN_DIRECTORY, OPEN_ANY, SPARE, MOUNT, KIND, MAY_HOLD_MAGIC, MAGIC, IS_ROOT, CHANGE, CLOSE, OPENED, REFUSED, UNMADE}
+use Rattle.step_calls.specs.declared.course.TheConstants.{OPEN_DIRECTORY, OPEN_ANY, SPARE, MOUNT, KIND, MAY_HOLD_MAGIC, MAGIC, LINKS, CHANGE, CLOSE, OPENED, REFUSED, UNMADE}
 use Rattle.step_calls.specs.declared.facts.Facts.{Facts}
 use Rattle.step_calls.specs.declared.facts.TheConstants.{OPEN, DIRECTORY}
 use Rattle.step_calls.proofs.MomentLemmas.{if_elim}
@@ -40,7 +40,7 @@ record Knows (w : World) (now : ℕ) (due : Next) : Type 0 where
   sure : tells_kind due.next ≡ true → due.kind ≡ has_kind what
 
 abbrev is_opening : ℕ → Bool
-is_opening next = nat_lt next IS_ROOT || nat_lt CHANGE next
+is_opening next = nat_lt next LINKS || nat_lt CHANGE next
 
 record Stood (w : World) (now : ℕ) (due : Next) : Type 0 where
   opening : is_opening due.next ≡ true
@@ -199,10 +199,6 @@ step w f now (asks_magic error) due at_open world at says was =
 step w f now closes due at_open world at says was =
     subst (λ (n : ℕ). Stood w (suc now) (after_close (record due { behind = n }))) (sym (was.behind (sym at)))
     (plain w (suc now) (fails UNMADE due.error) refl)
-step w f now (asks_root error) due at_open world at says was = absurd (false≢true (ap is_opening at ∙ was.opening))
-step w f now (looks_above error) due at_open world at says was = absurd (false≢true (ap is_opening at ∙ was.opening))
-step w f now (compares_above error) due at_open world at says was = absurd (false≢true (ap is_opening at ∙ was.opening))
-step w f now closes_above due at_open world at says was = absurd (false≢true (ap is_opening at ∙ was.opening))
 step w f now (asks_links error links) due at_open world at says was = absurd (false≢true (ap is_opening at ∙ was.opening))
 step w f now (asks_layers error type) due at_open world at says was = absurd (false≢true (ap is_opening at ∙ was.opening))
 step w f now (opens_to_read error) due at_open world at says was = absurd (false≢true (ap is_opening at ∙ was.opening))

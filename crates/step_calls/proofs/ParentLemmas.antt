@@ -12,12 +12,11 @@ use Rattle.tree_model.specs.declared.step.StepOf.TheVariants.{Parent}
 use Rattle.tree_model.specs.declared.inode.Place.{Place}
 use Rattle.tree_model.specs.State.{State, TOP, is_dir, is_gone, object_at, parent, place_at}
 use Rattle.tree_model.specs.Steps.{held, is_full, outcome}
-use Rattle.step_calls.specs.History.{after_exchange, after_spare, asks, asked, came_to, ends_by, fails, first, gone, keeps_links, knows, next_after, not_opened, opened, stayed, there, unasked, waits, opens_directory, opens_any, spares, asks_mount, asks_kind, asks_holder, asks_magic, asks_root, looks_above, compares_above, closes_above, asks_links, asks_layers, opens_to_read, reads, closes_read, asks_follow, reads_link, changes, closes, is_known_there, Exchange, IsHistory, Next}
+use Rattle.step_calls.specs.History.{after_exchange, after_spare, asks, asked, came_to, ends_by, fails, first, gone, keeps_links, knows, next_after, not_opened, opened, stayed, there, unasked, waits, opens_directory, opens_any, spares, asks_mount, asks_kind, asks_holder, asks_magic, asks_links, asks_layers, opens_to_read, reads, closes_read, asks_follow, reads_link, changes, closes, Exchange, IsHistory, Next}
 use Rattle.step_calls.specs.Moments.{moment, AreAnswers, CouldNotAsk, IsGone, IsThere, IsWorld, OpensAbove, ParentSays, ParentsStood, Stays, World}
-use Rattle.step_calls.specs.declared.course.TheConstants.{OPEN_DIRECTORY, SPARE, MOUNT, IS_ROOT, LOOK_ABOVE, COMPARE_ABOVE, CLOSE_ABOVE, LINKS, LAYERS, OPEN_TO_READ, READ, CLOSE_READ, CLOSE, OPENED, REFUSED, UNMADE}
+use Rattle.step_calls.specs.declared.course.TheConstants.{OPEN_DIRECTORY, SPARE, MOUNT, LINKS, LAYERS, OPEN_TO_READ, READ, CLOSE_READ, CLOSE, OPENED, REFUSED, UNMADE}
 use Rattle.step_calls.specs.declared.facts.Facts.{Facts}
 use Rattle.step_calls.specs.declared.facts.TheConstants.{OPEN, PARENT, DIRECTORY}
-use Rattle.step_calls.proofs.Ends.{first_above_all}
 use Rattle.step_calls.proofs.MomentLemmas.{and_elim, if_elim}
 
 -- ---- what is known at each turn
@@ -35,17 +34,13 @@ WasGone w now = (n : ℕ) × (n ≤ now) × IsGone w n
 
 abbrev Led : World → Facts → List Exchange → ℕ → ℕ → Type 0
 Led w f history now n =
-    (parent (w.states n).nodes w.node ≡ Some (w.on now)) ⊎ ((IsGone w n × (is_known_there f ≡ true)) ⊎ CouldNotAsk history)
+    (parent (w.states n).nodes w.node ≡ Some (w.on now)) ⊎ CouldNotAsk history
 
 abbrev Says : World → Bool → Facts → List Exchange → ℕ → ℕ → ℕ → ℕ → ℕ → Type 0
 Says w layered f history now next behind error kind =
     MatchBool (next == OPEN_DIRECTORY) (Unit {0})
     (MatchBool (next == SPARE) (behind ≡ OPEN_DIRECTORY)
     (MatchBool (next == MOUNT) ((kind ≡ DIRECTORY) × Above w now)
-    (MatchBool (next == IS_ROOT) (Unit {0})
-    (MatchBool (next == LOOK_ABOVE) (Unit {0})
-    (MatchBool (next == COMPARE_ABOVE) (Unit {0})
-    (MatchBool (next == CLOSE_ABOVE) (Unit {0})
     (MatchBool (next == LINKS) (Above w now)
     (MatchBool (next == LAYERS) ((a : Above w now) × ((layered ≡ true) ⊎ IsThere w a.n))
     (MatchBool (next == OPEN_TO_READ) (Above w now)
@@ -55,7 +50,7 @@ Says w layered f history now next behind error kind =
     (MatchBool (next == CLOSE) (behind ≡ REFUSED → WasGone w now)
     (MatchBool (next == OPENED) ((a : Above w now) × Led w f history now a.n)
     (MatchBool (next == REFUSED) (WasGone w now)
-    (MatchBool (next == UNMADE) (Unit {0}) ⊥)))))))))))))))
+    (MatchBool (next == UNMADE) (Unit {0}) ⊥)))))))))))
 
 abbrev Stood : World → Bool → Facts → List Exchange → ℕ → Next → Type 0
 Stood w layered f history now due = Says w layered f history now due.next due.behind due.error due.kind
@@ -89,18 +84,10 @@ was_there w n m stays there_now = was_by (is_gone (w.states n).nodes w.node) w n
 
 led : (w : World) (f : Facts) (history : List Exchange) (now : ℕ) (a : Above w now) → IsThere w a.n ⊎ CouldNotAsk history
     → Led w f history now a.n
-led w f history now a (inr unknown) = inr (inr unknown)
+led w f history now a (inr unknown) = inr unknown
 led w f history now a (inl is_there) =
     elim a.above [
       | inl g ↦ absurd (false≢true (sym is_there ∙ g))
-      | inr p ↦ inl p
-    ]
-
-lived_led : (w : World) (f : Facts) (history : List Exchange) (now : ℕ) (a : Above w now) → is_known_there f ≡ true
-    → Led w f history now a.n
-lived_led w f history now a lived =
-    elim a.above [
-      | inl g ↦ inr (inl (g, lived))
       | inr p ↦ inl p
     ]
 
@@ -110,8 +97,7 @@ came : (w : World) (layered : Bool) (f : Facts) (history : List Exchange) (now k
     → Stood w layered f history now (came_to f k)
 came w layered f history now k parents a =
     subst (λ (n : ℕ). Stood w layered f history now (came_to (record f { what = n }) k)) (sym parents)
-    (if_elim (Stood w layered f history now) (is_known_there f) (knows OPENED k) (asks LINKS)
-    (λ b. (a, lived_led w f history now a b)) (λ b. a))
+    a
 
 found : (w : World) (layered : Bool) (f : Facts) (history : List Exchange) (now : ℕ) → f.what ≡ PARENT → Above w now
     → Stood w layered f history now (opened f DIRECTORY)
@@ -200,20 +186,6 @@ step w layered f older now (asks_mount error) due parents world says was =
 step w layered f older now (asks_kind error kind) due parents world says was = absurd was
 step w layered f older now (asks_holder error type) due parents world says was = absurd was
 step w layered f older now (asks_magic error) due parents world says was = absurd was
-step w layered f older now (asks_root error) due parents world says was =
-    let history = asks_root error ∷ older in
-    if_elim (Stood w layered f history (suc now)) (error == 0) (came_to f DIRECTORY) (asks OPEN_DIRECTORY)
-    (λ b. came w layered f history (suc now) DIRECTORY parents (now_above w (suc now) (says (eqb-true error 0 b))))
-    (λ b. tt)
-step w layered f older now (looks_above error) due parents world says was =
-    if_elim (Stood w layered f (looks_above error ∷ older) (suc now)) (error == 0) (asks COMPARE_ABOVE) (asks OPEN_DIRECTORY)
-    (λ b. tt) (λ b. tt)
-step w layered f older now (compares_above error) due parents world says was =
-    let history = compares_above error ∷ older in
-    if_elim (Stood w layered f history (suc now)) (error == 0) (came_to f DIRECTORY) (asks CLOSE_ABOVE)
-    (λ b. came w layered f history (suc now) DIRECTORY parents (now_above w (suc now) (says (eqb-true error 0 b))))
-    (λ b. tt)
-step w layered f older now closes_above due parents world says was = tt
 step w layered f older now (asks_links error links) due parents world says was =
     let history = asks_links error links ∷ older in
     if_elim (Stood w layered f history (suc now)) (error == 0) (if links == 0 then gone f else asks LAYERS) (unasked f error)
@@ -273,7 +245,7 @@ step w layered f older now closes due parents world says was =
 begins : (w : World) (layered : Bool) (f : Facts) → f.what ≡ PARENT → Stood w layered f [] 0 (first f)
 begins w layered f parents =
     subst (λ (n : ℕ). Stood w layered f [] 0 (first (record f { what = n }))) (sym parents)
-    (first_above_all (Stood w layered f [] 0) f tt tt tt)
+    tt
 
 stood : (w : World) (layered : Bool) (f : Facts) (history : List Exchange) → f.what ≡ PARENT → IsWorld w
     → AreAnswers (ParentSays w layered) history → IsHistory f history

@@ -3,13 +3,13 @@ use Rattle.std.proofs.Common.{◌≡◌, ◌≢◌, ℕ, List, [], ◌∷◌, tr
 use Rattle.std.specs.Prelude.{◌==◌, MatchBool}
 use Rattle.std.proofs.lemmas.Bool.{eqb-true}
 use Rattle.system_calls.specs.Errors.{ENOENT, EINTR, EEXIST, EXDEV, ENOTDIR, ENFILE, EMFILE, ELOOP}
-use Rattle.step_calls.specs.History.{after_exchange, asked, asks, came_to, ends_by, fails, first, first_above, gone, has_followed, has_magic, is_ordinary, keeps_links, knows, next_after, not_opened, not_ordinary, not_read, opened, stayed, there, unasked, waits, opens_directory, opens_any, spares, asks_mount, asks_kind, asks_holder, asks_magic, asks_root, looks_above, compares_above, closes_above, asks_links, asks_layers, opens_to_read, reads, closes_read, asks_follow, reads_link, changes, closes, is_known_there, is_read_already, wants_own_text, bars_magic, Exchange, IsHistory, Next}
+use Rattle.step_calls.specs.History.{after_exchange, asked, asks, came_to, ends_by, fails, first, gone, has_followed, has_magic, is_ordinary, keeps_links, knows, next_after, not_opened, not_ordinary, not_read, opened, stayed, there, unasked, waits, opens_directory, opens_any, spares, asks_mount, asks_kind, asks_holder, asks_magic, asks_links, asks_layers, opens_to_read, reads, closes_read, asks_follow, reads_link, changes, closes, wants_own_text, bars_magic, Exchange, IsHistory, Next}
 use Rattle.step_calls.specs.Promises.{is_about_child, RefusalsAreOwn}
 use Rattle.step_calls.specs.Refusals.{is_refusal}
-use Rattle.step_calls.specs.declared.course.TheConstants.{OPEN_DIRECTORY, OPEN_ANY, IS_ROOT, SPARE, MOUNT, KIND, MAY_HOLD_MAGIC, MAGIC, COMPARE_ABOVE, CLOSE_ABOVE, LINKS, LAYERS, OPEN_TO_READ, READ, CLOSE_READ, READ_LINK, NO_FOLLOW, CHANGE, CLOSE, OPENED, TEXT, DONE, REFUSED, UNMADE}
+use Rattle.step_calls.specs.declared.course.TheConstants.{OPEN_DIRECTORY, OPEN_ANY, SPARE, MOUNT, KIND, MAY_HOLD_MAGIC, MAGIC, LINKS, LAYERS, OPEN_TO_READ, READ, CLOSE_READ, READ_LINK, NO_FOLLOW, CHANGE, CLOSE, OPENED, TEXT, DONE, REFUSED, UNMADE}
 use Rattle.step_calls.specs.declared.facts.Facts.{Facts}
 use Rattle.step_calls.specs.declared.facts.TheConstants.{DIRECTORY, DUP, IS_THERE, LINK, OPEN, PARENT, READ_TEXT}
-use Rattle.step_calls.proofs.Ends.{first_above_all, there_all}
+use Rattle.step_calls.proofs.Ends.{there_all}
 use Rattle.step_calls.proofs.MomentLemmas.{if_elim}
 
 abbrev IsOwn : Facts → ℕ → Type 0
@@ -32,8 +32,8 @@ module _ (f : Facts) where
 
   came : (k : ℕ) → Stood f (came_to f k)
   came k =
-      if_elim (Stood f) (f.what == PARENT) (if is_known_there f then knows OPENED k else asks LINKS) _
-      (λ b. if_elim (Stood f) (is_known_there f) (knows OPENED k) (asks LINKS) (λ c. tt) (λ c. eqb-true f.what PARENT b))
+      if_elim (Stood f) (f.what == PARENT) (asks LINKS) _
+      (eqb-true f.what PARENT)
       (λ b. if_elim (Stood f) (bars_magic f && (k == LINK)) (knows MAY_HOLD_MAGIC k) (knows OPENED k) (λ c. tt) (λ c. tt))
 
   stays : (k : ℕ) → Stood f (stayed f k)
@@ -83,13 +83,6 @@ module _ (f : Facts) where
       if_elim (Stood f) (error == EINTR) (knows MAGIC due.kind) _ (λ b. tt)
       (λ b. if_elim (Stood f) (is_ordinary error) (knows OPENED due.kind) (waits CLOSE UNMADE (not_ordinary error)) (λ c. tt)
       (λ c. closes_it (not_ordinary error)))
-  step (asks_root error) due was =
-      if_elim (Stood f) (error == 0) (came_to f DIRECTORY) (asks OPEN_DIRECTORY) (λ b. came DIRECTORY) (λ b. tt)
-  step (looks_above error) due was =
-      if_elim (Stood f) (error == 0) (asks COMPARE_ABOVE) (asks OPEN_DIRECTORY) (λ b. tt) (λ b. tt)
-  step (compares_above error) due was =
-      if_elim (Stood f) (error == 0) (came_to f DIRECTORY) (asks CLOSE_ABOVE) (λ b. came DIRECTORY) (λ b. tt)
-  step closes_above due was = tt
   step (asks_links error links) due was =
       if_elim (Stood f) (error == 0) (if links == 0 then gone f else asks LAYERS) (unasked f error)
       (λ b. if_elim (Stood f) (links == 0) (gone f) (asks LAYERS) (λ c. is_gone was) (λ c. was))
@@ -109,9 +102,9 @@ module _ (f : Facts) where
       (λ c. is_unasked due.error))
   step (asks_follow error flags) due was =
       if_elim (Stood f) (error == EINTR) (asks NO_FOLLOW) _ (λ b. tt)
-      (λ b. if_elim (Stood f) ((error == 0) && has_followed flags) (if is_read_already f then asks TEXT else asks READ_LINK)
+      (λ b. if_elim (Stood f) ((error == 0) && has_followed flags) (asks READ_LINK)
       (fails UNMADE (if error == 0 then ELOOP else error))
-      (λ c. if_elim (Stood f) (is_read_already f) (asks TEXT) (asks READ_LINK) (λ d. tt) (λ d. tt)) (λ c. tt))
+      (λ c. tt) (λ c. tt))
   step (reads_link error) due was =
       if_elim (Stood f) (error == 0) (asks TEXT) _ (λ b. tt)
       (λ b. if_elim (Stood f) (error == EINTR) (asks READ_LINK) _ (λ c. tt)
@@ -127,9 +120,9 @@ module _ (f : Facts) where
   begins is_step =
       if_elim (Stood f) (f.what == OPEN) (if f.directory then asks OPEN_DIRECTORY else asks OPEN_ANY) _
       (λ b. if_elim (Stood f) f.directory (asks OPEN_DIRECTORY) (asks OPEN_ANY) (λ c. tt) (λ c. tt))
-      (λ b. if_elim (Stood f) (f.what == DUP) (if f.goes_on then asks IS_ROOT else asks OPEN_DIRECTORY) _
-      (λ c. if_elim (Stood f) f.goes_on (asks IS_ROOT) (asks OPEN_DIRECTORY) (λ g. tt) (λ g. tt))
-      (λ c. if_elim (Stood f) (f.what == PARENT) (first_above f) _ (λ d. first_above_all (Stood f) f tt tt tt)
+      (λ b. if_elim (Stood f) (f.what == DUP) (asks OPEN_DIRECTORY) _
+      (λ c. tt)
+      (λ c. if_elim (Stood f) (f.what == PARENT) (asks OPEN_DIRECTORY) _ (λ d. tt)
       (λ d. if_elim (Stood f) (f.what == READ_TEXT) (if wants_own_text f then asks READ_LINK else asks NO_FOLLOW) _
       (λ e. if_elim (Stood f) (wants_own_text f) (asks READ_LINK) (asks NO_FOLLOW) (λ g. tt) (λ g. tt))
       (λ e. if_elim (Stood f) (f.what == IS_THERE) (asks LINKS) (asks CHANGE)

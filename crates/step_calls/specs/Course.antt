@@ -1,8 +1,8 @@
 -- What C keeps of a step says where it stands after the exchanges that there were.
 use Rattle.std.specs.Prelude.{◌≡◌, ℕ, List, ◌==◌, if◌then◌else◌}
-use Rattle.step_calls.specs.History.{next_after, Exchange, opens_directory, opens_any, spares, asks_mount, asks_kind, asks_holder, asks_magic, asks_root, looks_above, compares_above, closes_above, asks_links, asks_layers, opens_to_read, reads, closes_read, asks_follow, reads_link, changes, closes, IsHistory, Next}
+use Rattle.step_calls.specs.History.{next_after, Exchange, opens_directory, opens_any, spares, asks_mount, asks_kind, asks_holder, asks_magic, asks_links, asks_layers, opens_to_read, reads, closes_read, asks_follow, reads_link, changes, closes, IsHistory, Next}
 use Rattle.step_calls.specs.declared.course.Course.{Course}
-use Rattle.step_calls.specs.declared.course.TheConstants.{OPEN_DIRECTORY, OPEN_ANY, SPARE, MOUNT, KIND, MAY_HOLD_MAGIC, MAGIC, IS_ROOT, LOOK_ABOVE, COMPARE_ABOVE, CLOSE_ABOVE, LINKS, LAYERS, OPEN_TO_READ, READ, CLOSE_READ, NO_FOLLOW, READ_LINK, CHANGE}
+use Rattle.step_calls.specs.declared.course.TheConstants.{OPEN_DIRECTORY, OPEN_ANY, SPARE, MOUNT, KIND, MAY_HOLD_MAGIC, MAGIC, LINKS, LAYERS, OPEN_TO_READ, READ, CLOSE_READ, NO_FOLLOW, READ_LINK, CHANGE}
 use Rattle.step_calls.specs.declared.facts.Answer.{Answer}
 use Rattle.step_calls.specs.declared.facts.Facts.{Facts}
 
@@ -19,10 +19,6 @@ exchange_of next a =
     else (if next == KIND then asks_kind a.error a.kind
     else (if next == MAY_HOLD_MAGIC then asks_holder a.error a.number
     else (if next == MAGIC then asks_magic a.error
-    else (if next == IS_ROOT then asks_root a.error
-    else (if next == LOOK_ABOVE then looks_above a.error
-    else (if next == COMPARE_ABOVE then compares_above a.error
-    else (if next == CLOSE_ABOVE then closes_above
     else (if next == LINKS then asks_links a.error a.number
     else (if next == LAYERS then asks_layers a.error a.number
     else (if next == OPEN_TO_READ then opens_to_read a.error
@@ -30,7 +26,7 @@ exchange_of next a =
     else (if next == CLOSE_READ then closes_read
     else (if next == NO_FOLLOW then asks_follow a.error a.number
     else (if next == READ_LINK then reads_link a.error
-    else (if next == CHANGE then changes a.error else closes))))))))))))))))))
+    else (if next == CHANGE then changes a.error else closes))))))))))))))
 
 -- the exchanges that there were are a history, and it is where that leads
 pub record IsAt (f : Facts) (exchanges : List Exchange) (course : Course) : Type 0 where

@@ -5,8 +5,7 @@ use Rattle.system_calls.specs.Errors.{EPERM, ENOENT, EINTR, EEXIST, EXDEV, ENOTD
 use Rattle.step_calls.specs.Refusals.{is_refusal}
 use Rattle.step_calls.specs.declared.facts.Facts.{Facts}
 use Rattle.step_calls.specs.declared.facts.TheConstants.{IS_THERE, OPEN, DUP, PARENT, READ_TEXT, DIRECTORY, LINK}
-use Rattle.step_calls.specs.declared.last_step.TheConstants.{PLACED, LINK_READ, FOLLOWED}
-use Rattle.step_calls.specs.declared.course.TheConstants.{OPEN_DIRECTORY, OPEN_ANY, SPARE, MOUNT, KIND, MAY_HOLD_MAGIC, MAGIC, IS_ROOT, LOOK_ABOVE, COMPARE_ABOVE, CLOSE_ABOVE, LINKS, LAYERS, OPEN_TO_READ, READ, CLOSE_READ, NO_FOLLOW, READ_LINK, CHANGE, CLOSE, OPENED, TEXT, DONE, REFUSED, UNMADE}
+use Rattle.step_calls.specs.declared.course.TheConstants.{OPEN_DIRECTORY, OPEN_ANY, SPARE, MOUNT, KIND, MAY_HOLD_MAGIC, MAGIC, LINKS, LAYERS, OPEN_TO_READ, READ, CLOSE_READ, NO_FOLLOW, READ_LINK, CHANGE, CLOSE, OPENED, TEXT, DONE, REFUSED, UNMADE}
 
 -- ---- numbers of statfs(2), <linux/magic.h>
 
@@ -39,26 +38,16 @@ BTRFS = 2435016766
 abbrev pub NOSYMFOLLOW : ℕ
 NOSYMFOLLOW = 8192
 
--- ---- what is known from the steps before
+-- ---- what is wanted
 
--- of a Parent: the child had an entry at the step before
-abbrev pub is_known_there : Facts → Bool
-is_known_there f = f.known == FOLLOWED
-
--- Of a ReadLink: the place of the link was told, so the walk has come to what it was to find. Its text is what the
--- caller wants, unless that is walked afterwards.
+-- Of a ReadLink: the walk has come to the link that it was to find. Its text is what the caller wants, unless that is
+-- walked afterwards.
 abbrev pub wants_own_text : Facts → Bool
-wants_own_text f = (f.known == PLACED) && not f.follows
+wants_own_text f = f.is_last && not f.follows
 
--- of a ReadLink: the text was read by the link's name, as the link was opened
-abbrev pub is_read_already : Facts → Bool
-is_read_already f = f.known == LINK_READ
-
--- ---- magic links
-
--- Of an Open under RESOLVE_NO_MAGICLINKS: it bars a link that is followed, and none that is what the caller wants.
+-- Of an Open: no magic link may be followed. It may be opened only where it is what the caller wants.
 abbrev pub bars_magic : Facts → Bool
-bars_magic f = f.no_magic && not (f.is_last && (f.takes_link && not f.follows))
+bars_magic f = not (f.is_last && (f.takes_link && not f.follows))
 
 -- ---- exchanges
 
@@ -77,13 +66,6 @@ pub data Exchange : Type 0 where
   asks_holder : ℕ → ℕ → Exchange
   -- openat2(2) with RESOLVE_NO_MAGICLINKS, of its name
   asks_magic : ℕ → Exchange
-  -- statx(2): `..` of the child is the root
-  asks_root : ℕ → Exchange
-  -- openat2(2) with RESOLVE_BENEATH, from the root, of the names passed but the last
-  looks_above : ℕ → Exchange
-  -- statx(2): `..` of the child is what was found so; or that is closed
-  compares_above : ℕ → Exchange
-  closes_above : Exchange
   -- fstat(2) of the child: how many links it has
   asks_links : ℕ → ℕ → Exchange
   -- fstatfs(2) of the child: the type of its file system
@@ -110,10 +92,6 @@ asked (asks_mount error) = MOUNT
 asked (asks_kind error kind) = KIND
 asked (asks_holder error number) = MAY_HOLD_MAGIC
 asked (asks_magic error) = MAGIC
-asked (asks_root error) = IS_ROOT
-asked (looks_above error) = LOOK_ABOVE
-asked (compares_above error) = COMPARE_ABOVE
-asked closes_above = CLOSE_ABOVE
 asked (asks_links error number) = LINKS
 asked (asks_layers error number) = LAYERS
 asked (opens_to_read error) = OPEN_TO_READ
@@ -158,7 +136,7 @@ ends_by f error = if is_refusal f.what f.mode f.text error then fails REFUSED er
 -- Its kind is known. A link may be a magic one. A directory above counts only if the child is there.
 abbrev pub came_to : Facts → ℕ → Next
 came_to f kind =
-    if f.what == PARENT then (if is_known_there f then knows OPENED kind else asks LINKS)
+    if f.what == PARENT then asks LINKS
     else (if bars_magic f && (kind == LINK) then knows MAY_HOLD_MAGIC kind else knows OPENED kind)
 
 abbrev pub stayed : Facts → ℕ → Next
@@ -192,31 +170,6 @@ after_mount f error kind = if error == 0 then stayed f kind else waits CLOSE UNM
 
 abbrev pub after_kind : Facts → ℕ → ℕ → Next
 after_kind f error kind = if error == 0 then came_to f kind else waits CLOSE UNMADE error
-
--- ---- the directory above, by the names passed
-
--- They are known, there is openat2(2), and nothing speaks against a look-up of several.
-abbrev pub may_look_above : Facts → Bool
-may_look_above f = f.named && (f.second && (not f.clears && (not f.one_by_one && not f.mount)))
-
--- Behind one name it is the root, by the caller's own descriptor: that serves only where the call goes on by a name. In
--- a jail getcwd(2) alone tells a place, and no look-up takes the place of a part of that.
-abbrev pub first_above : Facts → Next
-first_above f =
-    if may_look_above f then
-    (if f.single then (if f.goes_on then asks IS_ROOT else asks OPEN_DIRECTORY)
-    else (if f.jailed then asks OPEN_DIRECTORY else asks LOOK_ABOVE))
-    else asks OPEN_DIRECTORY
-
--- What `..` doesn't lead to isn't the directory above, whatever its names are: then `..` is opened.
-abbrev pub after_is_root : Facts → ℕ → Next
-after_is_root f error = if error == 0 then came_to f DIRECTORY else asks OPEN_DIRECTORY
-
-abbrev pub after_look_above : ℕ → Next
-after_look_above error = if error == 0 then asks COMPARE_ABOVE else asks OPEN_DIRECTORY
-
-abbrev pub after_compare_above : Facts → ℕ → Next
-after_compare_above f error = if error == 0 then came_to f DIRECTORY else asks CLOSE_ABOVE
 
 -- ---- magic links
 
@@ -289,10 +242,10 @@ abbrev pub has_followed : ℕ → Bool
 has_followed flags = not (bit_and flags NOSYMFOLLOW == NOSYMFOLLOW)
 
 -- on a mount that follows no link readlinkat(2) works still; of one that could not be asked nobody knows
-abbrev pub after_follow : Facts → ℕ → ℕ → Next
-after_follow f error flags =
+abbrev pub after_follow : ℕ → ℕ → Next
+after_follow error flags =
     if error == EINTR then asks NO_FOLLOW
-    else (if (error == 0) && has_followed flags then (if is_read_already f then asks TEXT else asks READ_LINK)
+    else (if (error == 0) && has_followed flags then asks READ_LINK
     else fails UNMADE (if error == 0 then ELOOP else error))
 
 -- readlinkat(2) of no link, with an empty path, gives ENOENT, which is the table's EINVAL; of a link it gives neither
@@ -328,16 +281,12 @@ after_exchange f (asks_mount error) due = after_mount f error due.kind
 after_exchange f (asks_kind error kind) due = after_kind f error kind
 after_exchange f (asks_holder error type) due = after_holder error type due.kind
 after_exchange f (asks_magic error) due = after_magic error due.kind
-after_exchange f (asks_root error) due = after_is_root f error
-after_exchange f (looks_above error) due = after_look_above error
-after_exchange f (compares_above error) due = after_compare_above f error
-after_exchange f closes_above due = asks OPEN_DIRECTORY
 after_exchange f (asks_links error links) due = after_links f error links
 after_exchange f (asks_layers error type) due = after_layers f error type
 after_exchange f (opens_to_read error) due = after_open_to_read f error
 after_exchange f (reads error) due = after_read f error
 after_exchange f closes_read due = after_close_read f due.error
-after_exchange f (asks_follow error flags) due = after_follow f error flags
+after_exchange f (asks_follow error flags) due = after_follow error flags
 after_exchange f (reads_link error) due = after_read_link f error
 after_exchange f (changes error) due = after_change f error
 after_exchange f closes due = after_close due
@@ -345,8 +294,8 @@ after_exchange f closes due = after_close due
 abbrev pub first : Facts → Next
 first f =
     if f.what == OPEN then (if f.directory then asks OPEN_DIRECTORY else asks OPEN_ANY)
-    else (if f.what == DUP then (if f.goes_on then asks IS_ROOT else asks OPEN_DIRECTORY)
-    else (if f.what == PARENT then first_above f
+    else (if f.what == DUP then (asks OPEN_DIRECTORY)
+    else (if f.what == PARENT then asks OPEN_DIRECTORY
     else (if f.what == READ_TEXT then (if wants_own_text f then asks READ_LINK else asks NO_FOLLOW)
     else (if f.what == IS_THERE then asks LINKS else asks CHANGE))))
 

@@ -1,7 +1,5 @@
 pub mod Course
 pub mod History
-pub mod LastStep
-pub mod Lacks
 pub mod Leave
 pub mod Moments
 pub mod Changes

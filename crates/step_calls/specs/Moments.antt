@@ -13,7 +13,7 @@ use Rattle.tree_model.specs.declared.step.StepOf.TheVariants.{Open, Parent, Read
 use Rattle.tree_model.specs.State.{State, child, is_dir, is_gone, object_at, parent}
 use Rattle.tree_model.specs.Steps.{held, is_full, kind_of, outcome}
 use Rattle.tree_model.specs.StepWith.{StepWith}
-use Rattle.step_calls.specs.History.{next_after, opens_directory, opens_any, asks_kind, asks_root, looks_above, compares_above, closes_above, asks_links, asks_layers, opens_to_read, reads, reads_link, keeps_links, is_known_there, is_read_already, Exchange, IsHistory}
+use Rattle.step_calls.specs.History.{next_after, opens_directory, opens_any, asks_kind, asks_links, asks_layers, opens_to_read, reads, reads_link, keeps_links, Exchange, IsHistory}
 use Rattle.step_calls.specs.declared.course.TheConstants.{OPENED, TEXT, DONE, REFUSED}
 use Rattle.step_calls.specs.declared.facts.Facts.{Facts}
 use Rattle.step_calls.specs.declared.facts.TheConstants.{IS_THERE, OPEN, PARENT, READ_TEXT}
@@ -141,11 +141,6 @@ pub record OpensAbove (w : World) (n : ℕ) : Type 0 where
 abbrev pub ParentSays : World → Bool → ℕ → Exchange → Type 0
 ParentSays w layered n (opens_directory error) =
     (error ≡ 0 → OpensAbove w (suc n)) × (error ≡ ENOENT → IsGone w (suc n))
--- statx(2): `..` leads to what is open by then, the root or what was looked up. That look-up says nothing of `..`.
-ParentSays w layered n (asks_root error) = error ≡ 0 → OpensAbove w (suc n)
-ParentSays w layered n (looks_above error) = Unit {0}
-ParentSays w layered n (compares_above error) = error ≡ 0 → OpensAbove w (suc n)
-ParentSays w layered n closes_above = Unit {0}
 -- then the child is asked, while the step's own descriptor stays open
 ParentSays w layered n e = Stays w n × ThereSays w layered n e
 
@@ -157,9 +152,8 @@ CouldNotAsk (opens_to_read error ∷ older) = (error ≢ 0) ⊎ CouldNotAsk olde
 CouldNotAsk (reads error ∷ older) = (error ≢ 0) ⊎ CouldNotAsk older
 CouldNotAsk (e ∷ older) = CouldNotAsk older
 
--- What is opened, the step table opened at a moment of a call. Or the directory had been removed since the step before,
--- at which it had an entry; or whether it was removed could not be asked. And where the step is refused, the step table
--- refused it so at a moment of a call.
+-- What is opened, the step table opened at a moment of a call; or whether the directory was removed could not be asked.
+-- And where the step is refused, the step table refused it so at a moment of a call.
 abbrev pub ParentsStood : Type 0
 ParentsStood = (w : World) (layered : Bool) (f : Facts) (history : List Exchange) → f.what ≡ PARENT → IsWorld w
     → ((n : ℕ) → is_dir (w.states n).nodes w.node ≡ true)
@@ -167,7 +161,7 @@ ParentsStood = (w : World) (layered : Bool) (f : Facts) (history : List Exchange
     → ((next_after f history).next ≡ OPENED
     → (n : ℕ) × (n ≤ moment history)
     × ((table w n (Parent w.handle) ≡ Opened (length (w.states n).handles) (w.on (moment history)) kind.Dir)
-    ⊎ ((IsGone w n × (is_known_there f ≡ true)) ⊎ CouldNotAsk history)))
+    ⊎ CouldNotAsk history))
     × ((next_after f history).next ≡ REFUSED
     → (n : ℕ) × (n ≤ moment history) × (table w n (Parent w.handle) ≡ Refused NotFound))
 
@@ -183,11 +177,9 @@ LinkSays w n _ = Unit {0}
 abbrev pub IsNoLink : World → Type 0
 IsNoLink w = (n : ℕ) (text : List ℕ) → object_at (w.states n).nodes w.node ≢ Some (object.Link text)
 
--- A text is the link's at the moment of a call; or right before the first, where it was read already. And where the
--- step is refused, the step table refuses it so.
+-- A text is the link's at the moment of a call. And where the step is refused, the step table refuses it so.
 abbrev pub LinksWereRead : Type 0
 LinksWereRead = (w : World) (f : Facts) (history : List Exchange) → f.what ≡ READ_TEXT → IsWorld w
-    → (is_read_already f ≡ true → object_at (w.states 0).nodes w.node ≡ Some (object.Link w.text))
     → (f.link ≡ false → IsNoLink w) → AreAnswers (LinkSays w) history → IsHistory f history
     → ((next_after f history).next ≡ TEXT
     → (n : ℕ) × (n ≤ moment history) × (table w n (ReadLink w.handle) ≡ Text w.text))

@@ -1,21 +1,18 @@
 -- What holds of every history.
-use Rattle.std.specs.Prelude.{◌≡◌, ◌≢◌, ℕ, ◌+◌, List, [], ◌∷◌, ◌==◌, Bool, true, false, ◌&&◌, ◌||◌, not, if◌then◌else◌, ◌⊎◌}
+use Rattle.std.specs.Prelude.{◌≡◌, ◌≢◌, ℕ, ◌+◌, List, [], ◌∷◌, ◌==◌, Bool, true, false, ◌&&◌, ◌||◌, not, if◌then◌else◌}
 use Rattle.system_calls.specs.Errors.{ENOENT, EINTR, ENOTDIR, ENFILE, EMFILE}
-use Rattle.step_calls.specs.History.{has_followed, is_ordinary, next_after, Exchange, opens_directory, opens_any, spares, asks_mount, asks_kind, asks_holder, asks_magic, asks_root, looks_above, compares_above, closes_above, asks_links, asks_layers, opens_to_read, reads, closes_read, asks_follow, reads_link, changes, closes, IsHistory}
+use Rattle.step_calls.specs.History.{has_followed, is_ordinary, next_after, Exchange, opens_directory, opens_any, spares, asks_mount, asks_kind, asks_holder, asks_magic, asks_links, asks_layers, opens_to_read, reads, closes_read, asks_follow, reads_link, changes, closes, IsHistory}
 use Rattle.step_calls.specs.Refusals.{is_refusal}
-use Rattle.step_calls.specs.declared.course.TheConstants.{MOUNT, KIND, MAY_HOLD_MAGIC, MAGIC, IS_ROOT, LOOK_ABOVE, COMPARE_ABOVE, CLOSE_ABOVE, LINKS, LAYERS, OPEN_TO_READ, READ, CLOSE_READ, CLOSE, OPENED, REFUSED}
+use Rattle.step_calls.specs.declared.course.TheConstants.{MOUNT, KIND, MAY_HOLD_MAGIC, MAGIC, LINKS, LAYERS, OPEN_TO_READ, READ, CLOSE_READ, CLOSE, OPENED, REFUSED}
 use Rattle.step_calls.specs.declared.facts.Facts.{Facts}
-use Rattle.step_calls.specs.declared.facts.TheConstants.{DUP, IS_THERE, OPEN, PARENT}
+use Rattle.step_calls.specs.declared.facts.TheConstants.{IS_THERE, OPEN, PARENT}
 
 -- ---- descriptors
 
--- whether the step's own descriptor is open; also on the root, if that is what is above
+-- whether the step's own descriptor is open
 abbrev pub holds_by : Exchange → Bool → Bool
 holds_by (opens_directory error) was = error == 0
 holds_by (opens_any error) was = error == 0
-holds_by (asks_root error) was = error == 0
-holds_by (looks_above error) was = error == 0
-holds_by closes_above was = false
 holds_by closes was = false
 holds_by _ was = was
 
@@ -27,8 +24,8 @@ holds_after (e ∷ older) = holds_by e (holds_after older)
 abbrev pub is_about_opened : ℕ → Bool
 is_about_opened next =
     (next == MOUNT)
-    || ((next == KIND) || ((next == MAY_HOLD_MAGIC) || ((next == MAGIC) || ((next == COMPARE_ABOVE)
-    || ((next == CLOSE_ABOVE) || ((next == CLOSE) || (next == OPENED)))))))
+    || ((next == KIND) || ((next == MAY_HOLD_MAGIC) || ((next == MAGIC) || ((next == CLOSE)
+    || (next == OPENED)))))
 
 -- looks at the directory below `..`, after that was opened
 abbrev pub is_about_child : ℕ → Bool
@@ -58,8 +55,8 @@ abbrev pub is_none_left : ℕ → Bool
 is_none_left error = (error == EMFILE) || (error == ENFILE)
 
 -- What isn't the step's error: none; a signal; a descriptor that is to be let go; ENOTDIR of a name that is opened
--- as what it is then; a directory above that isn't found by the names passed; a file system, or a directory of one that
--- keeps links, that can't be asked; and an answer that a link is none of the kernel's own.
+-- as what it is then; a file system, or a directory of one that keeps links, that can't be asked; and an answer that a
+-- link is none of the kernel's own.
 abbrev pub is_no_error : Facts → Exchange → Bool
 is_no_error f (opens_directory error) =
     (error == 0) || ((error == EINTR) || (is_none_left error || ((f.what == OPEN) && (error == ENOTDIR))))
@@ -69,10 +66,6 @@ is_no_error f (asks_mount error) = error == 0
 is_no_error f (asks_kind error kind) = error == 0
 is_no_error f (asks_holder error type) = true
 is_no_error f (asks_magic error) = (error == EINTR) || is_ordinary error
-is_no_error f (asks_root error) = true
-is_no_error f (looks_above error) = true
-is_no_error f (compares_above error) = true
-is_no_error f closes_above = true
 is_no_error f (asks_links error links) = (error == 0) && not (links == 0)
 is_no_error f (asks_layers error type) = true
 is_no_error f (opens_to_read error) = not (error == ENOENT)
@@ -91,26 +84,6 @@ abbrev pub RefusalsAreOwn : Type 0
 RefusalsAreOwn = (f : Facts) (history : List Exchange) → f.what ≢ IS_THERE → IsHistory f history
     → (next_after f history).next ≡ REFUSED
     → is_refusal f.what f.mode f.text (next_after f history).error ≡ true
-
--- ---- the directory above, by the names passed
-
--- It is the directory above that is looked for, its names are known, and openat2(2) is there. No tree is removed, and
--- no name must go by itself or be on the root's mount.
-pub record IsByNames (f : Facts) : Type 0 where
-  pub what : f.what ≡ PARENT
-  pub named : f.named ≡ true
-  pub second : f.second ≡ true
-  pub clears : f.clears ≡ false
-  pub one_by_one : f.one_by_one ≡ false
-  pub mount : f.mount ≡ false
-
--- In a jail none is; and the root's own descriptor serves only a call that goes on by a name: for its Dup, or for a
--- Parent behind one name.
-abbrev pub AboveIsFoundByLeave : Type 0
-AboveIsFoundByLeave = (f : Facts) (history : List Exchange) → IsHistory f history
-    → ((next_after f history).next ≡ LOOK_ABOVE → IsByNames f × (f.single ≡ false) × (f.jailed ≡ false))
-    × ((next_after f history).next ≡ IS_ROOT
-    → ((f.what ≡ DUP) ⊎ (IsByNames f × (f.single ≡ true))) × (f.goes_on ≡ true))
 
 -- ---- the end
 

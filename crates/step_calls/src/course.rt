@@ -27,60 +27,47 @@ pub const MAY_HOLD_MAGIC: u8 = 6;
 /// openat2(2) of the name with O_PATH, RESOLVE_BENEATH and RESOLVE_NO_MAGICLINKS; what it opens is closed.
 pub const MAGIC: u8 = 7;
 
-/// PARENT: whether `..` of the directory is the root: statx(2) of both. DUP: it is, and nothing is asked. If so, the
-/// root is what was opened, by the caller's own descriptor.
-pub const IS_ROOT: u8 = 8;
-
-/// PARENT: the names passed, less the last one, are looked up from the root: openat2(2) with RESOLVE_BENEATH.
-pub const LOOK_ABOVE: u8 = 9;
-
-/// PARENT: whether `..` of the directory is what was found so: statx(2) of both.
-pub const COMPARE_ABOVE: u8 = 10;
-
-/// PARENT: it isn't, and is closed.
-pub const CLOSE_ABOVE: u8 = 11;
-
 /// fstat(2) of the directory: how many links it has.
-pub const LINKS: u8 = 12;
+pub const LINKS: u8 = 8;
 
 /// fstatfs(2) of the directory: the type of its file system.
-pub const LAYERS: u8 = 13;
+pub const LAYERS: u8 = 9;
 
 /// openat(2) of `.` in the directory with O_RDONLY, O_DIRECTORY and O_CLOEXEC.
-pub const OPEN_TO_READ: u8 = 14;
+pub const OPEN_TO_READ: u8 = 10;
 
 /// getdents64(2).
-pub const READ: u8 = 15;
+pub const READ: u8 = 11;
 
 /// close(2) of what was opened to be read.
-pub const CLOSE_READ: u8 = 16;
+pub const CLOSE_READ: u8 = 12;
 
 /// fstatfs(2) of the link: the flags of its mount.
-pub const NO_FOLLOW: u8 = 17;
+pub const NO_FOLLOW: u8 = 13;
 
 /// readlinkat(2) of the link's descriptor.
-pub const READ_LINK: u8 = 18;
+pub const READ_LINK: u8 = 14;
 
 /// The one system call that makes, removes or renames an entry.
-pub const CHANGE: u8 = 19;
+pub const CHANGE: u8 = 15;
 
 /// close(2) of what was opened.
-pub const CLOSE: u8 = 20;
+pub const CLOSE: u8 = 16;
 
 /// The step ends: an object is open, of a kind that is known.
-pub const OPENED: u8 = 21;
+pub const OPENED: u8 = 17;
 
 /// It ends with a link's text.
-pub const TEXT: u8 = 22;
+pub const TEXT: u8 = 18;
 
 /// It ends: the change was made; the directory is there.
-pub const DONE: u8 = 23;
+pub const DONE: u8 = 19;
 
 /// It ends: the step is refused by an error of the step table.
-pub const REFUSED: u8 = 24;
+pub const REFUSED: u8 = 20;
 
 /// It ends: the step wasn't made, for an error that the caller gets.
-pub const UNMADE: u8 = 25;
+pub const UNMADE: u8 = 21;
 
 /// How far a step has come. C keeps it, and leaves it alone.
 #[repr(C)]

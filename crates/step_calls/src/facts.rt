@@ -15,12 +15,6 @@ pub const PARENT: u8 = 3;
 /// A step: a link's text is read.
 pub const READ_TEXT: u8 = 4;
 
-/// A step: at which names an object stands below a directory.
-pub const NAME_BELOW: u8 = 5;
-
-/// A step: a handle is closed.
-pub const CLOSE_HANDLE: u8 = 7;
-
 /// The kinds of objects; 0 is one that isn't known.
 pub const DIRECTORY: u8 = 1;
 
@@ -40,28 +34,10 @@ pub struct Facts {
     pub directory: bool,
     /// OPEN, DUP, PARENT: what is opened must be on the root's mount.
     pub mount: bool,
-    /// OPEN: no magic link (proc(5)) may be followed: RESOLVE_NO_MAGICLINKS of openat2(2).
-    pub no_magic: bool,
-    /// OPEN: the name is the last part of the path.
+    /// OPEN: the name is the last part of the path. READ_TEXT: the walk has come to the link that it was to find.
     pub is_last: bool,
     /// OPEN: a link at the path's end is meant itself.
     pub takes_link: bool,
-    /// PARENT: the names are known by which the call came to the child, from the root on, one of them at least.
-    pub named: bool,
-    /// PARENT: they are one name: what is above the child is the root.
-    pub single: bool,
-    /// DUP, PARENT: the call goes on from there by a name. So the caller's own descriptor of the root will do.
-    pub goes_on: bool,
-    /// PARENT: the root is the calling thread's own root directory.
-    pub jailed: bool,
-    /// PARENT: a tree is removed.
-    pub clears: bool,
-    /// PARENT: each name is to be looked up by itself.
-    pub one_by_one: bool,
-    /// PARENT: there is openat2(2).
-    pub second: bool,
-    /// What is known of the step from those before: NOTHING to FOLLOWED (`LastStep`).
-    pub known: u8,
     /// OPEN, READ_TEXT: the text of a link that is read is walked afterwards.
     pub follows: bool,
     /// READ_TEXT: the object was opened as a link.

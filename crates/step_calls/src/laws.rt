@@ -3,12 +3,10 @@ ghost use Rattle.std.specs.Prelude.{◌≡◌, ◌≤◌, ◌+◌, ◌⊎◌, Li
 ghost use Rattle.std.specs.List.{AllByRecursion};
 ghost use Rattle.step_calls.specs.Changes.{MakesStood, RemovalsStood};
 ghost use Rattle.step_calls.specs.History.{next_after, Exchange, IsHistory};
-ghost use Rattle.step_calls.specs.Lacks.{DescriptorsAreThere};
-ghost use Rattle.step_calls.specs.LastStep.{KnownByTheLast};
-ghost use Rattle.step_calls.specs.Leave.{NoMagicIsOpened, TextsAreFollowed};
+ghost use Rattle.step_calls.specs.Leave.{MountsAreKept, NoMagicIsOpened, TextsAreFollowed};
 ghost use Rattle.step_calls.specs.Moments.{LinksWereRead, OpensStood, ParentsStood, ThereStood};
 ghost use Rattle.step_calls.specs.Renames.{RenamesStood};
-ghost use Rattle.step_calls.specs.Promises.{costs, holds_after, needs_opened, needs_read, reads_after, AboveIsFoundByLeave, NoError, RefusalsAreOwn};
+ghost use Rattle.step_calls.specs.Promises.{costs, holds_after, needs_opened, needs_read, reads_after, NoError, RefusalsAreOwn};
 ghost use Rattle.step_calls.specs.declared.course.TheConstants.{CHANGE, OPENED, TEXT, DONE};
 ghost use Rattle.step_calls.specs.declared.facts.Facts.{Facts};
 
@@ -19,10 +17,9 @@ pub fn opens_stood()
     ensures { OpensStood }
 {}
 
-/// The same of the directory above (openat(2), stat(2), rmdir(2)), also where it was found by the names passed. Removal
-/// is for good: so the child is asked afterwards whether it is there. That isn't asked of one that had an entry at the
-/// step before. And where removed directories keep links (overlayfs, cgroups, btrfs) it can't be asked of one that may
-/// not be read.
+/// The same of the directory above (openat(2), stat(2), rmdir(2)). Removal is for good: so the child is asked afterwards
+/// whether it is there. Where removed directories keep links (overlayfs, cgroups, btrfs) that can't be asked of one that
+/// may not be read.
 pub fn parents_stood()
     ensures { ParentsStood }
 {}
@@ -33,7 +30,7 @@ pub fn there_stood()
     ensures { ThereStood }
 {}
 
-/// The same of a link's text (readlinkat(2)), which may have been read already.
+/// The same of a link's text (readlinkat(2)).
 pub fn links_were_read()
     ensures { LinksWereRead }
 {}
@@ -63,9 +60,8 @@ pub fn each_descriptor_is_closed_once()
 {}
 
 /// Where a step is made, nothing met an error but: a signal; that no descriptor was left, after which one was let go;
-/// ENOTDIR of a name that was then opened as what it is; a directory above that the names passed didn't lead to; a file
-/// system, or a directory of one that keeps links, that could not be asked; and an answer that a link is no magic one
-/// (proc(5)).
+/// ENOTDIR of a name that was then opened as what it is; a file system, or a directory of one that keeps links, that
+/// could not be asked; and an answer that a link is no magic one (proc(5)).
 pub fn no_error_is_passed_over()
     ensures { (f : Facts) (history : List Exchange) → IsHistory f history
         → ((next_after f history).next ≡ OPENED)
@@ -73,13 +69,19 @@ pub fn no_error_is_passed_over()
         → AllByRecursion (NoError f) history }
 {}
 
-/// Where a magic link is barred, a link is opened only if an answer says that it's none: its file system has none
+/// A link that isn't what the caller wants is opened only if an answer says that it is no magic one: its file system has none
 /// (statfs(2)), or the kernel looked where it leads (openat2(2), RESOLVE_NO_MAGICLINKS). And a text that is to be
 /// followed is given only if an answer says that its mount has links followed (statfs(2); mount(8), nosymfollow). No
 /// other error passes for such an answer.
 pub fn links_are_followed_by_leave()
     ensures magic { NoMagicIsOpened }
     ensures mounts { TextsAreFollowed }
+{}
+
+/// Where what is opened must be on the root's mount, it is opened only if an answer says so of just what was opened
+/// (statx(2); openat2(2), RESOLVE_NO_XDEV).
+pub fn mounts_are_left_by_no_step()
+    ensures { MountsAreKept }
 {}
 
 /// A step that is refused is refused by an error that the step table may refuse it by (`is_refusal`), whatever the
@@ -94,28 +96,8 @@ pub fn a_change_is_made_once()
         → history ≡ [] }
 {}
 
-/// The directory above is looked up by the names passed only where these are known, there is openat2(2), and the call
-/// neither removes a tree nor takes each name by itself or on the root's mount alone; and not in a jail. The root's own
-/// descriptor serves a Dup or a Parent only in a call that goes on from there by a name, since no caller gets it back.
-pub fn above_is_found_by_leave()
-    ensures { AboveIsFoundByLeave }
-{}
-
 /// It comes to an end, unless descriptors are let go or signals come. There are three exchanges for each of the first,
-/// one for each of the others, and thirteen, at most.
+/// one for each of the others, and ten, at most.
 pub fn calls_are_few()
-    ensures { (f : Facts) (history : List Exchange) → IsHistory f history → length history ≤ costs history + 13 }
-{}
-
-/// A step is begun without a descriptor of its own only if it reads the text of a link that the step before has read by
-/// its name, whatever the steps before were; and a rename only by both.
-pub fn a_step_has_its_descriptors()
-    ensures { DescriptorsAreThere }
-{}
-
-/// Of all steps, in whatever order: what `take_step` says of one was shown by the last step before it, but for Closes
-/// of other handles. So a place is told again only where that step told it of the same handle; a text was read already
-/// only where that step read this link; and a directory had an entry only where two steps have just read a link in it.
-pub fn what_is_known_was_shown_last()
-    ensures { KnownByTheLast }
+    ensures { (f : Facts) (history : List Exchange) → IsHistory f history → length history ≤ costs history + 10 }
 {}

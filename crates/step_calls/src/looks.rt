@@ -8,7 +8,6 @@ use crate::course::{
     REFUSED, TEXT, UNMADE, asks, ends_by, fails, knows, waits,
 };
 use crate::facts::{DIRECTORY, Facts, PARENT};
-use crate::last_step::is_read_already;
 use system_calls::errors::{EEXIST, EINTR, EINVAL, ELOOP, ENOENT};
 
 const OVERLAYFS: u64 = 0x794c_7630;
@@ -132,17 +131,13 @@ fn has_followed(flags: u64) -> bool
     flags & NOSYMFOLLOW != NOSYMFOLLOW
 }
 
-pub(crate) fn after_follow(facts: &Facts, error: u32, flags: u64) -> Course
-    ensures { due_of result ≡ after_follow facts.now error flags }
+pub(crate) fn after_follow(error: u32, flags: u64) -> Course
+    ensures { due_of result ≡ after_follow error flags }
 {
     if error == EINTR {
         asks(NO_FOLLOW)
     } else if error == 0 && has_followed(flags) {
-        if is_read_already(facts) {
-            asks(TEXT)
-        } else {
-            asks(READ_LINK)
-        }
+        asks(READ_LINK)
     } else {
         fails(UNMADE, if error == 0 { ELOOP } else { error })
     }

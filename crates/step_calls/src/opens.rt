@@ -1,15 +1,13 @@
 //! What comes after the system calls by which an object is opened, and looked at.
 ghost use Rattle.std.specs.Prelude.{◌≡◌};
 ghost use Rattle.step_calls.specs.Course.{due_of};
-ghost use Rattle.step_calls.specs.History.{after_any, after_compare_above, after_directory, after_holder, after_is_root, after_kind, after_look_above, after_magic, after_mount, after_spare, bars_magic, came_to, first_above, has_magic, is_ordinary, may_look_above, not_opened, not_ordinary, opened, stayed};
+ghost use Rattle.step_calls.specs.History.{after_any, after_directory, after_holder, after_kind, after_magic, after_mount, after_spare, bars_magic, came_to, has_magic, is_ordinary, not_opened, not_ordinary, opened, stayed};
 
 use crate::course::{
-    CLOSE, CLOSE_ABOVE, COMPARE_ABOVE, Course, IS_ROOT, KIND, LINKS, LOOK_ABOVE, MAGIC,
-    MAY_HOLD_MAGIC, MOUNT, OPEN_ANY, OPEN_DIRECTORY, OPENED, SPARE, UNMADE, asks, ends_by, fails,
-    knows, waits,
+    CLOSE, Course, KIND, LINKS, MAGIC, MAY_HOLD_MAGIC, MOUNT, OPEN_ANY, OPEN_DIRECTORY, OPENED,
+    SPARE, UNMADE, asks, ends_by, fails, knows, waits,
 };
 use crate::facts::{DIRECTORY, Facts, LINK, OPEN, PARENT};
-use crate::last_step::is_known_there;
 use system_calls::errors::{
     EINTR, ELOOP, EMFILE, ENAMETOOLONG, ENFILE, ENOSYS, ENOTDIR, EPERM, EXDEV,
 };
@@ -20,22 +18,18 @@ const SECURITYFS: u64 = 0x7363_6673;
 
 const AAFS: u64 = 0x5a3c_69f0;
 
-// The link itself isn't what the caller wants, and it is followed.
+// The link itself isn't what the caller wants.
 fn bars_magic(facts: &Facts) -> bool
     ensures { result ≡ bars_magic facts.now }
 {
-    facts.no_magic && !(facts.is_last && facts.takes_link && !facts.follows)
+    !(facts.is_last && facts.takes_link && !facts.follows)
 }
 
-pub(crate) fn came_to(facts: &Facts, kind: u8) -> Course
+fn came_to(facts: &Facts, kind: u8) -> Course
     ensures { due_of result ≡ came_to facts.now kind }
 {
     if facts.what == PARENT {
-        if is_known_there(facts) {
-            knows(OPENED, kind)
-        } else {
-            asks(LINKS)
-        }
+        asks(LINKS)
     } else if bars_magic(facts) && kind == LINK {
         knows(MAY_HOLD_MAGIC, kind)
     } else {
@@ -128,62 +122,6 @@ pub(crate) fn after_kind(facts: &Facts, error: u32, kind: u8) -> Course
         came_to(facts, kind)
     } else {
         waits(CLOSE, UNMADE, error)
-    }
-}
-
-fn may_look_above(facts: &Facts) -> bool
-    ensures { result ≡ may_look_above facts.now }
-{
-    facts.named && (facts.second && (!facts.clears && (!facts.one_by_one && !facts.mount)))
-}
-
-pub(crate) fn first_above(facts: &Facts) -> Course
-    ensures { due_of result ≡ first_above facts.now }
-{
-    if may_look_above(facts) {
-        if facts.single {
-            if facts.goes_on {
-                asks(IS_ROOT)
-            } else {
-                asks(OPEN_DIRECTORY)
-            }
-        } else if facts.jailed {
-            asks(OPEN_DIRECTORY)
-        } else {
-            asks(LOOK_ABOVE)
-        }
-    } else {
-        asks(OPEN_DIRECTORY)
-    }
-}
-
-pub(crate) fn after_is_root(facts: &Facts, error: u32) -> Course
-    ensures { due_of result ≡ after_is_root facts.now error }
-{
-    if error == 0 {
-        came_to(facts, DIRECTORY)
-    } else {
-        asks(OPEN_DIRECTORY)
-    }
-}
-
-pub(crate) fn after_look_above(error: u32) -> Course
-    ensures { due_of result ≡ after_look_above error }
-{
-    if error == 0 {
-        asks(COMPARE_ABOVE)
-    } else {
-        asks(OPEN_DIRECTORY)
-    }
-}
-
-pub(crate) fn after_compare_above(facts: &Facts, error: u32) -> Course
-    ensures { due_of result ≡ after_compare_above facts.now error }
-{
-    if error == 0 {
-        came_to(facts, DIRECTORY)
-    } else {
-        asks(CLOSE_ABOVE)
     }
 }
 

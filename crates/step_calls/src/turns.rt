@@ -1,23 +1,27 @@
 //! The first system call of a step, and the next one behind an answer.
 ghost use Rattle.std.specs.Prelude.{◌≡◌, List, [], ◌∷◌, true, false};
 ghost use Rattle.step_calls.specs.Course.{due_of, exchange_of, IsAt};
-ghost use Rattle.step_calls.specs.History.{after_exchange, first, is_question, Exchange};
+ghost use Rattle.step_calls.specs.History.{after_exchange, first, is_question, wants_own_text, Exchange};
 
 use crate::course::{
-    CHANGE, CLOSE, CLOSE_ABOVE, CLOSE_READ, COMPARE_ABOVE, Course, IS_ROOT, KIND, LAYERS, LINKS,
-    LOOK_ABOVE, MAGIC, MAY_HOLD_MAGIC, MOUNT, NO_FOLLOW, OPEN_ANY, OPEN_DIRECTORY, OPEN_TO_READ,
-    OPENED, READ, READ_LINK, SPARE, asks,
+    CHANGE, CLOSE_READ, Course, KIND, LAYERS, LINKS, MAGIC, MAY_HOLD_MAGIC, MOUNT, NO_FOLLOW,
+    OPEN_ANY, OPEN_DIRECTORY, OPEN_TO_READ, OPENED, READ, READ_LINK, SPARE, asks,
 };
 use crate::facts::{Answer, DUP, Facts, IS_THERE, OPEN, PARENT, READ_TEXT};
-use crate::last_step::wants_own_text;
 use crate::looks::{
     after_change, after_close, after_close_read, after_follow, after_layers, after_links,
     after_open_to_read, after_read, after_read_link,
 };
 use crate::opens::{
-    after_any, after_compare_above, after_directory, after_holder, after_is_root, after_kind,
-    after_look_above, after_magic, after_mount, after_spare, first_above,
+    after_any, after_directory, after_holder, after_kind, after_magic, after_mount, after_spare,
 };
+
+// The caller wants the text, and it isn't walked.
+fn wants_own_text(facts: &Facts) -> bool
+    ensures { result ≡ wants_own_text facts.now }
+{
+    facts.is_last && !facts.follows
+}
 
 fn first(facts: &Facts) -> Course
     ensures { due_of result ≡ first facts.now }
@@ -30,14 +34,7 @@ fn first(facts: &Facts) -> Course
                 asks(OPEN_ANY)
             }
         }
-        DUP => {
-            if facts.goes_on {
-                asks(IS_ROOT)
-            } else {
-                asks(OPEN_DIRECTORY)
-            }
-        }
-        PARENT => first_above(facts),
+        DUP | PARENT => asks(OPEN_DIRECTORY),
         READ_TEXT => {
             if wants_own_text(facts) {
                 asks(READ_LINK)
@@ -68,16 +65,12 @@ fn after(facts: &Facts, course: Course, answer: &Answer) -> Course
         KIND => after_kind(facts, answer.error, answer.kind),
         MAY_HOLD_MAGIC => after_holder(answer.error, answer.number, course.kind),
         MAGIC => after_magic(answer.error, course.kind),
-        IS_ROOT => after_is_root(facts, answer.error),
-        LOOK_ABOVE => after_look_above(answer.error),
-        COMPARE_ABOVE => after_compare_above(facts, answer.error),
-        CLOSE_ABOVE => asks(OPEN_DIRECTORY),
         LINKS => after_links(facts, answer.error, answer.number),
         LAYERS => after_layers(facts, answer.error, answer.number),
         OPEN_TO_READ => after_open_to_read(facts, answer.error),
         READ => after_read(facts, answer.error),
         CLOSE_READ => after_close_read(facts, course.error),
-        NO_FOLLOW => after_follow(facts, answer.error, answer.number),
+        NO_FOLLOW => after_follow(answer.error, answer.number),
         READ_LINK => after_read_link(facts, answer.error),
         CHANGE => after_change(facts, answer.error),
         _ => after_close(course),
@@ -86,9 +79,6 @@ fn after(facts: &Facts, course: Course, answer: &Answer) -> Course
 
 /// Takes what the system call gave that was next, and says what comes next. `facts` are those of the beginning. Where
 /// the step has ended, nothing changes. Takes no memory.
-///
-/// The directory above is looked up by the names passed before `..` is opened, where these are known and nothing speaks
-/// against it. Only if `..` of the child leads to what was found is that what the step opens; else `..` is opened.
 ///
 /// EINTR (4) has the call made again that opens, that reads a link or a directory's records, or that asks whether the
 /// mount has links followed, or of a magic link. Of another question about what is open it is an error as any other.

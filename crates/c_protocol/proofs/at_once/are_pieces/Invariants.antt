@@ -6,4 +6,4 @@ use Rattle.c_protocol.proofs.at_once.are_pieces.Given as goal
 
 -- the pieces so far fit
 abbrev pub invariant-loop-piece : goal.invariant-loop-piece
-invariant-loop-piece l = list_all (fits_piece l.ups) (take (length l.yielded) (between_slashes l.text)) ≡ true
+invariant-loop-piece l = list_all fits_piece (take (length l.yielded) (between_slashes l.text)) ≡ true

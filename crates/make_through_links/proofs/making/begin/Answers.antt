@@ -7,12 +7,11 @@ returns-clause-begins c = λ room within.
       tt,
       record {
         due = ap (λ n. record
-            { next = n; pause = 0; error = 0; step = 0; base = 0; from = 0; path = path; gives = 0 })
+            { next = n; pause = 0; error = 0; step = 0; path = path; gives = 0 })
             c.first_call.ensures;
         keeps = λ call. record {
           path = sym (append-nil path);
           above = sym (length-take-le c.args.path_length room within);
-          base = refl;
           cut = refl;
           links = refl;
           between = refl;

@@ -15,8 +15,8 @@ returns-then-again-clause-goes c = λ asked s room e keeps.
     let kept : Keeps asked t c.count_between.result room =
     subst (λ (n : Making). Keeps asked t n room) (sym c.count_between.ensures)
     (keeps_between asked s t m room keeps refl) in
-    again_due asked s m c.asks_whole.result room ((λ p. asks t FIND p s.base (whole s))) keeps few.1
-    (subst (λ p. Tells asked t (asks t FIND p s.base (whole s)) c.asks_whole.result room) few.2
+    again_due asked s m c.asks_whole.result room ((λ p. asks FIND p (whole s))) keeps few.1
+    (subst (λ p. Tells asked t (asks FIND p (whole s)) c.asks_whole.result room) few.2
     (c.asks_whole.ensures.goes asked t room kept))
 
 pub returns-else-again-clause-goes : goal.returns-else-again-clause-goes
@@ -25,6 +25,6 @@ returns-else-again-clause-goes c = λ asked s room e keeps.
     let t : Stand = record s { between = s.between + 1 } in
     let told = c.asks_whole-else-again.ensures.goes asked s room keeps in
     again_fails asked s m c.asks_whole-else-again.result c.fails.result room
-    (asks t FIND (pause_after (s.between + 1)) s.base (whole s)) keeps
+    (asks FIND (pause_after (s.between + 1)) (whole s)) keeps
     (λ times more. c.another_try-again.ensures.due times more c.if-again.false)
     (ap (λ (d : Due). d.path) told.due) c.fails.ensures

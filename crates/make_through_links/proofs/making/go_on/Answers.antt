@@ -30,9 +30,9 @@ returns-in-Above-clause-goes c = λ asked history at call.
     let room = c.args.room.now in
     let s = stand_after asked history in
     let e = exchange c.args.making room c.args.outcome c.args.text.now in
-    at_next asked history c.args.making c.asks_name.result room room c.args.text.now c.args.outcome Above at call
+    at_next asked history c.args.making c.asks_whole-in-Above.result room room c.args.text.now c.args.outcome Above at call
     (c.in-Above.ensures asked)
-    (λ keeps. c.asks_name.ensures.goes asked s room keeps)
+    (λ keeps. c.asks_whole-in-Above.ensures.goes asked s room keeps)
 
 pub returns-in-Gone-clause-goes : goal.returns-in-Gone-clause-goes
 returns-in-Gone-clause-goes c = λ asked history at call.
@@ -50,7 +50,7 @@ returns-in-Partly-clause-goes c = λ asked history at call.
     let e = exchange c.args.making room c.args.outcome c.args.text.now in
     at_next asked history c.args.making c.read_link.result room room c.args.text.now c.args.outcome Partly at call
     (c.in-Partly.ensures asked)
-    (λ keeps. c.read_link.ensures.goes asked s e keeps refl refl)
+    (λ keeps. c.read_link.ensures.goes asked s e keeps refl)
 
 pub returns-in-Link-clause-goes : goal.returns-in-Link-clause-goes
 returns-in-Link-clause-goes c = λ asked history at call.
@@ -59,7 +59,7 @@ returns-in-Link-clause-goes c = λ asked history at call.
     let e = exchange c.args.making room c.args.outcome c.args.text.now in
     at_next asked history c.args.making c.follow.result room c.follow.new.room c.args.text.now c.args.outcome Link at
     call (c.in-Link.ensures asked)
-    (λ keeps. c.follow.ensures.goes asked s e keeps refl refl refl)
+    (λ keeps. c.follow.ensures.goes asked s e keeps refl refl)
 
 pub returns-in-Between-clause-goes : goal.returns-in-Between-clause-goes
 returns-in-Between-clause-goes c = λ asked history at call.
@@ -75,9 +75,9 @@ returns-in-Stands-clause-goes c = λ asked history at call.
     let room = c.args.room.now in
     let s = stand_after asked history in
     let e = exchange c.args.making room c.args.outcome c.args.text.now in
-    at_next asked history c.args.making c.asks_name-in-Stands.result room room c.args.text.now c.args.outcome Stands
+    at_next asked history c.args.making c.asks_whole-in-Stands.result room room c.args.text.now c.args.outcome Stands
     at call (c.in-Stands.ensures asked)
-    (λ keeps. c.asks_name-in-Stands.ensures.goes asked s room keeps)
+    (λ keeps. c.asks_whole-in-Stands.ensures.goes asked s room keeps)
 
 pub returns-in-LinkAtEnd-clause-goes : goal.returns-in-LinkAtEnd-clause-goes
 returns-in-LinkAtEnd-clause-goes c = λ asked history at call.
@@ -86,7 +86,7 @@ returns-in-LinkAtEnd-clause-goes c = λ asked history at call.
     let e = exchange c.args.making room c.args.outcome c.args.text.now in
     at_next asked history c.args.making c.follow_at_end.result room c.follow_at_end.new.room c.args.text.now
     c.args.outcome LinkAtEnd at call (c.in-LinkAtEnd.ensures asked)
-    (λ keeps. c.follow_at_end.ensures.goes asked s e keeps refl refl refl)
+    (λ keeps. c.follow_at_end.ensures.goes asked s e keeps refl refl)
 
 pub returns-in-BetweenAtEnd-clause-goes : goal.returns-in-BetweenAtEnd-clause-goes
 returns-in-BetweenAtEnd-clause-goes c = λ asked history at call.

@@ -1,4 +1,4 @@
-use Rattle.std.proofs.Common.{◌≡◌, ◌+◌, ◌≤◌, ap, refl, ◌∙◌, arith, drop, length, length-take-le, length-drop}
+use Rattle.std.proofs.Common.{◌≡◌, ◌≤◌, ap, refl, ◌∙◌, arith, drop, length, length-take-le}
 use Rattle.make_through_links.specs.Making.{path_in}
 use Rattle.make_through_links.proofs.making.met.Goals as goal
 use Rattle.std.specs.Prelude.{◌==◌}
@@ -11,12 +11,10 @@ returns c = λ asked follows.
     let o = c.args.outcome in
     let room = c.args.room.now in
     let path = path_in m room in
-    let within : m.start + m.size ≤ length room = omega (arith, c.requires.path, c.requires.length) in
-    let long : length path ≡ m.size = length-take-le m.size (drop m.start room)
-    (omega (arith, length-drop m.start room, within)) in
+    let within : m.size ≤ length room = omega (arith, c.requires.path, c.requires.length) in
+    let long : length path ≡ m.size = length-take-le m.size room within in
     let size : c.name_length.result ≡ name_size (drop o.rest path) =
-    c.name_length.ensures.exact
-    ∙ ap name_size (part_behind room m.start m.size o.rest c.min.result c.min.ensures within) in
+    c.name_length.ensures.exact ∙ ap name_size (part_behind room m.size o.rest c.min-start.result c.min-start.ensures within) in
     c.meets.ensures
     ∙ seen_is m.follows asked.follows m.next o.error o.directory (m.size == 0)
     (c.name_length.result == 0) c.is_empty.result (is_empty path) (name_size (drop o.rest path) == 0)

@@ -1,3 +1,0 @@
-pub mod BitLemmas
-pub mod HistoryLemmas
-pub mod SaidLemmas

@@ -1,4 +1,0 @@
-pub mod History
-pub mod Promises
-pub mod Texts
-pub mod Walking
