@@ -205,11 +205,6 @@ uint64_t inroot_handles_put(struct inroot_driver *d, int fd, enum inroot_kind ki
     return d->begun ? put_below(d, handle, dir) : handle;
 }
 
-uint64_t inroot_handles_passed(struct inroot_driver *d)
-{
-    return (uint64_t)++d->serial << 32 | INROOT_PASSED;
-}
-
 int inroot_handles_fd_again(struct inroot_driver *d, uint64_t handle, int *fd)
 {
     struct inroot_slot *slot = inroot_handles_slot(d, handle);
@@ -235,8 +230,6 @@ static void close_slot(struct inroot_driver *d, const struct inroot_slot *slot)
 
 struct inroot_result inroot_handles_close(struct inroot_driver *d, uint64_t handle)
 {
-    if (inroot_handles_is_passed(handle))
-        return (struct inroot_result){.what = INROOT_ANSWER_DONE};
     struct inroot_slot *slot = inroot_handles_slot(d, handle);
     if (slot->fd >= 0 || d->inner >= 0)
         close_slot(d, slot);
@@ -260,10 +253,9 @@ int inroot_handles_take(struct inroot_driver *d, uint64_t handle)
     const struct inroot_slot *slot = inroot_handles_slot(d, handle);
     const int fd = slot->fd;
     struct inroot_taking taking = {0};
-    inroot_hints_find(d);
     if (d->asked->opened != NULL)
         *d->asked->opened = (enum inroot_kind)slot->kind;
-    inroot_take(slot->is_shared, handle == d->from.copied, fd >= 0, &taking);
+    inroot_take(slot->is_shared, false, fd >= 0, &taking);
     if (taking.error)
         return -(int)taking.error;
     const int given = taking.anew ? inroot_open_anew(d, handle) : fd;

@@ -151,14 +151,13 @@ enum {
     INROOT_NOFOLLOW = 4,
     INROOT_NO_RETRY = 8,
     INROOT_FOLLOW = 16,
-    INROOT_ONE_BY_ONE = 32,
     INROOT_TRUST_PROC = 64,
     INROOT_NO_XDEV = 128,
     INROOT_GIVE = 256,
-    INROOT_NO_MAGICLINKS = 512,
     INROOT_DIRECTORY = 1024,
     INROOT_BELOW = 4096,
     INROOT_ROOT_STAYS = 8192,
+    INROOT_EXACT = 16384,
 };
 
 /* How often a call is tried, where others are in its way. */
@@ -281,44 +280,10 @@ int inroot_root_fd(const struct inroot_root *root);
 void inroot_root_close(struct inroot_root *root);
 
 /*
- * Gives a number that calls take in place of ROOT, so that their paths begin at the directory DIR below ROOT. ROOT
- * stays the root: `..` and absolute links stop there, and a path that begins with a slash begins there. DIR is a
- * descriptor of a directory that was found below ROOT (O_PATH is enough); both stay open until inroot_at_end(). Any
- * thread with the same table of descriptors may use the number. ROOT may be INROOT_JAIL, which is the root of the thread
- * that makes the call: EBADF in one that wasn't moved. Or it is such a number: then it is that one's root.
- *
- * Each call asks both witnesses anew for DIR's path below the root. Then it walks from the root by these names, whose
- * last one is DIR itself, and by its own path. So it begins at DIR, wherever somebody moved that below the root. If DIR
- * was removed the call gives ENOENT, and if DIR is outside EAGAIN at each try. The names and the path together have at
- * most 4,095 bytes: ENAMETOOLONG beyond. For inroot_open_parent() PATH's last name doesn't count. These errors come
- * behind those of ROOT. Such a call takes memory.
- *
- * Gives 0, and the number, which is below -4,095; -EBADF or -ENOTDIR where ROOT or DIR isn't a descriptor of a
- * directory, ROOT's first; -EMFILE where a program has INROOT_ATS numbers. Then *AT is -1. inroot_at_end() gives a
- * number back, after all calls that use it: 0, or -EBADF if it isn't such a number. It closes neither ROOT nor DIR.
- */
-enum { INROOT_ATS = 1024 };
-int inroot_at_begin(int root, int dir, int *at);
-int inroot_at_end(int at);
-
-/*
  * Why the thread's last call failed. STEP is the last step that it made, by its name in docs/HOST.md, or empty if it
  * failed before the first. Beside the model's steps there are `Reopen`, which opens for use, `Stat`, `Attribute`, which
  * changes an object that was found, `Give`, which opens a new entry, and `Return` of inroot_jail(). NAME is the name that
  * the step was about, or empty.
- *
- * REST is the rest of PATH at that step, with links replaced by their texts. It begins with NAME if the call could not
- * open or make that; at `Parent` and `ReadLink` it is what comes behind the `..` and the link. Once the walk has begun
- * REST has one slash between two names, and `.` behind a slash at the end of PATH.
- *
- * AT is the place that the walk had reached: the names below the root by which it went, with a slash before each, or a
- * slash for the root itself. Others may have moved these since. A link that the call follows is none of them. AT is
- * empty if the call made no step, and where the library doesn't keep the names: if they have more than 3,071 bytes, or
- * some behind a `..` that led to the root.
- *
- * For a rename, and for a tree that is removed, REST and AT are empty. REST is also empty if memory was missing for the
- * walk. Where one openat2(2) found that a name is missing (INROOT_BELOW), it didn't say which: STEP is `Open`, NAME and
- * AT are empty, and REST is all of PATH.
  *
  * The texts end with a NUL, and are cut off where they don't fit. A later version may use the reserved bytes, which are
  * zero: the structure doesn't get larger while the library's soname stays.
@@ -327,8 +292,6 @@ struct inroot_error {
     int error;          /* its number, as ENOENT */
     const char *step;   /* stays as long as the program */
     char name[256];
-    char rest[4096];
-    const char *at;     /* stays until the thread's next call */
     unsigned long long reserved[15];
 };
 
@@ -352,16 +315,6 @@ int inroot_open(int root, const char *path, int flags);
  * error the name is empty.
  */
 int inroot_open_parent(int root, const char *path, int flags, char last[256]);
-
-/*
- * Opens as much of PATH as is there. If all of it is there, the call gives what inroot_open() gives, and REST is empty.
- * Otherwise it takes the longest beginning of PATH that leads to a directory, gives that directory, and writes the rest
- * of PATH to REST, with a NUL. The first name of REST isn't there, or isn't a directory where the path needs one, or is
- * a link that leads to a missing object. The call tries a shorter beginning only after ENOENT and ENOTDIR; every other
- * error is the call's. ERANGE where REST doesn't fit into SIZE bytes, behind all others. The call may make several
- * walks, so it saw the descriptor's object and the rest at moments of the call, one after another.
- */
-int inroot_open_partial(int root, const char *path, int flags, char *rest, size_t size);
 
 /*
  * Writes the path below ROOT of the object that FD is open on, by both witnesses: the names, with a slash before each
@@ -523,12 +476,6 @@ int inroot_fremovexattr(int fd, const char *name);
  * come from this opening, or EIO from the look at it, and EXDEV under INROOT_NO_XDEV, where something is mounted over
  * the entry. The step of such an error is `Give`.
  */
-
-/*
- * Makes an empty file (mknodat(2)). Gives 0. EEXIST where there is such an entry, a link too, and what mknodat(2) has
- * beside it.
- */
-int inroot_mkfile(int root, const char *path, mode_t mode, int flags);
 
 /*
  * Makes an entry of the kind that MODE has beside its permissions (mknodat(2)): S_IFREG, S_IFIFO, S_IFSOCK, S_IFCHR

@@ -139,7 +139,7 @@ ssize_t inroot_ask_place(struct inroot_driver *d, int root, int fd, bool begin, 
 {
     struct asking a = {.d = d, .root = root, .fd = fd, .text = text, .slot = slot};
     const struct inroot_asking_facts facts = {
-        .directory = begin, .keeps = begin, .jailed = root == INROOT_JAILED, .handed = d->asked->from == 0,
+        .directory = begin, .keeps = begin, .jailed = root == INROOT_JAILED, .handed = true,
     };
     *slot = (struct inroot_slot){.kind = INROOT_KIND_DIR, .way = INROOT_BY_NAME, .above = -1};
     inroot_asking_begin(&facts, &a.course);
