@@ -191,6 +191,36 @@ int inroot_use_proc(int proc);
  */
 int inroot_use_private_proc(void);
 
+/* Where a path of inroot_proc_open() and inroot_proc_readlink() begins; or at a process, which has a number above 0. */
+enum { INROOT_PROC_ROOT = -201, INROOT_PROC_SELF = -202, INROOT_PROC_THREAD_SELF = -203 };
+
+/*
+ * Opens a file of the proc(5) by which the calls go: that at /proc, or what the two calls above have put in its place.
+ * PATH begins at BASE and doesn't lead out of it: at the topmost directory, at that of this process, of this thread, or
+ * of the process that has this number there. One openat2(2) walks it, with RESOLVE_BENEATH, RESOLVE_NO_XDEV and
+ * RESOLVE_NO_MAGICLINKS. So the call fails if something is mounted over a part of PATH or over the file. OPEN_FLAGS are
+ * those of inroot_reopen(), and O_NOFOLLOW. Gives a descriptor.
+ *
+ * Without O_NOFOLLOW a link at the end is followed. If it is one of the kernel's own, as `exe` or `fd/3`, it leads to
+ * its object, wherever that is. The call has seen before that nothing is mounted over such a link. What somebody mounts
+ * there between that look and the opening is followed; on a private proc(5) nobody can.
+ *
+ * inroot_proc_readlink() reads the text of a link. It gives its length in bytes, and writes as much of it as fits into
+ * SIZE bytes, without a NUL.
+ *
+ * A private proc(5) that is a new one shows processes alone (subset=pid, Linux 5.8): what INROOT_PROC_ROOT has beside
+ * them, as `sys`, gives ENOENT. Hand a whole one in to have it.
+ *
+ * EINVAL of another BASE or flag; ENOSYS where there is no proc(5) to go by, where it isn't open by its topmost
+ * directory, or where it doesn't show this process; EMFILE; ENOENT where there is no such process or file, or PATH is
+ * empty; ENAMETOOLONG; EXDEV where something is mounted over a part of PATH or over the file, where PATH begins with a
+ * slash or leads out of BASE; ELOOP of a link of the kernel's own on the way, and of a link at the end under O_NOFOLLOW
+ * without O_PATH; EAGAIN of a PATH with `..` while others rename or mount without end; EINVAL of the text of what is no
+ * link; and EACCES, ESRCH and what open(2) and the file have beside it.
+ */
+int inroot_proc_open(int base, const char *path, int open_flags);
+ssize_t inroot_proc_readlink(int base, const char *path, char *text, size_t size);
+
 /*
  * Why the thread's last call failed. STEP is the last step that it made, by its name in docs/HOST.md, or empty if it
  * failed before the first. Beside the model's steps there are `Reopen`, which opens for use, `Stat`, `Attribute`, which

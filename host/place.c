@@ -16,8 +16,8 @@
 /* ---- which object it is */
 
 /*
- * Nothing is asked of a server. If a filter refuses statx(2), or says that the call was made which then was not, a C library may give
- * what fstat(2) says: the mask shows it.
+ * Nothing is asked of a server. If a filter refuses statx(2), a C library may give what fstat(2) says; or a filter says that the
+ * call was made, which then was not: the mask shows either.
  */
 bool inroot_find_which(int fd, const char *name, struct inroot_which *which)
 {
@@ -65,7 +65,7 @@ struct search {
     size_t above_length, text_length, again_length;
 };
 
-/* The text of a descriptor's link in /proc: how long it is. It is this thread's, whichever thread of which process this is by now. */
+/* The length of the text of a descriptor's link in /proc. It is this thread's, whichever thread of which process this is by now. */
 static size_t read_link(struct search *s, int fd, char *text)
 {
     char written[INROOT_PROC_NAME];

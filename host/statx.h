@@ -42,7 +42,8 @@ struct inroot_statx {
 };
 
 _Static_assert(sizeof(struct inroot_statx) == 256 && offsetof(struct inroot_statx, stx_ino) == 32 &&
-               offsetof(struct inroot_statx, stx_btime) == 80 && offsetof(struct inroot_statx, stx_mnt_id) == 144, "statx(2) tells so");
+               offsetof(struct inroot_statx, stx_btime) == 80 && offsetof(struct inroot_statx, stx_mnt_id) == 144,
+               "statx(2) tells so");
 
 static inline int inroot_statx(int dir, const char *name, int flags, unsigned int mask, struct inroot_statx *about)
 {
