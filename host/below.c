@@ -57,11 +57,10 @@ bool inroot_has_floor(void)
     return has_floor;
 }
 
-int inroot_look_up(struct inroot_driver *d, int dir, const char *names, uint64_t flags, uint64_t resolve)
+int inroot_look_up(int dir, const char *names, uint64_t flags, uint64_t resolve)
 {
     const struct open_how how = {
         .flags = flags | O_PATH | O_CLOEXEC, .resolve = resolve | RESOLVE_NO_MAGICLINKS | RESOLVE_NO_SYMLINKS,
     };
-    (void)d;
     return inroot_openat2(dir, names, &how);
 }

@@ -109,7 +109,7 @@ static void let_go(struct inroot_driver *d)
 static int open_another_proc(struct work *w)
 {
     bool is_own;
-    int proc = inroot_proc_open(true, &is_own);
+    int proc = inroot_proc_find(true, &is_own);
     if (proc < 0)
         return proc;
     begin(w);

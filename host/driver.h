@@ -23,9 +23,6 @@ enum { INROOT_HELD_MAX = 32 };
 /* In place of a descriptor: none; one that was let go and can be opened again. */
 enum { INROOT_NONE = -1, INROOT_AWAY = -2 };
 
-/* Goes with jails. */
-enum { INROOT_JAILED = -3 };
-
 /* In place of a result: the kernel's walk doesn't make the call, and the steps are to. */
 enum { INROOT_STEPS = -65536 };
 
@@ -33,7 +30,7 @@ enum { INROOT_STEPS = -65536 };
 static const uint64_t INROOT_ROOT_HANDLE = UINT64_C(1) << 32;
 
 /* Beside the steps of the proved call: the kernel lacks what the library needs; the driver opens what it made. */
-enum { INROOT_STEP_KERNEL = INROOT_STEP_RENAME + 1, INROOT_STEP_OWN_ROOT = INROOT_STEP_KERNEL, INROOT_STEP_GIVE };
+enum { INROOT_STEP_KERNEL = INROOT_STEP_RENAME + 1, INROOT_STEP_GIVE };
 
 /* What the last step of a call that makes an entry makes. */
 enum inroot_makes { INROOT_MAKES_NEW, INROOT_MAKES_OPEN, INROOT_MAKES_LINKED };
@@ -79,12 +76,6 @@ struct inroot_entry {
     char name[NAME_MAX + 1];
 };
 
-/* A mount, by its number or by its device. */
-struct inroot_mount {
-    bool is_known, by_number;
-    uint64_t number;
-};
-
 /* The slots that serve a call with few handles. */
 enum { INROOT_FEW = 8 };
 
@@ -107,9 +98,6 @@ struct inroot_driver {
     size_t passed_length;
     uint64_t link, link_dir;       /* the link that was opened last, in that directory, and the same of it */
     size_t link_length;
-    struct inroot_whereabouts where;
-    bool told_apart;
-    struct inroot_mount mount;
     /* What follows isn't cleared as a call begins: it is set then, or where what it belongs to is. */
     const struct inroot_request *asked;
     size_t second_length;
@@ -136,7 +124,7 @@ static inline uint32_t inroot_errno_of(long given)
 }
 
 /* From here to the end of the block no thread is cancelled: a call leaves nothing open, and lets go of what it holds. */
-#define INROOT_UNCANCELLED __attribute__((cleanup(inroot_cancel_again))) int inroot_cancels = inroot_cancel_not()
+#define INROOT_UNCANCELLED __attribute__((cleanup(inroot_cancel_again), unused)) int inroot_cancels = inroot_cancel_not()
 
 static inline int inroot_cancel_not(void)
 {
@@ -187,12 +175,7 @@ int inroot_open_here(int dir, const char *name, int open_flags, int flags);
 /* Whether the kernel has what the library needs. */
 bool inroot_has_floor(void);
 /* Opens names through no link, by O_PATH and these flags, and by RESOLVE bits: the descriptor, or -1 with errno. */
-int inroot_look_up(struct inroot_driver *d, int dir, const char *names, uint64_t flags, uint64_t resolve);
-
-static inline bool inroot_has_openat2(void)
-{
-    return inroot_has_floor();
-}
+int inroot_look_up(int dir, const char *names, uint64_t flags, uint64_t resolve);
 
 /* kernel_walk.c: each gives INROOT_STEPS, if the kernel's walk doesn't do it; or -errno, if the call fails so, which is noted. */
 /* Makes a call: what it gives. */
@@ -223,101 +206,31 @@ const char *inroot_step_name(unsigned step);
 /* proc.c */
 enum { INROOT_PROC_NAME = 48 };
 /*
- * A directory of a proc(5) that the library keeps open, and which one it is: none where the descriptor is INROOT_NONE. Of a top
- * also the numbers of its file system and of its mount, or 0, by which another proc(5) and another mount are known.
- */
-struct inroot_own {
-    int fd;
-    struct inroot_proc_file file;
-};
-/* Takes a descriptor over, by a number above those of the standard files: 0, or -errno and it is closed. */
-int inroot_proc_own(int fd, struct inroot_own *own);
-/* Whether the number is still that directory's. */
-bool inroot_proc_is_own(const struct inroot_own *own);
-/*
  * A /proc that is one, or -errno; IS_CALLERS where the caller is to close it. One that is at hand is any file of that proc(5), or
  * SURELY the directory that was opened. If the program has handed one in, there is no other.
  */
-int inroot_proc_open(bool surely, bool *is_callers);
-/* Whether the program has one already. */
+int inroot_proc_find(bool surely, bool *is_callers);
+/* Whether the program has one already; and whether a descriptor is of a proc(5). */
 bool inroot_proc_is_kept(void);
-/* Whether the program has handed one in; and whether one has what the calls ask for (private_proc.c). */
-bool inroot_proc_is_handed_in(void);
-bool inroot_proc_has_threads(int proc);
+bool inroot_proc_is(int fd);
 /* Whether somebody closed the library's own /proc, so that its number is another file of a proc(5). */
 bool inroot_proc_is_lost(int proc);
-/* The same, for a call. */
+/* The same as inroot_proc_find(), for a call. */
 int inroot_proc_for(struct inroot_driver *d);
 void inroot_proc_end(struct inroot_driver *d);
-/* The name in /proc of a descriptor of this thread, which is written into the room: its number, behind that of the table. */
-#define INROOT_PROC_TABLE "thread-self/fd/"
+/* The name in /proc of a descriptor of this thread, which is written into the room. */
 const char *inroot_proc_name(int fd, char room[INROOT_PROC_NAME]);
 /*
  * The error of a system call on such a name. If there is no such link at all, or the number is another file's by now, there is no
  * such /proc.
  */
 int inroot_proc_error(int proc, const char *name, int error);
-/* Gives this thread a /proc that stays open: returns it, or -errno. And closes what the library keeps for the thread. */
-int inroot_proc_stay(void);
-void inroot_proc_leave(void);
-/* Whether what is kept for this thread will be let go of as it ends; and whether a descriptor is of a proc(5). */
-bool inroot_proc_ends(void);
-bool inroot_proc_is(int fd);
-
-/* keep.c */
-/* What is kept for a program: a table of descriptors in /proc, a root, which file that is, where it is KNOWN, and a page. */
-struct inroot_keeps {
-    struct inroot_own table;
-    int fd;                        /* the root, or INROOT_NONE */
-    bool is_known;
-    struct inroot_file file;
-    unsigned char *page;           /* or NULL */
-    unsigned forks;                /* so many were seen as it began */
-};
-/*
- * Begins to keep: notes how many forks were seen, and has the next one seen. Whether it could. Before that is kept on which a child
- * would rely.
- */
-bool inroot_keeps_begin(struct inroot_keeps *keeps);
-/* Whether what is kept is a parent's, as far as that is seen; whether it is seen to be this process's own. */
-bool inroot_keeps_are_parents(const struct inroot_keeps *keeps);
-bool inroot_keeps_are_own(const struct inroot_keeps *keeps);
-/* Whether this process was seen to be a child. */
-bool inroot_is_child(void);
-/* A page, which a child of fork(2) is to find empty; and gives it back. Each gives 0, or an error's number. */
-uint32_t inroot_page_map(unsigned char **page);
-uint32_t inroot_page_wipe(unsigned char *page);
-uint32_t inroot_page_unmap(unsigned char **page);
-/* Which file a descriptor is of: 0, or an error's number. */
-uint32_t inroot_ask_file(int fd, struct inroot_file *file);
-/* Lets go of all of it. The root isn't closed if it IS_LOST, and SURELY only if its number is seen to be still that file's. */
-void inroot_keeps_end(struct inroot_keeps *keeps, bool is_lost, bool surely);
 
 /* by_proc.c */
 /* What is done by an object's name in a /proc: what that gave, or -1 with errno. */
 typedef ssize_t inroot_act(int proc, const char *name, void *what);
 /* Does it to the object of a descriptor. Gives what that gave, or -errno: -EBADF, -ENOSYS where there is no /proc. */
 ssize_t inroot_by_proc(int fd, inroot_act *act, void *what);
-
-/* trust.c */
-/* Keeps the directory of this thread's descriptors in this /proc open, and the root, where the kernel lets it: 0 or -errno. */
-int inroot_trust_begin(int proc, int root);
-void inroot_trust_end(void);
-/* They, or INROOT_NONE where none is kept. */
-int inroot_trust_table(void);
-int inroot_trust_root(void);
-
-/* jail.c */
-bool inroot_is_jailed(void);
-/* In a jail: makes a directory the thread's current one, which other threads no longer share. Returns whether it could. */
-bool inroot_jail_enter(struct inroot_driver *d, int fd);
-/* If the call may have left the thread elsewhere, makes the root its current directory again. Returns whether it could. */
-bool inroot_jail_return(struct inroot_driver *d);
-/*
- * The descriptor of a directory as a system call takes it. Of a jail's root that is the one that the thread keeps, or its current
- * directory, which is made that root. Whether it could.
- */
-bool inroot_jail_start(struct inroot_driver *d, int *dir);
 
 /* call.c */
 /* A try: one proved call from its beginning to its reply, whose text then lies in the room. */
@@ -342,23 +255,8 @@ int inroot_carry_out_alone(int root, const struct inroot_request *asked);
 /* Removes a tree by steps. Gives how many entries were removed, or -errno. */
 ssize_t inroot_remove_tree(int root, const struct inroot_request *asked, char *room);
 
-/* root.c */
-/* What is kept of a root by inroot_root_open(), or NULL: not in a child of fork(2). */
-struct inroot_kept_root {
-    int flags;
-    int table;                     /* the directory of the descriptors in /proc, or INROOT_NONE */
-    size_t length;                 /* of the root's path, or zero */
-    char path[INROOT_TEXT_MAX];
-};
-const struct inroot_kept_root *inroot_root_kept(int root);
-/* The process is a child of fork(2) from here on. */
-void inroot_root_in_child(void);
-
 /* place.c */
-/*
- * Which object it is, while it is open; by which mount, where the kernel says that; how many names it has; and which
- * device it is.
- */
+/* Which object it is, while it is open, and by which mount; how many names it has; and which device it is. */
 struct inroot_which {
     struct inroot_object object;
     uint64_t links, device;
@@ -366,53 +264,15 @@ struct inroot_which {
 };
 /* Of what is open, or has a name in that directory. Whether it could be asked, or errno. */
 bool inroot_find_which(int fd, const char *name, struct inroot_which *which);
-/* Whether a name in a directory leads to the object that is open, by the same mount; and what kind that is. */
-bool inroot_is_entry(int dir, const char *name, int fd, enum inroot_kind *kind);
 /*
- * Whether a look-up from the root, by names with a slash before each, finds the slot's object. The slot goes on with the
- * descriptor of this look-up.
+ * The names that lead from the root to what the walk holds. The slot may have another descriptor of it afterwards: the one that the
+ * kernel's look-up below the root gave.
  */
-bool inroot_look_first(struct inroot_driver *d, int root, struct inroot_slot *slot, const char *text);
-/*
- * The names that lead from the root, INROOT_JAILED in a jail, to a slot's object. The slot may have another descriptor of it
- * afterwards: the one that the kernel's look-up below the root gave.
- */
-struct inroot_result inroot_find_place(struct inroot_driver *d, int root, struct inroot_slot *slot, char *text,
-                                       size_t *length);
 struct inroot_result inroot_name_below(struct inroot_driver *d, const struct inroot_told *step, char *text, size_t *length);
-
-/* stands.c */
-/*
- * The names of a descriptor's object below the root: how long the text is, or -errno; -EAGAIN: it isn't below, or is moved. If
- * paths BEGIN there, it is a directory, and the slot has another descriptor of it: a copy, which shares all with the caller's, where
- * it IS_SHARED.
- */
-ssize_t inroot_ask_place(struct inroot_driver *d, int root, int fd, bool begin, char *text, struct inroot_slot *slot);
 /*
  * The path of the request's object below the root: the length of the text in the room, or -errno; -EAGAIN: it isn't below.
  */
 ssize_t inroot_stands(struct inroot_driver *d, int root, char *room);
-
-/* mount.c */
-/*
- * The number of the mount that a descriptor is on, or 0 where the kernel doesn't say; and the device of its file system.
- * From Linux 6.8 on no other mount ever gets that number, and from 5.8 on none as long as this mount is there. Gives 0, or the
- * number of an error: ENOSYS where there is no statx(2).
- */
-uint32_t inroot_mount_number(int fd, uint64_t *mount, uint64_t *device);
-/* Whether an object is on the mount of the root, as far as the kernel shows it. */
-bool inroot_mount_has(struct inroot_driver *d, int fd);
-/* Returns the descriptor if it is on the mount of the root. Else closes it, and returns -1 with EXDEV. */
-int inroot_mount_stay(struct inroot_driver *d, int fd);
-
-/* own_root.c */
-/*
- * Whether /proc can distinguish objects below the thread's own root directory from others. It is asked until it can: 0 then, or
- * -errno, which is -EOPNOTSUPP where nobody can.
- */
-int inroot_own_root_ask(struct inroot_driver *d, int proc);
-/* The same by the call's /proc: 0, or -errno and the call is left at INROOT_STEP_OWN_ROOT. */
-int inroot_own_root_check(struct inroot_driver *d);
 
 /* listing.c */
 struct inroot_result inroot_list(struct inroot_driver *d, uint64_t handle);

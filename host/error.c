@@ -39,7 +39,8 @@ static void keep(int error, const char *step, const char *name, size_t length)
 
 int inroot_error_alone(int error, const char *step, const char *name)
 {
-    keep(error, step, name, strlen(name));
+    const bool lacks = error == ENOSYS && !inroot_has_floor();
+    keep(error, lacks ? inroot_step_name(INROOT_STEP_KERNEL) : step, name, strlen(name));
     return -error;
 }
 

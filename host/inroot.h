@@ -58,7 +58,6 @@
  * meanwhile, the object never was below the root by a name. A call without the flag refuses what the kernel says was
  * removed.
  *
- * INROOT_TRUST_PROC is of inroot_jail_with() and inroot_root_open(), INROOT_ROOT_STAYS of the latter alone.
  * INROOT_NOFOLLOW is also of inroot_open_partial().
  *
  * Without INROOT_NO_MAGICLINKS a call follows such a link along its text, below the root; openat2(2) with
@@ -151,20 +150,14 @@ enum {
     INROOT_NOFOLLOW = 4,
     INROOT_NO_RETRY = 8,
     INROOT_FOLLOW = 16,
-    INROOT_TRUST_PROC = 64,
     INROOT_NO_XDEV = 128,
     INROOT_GIVE = 256,
     INROOT_DIRECTORY = 1024,
-    INROOT_BELOW = 4096,
-    INROOT_ROOT_STAYS = 8192,
     INROOT_EXACT = 16384,
 };
 
 /* How often a call is tried, where others are in its way. */
 enum { INROOT_TRIES = 32 };
-
-/* In place of ROOT: the directory below which inroot_jail() has moved this thread. */
-#define INROOT_JAIL (-2)
 
 /*
  * How inroot_rename() treats an entry that is there already (renameat2(2)); and that it leaves a whiteout behind, by
@@ -198,86 +191,35 @@ int inroot_use_proc(int proc);
  */
 int inroot_use_private_proc(void);
 
-/*
- * Gives the calling thread a root directory, a current directory and a umask of its own (unshare(2), CLONE_FS) and
- * changes the first two to ROOT (chroot(2)), so that its calls may be given INROOT_JAIL. Other threads keep theirs. A
- * thread that was moved can't be moved back. Its current directory is that root after each call. There is one
- * exception: if the thread may not search the root any more, a call gives EACCES, and the current directory may be
- * another. Needs CAP_SYS_CHROOT, which unshare(2) with CLONE_NEWUSER gives, and a /proc to ask for a non-directory.
- *
- * Leave alone in such a thread, and in each that it makes: the root directory, by chroot(2), pivot_root(2) or
- * setns(2). A thread that it makes shares that with it, and isn't a moved one: it gives a descriptor as ROOT.
- *
- * Gives 0; -EBUSY in a thread that was moved already, -EBADF or -ENOTDIR where ROOT isn't a descriptor of a directory,
- * -EPERM without the capability, -ENOSYS without /proc, -EMFILE, -ENOMEM, -EACCES where ROOT may not be searched. After
- * an error the thread is as before, unless fchdir(2) or chroot(2) itself was refused, as by a filter or a security
- * module: then its current directory is still the same, but is its own from then on. If it can't go back there either,
- * as it may no longer search it, its current directory is ROOT: then the call gives the error of that fchdir(2), and
- * inroot_last_error() has the step `Return`. A filter may also have one of them do nothing, and say that it was done: then
- * the call gives -EPERM.
- */
-int inroot_jail(int root);
+/* Where a path of inroot_proc_open() and inroot_proc_readlink() begins; or at a process, which has a number above 0. */
+enum { INROOT_PROC_ROOT = -201, INROOT_PROC_SELF = -202, INROOT_PROC_THREAD_SELF = -203 };
 
 /*
- * The same, by FLAGS: 0, or INROOT_TRUST_PROC. By this one the thread keeps two descriptors open, of its
- * /proc/thread-self/fd and of the root. Its calls read the link of a non-directory in the first, and look names up from
- * the second. They don't check first whether the numbers still are these two. This saves two system calls, and a longer
- * path. The program promises in return that it
+ * Opens a file of the proc(5) by which the calls go: that at /proc, or what the two calls above have put in its place.
+ * PATH begins at BASE and doesn't lead out of it: at the topmost directory, at that of this process, of this thread, or
+ * of the process that has this number there. One openat2(2) walks it, with RESOLVE_BENEATH, RESOLVE_NO_XDEV and
+ * RESOLVE_NO_MAGICLINKS. So the call fails if something is mounted over a part of PATH or over the file. OPEN_FLAGS are
+ * those of inroot_reopen(), and O_NOFOLLOW. Gives a descriptor.
  *
- *   leaves these descriptors alone: it closes none that it didn't open, and puts no other in the place of these
- *   makes no calls in a child process that shares the memory or the descriptors of such a thread: of vfork(2), or of
- *   clone(2) with CLONE_VM or CLONE_FILES
+ * Without O_NOFOLLOW a link at the end is followed. If it is one of the kernel's own, as `exe` or `fd/3`, it leads to
+ * its object, wherever that is. The call has seen before that nothing is mounted over such a link. What somebody mounts
+ * there between that look and the opening is followed; on a private proc(5) nobody can.
  *
- * Where it breaks that, a call may take an object outside of the root for one inside. A child of fork(2) needs no
- * promise: it goes on as in a jail without the flag. So does a thread if the kernel has no MADV_WIPEONFORK
- * (madvise(2)), by which the library distinguishes a child from its parent.
+ * inroot_proc_readlink() reads the text of a link. It gives its length in bytes, and writes as much of it as fits into
+ * SIZE bytes, without a NUL.
  *
- * Gives -EINVAL of another flag, before all else, and then what inroot_jail() gives.
+ * A private proc(5) that is a new one shows processes alone (subset=pid, Linux 5.8): what INROOT_PROC_ROOT has beside
+ * them, as `sys`, gives ENOENT. Hand a whole one in to have it.
+ *
+ * EINVAL of another BASE or flag; ENOSYS where there is no proc(5) to go by, where it isn't open by its topmost
+ * directory, or where it doesn't show this process; EMFILE; ENOENT where there is no such process or file, or PATH is
+ * empty; ENAMETOOLONG; EXDEV where something is mounted over a part of PATH or over the file, where PATH begins with a
+ * slash or leads out of BASE; ELOOP of a link of the kernel's own on the way, and of a link at the end under O_NOFOLLOW
+ * without O_PATH; EAGAIN of a PATH with `..` while others rename or mount without end; EINVAL of the text of what is no
+ * link; and EACCES, ESRCH and what open(2) and the file have beside it.
  */
-int inroot_jail_with(int root, int flags);
-
-/*
- * Ends what inroot_jail() began: calls of this thread may not be given INROOT_JAIL then. The thread stays below the
- * root. What it kept is closed, as it is when the thread ends. Only in a child of fork(2) a descriptor of the root that
- * INROOT_TRUST_PROC kept stays open, until exec(3): its number may be another file's there.
- */
-void inroot_jail_done(void);
-
-/*
- * A root for as long as a program needs one: it holds a descriptor of DIRECTORY, and has seen that there is a /proc,
- * which is open from here on. inroot_root_fd() gives the descriptor, which each call takes as ROOT, in any thread
- * that has the table of descriptors in which it was opened. It is the root's own: leave it open. FLAGS are 0 or any
- * of these:
- *
- *   INROOT_ROOT_STAYS  the root's path is read once, here, and not by each call. The program promises that until the
- *                      root is closed nobody renames the root or a directory above it, and that calls on it are made
- *                      in threads with the root directory and the mount namespace of this one
- *   INROOT_TRUST_PROC  with INROOT_ROOT_STAYS alone: /proc/self/fd is kept open as well, and links are read in it
- *                      without looking first whether it is still that directory. The program promises that the calls
- *                      are made in threads that share the descriptors of its first thread; that it closes no
- *                      descriptor that it didn't open, and puts no other in the place of one; and that it makes no
- *                      calls in a child of vfork(2), or of clone(2) with CLONE_VM or CLONE_FILES
- *   INROOT_BELOW       each call on this root that has this flag is made with it, also from a directory below the root
- *
- * If the program breaks a promise, the second witness still holds: the kernel itself has seen below the root whatever a
- * call opens. But the path's names may never have led there all at one moment; and a call may begin again for nothing,
- * and give EAGAIN. A child of fork(2) needs no promise: its calls go on as without the first two flags. They also go
- * on so if the kernel has no MADV_WIPEONFORK (madvise(2)) or no openat2(2), and on roots beyond some 256 roots at a
- * time. What is kept of a root goes by its descriptor's number. So while the root is open, no thread with another
- * table of descriptors gives a call a directory by that number, or keeps a root that has it. If a child of fork(2)
- * has closed the descriptor, and opens a root that gets its number, the new root counts alone, and closing the first
- * leaves it open. So in a child the closing of its parent's root waits until no other thread is opening one.
- *
- * inroot_root_open() walks DIRECTORY as open(2) does, links and all, so it is to be a path that nobody else can
- * change. It gives 0 and the root; -EINVAL of another flag, or of INROOT_TRUST_PROC without
- * INROOT_ROOT_STAYS; -ENOMEM, -EMFILE, what open(2) has with O_PATH and O_DIRECTORY, -ENOSYS
- * where there is no proc(5). Then *ROOT is NULL. inroot_root_close() closes it, where it isn't NULL, after all calls
- * that were given its descriptor.
- */
-struct inroot_root;
-int inroot_root_open(const char *directory, int flags, struct inroot_root **root);
-int inroot_root_fd(const struct inroot_root *root);
-void inroot_root_close(struct inroot_root *root);
+int inroot_proc_open(int base, const char *path, int open_flags);
+ssize_t inroot_proc_readlink(int base, const char *path, char *text, size_t size);
 
 /*
  * Why the thread's last call failed. STEP is the last step that it made, by its name in docs/HOST.md, or empty if it
@@ -382,49 +324,6 @@ int inroot_stat(int root, const char *path, struct stat *about, int flags);
  * as fits into SIZE bytes, without a NUL. EINVAL where it isn't a link.
  */
 ssize_t inroot_readlink(int root, const char *path, int flags, char *text, size_t size);
-
-/*
- * The entries below the directory that PATH means, one after another: those of a directory before the next one beside
- * it, a directory before what is in it, and else in no order. LEVELS says how deep: 1 gives the entries of PATH alone,
- * and 0 all. For each level it takes one descriptor and less than 10 kilobytes. It reads a directory in pieces.
- *
- * inroot_walk_open() gives 0 and the walk; or -errno, and *WALK is NULL: EINVAL where LEVELS is negative, what
- * inroot_open() gives with FLAGS, of which INROOT_NOFOLLOW is of PATH alone, ENOTDIR where it isn't a directory, EACCES
- * where it may not be read. ROOT stays open until the walk is closed; and with INROOT_JAIL the same thread goes on.
- *
- * inroot_walk_next() gives 1 and an ENTRY; 0 behind the last; or -errno where the rest of a directory's entries isn't
- * given, whose PATH is in ENTRY then, and the next turn goes on behind it: EAGAIN where it was moved meanwhile, EIO
- * where a name has no bytes or a slash, ENAMETOOLONG where one of over 1,024 bytes doesn't fit, and what getdents64(2)
- * has. What is in ENTRY stays until the next turn. inroot_walk_skip() has the walk leave out what is below the
- * directory that it gave last. inroot_walk_close() ends the walk, where it isn't NULL.
- *
- * The walk promises this, whoever renames meanwhile. It enters nothing through a link below PATH. It opens each
- * directory that it enters by its name, in the directory that has it. That directory was below the root then, at that
- * PATH: a call of its own led to the same one, and the walk reads what that call opened. (That call follows a link that
- * somebody has put in the place of a directory above.) If that call led elsewhere, by as many tries as any call makes,
- * ERROR is EAGAIN, and the walk doesn't enter the directory.
- *
- * It doesn't promise that an entry is still there, that it gives each entry that was made, removed or moved meanwhile,
- * or that none comes twice. Nor does it promise that nobody moves a directory out of the root while the walk reads its
- * entries. Whoever makes entries without end can keep a walk from ending.
- *
- * An entry is opened by inroot_open(ENTRY.directory, ENTRY.name, INROOT_NOFOLLOW), below the directory that has it.
- */
-struct inroot_walk;
-struct inroot_walk_entry {
-    const char *path;   /* its names from PATH on, a slash between each two; without one where it is PATH itself */
-    const char *name;   /* the last of them */
-    int directory;      /* the directory that has it, open for reading: the walk's own */
-    int opened;         /* the directory itself where the walk goes into it, likewise; else -1 */
-    mode_t kind;        /* S_IFREG, S_IFDIR, S_IFLNK and so on, as it was read; 0 where ERROR says why it isn't known */
-    int depth;          /* 1 where PATH has it */
-    int error;          /* why a directory isn't gone into, as EACCES, or why the kind isn't known; else 0 */
-    int reserved[9];    /* zero; a later version may tell more there */
-};
-int inroot_walk_open(int root, const char *path, int levels, int flags, struct inroot_walk **walk);
-int inroot_walk_next(struct inroot_walk *walk, struct inroot_walk_entry *entry);
-void inroot_walk_skip(struct inroot_walk *walk);
-void inroot_walk_close(struct inroot_walk *walk);
 
 /*
  * Change the mode, the owner and the times of the object that FD is open on, wherever that is: any object that

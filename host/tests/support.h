@@ -152,7 +152,7 @@ static inline bool is_same_object(int fd, int other)
 
 /*
  * Whether the kernel says of this descriptor that its entry was removed. LINKS is /proc/self/fd, which was opened before: a
- * thread in a jail has no /proc. No name may end so itself.
+ * thread in a chroot has no /proc. No name may end so itself.
  */
 __attribute__((unused)) static bool is_called_removed(int links, int fd)
 {
@@ -200,7 +200,7 @@ static inline int sure(int result, const char *what)
     return result;
 }
 
-/* Asked one by one, since below the root of a jail there is no /proc. */
+/* Asked one by one, since in a chroot there is no /proc. */
 static inline int open_descriptors(void)
 {
     int count = 0;
@@ -222,19 +222,6 @@ static inline int take_gaps(int root)
     return fd;
 }
 
-/* What calls take as the root: in a jail by these flags, or where they are negative the descriptor. */
-static inline int root_or_jail(int root, int flags)
-{
-    if (flags < 0)
-        return root;
-    int failed = inroot_jail_with(root, flags);
-    if (failed == -EPERM)
-        _exit(NO_RIGHT);
-    errno = -failed;
-    sure(failed, "inroot_jail_with");
-    return INROOT_JAIL;
-}
-
 /* Has the calls ask a /proc that is open already, so that descriptors can be counted. */
 static inline void open_proc(void)
 {
@@ -243,14 +230,6 @@ static inline void open_proc(void)
     close(proc);
     if (failed)
         exit(1);
-}
-
-/* The same by one that the library opens, and opens anew where a program has closed it. */
-__attribute__((unused)) static void keep_proc(void)
-{
-    struct inroot_root *unused;
-    sure(inroot_root_open("/", 0, &unused), "inroot_root_open");
-    inroot_root_close(unused);
 }
 
 /* Runs it in a process of its own, and adds up what wasn't as it is to be. */
@@ -285,17 +264,6 @@ static inline void begin_in_box(int count, char **words, int *base, int *root)
     *base = sure(open(words[1], O_PATH | O_DIRECTORY | O_CLOEXEC), words[1]);
     sure(mkdirat(*base, "box", 0755), "box");
     *root = sure(openat(*base, "box", O_PATH | O_DIRECTORY | O_CLOEXEC), "box");
-}
-
-/* The same calls by the root's descriptor, in a jail, and in one that trusts: each in a process of its own. Gives how the check ends. */
-__attribute__((unused)) static int in_each_way(const char *name, void (*by_proc)(void), void (*in_jail)(void),
-                                               void (*in_trusting_jail)(void))
-{
-    apart(by_proc);
-    int skipped = apart(in_jail);
-    apart(in_trusting_jail);
-    printf("%s: %d not as they are to be\n", name, wrong);
-    return wrong != 0 ? 1 : skipped;
 }
 
 /* A child of fork(2), which waits for a byte. */
@@ -340,25 +308,15 @@ __attribute__((unused)) static bool may_be_nobody(void)
     return geteuid() == 0 && seteuid(65534) == 0 && seteuid(0) == 0;
 }
 
-/* Whether threads may be given a root of their own here. */
-__attribute__((unused)) static bool may_jail(int root)
+/* Whether a thread may be given another root directory here. */
+__attribute__((unused)) static bool may_chroot(int root)
 {
     int status;
     pid_t child = sure(fork(), "fork");
     if (child == 0)
-        _exit(inroot_jail(root) == 0 ? 0 : 1);
+        _exit(fchdir(root) == 0 && chroot(".") == 0 ? 0 : 1);
     sure(waitpid(child, &status, 0), "waitpid");
     return WIFEXITED(status) && WEXITSTATUS(status) == 0;
-}
-
-/* Gives this thread the root as its own; or ends the process as a check does that has no right to. */
-__attribute__((unused)) static void jail_or_end(int root, int flags)
-{
-    int failed = inroot_jail_with(root, flags);
-    if (failed == -EPERM)
-        _exit(NO_RIGHT);
-    errno = -failed;
-    sure(failed, "inroot_jail_with");
 }
 
 #endif
