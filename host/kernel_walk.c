@@ -176,10 +176,19 @@ static int change_entry(int root, const struct inroot_request *asked)
     return result;
 }
 
-/* With a slash at the end of a path the steps look first whether a directory is there. */
+static bool ends_in_name(const char *path)
+{
+    struct inroot_parted parted = {0};
+    inroot_split((const unsigned char *)path, strlen(path), false, &parted);
+    return parted.error == 0;
+}
+
+/* What both paths end in comes first. With a slash there the steps look whether a directory is there. */
 static int rename_entry(int root, const struct inroot_request *asked)
 {
     struct inroot_entry from, to;
+    if (!ends_in_name(asked->second))
+        return INROOT_STEPS;
     int result = inroot_kernel_entry(root, asked->flags, asked->first, false, &from);
     if (result < 0)
         return result;
