@@ -1,7 +1,7 @@
 /*
- * below.c: openat2(2), and whether the kernel has what the library needs: that system call, and the numbers of mounts (statx(2)).
- * A filter may refuse either, by any error, or say that it was made. Once a thread has seen both it doesn't ask again, until
- * openat2(2) fails by an error that may be such a filter's.
+ * below.c: openat2(2), and whether the kernel has what the library needs: that system call, and the numbers of mounts
+ * (statx(2)). A filter may refuse either, by any error, or say that it was made. Once a thread has seen both it doesn't
+ * ask again, until openat2(2) fails by an error that may be such a filter's.
  */
 #define _GNU_SOURCE
 #include "driver.h"
@@ -34,8 +34,8 @@ int inroot_open_here(int dir, const char *name, int open_flags, int flags)
 }
 
 /*
- * Where there is no directory, no file system is asked. The kernel says first whether a descriptor is left: then nobody knows, and
- * what needs one fails by that.
+ * Where there is no directory, no file system is asked. The kernel says first whether a descriptor is left: then nobody
+ * knows, and what needs one fails by that.
  */
 static bool may_have_openat2(bool *is_known)
 {
@@ -50,7 +50,8 @@ static bool may_have_openat2(bool *is_known)
 static bool has_mounts(void)
 {
     struct statx about = {0};
-    return statx(AT_FDCWD, "", AT_EMPTY_PATH | AT_STATX_DONT_SYNC, STATX_MNT_ID, &about) == 0 && about.stx_mask & STATX_MNT_ID;
+    const int how = AT_EMPTY_PATH | AT_STATX_DONT_SYNC;
+    return statx(AT_FDCWD, "", how, STATX_MNT_ID, &about) == 0 && about.stx_mask & STATX_MNT_ID;
 }
 
 bool inroot_has_floor(void)

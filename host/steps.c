@@ -1,6 +1,6 @@
 /*
- * steps.c: each step that a proved call asks for: what is known of it before its system calls, and what its end is to the call
- * (docs/HOST-WHY.md has the map and what is trusted).
+ * steps.c: each step that a proved call asks for: what is known of it before its system calls, and what its end is to
+ * the call (docs/HOST-WHY.md has the map and what is trusted).
  */
 #define _GNU_SOURCE
 #include "driver.h"
@@ -11,8 +11,8 @@
 /* ---- answers */
 
 /*
- * A step that wasn't made, for this error: as if there had been no memory for it. So the call closes what it opened, and ends. The
- * caller gets the error itself.
+ * A step that wasn't made, for this error: as if there had been no memory for it. So the call closes what it opened,
+ * and ends. The caller gets the error itself.
  */
 struct inroot_result inroot_unmade(struct inroot_driver *d, int error)
 {
@@ -85,7 +85,8 @@ static struct inroot_result leave_here(struct inroot_driver *d, const struct inr
 }
 
 /* Opens one name, as a directory at first. Keeps by which names the walk has come there. */
-static struct inroot_result open_name(struct inroot_driver *d, const struct inroot_told *step, int dir, const char *name)
+static struct inroot_result open_name(struct inroot_driver *d, const struct inroot_told *step, int dir,
+                                      const char *name)
 {
     if (d->begun && inroot_is_deepest(inroot_handles_slot(d, step->handle)))
         return leave_here(d, step, name);
@@ -150,10 +151,12 @@ static struct inroot_result changed(struct inroot_driver *d, const struct inroot
 }
 
 /* Changes an entry: its name lies in the room, and behind that another name or a link's text. */
-static struct inroot_result change_entry(struct inroot_driver *d, const struct inroot_told *step, int dir, const char *room)
+static struct inroot_result change_entry(struct inroot_driver *d, const struct inroot_told *step, int dir,
+                                         const char *room)
 {
     struct inroot_change change = {
-        .asked = d->asked, .what = step->what, .dir = dir, .name = room, .other = room + step->first + 1, .made = INROOT_NONE,
+        .asked = d->asked, .what = step->what, .dir = dir, .name = room, .other = room + step->first + 1,
+        .made = INROOT_NONE,
     };
     int error = step->what == INROOT_STEP_RENAME ? inroot_handles_fd(d, step->other, &change.other_dir) : 0;
     if (error)
