@@ -15,12 +15,22 @@
 
 static _Thread_local bool has_floor;
 
+/* A signal ends an opening for use alone. */
 int inroot_openat2(int dir, const char *path, const struct open_how *how)
 {
-    const int fd = (int)syscall(SYS_openat2, dir, path, how, sizeof *how);
+    int fd;
+    do
+        fd = (int)syscall(SYS_openat2, dir, path, how, sizeof *how);
+    while (fd < 0 && errno == EINTR && how->flags & O_PATH);
     if (fd < 0 && (errno == ENOSYS || errno == EPERM || errno == EACCES))
         has_floor = false;
     return fd;
+}
+
+int inroot_open_here(int dir, const char *name, int open_flags, int flags)
+{
+    const struct open_how how = {.flags = (uint64_t)(unsigned)open_flags, .resolve = RESOLVE_NO_XDEV};
+    return flags & INROOT_NO_XDEV ? inroot_openat2(dir, name, &how) : openat(dir, name, open_flags);
 }
 
 /* Where there is no directory, no file system is asked. */

@@ -8,26 +8,20 @@
 
 #include <errno.h>
 #include <fcntl.h>
+#include <linux/magic.h>
 #include <sys/stat.h>
 #include <sys/syscall.h>
 #include <sys/vfs.h>
 #include <unistd.h>
 
-/* ST_NOSYMFOLLOW, of which the C library's headers may say nothing: links there aren't followed. */
-enum { FOLLOWS_NONE = 0x2000 };
-
-/* Under INROOT_NO_XDEV the kernel refuses what is on another mount. */
 static uint32_t open_entry(const struct inroot_driver *d, struct inroot_work *w, int flags)
 {
     static const enum inroot_way ways[] = {
         [INROOT_STEP_OPEN] = INROOT_BY_NAME, [INROOT_STEP_DUP] = INROOT_BY_ROOT, [INROOT_STEP_PARENT] = INROOT_BY_PARENT,
     };
-    const struct open_how how = {
-        .flags = (uint64_t)(unsigned)(O_PATH | O_NOFOLLOW | O_CLOEXEC | flags),
-        .resolve = d->asked->flags & INROOT_NO_XDEV ? RESOLVE_NO_XDEV : 0,
-    };
+    flags |= O_PATH | O_NOFOLLOW | O_CLOEXEC;
     w->how = ways[w->facts.what];
-    w->fd = inroot_openat2(w->at, w->name, &how);
+    w->fd = inroot_open_here(w->at, w->name, flags, d->asked->flags);
     return inroot_errno_of(w->fd);
 }
 
@@ -63,18 +57,20 @@ static uint32_t ask_file_system(int fd, struct inroot_step_answer *answer)
 
 /*
  * Whether a link of this name leads to an object and not along its text: only the kernel knows, and refuses to follow it then. It
- * does so before it looks where the link leads. So it refuses a link beyond that one, and so would the walk that comes to it.
+ * does so before it looks where the link leads. So it refuses a link beyond that one, and so would the walk that comes to it. Gives
+ * 0, ELOOP, or why the kernel can't say.
  */
-static bool is_magic(int dir, const char *name)
+static uint32_t ask_magic(const struct inroot_driver *d, int dir)
 {
     const struct open_how how = {.flags = O_PATH | O_CLOEXEC, .resolve = RESOLVE_BENEATH | RESOLVE_NO_MAGICLINKS};
-    const int fd = inroot_openat2(dir, name, &how);
+    const int fd = inroot_openat2(dir, d->link_name, &how);
+    const uint32_t error = inroot_errno_of(fd);
     if (fd >= 0)
         close(fd);
-    return fd < 0 && errno == ELOOP;
+    return error == EXDEV || error == ENOTDIR || error == ENAMETOOLONG ? 0 : error;
 }
 
-/* A link that is followed must be none of a mount with nosymfollow, and no magic one, which counts as one of such a mount. */
+/* A link that is followed must be none of a mount with nosymfollow; and no magic one, where the file system may have such. */
 static uint32_t ask_whether_followed(struct inroot_driver *d, const struct inroot_work *w, struct inroot_step_answer *answer)
 {
     struct statfs about;
@@ -82,9 +78,10 @@ static uint32_t ask_whether_followed(struct inroot_driver *d, const struct inroo
     if (fstatfs(w->looks, &about) != 0)
         return (uint32_t)errno;
     answer->number = (uint64_t)about.f_flags;
-    if (d->link == w->dir && inroot_handles_fd(d, d->link_dir, &dir) == 0 && is_magic(dir, d->link_name))
-        answer->number |= FOLLOWS_NONE;
-    return 0;
+    if (about.f_type != PROC_SUPER_MAGIC && about.f_type != SECURITYFS_MAGIC && about.f_type != AAFS_MAGIC)
+        return 0;
+    const int lost = d->link == w->dir ? inroot_handles_fd(d, d->link_dir, &dir) : ESTALE;
+    return lost ? (uint32_t)lost : ask_magic(d, dir);
 }
 
 static uint32_t open_to_read(struct inroot_work *w)

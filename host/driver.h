@@ -167,9 +167,11 @@ void inroot_passed_name(struct inroot_driver *d, uint64_t dir, const char *name,
 const char *inroot_passed_names(struct inroot_driver *d, uint64_t handle, size_t *length);
 
 /* below.c */
-/* openat2(2). Each call of the library is made by this. */
+/* openat2(2): each one that the library makes. */
 struct open_how;
 int inroot_openat2(int dir, const char *path, const struct open_how *how);
+/* Opens a name in a directory by these flags of open(2); under INROOT_NO_XDEV only what is on the directory's mount. */
+int inroot_open_here(int dir, const char *name, int open_flags, int flags);
 /* Whether the kernel has what the library needs. */
 bool inroot_has_floor(void);
 /* Opens names through no link, by O_PATH and these flags, and by RESOLVE bits: the descriptor, or -1 with errno. */

@@ -5,7 +5,6 @@
  */
 #define _GNU_SOURCE
 #include "driver.h"
-#include "openat2.h"
 
 #include <errno.h>
 #include <fcntl.h>
@@ -26,11 +25,8 @@ struct giving {
 /* Under INROOT_NO_XDEV what is mounted over the entry isn't it. */
 static uint32_t open_entry(struct giving *g)
 {
-    const struct open_how how = {
-        .flags = O_PATH | O_NOFOLLOW | O_CLOEXEC,
-        .resolve = g->change->asked->flags & INROOT_NO_XDEV ? RESOLVE_NO_XDEV : 0,
-    };
-    g->fd = inroot_openat2(g->change->dir, g->change->name, &how);
+    const struct inroot_change *change = g->change;
+    g->fd = inroot_open_here(change->dir, change->name, O_PATH | O_NOFOLLOW | O_CLOEXEC, change->asked->flags);
     return inroot_errno_of(g->fd);
 }
 

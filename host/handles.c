@@ -258,6 +258,8 @@ int inroot_handles_take(struct inroot_driver *d, uint64_t handle)
     inroot_take(slot->is_shared, false, fd >= 0, &taking);
     if (taking.error)
         return -(int)taking.error;
+    if (taking.anew)
+        d->step = INROOT_STEP_DUP;
     const int given = taking.anew ? inroot_open_anew(d, handle) : fd;
     if (taking.closes)
         close(fd);
