@@ -135,7 +135,7 @@ static struct inroot_result tell(const struct search *s, size_t *length)
     *length = s->told.length;
     memmove(s->text, s->text + s->told.start, *length);
     s->text[*length] = 0;
-    if (s->told.is_root)
+    if (*length == 1)
         s->slot->way = INROOT_BY_ROOT;
     return (struct inroot_result){.what = INROOT_ANSWER_NAMES};
 }
