@@ -5,7 +5,7 @@
  * of a mount that was taken off it is that top itself: nobody goes on there.
  *
  * usage: facts DIR. Exits 0 where that holds. 77: no openat2(2) here. 78: no right to do what it takes. To be linked with
- * --wrap=statx, --wrap=fstat and --wrap=syscall.
+ * --wrap=statx, --wrap=fstat and --wrap=openat.
  */
 #define _GNU_SOURCE
 #include "filter.h"
@@ -93,24 +93,24 @@ static void (*act)(void), (*undo)(void);
 static int without_parent = -1;
 static bool is_asked;
 
-static long my_syscall(long number, const long *with)
+static int my_openat(int dir, const char *name, int flags, mode_t mode)
 {
-    void (*now)(void) = number == SYS_openat2 && strcmp((const char *)with[1], "..") == 0 ? act : NULL;
+    void (*now)(void) = strcmp(name, "..") == 0 ? act : NULL;
     if (now != NULL) {
         act = NULL;
         now();
     }
-    long fd = REAL_SYSCALL(number, with);
+    int fd = __real_openat(dir, name, flags, mode);
     const int error = errno;
     if (now != NULL && fd < 0 && error == ENOENT)
-        without_parent = (int)with[0];
+        without_parent = dir;
     if (now != NULL && undo != NULL)
         undo();
     errno = error;
     return fd;
 }
 
-INSTEAD_OF_SYSCALL(my_syscall)
+INSTEAD_OF_OPENAT(my_openat)
 
 int __real_fstat(int fd, struct stat *about);
 int __wrap_fstat(int fd, struct stat *about);

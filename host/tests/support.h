@@ -282,18 +282,9 @@ __attribute__((unused)) static void chroot_or_end(int root)
         _exit(NO_RIGHT);
 }
 
-/* Runs it in a process of its own, and adds up what wasn't as it is to be. */
-__attribute__((unused)) static int apart(void (*what)(void))
+/* How a process ended in which a part ran: adds up what wasn't as it is to be, or gives that it was skipped. */
+static inline int count_part(int status)
 {
-    int status;
-    fflush(stdout);
-    pid_t child = sure(fork(), "fork");
-    if (child == 0) {
-        wrong = 0;
-        what();
-        end_part();
-    }
-    sure(waitpid(child, &status, 0), "waitpid");
     if (!WIFEXITED(status))
         expect(false, "it ended by signal %d", WTERMSIG(status));
     else if (WEXITSTATUS(status) == NO_OPENAT2 || WEXITSTATUS(status) == NO_RIGHT)
@@ -301,6 +292,42 @@ __attribute__((unused)) static int apart(void (*what)(void))
     else
         wrong += WEXITSTATUS(status);
     return 0;
+}
+
+/* Runs it in a process of its own, and below this root directory if that isn't negative. */
+__attribute__((unused)) static int apart_in(int root, void (*what)(void))
+{
+    int status;
+    fflush(stdout);
+    pid_t child = sure(fork(), "fork");
+    if (child == 0) {
+        wrong = 0;
+        if (root >= 0)
+            chroot_or_end(root);
+        what();
+        end_part();
+    }
+    sure(waitpid(child, &status, 0), "waitpid");
+    return count_part(status);
+}
+
+__attribute__((unused)) static int apart(void (*what)(void))
+{
+    return apart_in(-1, what);
+}
+
+/* By which way a part makes its calls: 0, the kernel's walk, or INROOT_EXACT. */
+__attribute__((unused)) static int way;
+
+/* Runs it by each way, and by each in a chroot, which is left out where there is no right to it. */
+__attribute__((unused)) static int in_each_way(int root, void (*what)(void))
+{
+    int skipped = 0;
+    for (way = 0; way <= INROOT_EXACT; way += INROOT_EXACT) {
+        apart(what);
+        skipped |= apart_in(root, what);
+    }
+    return skipped;
 }
 
 /* A directory `box` below the one that is given, as the root. */
