@@ -94,7 +94,7 @@ static struct inroot_result open_name(struct inroot_driver *d, const struct inro
     struct inroot_work work = work_on(INROOT_STEP_OPEN, step->handle, dir, name);
     work.facts.directory = true;
     struct inroot_result result = open_by(d, &work);
-    if (result.what == INROOT_ANSWER_OPENED && !d->counts)
+    if (result.what == INROOT_ANSWER_OPENED && !d->begun)
         inroot_passed_name(d, step->handle, name, step->first, &result);
     return result;
 }
