@@ -10,7 +10,7 @@
 /* The bits of a mode beside the kind of file; the nanoseconds of a second. */
 enum { MODE_BITS = 07777, SECOND = 1000000000 };
 
-/* Checks before anything changes. AT_FDCWD and INROOT_JAIL name no object that was found. Gives 0 or -errno. */
+/* Checks before anything changes. AT_FDCWD names no object that was found. Gives 0 or -errno. */
 static int check(int fd, bool is_right)
 {
     return !is_right ? -EINVAL : fd < 0 ? -EBADF : 0;
@@ -64,22 +64,12 @@ static bool is_time(const struct timespec *time)
     return (time->tv_nsec >= 0 && time->tv_nsec < SECOND) || time->tv_nsec == UTIME_NOW || time->tv_nsec == UTIME_OMIT;
 }
 
-static ssize_t change_times(int proc, const char *name, void *what)
+/* If both times stay the kernel doesn't look at the descriptor. */
+static int set_times(int fd, const struct timespec *times)
 {
-    return utimensat(proc, name, what, 0);
-}
-
-/*
- * If both times stay the kernel doesn't look at the descriptor. Linux before 5.8 doesn't know the flag and says EINVAL.
- * All else was checked before, so EINVAL says nothing more.
- */
-static int set_times(int fd, struct timespec *times)
-{
-    if (times[0].tv_nsec == UTIME_OMIT && times[1].tv_nsec == UTIME_OMIT)
-        return fcntl(fd, F_GETFD) < 0 ? -EBADF : 0;
-    if (utimensat(fd, "", times, AT_EMPTY_PATH) == 0)
-        return 0;
-    return errno == EINVAL ? (int)inroot_by_proc(fd, change_times, times) : -errno;
+    const bool stay = times[0].tv_nsec == UTIME_OMIT && times[1].tv_nsec == UTIME_OMIT;
+    const int failed = stay ? fcntl(fd, F_GETFD) : utimensat(fd, "", times, AT_EMPTY_PATH);
+    return failed < 0 ? -errno : 0;
 }
 
 int inroot_futimens(int fd, const struct timespec *times)
@@ -89,7 +79,5 @@ int inroot_futimens(int fd, const struct timespec *times)
     int failed = check(fd, is_time(&own[0]) && is_time(&own[1]));
     if (failed)
         return inroot_error_alone(-failed, "", "");
-    INROOT_UNCANCELLED;
-    failed = set_times(fd, own);
-    return told(failed);
+    return told(set_times(fd, own));
 }

@@ -1,99 +1,73 @@
 /*
- * below.c: the kernel's own look-up below a directory, openat2(2). Through no link it passes runs of names (runs.c), and by
- * RESOLVE_BENEATH it is one of the two witnesses for a place (place.c): as it ends, the kernel sees in one moment whether the
- * object that it found is below the directory. Through links it walks a whole path (at_once.c). What comes next, and whether the
- * system call itself is missing, the proved library says (crates/look_ups).
+ * below.c: openat2(2), and whether the kernel has what the library needs: that system call, and the numbers of mounts
+ * (statx(2)). A filter may refuse either, by any error, or say that it was made. Once a thread has seen both it doesn't
+ * ask again, until openat2(2) fails by an error that may be such a filter's.
  */
 #define _GNU_SOURCE
 #include "driver.h"
 #include "openat2.h"
+#include "statx.h"
 
 #include <errno.h>
 #include <fcntl.h>
 #include <sys/syscall.h>
 #include <unistd.h>
 
-/* Whether this thread has openat2(2). Once it is missing it stays so: the kernel is an old one, or a filter refuses it. */
-static _Thread_local uint8_t known;
+static _Thread_local bool has_floor;
 
-/* A look-up: where it begins, and what it has opened. */
-struct look {
-    struct inroot_driver *d;
-    int dir, from, fd;
-    const char *path;
-    struct open_how how;
-};
-
-static uint32_t start(struct look *l, bool *kept)
+/* A signal ends an opening for use alone. */
+int inroot_openat2(int dir, const char *path, const struct open_how *how)
 {
-    l->from = l->dir;
-    if (!inroot_jail_start(l->d, &l->from))
-        return (uint32_t)errno;
-    *kept = l->dir == INROOT_JAILED && l->from == inroot_trust_root();
-    return 0;
+    int fd;
+    do
+        fd = (int)syscall(SYS_openat2, dir, path, how, sizeof *how);
+    while (fd < 0 && errno == EINTR && how->flags & O_PATH);
+    if (fd < 0 && (errno == ENOSYS || errno == EPERM || errno == EACCES))
+        has_floor = false;
+    return fd;
 }
 
-static uint32_t open_in(struct look *l, int dir, const char *path, const struct open_how *how)
+int inroot_open_here(int dir, const char *name, int open_flags, int flags)
 {
-    l->fd = (int)syscall(SYS_openat2, dir, path, how, sizeof *how);
-    return inroot_errno_of(l->fd);
+    const struct open_how how = {.flags = (uint64_t)(unsigned)open_flags, .resolve = RESOLVE_NO_XDEV};
+    return flags & INROOT_NO_XDEV ? inroot_openat2(dir, name, &how) : openat(dir, name, open_flags);
 }
 
-/* Where there is no directory, no file system is asked. A filter may answer by success, and give a descriptor. */
-static uint32_t probe(struct look *l)
+/*
+ * Where there is no directory, no file system is asked. The kernel says first whether a descriptor is left: then nobody
+ * knows, and what needs one fails by that.
+ */
+static bool may_have_openat2(bool *is_known)
 {
     const struct open_how how = {.flags = O_PATH | O_DIRECTORY | O_CLOEXEC, .resolve = RESOLVE_NO_MAGICLINKS};
-    const uint32_t error = open_in(l, INROOT_NONE, ".", &how);
-    if (l->fd >= 0)
-        close(l->fd);
-    l->fd = INROOT_NONE;
-    return error;
+    const int fd = (int)syscall(SYS_openat2, INROOT_NONE, ".", &how, sizeof how);
+    if (fd >= 0)
+        close(fd);
+    *is_known = fd < 0 && errno == EBADF;
+    return *is_known || (fd < 0 && (errno == EMFILE || errno == ENFILE || errno == ENOMEM));
 }
 
-static uint32_t turn(struct look *l, enum inroot_one_look_next next, bool *kept)
+static bool has_mounts(void)
 {
-    switch (next) {
-    case INROOT_ONE_START: return start(l, kept);
-    case INROOT_ONE_OPEN: return open_in(l, l->from, l->path, &l->how);
-    case INROOT_ONE_PROBE: return probe(l);
-    case INROOT_ONE_STILL: return inroot_errno_of(fcntl(l->from, F_GETFD));
-    default: inroot_trust_end(); return 0;
-    }
+    struct statx about = {0};
+    const int how = AT_EMPTY_PATH | AT_STATX_DONT_SYNC;
+    return statx(AT_FDCWD, "", how, STATX_MNT_ID, &about) == 0 && about.stx_mask & STATX_MNT_ID;
 }
 
-/* Makes the system calls that the library says. Gives 0 or an error's number. */
-static uint32_t carry_out(struct look *l, bool asks)
+bool inroot_has_floor(void)
 {
-    struct inroot_one_look now = {0};
-    inroot_one_look_begin(known, asks, &now);
-    while (now.next < INROOT_ONE_GIVES) {
-        bool kept = false;
-        uint32_t error = turn(l, (enum inroot_one_look_next)now.next, &kept);
-        inroot_one_look_next(&now, error, kept);
-    }
-    known = now.known;
-    return now.next == INROOT_ONE_GIVES ? 0 : now.error;
+    const int error = errno;
+    bool is_known = has_floor;
+    const bool has = has_floor || (may_have_openat2(&is_known) && has_mounts());
+    has_floor = has && is_known;
+    errno = error;
+    return has;
 }
 
-bool inroot_has_openat2(void)
+int inroot_look_up(int dir, const char *names, uint64_t flags, uint64_t resolve)
 {
-    struct look look = {.fd = INROOT_NONE};
-    return known == INROOT_OPENAT2_THERE || carry_out(&look, true) == 0;
-}
-
-int inroot_look_through(struct inroot_driver *d, int dir, const char *path, uint64_t flags, uint64_t resolve)
-{
-    struct look look = {
-        .d = d, .dir = dir, .fd = INROOT_NONE, .path = path,
-        .how = {.flags = flags | O_PATH | O_CLOEXEC, .resolve = resolve | RESOLVE_NO_MAGICLINKS},
+    const struct open_how how = {
+        .flags = flags | O_PATH | O_CLOEXEC, .resolve = resolve | RESOLVE_NO_MAGICLINKS | RESOLVE_NO_SYMLINKS,
     };
-    uint32_t error = carry_out(&look, false);
-    if (error)
-        errno = (int)error;
-    return error ? -1 : look.fd;
-}
-
-int inroot_look_up(struct inroot_driver *d, int dir, const char *names, uint64_t flags, uint64_t resolve)
-{
-    return inroot_look_through(d, dir, names, flags, resolve | RESOLVE_NO_SYMLINKS);
+    return inroot_openat2(dir, names, &how);
 }

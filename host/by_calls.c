@@ -1,51 +1,40 @@
 /*
- * by_calls.c: the system calls of one step, each a short function. Which one comes next, and how the step ends by what they gave, the
- * proved library says (crates/step_calls).
+ * by_calls.c: the system calls of one step, each a short function. Which one comes next, and how the step ends by what
+ * they gave, the proved library says (crates/step_calls).
  */
 #define _GNU_SOURCE
 #include "driver.h"
+#include "openat2.h"
 
 #include <errno.h>
 #include <fcntl.h>
+#include <linux/magic.h>
 #include <sys/stat.h>
 #include <sys/syscall.h>
 #include <sys/vfs.h>
 #include <unistd.h>
 
-static uint32_t open_entry(struct inroot_work *w, int flags)
+static uint32_t open_entry(const struct inroot_driver *d, struct inroot_work *w, int flags)
 {
     static const enum inroot_way ways[] = {
-        [INROOT_STEP_OPEN] = INROOT_BY_NAME, [INROOT_STEP_DUP] = INROOT_BY_ROOT, [INROOT_STEP_PARENT] = INROOT_BY_PARENT,
+        [INROOT_STEP_OPEN] = INROOT_BY_NAME, [INROOT_STEP_DUP] = INROOT_BY_ROOT,
+        [INROOT_STEP_PARENT] = INROOT_BY_PARENT,
     };
+    flags |= O_PATH | O_NOFOLLOW | O_CLOEXEC;
     w->how = ways[w->facts.what];
-    w->fd = openat(w->at, w->name, O_PATH | O_NOFOLLOW | O_CLOEXEC | flags);
+    w->fd = inroot_open_here(w->at, w->name, flags, d->asked->flags);
     return inroot_errno_of(w->fd);
 }
 
 /*
- * The kernel says ENOENT of `..`, too, where somebody moved the directory out of the mount by which it was opened. Such a one isn't
- * removed: others are in the way.
+ * The kernel says ENOENT of `..`, too, where somebody moved the directory out of the mount by which it was opened. Such
+ * a one isn't removed: others are in the way.
  */
-static uint32_t open_directory(struct inroot_work *w)
+static uint32_t open_directory(const struct inroot_driver *d, struct inroot_work *w)
 {
-    const uint32_t error = open_entry(w, O_DIRECTORY);
+    const uint32_t error = open_entry(d, w, O_DIRECTORY);
     const bool has_left = error == ENOENT && w->facts.what == INROOT_STEP_PARENT && !inroot_is_dead(w->looks);
     return has_left ? EAGAIN : error;
-}
-
-static uint32_t take_root(struct inroot_driver *d, struct inroot_work *w)
-{
-    if (w->facts.what == INROOT_STEP_PARENT && !inroot_above_is_root(d->root, w->at))
-        return ESTALE;
-    w->handle = inroot_handles_share(d, INROOT_ROOT_HANDLE);
-    return 0;
-}
-
-static uint32_t look_above(struct inroot_driver *d, struct inroot_work *w)
-{
-    w->how = INROOT_SEEN_BELOW;
-    w->fd = inroot_above_find(d, d->root, d->passed, w->above);
-    return inroot_errno_of(w->fd);
 }
 
 static uint32_t ask_object(int fd, struct inroot_step_answer *answer)
@@ -67,14 +56,34 @@ static uint32_t ask_file_system(int fd, struct inroot_step_answer *answer)
     return 0;
 }
 
-/* Of a link that was read by its name, its directory says it. */
-static uint32_t ask_mount_flags(struct inroot_driver *d, const struct inroot_work *w, struct inroot_step_answer *answer)
+/*
+ * Whether a link of this name leads to an object and not along its text: only the kernel knows, and refuses to follow
+ * it then. It does so before it looks where the link leads. So it refuses a link beyond that one, and so would the walk
+ * that comes to it. Gives 0, ELOOP, or why the kernel can't say.
+ */
+static uint32_t ask_magic(const struct inroot_driver *d, int dir)
 {
-    struct statfs about = {0};
-    const bool was_read = w->facts.known == INROOT_SHOWN_LINK_READ;
-    const uint32_t error = was_read ? (uint32_t)inroot_followed_ask(d, &about) : inroot_errno_of(fstatfs(w->looks, &about));
+    const struct open_how how = {.flags = O_PATH | O_CLOEXEC, .resolve = RESOLVE_BENEATH | RESOLVE_NO_MAGICLINKS};
+    const int fd = inroot_openat2(dir, d->link_name, &how);
+    const uint32_t error = inroot_errno_of(fd);
+    if (fd >= 0)
+        close(fd);
+    return error == EXDEV || error == ENOTDIR || error == ENAMETOOLONG ? 0 : error;
+}
+
+/* A link that is followed is none of a mount with nosymfollow, and no magic one, which some file systems have. */
+static uint32_t ask_whether_followed(struct inroot_driver *d, const struct inroot_work *w,
+                                     struct inroot_step_answer *answer)
+{
+    struct statfs about;
+    int dir;
+    if (fstatfs(w->looks, &about) != 0)
+        return (uint32_t)errno;
     answer->number = (uint64_t)about.f_flags;
-    return error;
+    if (about.f_type != PROC_SUPER_MAGIC && about.f_type != SECURITYFS_MAGIC && about.f_type != AAFS_MAGIC)
+        return 0;
+    const int lost = d->link == w->dir ? inroot_handles_fd(d, d->link_dir, &dir) : ESTALE;
+    return lost ? (uint32_t)lost : ask_magic(d, dir);
 }
 
 static uint32_t open_to_read(struct inroot_work *w)
@@ -96,37 +105,23 @@ static uint32_t read_link(struct inroot_work *w)
     return inroot_errno_of(got);
 }
 
-static uint32_t close_opened(struct inroot_driver *d, const struct inroot_work *w)
-{
-    if (w->handle != 0)
-        inroot_handles_close(d, w->handle);
-    else
-        close(w->fd);
-    return 0;
-}
-
 /* Makes the system call that comes next. Gives 0 or an error's number. */
 static uint32_t turn(struct inroot_driver *d, struct inroot_work *w, struct inroot_step_answer *answer)
 {
     switch (w->course.next) {
-    case INROOT_CALL_OPEN_DIRECTORY: return open_directory(w);
-    case INROOT_CALL_OPEN_ANY: return open_entry(w, 0);
+    case INROOT_CALL_OPEN_DIRECTORY: return open_directory(d, w);
+    case INROOT_CALL_OPEN_ANY: return open_entry(d, w, 0);
     case INROOT_CALL_SPARE: return inroot_handles_spare(d, w->dir) ? 0 : EMFILE;
-    case INROOT_CALL_MOUNT: return inroot_mount_has(d, w->fd) ? 0 : EXDEV;
     case INROOT_CALL_KIND: return ask_object(w->fd, answer);
-    case INROOT_CALL_MAY_HOLD_MAGIC: return ask_file_system(w->fd, answer);
-    case INROOT_CALL_MAGIC: return (uint32_t)inroot_magic_follow(d, w->held, w->plain);
-    case INROOT_CALL_IS_ROOT: return take_root(d, w);
-    case INROOT_CALL_LOOK_ABOVE: return look_above(d, w);
-    case INROOT_CALL_COMPARE_ABOVE: return inroot_above_is(w->at, w->fd) ? 0 : ESTALE;
+    case INROOT_CALL_IS_ROOT: w->handle = inroot_handles_share(d, INROOT_ROOT_HANDLE); return 0;
     case INROOT_CALL_LINKS: return ask_object(w->looks, answer);
     case INROOT_CALL_LAYERS: return ask_file_system(w->looks, answer);
     case INROOT_CALL_OPEN_TO_READ: return open_to_read(w);
     case INROOT_CALL_READ: return read_some(w);
     case INROOT_CALL_CLOSE_READ: return inroot_errno_of(close(w->reads));
-    case INROOT_CALL_NO_FOLLOW: return ask_mount_flags(d, w, answer);
+    case INROOT_CALL_NO_FOLLOW: return ask_whether_followed(d, w, answer);
     case INROOT_CALL_READ_LINK: return read_link(w);
-    default: return close_opened(d, w);
+    default: return inroot_errno_of(close(w->fd));
     }
 }
 
@@ -140,7 +135,7 @@ void inroot_by_calls(struct inroot_driver *d, struct inroot_work *w)
     }
 }
 
-/* How the question ends: done if the directory is there, refused if it was removed, not made where that can't be known. */
+/* How the question ends: done if it is there, refused if it was removed, not made where that can't be known. */
 static uint8_t ask_there(int fd)
 {
     struct inroot_work work = {.facts = {.what = INROOT_IS_THERE}, .looks = fd};

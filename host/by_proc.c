@@ -13,7 +13,7 @@ static ssize_t done_by(bool surely, int fd, inroot_act *act, void *what, bool *i
 {
     char written[INROOT_PROC_NAME];
     bool is_own;
-    int proc = inroot_proc_open(surely, &is_own);
+    int proc = inroot_proc_find(surely, &is_own);
     *is_lost = false;
     if (proc < 0)
         return proc;

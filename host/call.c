@@ -1,4 +1,4 @@
-/* call.c: a call from its beginning to its result. The proved library says which one thing comes next. */
+/* call.c: a call by steps, from its beginning to its result. The proved library says which one thing comes next. */
 #define _GNU_SOURCE
 #include "driver.h"
 
@@ -14,9 +14,8 @@ struct work {
     struct inroot_driver *d;
     const struct inroot_request *asked;
     char *room;
-    int root, dir;                 /* the root, or INROOT_JAILED; a directory below it at which the paths begin, or INROOT_NONE */
+    int root;
     struct inroot_asked numbers;
-    struct inroot_joined *joined;
     struct inroot_told told;       /* the proved call's reply */
     struct inroot_calling course;
     struct inroot_calling_answer answer;
@@ -24,24 +23,20 @@ struct work {
 
 /* ---- the proved call */
 
-/* Makes the step, or gives no answer where another one is due. */
-static struct inroot_result make(struct inroot_driver *d, struct inroot_told *step, char *room, char *text, size_t *length)
+static struct inroot_result make(struct inroot_driver *d, const struct inroot_told *step, const char *room, char *text,
+                                 size_t *length)
 {
-    struct inroot_result result;
     *length = 0;
-    d->known = inroot_last_take(&d->last, step->what, step->handle);
     /* It isn't counted: no system call may have seen what is closed, where that is the root. */
     if (step->what == INROOT_STEP_CLOSE)
         return inroot_handles_close(d, step->handle);
     d->steps++;
-    if (d->from.dir >= 0 && inroot_from_begins(d, step, room, text, length, &result))
-        return result;
-    result = inroot_make(d, step, room, text, length);
+    struct inroot_result result = inroot_make(d, step, room, text, length);
     d->changed |= result.what == INROOT_ANSWER_DONE;
     return result;
 }
 
-void inroot_answer(struct inroot_driver *d, struct inroot_result result, const char *bytes, size_t length,
+static void answer(struct inroot_kept *kept, struct inroot_result result, const char *bytes, size_t length,
                    struct inroot_told *told, char *room)
 {
     const struct inroot_answered answered = {
@@ -51,7 +46,7 @@ void inroot_answer(struct inroot_driver *d, struct inroot_result result, const c
         .kind = result.kind,
         .error = result.error,
     };
-    inroot_next(d->kept, &answered, (const unsigned char *)bytes, length, told, (unsigned char *)room, INROOT_ROOM);
+    inroot_next(kept, &answered, (const unsigned char *)bytes, length, told, (unsigned char *)room, INROOT_ROOM);
 }
 
 /* Takes turns with the proved call. */
@@ -63,17 +58,17 @@ static void converse(struct work *w)
     struct inroot_kept kept = {0};
     /* Not in the room: the library writes there while it reads this. */
     char text[INROOT_TEXT_MAX + 1];
-    d->kept = &kept;
     w->numbers.root = inroot_handles_begin(d, w->root);
-    inroot_begin(&w->numbers, (const unsigned char *)asked->first, d->first_length, (const unsigned char *)asked->second,
-                 d->second_length, &kept, told, (unsigned char *)w->room, INROOT_ROOM);
+    inroot_begin(&w->numbers, (const unsigned char *)asked->first, strlen(asked->first),
+                 (const unsigned char *)asked->second, d->second_length, &kept, told, (unsigned char *)w->room,
+                 INROOT_ROOM);
     while (told->what < INROOT_REPLY_OPENED) {
         size_t length;
         struct inroot_result result = make(d, told, w->room, text, &length);
         if (result.what == INROOT_ANSWER_LISTED)
-            inroot_answer(d, result, d->names, d->names_length, told, w->room);
-        else if (result.what != 0)
-            inroot_answer(d, result, text, length, told, w->room);
+            answer(&kept, result, d->names, d->names_length, told, w->room);
+        else
+            answer(&kept, result, text, length, told, w->room);
     }
 }
 
@@ -98,53 +93,27 @@ static void begin(struct work *w)
     const struct inroot_request *asked = w->asked;
     memset(d, 0, offsetof(struct inroot_driver, asked));
     d->asked = asked;
-    d->root = w->root;
-    inroot_looks_fresh(&d->looks);
-    d->first_length = strlen(asked->first);
     d->second_length = strlen(asked->second);
     d->counts = asked->op == INROOT_ASK_REMOVE_ALL;
-    d->below = asked->flags & INROOT_BELOW;
-    d->proc = d->deepest = d->made = d->run.fd = d->inner = INROOT_NONE;
+    d->below = !(asked->flags & INROOT_EXACT);
+    d->proc = d->deepest = d->made = d->inner = INROOT_NONE;
     d->slots = d->few;
-    d->from = (struct inroot_from){.dir = INROOT_NONE, .fd = INROOT_NONE};
 }
 
-/* The names of the directory come before the call's own paths. */
-static int join(struct work *w)
+static void let_go(struct inroot_driver *d)
 {
-    struct inroot_driver *d = w->d;
-    w->joined = malloc(sizeof *w->joined);
-    int failed = w->joined == NULL ? -ENOMEM : inroot_from_join(d, w->root, w->dir, w->asked, w->joined);
-    if (failed)
-        return failed;
-    d->asked = &w->joined->request;
-    d->first_length = strlen(w->joined->first);
-    d->second_length = strlen(w->joined->second);
-    return 0;
-}
-
-static void let_go(struct work *w)
-{
-    struct inroot_driver *d = w->d;
     inroot_handles_end(d);
     free(d->names);
     d->names = NULL;
-    inroot_from_end(d);
-    d->asked = w->asked;
-    free(w->joined);
-    w->joined = NULL;
 }
 
-/* The thread stays where it is. */
 static int open_another_proc(struct work *w)
 {
     bool is_own;
-    const struct inroot_whereabouts where = w->d->where;
-    int proc = inroot_proc_open(true, &is_own);
+    int proc = inroot_proc_find(true, &is_own);
     if (proc < 0)
         return proc;
     begin(w);
-    w->d->where = where;
     w->d->proc = proc;
     w->d->proc_is_own = is_own;
     return 0;
@@ -172,20 +141,16 @@ static void note(struct work *w)
     const struct inroot_driver *d = w->d;
     w->answer.stepped = d->steps > 0;
     w->answer.changed = d->changed;
-    w->answer.moved = d->where.moved;
     w->answer.has_proc = d->proc >= 0;
     w->answer.owns_proc = d->proc_is_own;
 }
 
-/* A thing of the try itself. */
+/* A thing of the try itself. The kernel has walked the path before, in vain; and it has what the library needs. */
 static void walk(struct work *w)
 {
     switch (w->course.next) {
-    case INROOT_CALLING_JOIN: tell(w, join(w)); break;
-    case INROOT_CALLING_AT_ONCE: tell(w, inroot_at_once(w->d, w->root, &w->numbers, w->room, &w->answer.fails)); break;
-    case INROOT_CALLING_SECOND: tell(w, inroot_has_openat2() ? 0 : -ENOSYS); break;
-    case INROOT_CALLING_FIND_PROC: tell(w, inroot_proc_for(w->d)); break;
-    case INROOT_CALLING_OWN_ROOT: tell(w, inroot_own_root_check(w->d)); break;
+    case INROOT_CALLING_AT_ONCE: tell(w, -ENOENT); break;
+    case INROOT_CALLING_SECOND: tell(w, 0); break;
     case INROOT_CALLING_PLACE: tell(w, inroot_stands(w->d, w->root, w->room)); break;
     case INROOT_CALLING_TAKE: tell(w, inroot_handles_take(w->d, w->told.handle)); break;
     default:
@@ -210,7 +175,7 @@ static void turn(struct work *w)
         inroot_wait((uint32_t)w->course.about);
         begin(w);
         break;
-    case INROOT_CALLING_LET_GO: let_go(w); break;
+    case INROOT_CALLING_LET_GO: let_go(w->d); break;
     case INROOT_CALLING_CLOSE: close((int)w->course.about); break;
     case INROOT_CALLING_LOOK_AT_PROC: w->answer.error = inroot_proc_is_lost(w->d->proc); break;
     case INROOT_CALLING_ANOTHER_PROC:
@@ -218,33 +183,38 @@ static void turn(struct work *w)
         note(w);
         break;
     case INROOT_CALLING_CLOSE_PROC: inroot_proc_end(w->d); break;
-    case INROOT_CALLING_GO_HOME: tell(w, inroot_jail_return(w->d) ? 0 : -errno); break;
     case INROOT_CALLING_LOOK_AT_ROOT: look_at_root(w); break;
     default: walk(w);
     }
     inroot_calling_next(&w->course, &w->answer);
 }
 
+/* Nothing was done where the kernel lacks what the library needs. */
+static ssize_t refuse(struct work *w)
+{
+    begin(w);
+    w->d->step = INROOT_STEP_KERNEL;
+    return -ENOSYS;
+}
+
 /* Takes turns with the library. What it gives, or -errno. */
-static ssize_t run(struct inroot_driver *d, int root, const struct inroot_request *asked, char *room, uint32_t error, bool may_retry)
+static ssize_t run(struct inroot_driver *d, int root, const struct inroot_request *asked, char *room, uint32_t error,
+                   bool may_retry)
 {
     struct work w = {
-        .d = d, .asked = asked, .room = room, .dir = INROOT_NONE,
+        .d = d, .asked = asked, .room = room, .root = root,
         .numbers = {
             .op = (uint8_t)asked->op, .mode = (uint8_t)asked->mode, .beneath = asked->flags & INROOT_BENEATH,
             .no_links = asked->flags & INROOT_NO_LINKS,
         },
     };
-    inroot_at_find(root, &root, &w.dir);
-    if (asked->from > 0)
-        w.dir = asked->from - 1;
-    const bool jailed = root == INROOT_JAIL;
-    w.root = jailed ? INROOT_JAILED : root;
     const struct inroot_calling_facts facts = {
-        .error = error, .jailed = jailed, .from = w.dir >= 0, .places = asked->places, .held = asked->is_held,
-        .may_retry = may_retry, .finds_again = asked->op == INROOT_ASK_MKDIR_ALL,
+        .error = error, .places = asked->places, .may_retry = may_retry,
+        .finds_again = asked->op == INROOT_ASK_MKDIR_ALL,
         .gives = asked->makes == INROOT_MAKES_OPEN || asked->gives,
     };
+    if (!inroot_has_floor())
+        return refuse(&w);
     inroot_calling_begin(&facts, &w.course);
     while (w.course.next < INROOT_CALLING_ENDS)
         turn(&w);
@@ -268,11 +238,11 @@ ssize_t inroot_call(int root, const struct inroot_request *asked, char *room)
     return result;
 }
 
-int inroot_error_behind(int root, int error, const char *path)
+int inroot_error_behind(int root, int error)
 {
     struct inroot_driver d;
-    const struct inroot_request asked = {.first = path, .second = ""};
+    const struct inroot_request asked = {.first = "", .second = ""};
     INROOT_UNCANCELLED;
     ssize_t failed = run(&d, root, &asked, NULL, (uint32_t)error, false);
-    return inroot_error_alone((int)-failed, inroot_step_name(d.step), path);
+    return inroot_error_alone((int)-failed, inroot_step_name(d.step), "");
 }

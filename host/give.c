@@ -14,9 +14,8 @@
 
 /* An entry that is being opened. It is open as FD, and the object that it must be as KNOWN. */
 struct giving {
-    struct inroot_driver *d;
-    int dir, fd, known;
-    const char *name;
+    const struct inroot_change *change;
+    int fd, known;
     struct inroot_giving course;
     struct inroot_giving_answer answer;
     size_t length;
@@ -26,7 +25,8 @@ struct giving {
 /* Under INROOT_NO_XDEV what is mounted over the entry isn't it. */
 static uint32_t open_entry(struct giving *g)
 {
-    g->fd = inroot_mount_stay(g->d, openat(g->dir, g->name, O_PATH | O_NOFOLLOW | O_CLOEXEC));
+    const struct inroot_change *change = g->change;
+    g->fd = inroot_open_here(change->dir, change->name, O_PATH | O_NOFOLLOW | O_CLOEXEC, change->asked->flags);
     return inroot_errno_of(g->fd);
 }
 
@@ -57,41 +57,33 @@ static uint32_t turn(struct giving *g)
     case INROOT_GIVING_COMPARE: return look(g, g->known);
     case INROOT_GIVING_READ: return read_link(g);
     case INROOT_GIVING_CLOSE: return inroot_errno_of(close(g->fd));
-    default: return inroot_errno_of(close(g->d->made));
+    default: return inroot_errno_of(close(g->change->made));
     }
 }
 
 /* What the call has made. */
-static struct inroot_giving_facts facts_of(const struct inroot_driver *d)
+static struct inroot_giving_facts facts_of(const struct inroot_change *change)
 {
-    const struct inroot_request *asked = d->asked;
+    const struct inroot_request *asked = change->asked;
     const mode_t other = asked->op == INROOT_ASK_SYMLINK ? S_IFLNK : asked->bits;
     return (struct inroot_giving_facts){
         .device = asked->device, .mode = asked->op == INROOT_ASK_MKDIR ? S_IFDIR : other,
-        .linked = asked->makes == INROOT_MAKES_LINKED, .made = d->made >= 0,
+        .linked = asked->makes == INROOT_MAKES_LINKED, .made = change->made >= 0,
     };
 }
 
-void inroot_give(struct inroot_driver *d, int dir, const char *name, const char *text)
+void inroot_give(struct inroot_change *change)
 {
-    const struct inroot_giving_facts facts = facts_of(d);
-    const int known = facts.linked ? d->asked->object : d->made;
-    struct giving g = {.d = d, .dir = dir, .fd = INROOT_NONE, .known = known, .name = name};
+    const struct inroot_giving_facts facts = facts_of(change);
+    const char *text = change->what == INROOT_STEP_MAKE_LINK ? change->other : "";
+    const int known = facts.linked ? change->asked->object : change->made;
+    struct giving g = {.change = change, .fd = INROOT_NONE, .known = known};
     inroot_giving_begin(&g.course);
     while (g.course.next < INROOT_GIVING_GIVES) {
         g.answer.error = turn(&g);
         inroot_giving_next(&g.course, &facts, &g.answer, (const unsigned char *)g.text, g.length,
                            (const unsigned char *)text, strlen(text));
     }
-    d->made = g.course.next == INROOT_GIVING_GIVES ? g.fd : INROOT_NONE;
-    d->unopened = (int)g.course.error;
-    if (d->made < 0)
-        d->step = INROOT_STEP_GIVE;
-}
-
-int inroot_give_file(struct inroot_driver *d, int dir, const char *name)
-{
-    const int how = O_RDONLY | O_CREAT | O_EXCL | O_NOFOLLOW | O_CLOEXEC | O_NOCTTY;
-    d->made = openat(dir, name, how, d->asked->bits & ~(mode_t)S_IFMT);
-    return d->made < 0 ? errno : 0;
+    change->made = g.course.next == INROOT_GIVING_GIVES ? g.fd : INROOT_NONE;
+    change->unopened = g.course.error;
 }

@@ -1,43 +1,27 @@
-/* inroot.c: the calls of inroot.h that are one proved call each. */
+/* inroot.c: the calls of inroot.h that are one walk each, by the kernel or by a proved call. */
 #define _GNU_SOURCE
 #include "driver.h"
 
 #include <errno.h>
 #include <string.h>
+#include <sys/stat.h>
+#include <unistd.h>
 
 /* The bits of a mode beside the kind of file; and the flags that each call takes. */
 enum {
     MODE_BITS = 07777,
-    ALL_CALLS = INROOT_BENEATH | INROOT_NO_LINKS | INROOT_NO_RETRY | INROOT_ONE_BY_ONE | INROOT_NO_XDEV | INROOT_NO_MAGICLINKS,
+    ALL_CALLS = INROOT_BENEATH | INROOT_NO_LINKS | INROOT_NO_RETRY | INROOT_NO_XDEV | INROOT_EXACT,
 };
 
 int inroot_check(int root, int flags)
 {
-    int dir;
-    if (flags & ~ALL_CALLS)
-        return -EINVAL;
-    inroot_at_find(root, &root, &dir);
-    return root == INROOT_JAIL ? (inroot_is_jailed() ? 0 : -EBADF) : root < 0 ? -EBADF : 0;
+    return flags & ~ALL_CALLS ? -EINVAL : root < 0 ? -EBADF : 0;
 }
 
 void inroot_copy(char text[INROOT_TEXT_MAX + 1], const char *from)
 {
     if (memccpy(text, from, 0, INROOT_TEXT_MAX) == NULL)
         text[INROOT_TEXT_MAX] = 0;
-}
-
-/*
- * Some calls that resolve may leave their last check to the kernel (INROOT_BELOW), and no step of another call. Adds the root's
- * flag. Gives 0 or -EINVAL.
- */
-static int settle_below(int root, struct inroot_request *asked)
-{
-    int above = root, dir;
-    inroot_at_find(root, &above, &dir);
-    const struct inroot_kept_root *kept = asked->takes_below ? inroot_root_kept(above) : NULL;
-    if (kept != NULL)
-        asked->flags |= kept->flags & INROOT_BELOW;
-    return !asked->takes_below && asked->flags & INROOT_BELOW ? -EINVAL : 0;
 }
 
 ssize_t inroot_carry_out(int root, const struct inroot_request *asked, char *room)
@@ -48,14 +32,13 @@ ssize_t inroot_carry_out(int root, const struct inroot_request *asked, char *roo
     own.second = second;
     inroot_copy(first, asked->first);
     inroot_copy(second, asked->second);
-    int failed = settle_below(root, &own);
-    if (failed == 0)
-        failed = inroot_check(root, own.flags & ~INROOT_BELOW);
+    const int failed = inroot_check(root, own.flags);
     if (failed)
-        return inroot_error_alone(-failed, "", first);
+        return inroot_error_alone(-failed, "", "");
     INROOT_UNCANCELLED;
-    bool removes = own.op == INROOT_ASK_REMOVE_ALL;
-    ssize_t result = removes ? inroot_remove_tree(root, &own, room) : inroot_call(root, &own, room);
+    ssize_t result = inroot_kernel_walk(root, &own);
+    if (result == INROOT_STEPS)
+        result = own.op == INROOT_ASK_REMOVE_ALL ? inroot_remove_tree(root, &own, room) : inroot_call(root, &own, room);
     return result;
 }
 
@@ -65,10 +48,9 @@ int inroot_carry_out_alone(int root, const struct inroot_request *asked)
     return (int)inroot_carry_out(root, asked, room);
 }
 
-static int on_path(int root, enum inroot_op op, const char *path, const char *text, int flags)
+static int on_path(int root, enum inroot_op op, const char *path, int flags)
 {
-    const bool resolves = op == INROOT_ASK_RESOLVE || op == INROOT_ASK_RESOLVE_NOFOLLOW;
-    const struct inroot_request asked = {.op = op, .flags = flags, .first = path, .second = text, .takes_below = resolves};
+    const struct inroot_request asked = {.op = op, .flags = flags, .first = path, .second = ""};
     return inroot_carry_out_alone(root, &asked);
 }
 
@@ -78,7 +60,7 @@ static int make(int root, enum inroot_op op, const char *path, mode_t kind, mode
         .op = op, .flags = flags & ~INROOT_GIVE, .first = path, .second = "", .bits = kind | mode, .device = device,
         .gives = flags & INROOT_GIVE,
     };
-    return mode & ~(mode_t)MODE_BITS ? inroot_error_alone(EINVAL, "", path) : inroot_carry_out_alone(root, &asked);
+    return mode & ~(mode_t)MODE_BITS ? inroot_error_alone(EINVAL, "", "") : inroot_carry_out_alone(root, &asked);
 }
 
 const char *inroot_version(void)
@@ -94,22 +76,39 @@ int inroot_version_number(void)
 int inroot_open(int root, const char *path, int flags)
 {
     enum inroot_op op = flags & INROOT_NOFOLLOW ? INROOT_ASK_RESOLVE_NOFOLLOW : INROOT_ASK_RESOLVE;
-    return on_path(root, op, path, "", flags & ~INROOT_NOFOLLOW);
+    return on_path(root, op, path, flags & ~INROOT_NOFOLLOW);
+}
+
+int inroot_stat(int root, const char *path, struct stat *about, int flags)
+{
+    INROOT_UNCANCELLED;
+    int fd = inroot_open(root, path, flags);
+    int result = fd;
+    if (fd >= 0) {
+        result = fstat(fd, about) == 0 ? 0 : inroot_error_alone(errno, "Stat", "");
+        close(fd);
+    }
+    return result;
+}
+
+/* The kernel says ENOENT of what is no link. */
+static ssize_t read_link(int fd, char *text, size_t size)
+{
+    ssize_t length = readlinkat(fd, "", text, size);
+    return length >= 0 ? length : inroot_error_alone(errno == ENOENT ? EINVAL : errno, "ReadLink", "");
 }
 
 ssize_t inroot_readlink(int root, const char *path, int flags, char *text, size_t size)
 {
-    char room[INROOT_ROOM];
-    const struct inroot_request asked = {.op = INROOT_ASK_READLINK, .flags = flags, .first = path, .second = ""};
-    ssize_t length = inroot_carry_out(root, &asked, room);
+    char own[INROOT_TEXT_MAX + 1];
+    INROOT_UNCANCELLED;
+    int fd = on_path(root, INROOT_ASK_RESOLVE_NOFOLLOW, path, flags);
+    ssize_t length = fd < 0 ? fd : read_link(fd, own, sizeof own);
+    if (fd >= 0)
+        close(fd);
     if (length > 0 && size > 0)
-        memcpy(text, room, (size_t)length < size ? (size_t)length : size);
+        memcpy(text, own, (size_t)length < size ? (size_t)length : size);
     return length;
-}
-
-int inroot_mkfile(int root, const char *path, mode_t mode, int flags)
-{
-    return make(root, INROOT_ASK_MKFILE, path, S_IFREG, mode, 0, flags);
 }
 
 int inroot_mkdir(int root, const char *path, mode_t mode, int flags)
@@ -119,28 +118,29 @@ int inroot_mkdir(int root, const char *path, mode_t mode, int flags)
 
 int inroot_mknod(int root, const char *path, mode_t mode, dev_t dev, int flags)
 {
-    /* The kernel takes so many bits, and a C library may leave out the others: it would make the node of another device. */
+    /* The kernel takes so many bits. A C library may leave out the others, and make the node of another device. */
     if (!inroot_is_node(mode, dev) || dev > UINT32_MAX)
-        return inroot_error_alone(EINVAL, "", path);
+        return inroot_error_alone(EINVAL, "", "");
     return make(root, INROOT_ASK_MKFILE, path, mode & S_IFMT, mode & ~(mode_t)S_IFMT, dev, flags);
 }
 
 int inroot_symlink(int root, const char *text, const char *path, int flags)
 {
     const struct inroot_request asked = {
-        .op = INROOT_ASK_SYMLINK, .flags = flags & ~INROOT_GIVE, .first = path, .second = text, .gives = flags & INROOT_GIVE,
+        .op = INROOT_ASK_SYMLINK, .flags = flags & ~INROOT_GIVE, .first = path, .second = text,
+        .gives = flags & INROOT_GIVE,
     };
     return inroot_carry_out_alone(root, &asked);
 }
 
 int inroot_unlink(int root, const char *path, int flags)
 {
-    return on_path(root, INROOT_ASK_UNLINK, path, "", flags);
+    return on_path(root, INROOT_ASK_UNLINK, path, flags);
 }
 
 int inroot_rmdir(int root, const char *path, int flags)
 {
-    return on_path(root, INROOT_ASK_RMDIR, path, "", flags);
+    return on_path(root, INROOT_ASK_RMDIR, path, flags);
 }
 
 int inroot_rename(int root, const char *from, const char *to, int mode, int flags)

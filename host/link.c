@@ -26,13 +26,13 @@ static int link_object(int root, int fd, const char *path, int flags)
     };
     int failed = inroot_check(root, asked.flags);
     if (failed)
-        return inroot_error_alone(-failed, "", path);
+        return inroot_error_alone(-failed, "", "");
     if (fstat(fd, &about) != 0)
-        return inroot_error_alone(errno, "", path);
+        return inroot_error_alone(errno, "", "");
     if (S_ISLNK(about.st_mode)) {
         ssize_t length = readlinkat(fd, "", text, INROOT_TEXT_MAX);
         if (length < 0)
-            return inroot_error_alone(errno, "", path);
+            return inroot_error_alone(errno, "", "");
         text[length] = 0;
         asked.op = INROOT_ASK_SYMLINK;
     }
@@ -54,7 +54,6 @@ int inroot_link(int root, const char *existing, const char *path, int flags)
         .flags = flags & ~(INROOT_FOLLOW | INROOT_GIVE),
         .first = existing,
         .second = "",
-        .takes_below = true,
     };
     /* Of both paths the text as the call began counts. */
     inroot_copy(text, path);
@@ -62,7 +61,7 @@ int inroot_link(int root, const char *existing, const char *path, int flags)
     int fd = inroot_carry_out_alone(root, &asked);
     int result = fd;
     if (fd >= 0) {
-        result = link_object(root, fd, text, flags & ~(INROOT_FOLLOW | INROOT_BELOW));
+        result = link_object(root, fd, text, flags & ~INROOT_FOLLOW);
         close(fd);
     }
     return result;

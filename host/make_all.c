@@ -1,6 +1,6 @@
 /*
- * make_all.c: makes all missing parts of a path, and gives the object at its end. Proved calls say which call comes next, where its
- * path begins, and what is closed before.
+ * make_all.c: makes all missing parts of a path, and gives the object at its end. Proved calls say which call comes
+ * next, where its path begins, and what is closed before.
  */
 #define _GNU_SOURCE
 #include "driver.h"
@@ -12,12 +12,15 @@
 
 enum { MODE_BITS = 07777 };
 
-/* What is asked for, how far it has come, and the path; what the next call is about; and the last call's error. */
+/*
+ * What is asked for, how far it has come, and the path; what the next call is about, and the same from the root; and
+ * the last call's error.
+ */
 struct work {
     int root, flags;
     mode_t mode, above;
     struct inroot_making making;
-    char path[INROOT_TEXT_MAX + 1], part[INROOT_TEXT_MAX + 1];
+    char path[INROOT_TEXT_MAX + 1], part[INROOT_TEXT_MAX + 1], joined[2 * INROOT_TEXT_MAX + 2];
     uint32_t error;
 };
 
@@ -28,15 +31,45 @@ static struct inroot_outcome outcome_of(int result)
     };
 }
 
+/*
+ * A part may begin at a directory that was found: then the names at which that stands below the root come before it.
+ * Gives 0 or -errno.
+ */
+static int join(struct work *w, const char *part)
+{
+    size_t before = 0;
+    if (w->making.from > 0 && part[0] != '/') {
+        ssize_t length = inroot_place(w->root, (int)w->making.from - 1, w->joined, INROOT_TEXT_MAX + 1);
+        if (length < 0)
+            return length == -EXDEV ? inroot_error_alone(EAGAIN, "NameBelow", "") : (int)length;
+        before = length > 1 ? (size_t)length : 0;
+        memmove(w->joined, w->joined + 1, before);
+    }
+    if (before > 0)
+        w->joined[before - 1] = '/';
+    strcpy(w->joined + before, part);
+    return strlen(w->joined) < INROOT_TEXT_MAX ? 0 : inroot_error_alone(ENAMETOOLONG, "", "");
+}
+
 /* ---- the calls */
 
-static struct inroot_outcome find(const struct work *w)
+/* Makes a call on this part of the path. */
+static ssize_t carry_out(struct work *w, const char *part, struct inroot_request asked, char *room)
+{
+    const int failed = join(w, part);
+    asked.flags = w->flags;
+    asked.first = w->joined;
+    asked.second = "";
+    if (failed)
+        return failed;
+    return room == NULL ? inroot_carry_out_alone(w->root, &asked) : inroot_carry_out(w->root, &asked, room);
+}
+
+static struct inroot_outcome find(struct work *w)
 {
     enum inroot_kind kind = INROOT_KIND_FILE;
-    const struct inroot_request asked = {
-        .op = INROOT_ASK_RESOLVE, .flags = w->flags, .first = w->part, .second = "", .from = (int)w->making.from, .opened = &kind,
-    };
-    struct inroot_outcome outcome = outcome_of(inroot_carry_out_alone(w->root, &asked));
+    const struct inroot_request asked = {.op = INROOT_ASK_RESOLVE, .opened = &kind};
+    struct inroot_outcome outcome = outcome_of((int)carry_out(w, w->part, asked, NULL));
     outcome.directory = kind == INROOT_KIND_DIR;
     return outcome;
 }
@@ -48,41 +81,58 @@ static struct inroot_outcome split(const struct work *w)
     return (struct inroot_outcome){.error = parted.error, .rest = parted.name};
 }
 
-static struct inroot_outcome make_directories(const struct work *w, const char *path, mode_t mode)
+static struct inroot_outcome make_directories(struct work *w, const char *path, mode_t mode)
 {
-    const struct inroot_request asked = {
-        .op = INROOT_ASK_MKDIR_ALL, .flags = w->flags, .first = path, .second = "", .bits = mode, .from = (int)w->making.from,
-        .directory = true,
-    };
-    return outcome_of(inroot_carry_out_alone(w->root, &asked));
+    const struct inroot_request asked = {.op = INROOT_ASK_MKDIR_ALL, .bits = mode, .directory = true};
+    return outcome_of((int)carry_out(w, path, asked, NULL));
 }
 
-static struct inroot_outcome open_partial(const struct work *w, char *path)
+static struct inroot_outcome create(struct work *w)
 {
-    size_t rest;
-    struct inroot_outcome outcome = outcome_of(inroot_partial(w->root, (int)w->making.from, path, w->flags, true, &rest));
-    outcome.rest = rest;
-    return outcome;
+    const struct inroot_request asked = {.op = INROOT_ASK_MKFILE, .bits = S_IFREG | w->mode, .gives = true};
+    return outcome_of((int)carry_out(w, w->part, asked, NULL));
 }
 
-static struct inroot_outcome create(const struct work *w)
+static struct inroot_outcome read_link(struct work *w, char *text, size_t *text_length)
 {
-    const struct inroot_request asked = {
-        .op = INROOT_ASK_MKFILE, .flags = w->flags, .first = w->part, .second = "", .bits = S_IFREG | w->mode,
-        .from = (int)w->making.from, .gives = true,
-    };
-    return outcome_of(inroot_carry_out_alone(w->root, &asked));
-}
-
-static struct inroot_outcome read_link(const struct work *w, char *text, size_t *text_length)
-{
-    const struct inroot_request asked = {
-        .op = INROOT_ASK_READLINK, .flags = w->flags, .first = w->part, .second = "", .from = (int)w->making.from,
-        .follows = w->making.follows,
-    };
-    ssize_t length = inroot_carry_out(w->root, &asked, text);
+    const struct inroot_request asked = {.op = INROOT_ASK_READLINK};
+    const ssize_t length = carry_out(w, w->part, asked, text);
     *text_length = length > 0 ? (size_t)length : 0;
     return (struct inroot_outcome){.error = length < 0 ? (uint32_t)-length : 0};
+}
+
+/* ---- as much of a part as is there: the proved library says which beginning is tried next (crates/open_partial) */
+
+/* Opens the first pieces of the text that are tried. */
+static int open_pieces(struct work *w, char *text, size_t length, const struct inroot_search *search)
+{
+    struct inroot_trial now = {0};
+    inroot_search_trial(search, (const unsigned char *)text, length, true, &now);
+    char *end = text + now.length, behind = *end;
+    *end = 0;
+    const struct inroot_request asked = {.op = (enum inroot_op)now.op, .directory = now.directory};
+    int fd = (int)carry_out(w, now.dot ? "." : text, asked, NULL);
+    *end = behind;
+    return fd;
+}
+
+static struct inroot_outcome open_partial(struct work *w, char *text)
+{
+    const size_t length = strlen(text);
+    struct inroot_search search = {0};
+    inroot_search_begin((const unsigned char *)text, length, &search);
+    while (search.next < INROOT_SEARCH_ENDS) {
+        int fd = 0;
+        if (search.next == INROOT_SEARCH_CLOSE)
+            close((int)search.about);
+        else
+            fd = open_pieces(w, text, length, &search);
+        inroot_search_next(&search, fd < 0 ? (uint32_t)-fd : 0, fd < 0 ? 0 : (uint32_t)fd);
+    }
+    const bool is_there = search.next == INROOT_SEARCH_ENDS;
+    struct inroot_outcome outcome = outcome_of(is_there ? (int)search.descriptor : -(int)search.error);
+    outcome.rest = inroot_beginning((const unsigned char *)text, length, search.there);
+    return outcome;
 }
 
 /* ---- from one call to the next */
@@ -121,7 +171,8 @@ static void turn(struct work *w)
     size_t text_length = 0;
     inroot_wait(w->making.pause);
     const struct inroot_outcome outcome = call(w, text, &text_length);
-    inroot_making_next(&w->making, &outcome, (const unsigned char *)text, text_length, (unsigned char *)w->path, INROOT_TEXT_MAX);
+    inroot_making_next(&w->making, &outcome, (const unsigned char *)text, text_length, (unsigned char *)w->path,
+                       INROOT_TEXT_MAX);
     let_go(w->making.closes_base);
     let_go(w->making.closes_from);
     let_go(w->making.closes_given);
@@ -136,7 +187,7 @@ static int make(struct work *w)
     while (w->making.next < INROOT_MAKING_ENDS)
         turn(w);
     if (w->making.next == INROOT_MAKING_FAILS)
-        return inroot_error_alone((int)w->making.error, inroot_step_name(w->making.step), w->part);
+        return inroot_error_alone((int)w->making.error, inroot_step_name(w->making.step), "");
     return w->making.gives > 0 ? (int)w->making.gives - 1 : -(int)w->error;
 }
 
@@ -148,7 +199,7 @@ static int run(int root, const char *path, mode_t mode, mode_t above, int flags,
     const bool is_mode = ((mode | above) & ~(mode_t)MODE_BITS) == 0;
     int failed = is_mode ? inroot_check(root, w.flags) : -EINVAL;
     if (failed)
-        return inroot_error_alone(-failed, "", w.path);
+        return inroot_error_alone(-failed, "", "");
     inroot_making_begin(strlen(w.path), file, flags & INROOT_FOLLOW, !(flags & INROOT_NO_RETRY), &w.making);
     INROOT_UNCANCELLED;
     return make(&w);

@@ -1,15 +1,11 @@
-/*
- * openat2.h: what openat2(2) takes, also where the headers of the kernel (before Linux 5.6) or of the C library (before
- * glibc 2.32) don't have it.
- */
+/* openat2.h: what openat2(2) takes, also beside headers of the kernel before Linux 5.6 or of a C library that doesn't know it. */
 #ifndef INROOT_OPENAT2_H
 #define INROOT_OPENAT2_H
 
-#include <linux/version.h>
 #include <stdint.h>
 #include <sys/syscall.h>
 
-#if LINUX_VERSION_CODE >= 0x050600
+#if __has_include(<linux/openat2.h>)
 #include <linux/openat2.h>
 #else
 struct open_how {
@@ -22,12 +18,9 @@ struct open_how {
 #define RESOLVE_IN_ROOT 0x10
 #endif
 
+/* The number is the same on each machine. */
 #ifndef SYS_openat2
-#ifdef __NR_openat2
-#define SYS_openat2 __NR_openat2
-#else
 #define SYS_openat2 437
-#endif
 #endif
 
 #endif

@@ -12,7 +12,7 @@ static int open_before(int root, char *text, const struct inroot_parted *parted,
     const char *path = parted->name > 0 ? text : ".";
     text[parted->name] = 0;
     const struct inroot_request asked = {
-        .op = INROOT_ASK_RESOLVE, .flags = flags, .first = path, .second = "", .directory = true, .takes_below = true,
+        .op = INROOT_ASK_RESOLVE, .flags = flags, .first = path, .second = "", .directory = true,
     };
     return inroot_carry_out_alone(root, &asked);
 }
@@ -25,12 +25,12 @@ int inroot_open_parent(int root, const char *path, int flags, char last[256])
     /* LAST may be the room of PATH. */
     inroot_copy(text, path);
     last[0] = 0;
-    int failed = inroot_check(root, restrictions & ~INROOT_BELOW);
+    int failed = inroot_check(root, restrictions);
     if (failed)
-        return inroot_error_alone(-failed, "", text);
+        return inroot_error_alone(-failed, "", "");
     inroot_split((const unsigned char *)text, strlen(text), flags & INROOT_DIRECTORY, &parted);
     if (parted.error)
-        return inroot_error_behind(root, parted.error, text);
+        return inroot_error_behind(root, parted.error);
     memcpy(name, text + parted.name, parted.length);
     name[parted.length] = 0;
     int dir = open_before(root, text, &parted, restrictions);

@@ -1,53 +1,56 @@
 /*
- * passed.c: the names that a walk has passed, from the root on, as far as the driver knows them. The proved call has its own,
- * which count. The driver looks these up from the root and compares the result with the object that it holds: so wrong names
- * cost only time.
+ * passed.c: the names that a walk has passed, from the root on, as far as the driver knows them. The proved call has
+ * its own, which count. The driver looks these up from the root and compares the result with the object that it holds:
+ * so wrong names cost only time.
  */
 #define _GNU_SOURCE
 #include "driver.h"
 
 #include <string.h>
 
-ssize_t inroot_passed_base(struct inroot_driver *d, uint64_t handle)
+/* How long the names are, a slash before each, that lead to a directory's handle; or -1 where nobody knows. */
+static ssize_t base_of(struct inroot_driver *d, uint64_t handle)
 {
     if (inroot_handles_slot(d, handle)->way == INROOT_BY_ROOT)
         return 0;
     return handle == d->passed_handle ? (ssize_t)d->passed_length : -1;
 }
 
-size_t inroot_passed_put(struct inroot_driver *d, uint64_t from, const char *names, size_t length)
+/* A link may be followed: then the walk stands in its directory still. So the directory's names stay, too. */
+static void keep_link(struct inroot_driver *d, uint64_t dir, const char *name, size_t length, uint64_t link,
+                      size_t passed)
 {
-    ssize_t base = inroot_passed_base(d, from);
-    /* What stands behind the root's names was written for another handle. */
-    if (from != d->passed_handle)
-        d->passed_handle = 0;
-    if (base < 0 || (size_t)base + 1 + length >= sizeof d->passed)
-        return 0;
-    d->passed[base] = '/';
-    memcpy(d->passed + base + 1, names, length);
-    d->passed[(size_t)base + 1 + length] = 0;
-    return (size_t)base + 1 + length;
+    d->link = link;
+    d->link_dir = dir;
+    d->link_length = passed;
+    d->link_name[0] = 0;
+    if (length < sizeof d->link_name)
+        memcpy(d->link_name, name, length + 1);
 }
 
-void inroot_passed_end(struct inroot_driver *d, uint64_t handle, size_t length)
+void inroot_passed_name(struct inroot_driver *d, uint64_t dir, const char *name, size_t length,
+                        const struct inroot_result *opened)
 {
-    d->passed_handle = length > 0 ? handle : 0;
-    d->passed_length = length;
-    d->stands = length > 0 ? (ssize_t)length : -1;
-}
-
-size_t inroot_passed_above(const struct inroot_driver *d, size_t length)
-{
-    while (length > 0 && d->passed[length - 1] != '/')
-        length--;
-    return length > 0 ? length - 1 : 0;
+    const ssize_t base = base_of(d, dir);
+    size_t passed = base < 0 || (size_t)base + 1 + length >= sizeof d->passed ? 0 : (size_t)base + 1 + length;
+    if (passed > 0) {
+        d->passed[base] = '/';
+        memcpy(d->passed + base + 1, name, length + 1);
+    }
+    if (opened->kind == INROOT_KIND_LINK) {
+        keep_link(d, dir, name, length, opened->handle, passed);
+    } else {
+        d->passed_handle = passed > 0 ? opened->handle : 0;
+        d->passed_length = passed;
+    }
 }
 
 const char *inroot_passed_names(struct inroot_driver *d, uint64_t handle, size_t *length)
 {
-    if (handle != d->passed_handle)
+    const bool is_link = handle == d->link;
+    if (!is_link && handle != d->passed_handle)
         return NULL;
-    *length = d->passed_length;
-    d->passed[d->passed_length] = 0;
-    return d->passed;
+    *length = is_link ? d->link_length : d->passed_length;
+    d->passed[*length] = 0;
+    return *length > 0 ? d->passed : NULL;
 }

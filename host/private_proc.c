@@ -31,32 +31,11 @@ static uint32_t opened(int *fd, long given)
     return inroot_errno_of(given);
 }
 
-/* Only what is of processes, where the kernel has that (Linux 5.8). Without it the rest is there as well, and isn't asked for. */
-static uint32_t restrict_to_processes(const struct mounting *m)
-{
-    return inroot_errno_of(syscall(FSCONFIG, m->made, SETS_STRING, "subset", "pid", 0));
-}
-
-static uint32_t look(struct mounting *m)
-{
-    m->answer.yes = inroot_proc_is(m->fd);
-    return 0;
-}
-
-/* The link is read, since faccessat(2) takes no flags before Linux 5.8, and filters refuse faccessat2(2). */
+/* The link is read, since filters refuse faccessat2(2). */
 static uint32_t ask_for_thread(int proc)
 {
     char text[1];
     return inroot_errno_of(readlinkat(proc, "thread-self", text, sizeof text));
-}
-
-bool inroot_proc_has_threads(int proc)
-{
-    uint32_t error;
-    do
-        error = ask_for_thread(proc);
-    while (error == EINTR);
-    return error == 0;
 }
 
 /* Does what comes next. Gives 0 or an error's number. */
@@ -64,13 +43,14 @@ static uint32_t turn(struct mounting *m)
 {
     switch (m->course.next) {
     case INROOT_MOUNTING_MAKE: return opened(&m->made, syscall(FSOPEN, "proc", FSOPEN_CLOSES));
-    case INROOT_MOUNTING_RESTRICT: return restrict_to_processes(m);
+    /* Only what is of processes (Linux 5.8). */
+    case INROOT_MOUNTING_RESTRICT: return inroot_errno_of(syscall(FSCONFIG, m->made, SETS_STRING, "subset", "pid", 0));
     case INROOT_MOUNTING_CREATE: return inroot_errno_of(syscall(FSCONFIG, m->made, CREATES, NULL, NULL, 0));
     case INROOT_MOUNTING_MOUNT: return opened(&m->fd, syscall(FSMOUNT, m->made, FSMOUNT_CLOSES, ATTRIBUTES));
     case INROOT_MOUNTING_CLOSE_MADE: return inroot_errno_of(close(m->made));
     case INROOT_MOUNTING_COPY:
         return opened(&m->fd, syscall(OPEN_TREE, AT_FDCWD, "/proc", TREE_CLONES | O_CLOEXEC | AT_SYMLINK_NOFOLLOW));
-    case INROOT_MOUNTING_LOOK: return look(m);
+    case INROOT_MOUNTING_LOOK: m->answer.yes = inroot_proc_is(m->fd); return 0;
     case INROOT_MOUNTING_THREADS: return ask_for_thread(m->fd);
     case INROOT_MOUNTING_HAND_IN: return (uint32_t)-inroot_use_proc(m->fd);
     default: return inroot_errno_of(close(m->fd));

@@ -12,58 +12,82 @@
 
 #include <errno.h>
 #include <fcntl.h>
-#include <pthread.h>
-#include <stdatomic.h>
+#include <stdio.h>
 #include <string.h>
-#include <sys/stat.h>
 #include <sys/vfs.h>
 #include <unistd.h>
 
-/* The program's descriptor; and that of a thread with a table of its own, which lacks the program's and can't open one later. */
-static atomic_int kept = INROOT_NONE;
-static _Atomic uint64_t kept_device, kept_inode, kept_mount, kept_system;
-static _Thread_local struct inroot_own of_thread = {.fd = INROOT_NONE};
-static const struct inroot_own none = {.fd = INROOT_NONE};
-
-/* Whether the program has handed one in. */
-static atomic_bool was_handed_in;
+/* A descriptor of one, and which one it is: its file, its mount, its file system. */
+struct own {
+    int fd;
+    struct inroot_proc_file file;
+};
 
 /*
- * Stand in place of a descriptor while another thread writes its device and inode. In a child that is made just then they stay: so
- * the second says that the program was handing one in.
+ * Stand in place of the program's descriptor while another thread makes out which one it is. In a child that is made just then they
+ * stay: so the second says that the program was handing one in.
  */
 enum { CLAIMED = -5, HANDED_IN = -6 };
 
-bool inroot_proc_is_handed_in(void)
+/* The program's descriptor. The others are written before it, once, by the thread that has claimed the place. */
+static atomic_int kept = INROOT_NONE;
+static struct inroot_proc_file kept_file;
+static bool was_handed_in;
+
+/* The program's, or none. */
+static struct own of_program(void)
 {
-    return atomic_load(&kept) == HANDED_IN || atomic_load(&was_handed_in);
+    struct own own = {.fd = atomic_load(&kept)};
+    if (own.fd >= 0)
+        own.file = kept_file;
+    return own;
 }
 
-/* Its destructor closes what a thread keeps, as the thread ends. */
-static pthread_once_t key_once = PTHREAD_ONCE_INIT;
-static pthread_key_t key;
-static bool has_key;
+static bool is_handed_in(void)
+{
+    const int now = atomic_load(&kept);
+    return now == HANDED_IN || (now >= 0 && was_handed_in);
+}
+
+bool inroot_proc_is_kept(void)
+{
+    return atomic_load(&kept) != INROOT_NONE;
+}
+
+/* Claims the program's place, as CLAIMED or as HANDED_IN, if the program has none yet. */
+static bool claim(int as)
+{
+    int nothing = INROOT_NONE;
+    return atomic_compare_exchange_strong(&kept, &nothing, as);
+}
+
+/* Makes it the program's, whose place was claimed. */
+static void keep_claimed(const struct own *own, bool handed_in)
+{
+    kept_file = own->file;
+    was_handed_in = handed_in;
+    atomic_store(&kept, own->fd);
+}
 
 /* ---- finding one */
 
-/* What is being found. FD is what was handed in or opened, and ABOVE a copy of it. */
+/* What is being found: the one at hand; what was handed in or opened, and a copy of it above. */
 struct finding {
     struct inroot_finding_facts facts;
-    struct inroot_own program, thread;
-    int fd, above;
+    int at_hand, fd, above;
     struct inroot_finding course;
     struct inroot_finding_answer answer;
 };
 
-/* The one at hand that is asked about. */
-static int at_hand(const struct finding *f)
+static uint32_t ask_file(struct finding *f, int fd)
 {
-    return f->course.thread ? f->thread.fd : f->program.fd;
-}
-
-static uint32_t ask_mount(struct finding *f, int fd)
-{
-    return inroot_mount_number(fd, &f->answer.file.mount, &f->answer.file.device);
+    struct inroot_which which;
+    if (!inroot_find_which(fd, "", &which))
+        return (uint32_t)errno;
+    f->answer.file.device = which.object.device;
+    f->answer.file.inode = which.object.inode;
+    f->answer.file.mount = which.object.mount;
+    return 0;
 }
 
 static uint32_t ask_system(struct finding *f, int fd)
@@ -75,16 +99,6 @@ static uint32_t ask_system(struct finding *f, int fd)
     memcpy(&f->answer.file.system, &about.f_fsid, sizeof about.f_fsid);
     f->answer.kind = (uint64_t)about.f_type;
     f->answer.flags = (uint64_t)about.f_flags;
-    return 0;
-}
-
-static uint32_t ask_file(struct finding *f, int fd)
-{
-    struct stat about;
-    if (fstat(fd, &about) != 0)
-        return (uint32_t)errno;
-    f->answer.file.device = about.st_dev;
-    f->answer.file.inode = about.st_ino;
     return 0;
 }
 
@@ -114,144 +128,79 @@ static uint32_t close_low(struct finding *f)
 static uint32_t turn(struct finding *f)
 {
     switch (f->course.next) {
-    case INROOT_FINDING_ASK_MOUNT: return ask_mount(f, at_hand(f));
-    case INROOT_FINDING_ASK_SYSTEM: return ask_system(f, at_hand(f));
-    case INROOT_FINDING_ASK_FILE: return ask_file(f, at_hand(f));
+    case INROOT_FINDING_ASK_MOUNT: case INROOT_FINDING_ASK_FILE: return ask_file(f, f->at_hand);
+    case INROOT_FINDING_ASK_SYSTEM: return ask_system(f, f->at_hand);
     case INROOT_FINDING_OPEN: return opened(f, open("/proc", O_PATH | O_DIRECTORY | O_NOFOLLOW | O_CLOEXEC));
     case INROOT_FINDING_RAISE: return copy_above(f);
     case INROOT_FINDING_CLOSE_LOW: return close_low(f);
     case INROOT_FINDING_LOOK: return ask_system(f, f->fd);
     case INROOT_FINDING_COPY: return opened(f, openat(f->fd, ".", O_PATH | O_DIRECTORY | O_CLOEXEC));
-    case INROOT_FINDING_IDENTIFY: return ask_file(f, f->fd);
-    case INROOT_FINDING_NUMBER: return ask_mount(f, f->fd);
+    case INROOT_FINDING_IDENTIFY: case INROOT_FINDING_NUMBER: return ask_file(f, f->fd);
     default: return inroot_errno_of(close(f->fd));
     }
 }
 
-static struct inroot_proc_kept kept_as(const struct inroot_own *own)
+/* What is wanted, of a descriptor or of the one at HAND: a descriptor or -errno. OWN receives it; IS_NEW if it is a new one. */
+static int find(enum inroot_wants wanted, bool surely, int fd, struct own *own, bool *is_new)
 {
-    return (struct inroot_proc_kept){.file = own->file, .there = own->fd >= 0};
-}
-
-/* Gives its descriptor, or -errno; and a new one as OWN, too. */
-static int find(struct finding *f, struct inroot_own *own)
-{
-    f->facts.program = kept_as(&f->program);
-    f->facts.thread = kept_as(&f->thread);
-    inroot_finding_begin(&f->facts, &f->course);
-    while (f->course.next < INROOT_FINDING_PROGRAMS) {
-        f->answer = (struct inroot_finding_answer){0};
-        f->answer.error = turn(f);
-        inroot_finding_next(&f->course, &f->facts, &f->answer);
-    }
-    switch (f->course.next) {
-    case INROOT_FINDING_PROGRAMS: return f->program.fd;
-    case INROOT_FINDING_THREADS: return f->thread.fd;
-    case INROOT_FINDING_GIVES: *own = (struct inroot_own){.fd = f->fd, .file = f->course.found}; return f->fd;
-    default: return -(int)f->course.error;
-    }
-}
-
-/* The same of a descriptor alone. */
-static int find_by(int fd, enum inroot_wants wanted, struct inroot_own *own)
-{
+    const struct own hand = *own;
     struct finding f = {
-        .facts = {.descriptor = (uint32_t)fd, .wanted = (uint8_t)wanted}, .program = none, .thread = none, .fd = fd,
+        .facts = {
+            .program = {.file = hand.file, .there = hand.fd >= 0}, .wanted = (uint8_t)wanted, .handed_in = is_handed_in(),
+            .surely = surely,
+        },
+        .at_hand = hand.fd, .fd = fd,
     };
-    return find(&f, own);
+    *is_new = false;
+    if (!inroot_has_floor())
+        return -ENOSYS;
+    inroot_finding_begin(&f.facts, &f.course);
+    while (f.course.next < INROOT_FINDING_PROGRAMS) {
+        f.answer = (struct inroot_finding_answer){0};
+        f.answer.error = turn(&f);
+        inroot_finding_next(&f.course, &f.facts, &f.answer);
+    }
+    *is_new = f.course.next == INROOT_FINDING_GIVES;
+    if (*is_new)
+        *own = (struct own){.fd = f.fd, .file = f.course.found};
+    return f.course.next == INROOT_FINDING_FAILS ? -(int)f.course.error : own->fd;
 }
 
 bool inroot_proc_is(int fd)
 {
-    struct inroot_own unused;
-    return find_by(fd, INROOT_WANTS_TELL, &unused) >= 0;
-}
-
-int inroot_proc_own(int fd, struct inroot_own *own)
-{
-    int above = find_by(fd, INROOT_WANTS_OWN, own);
-    return above < 0 ? above : 0;
+    bool is_new;
+    struct own none = {.fd = INROOT_NONE};
+    return find(INROOT_WANTS_TELL, false, fd, &none, &is_new) >= 0;
 }
 
 /* A child of fork(2), or the program, may have closed what it didn't open, so that the number is another file's. */
-bool inroot_proc_is_own(const struct inroot_own *own)
-{
-    struct inroot_own unused;
-    struct finding f = {.facts = {.wanted = INROOT_WANTS_CHECK, .surely = true}, .program = *own, .thread = none};
-    return find(&f, &unused) >= 0;
-}
-
-/* ---- what the program keeps */
-
-/* Claims the program's place, as CLAIMED or as HANDED_IN, if the program has none yet. */
-static bool claim(int as)
-{
-    int nothing = INROOT_NONE;
-    return atomic_compare_exchange_strong(&kept, &nothing, as);
-}
-
-/* Makes it the program's, whose place was claimed. */
-static void keep_claimed(const struct inroot_own *own, bool handed_in)
-{
-    atomic_store(&was_handed_in, handed_in);
-    kept_device = own->file.device;
-    kept_inode = own->file.inode;
-    kept_mount = own->file.mount;
-    kept_system = own->file.system;
-    atomic_store(&kept, own->fd);
-}
-
-/* The program's, or none. */
-static struct inroot_own of_program(void)
-{
-    const int fd = atomic_load(&kept);
-    return (struct inroot_own){
-        .fd = fd,
-        .file = {.device = kept_device, .inode = kept_inode, .mount = kept_mount, .system = kept_system},
-    };
-}
-
-bool inroot_proc_is_kept(void)
-{
-    return atomic_load(&kept) != INROOT_NONE;
-}
-
 bool inroot_proc_is_lost(int proc)
 {
-    const struct inroot_own own = of_program();
-    return proc == own.fd && !inroot_proc_is_own(&own);
+    bool is_new;
+    struct own own = of_program();
+    return proc == own.fd && find(INROOT_WANTS_CHECK, true, INROOT_NONE, &own, &is_new) < 0;
 }
 
-/* Finds one for a call, and says whether it is a new one. What is handed in is kept before that is known. */
-static int find_for_call(bool surely, struct inroot_own *own, bool *is_new)
-{
-    struct finding f = {
-        .facts = {
-            .wanted = INROOT_WANTS_FIND, .handed_in = inroot_proc_is_handed_in(), .jailed = inroot_is_jailed(), .surely = surely,
-        },
-    };
-    f.program = of_program();
-    f.thread = of_thread;
-    int fd = find(&f, own);
-    *is_new = f.course.next == INROOT_FINDING_GIVES;
-    return fd;
-}
+/* ---- whose it is */
 
-/* Does what comes next until it is known whose it is. FD is what is handed in, or else what was found. Gives 0 or an error's number. */
-static uint32_t turn_to_own(struct inroot_own *own, int fd, const struct inroot_owning *course)
+/* Does what comes next until it is known whose it is. FD is what is handed in. Gives 0 or an error's number. */
+static uint32_t turn_to_own(struct own *own, int fd, const struct inroot_owning *course)
 {
-    const bool is_handed_in = course->wanted == INROOT_FOR_HAND_IN;
+    bool is_new;
+    struct own none = {.fd = INROOT_NONE};
     switch (course->next) {
-    case INROOT_OWNING_CLAIM: return claim(is_handed_in ? HANDED_IN : CLAIMED) ? 0 : EBUSY;
-    case INROOT_OWNING_ENDS: return inroot_proc_ends() ? 0 : ENOMEM;
-    case INROOT_OWNING_TAKE: fd = find_by(fd, INROOT_WANTS_TAKE, own); return fd < 0 ? (uint32_t)-fd : 0;
+    case INROOT_OWNING_CLAIM: return claim(course->wanted == INROOT_FOR_HAND_IN ? HANDED_IN : CLAIMED) ? 0 : EBUSY;
+    case INROOT_OWNING_TAKE:
+        fd = find(INROOT_WANTS_TAKE, false, fd, &none, &is_new);
+        *own = none;
+        return fd < 0 ? (uint32_t)-fd : 0;
     case INROOT_OWNING_RELEASE: atomic_store(&kept, INROOT_NONE); return 0;
     default: return inroot_errno_of(close(own->fd));
     }
 }
 
 /* Says whose it is, and makes it so. */
-static struct inroot_owning own_it(struct inroot_own *own, int fd, enum inroot_for wanted, bool is_new)
+static struct inroot_owning own_it(struct own *own, int fd, enum inroot_for wanted, bool is_new)
 {
     struct inroot_owning course = {0};
     inroot_owning_begin((uint8_t)wanted, is_new, &course);
@@ -259,23 +208,21 @@ static struct inroot_owning own_it(struct inroot_own *own, int fd, enum inroot_f
         inroot_owning_next(&course, turn_to_own(own, fd, &course));
     if (course.next == INROOT_OWNING_PROGRAMS)
         keep_claimed(own, wanted == INROOT_FOR_HAND_IN);
-    else if (course.next == INROOT_OWNING_THREADS)
-        of_thread = *own;
     return course;
 }
 
-int inroot_proc_open(bool surely, bool *is_callers)
+int inroot_proc_find(bool surely, bool *is_callers)
 {
-    struct inroot_own own;
     bool is_new;
-    int fd = find_for_call(surely, &own, &is_new);
+    struct own own = of_program();
+    int fd = find(INROOT_WANTS_FIND, surely, INROOT_NONE, &own, &is_new);
     *is_callers = own_it(&own, fd, INROOT_FOR_CALL, is_new).next == INROOT_OWNING_CALLERS;
     return fd;
 }
 
 int inroot_proc_for(struct inroot_driver *d)
 {
-    int fd = d->proc >= 0 ? d->proc : inroot_proc_open(false, &d->proc_is_own);
+    int fd = d->proc >= 0 ? d->proc : inroot_proc_find(false, &d->proc_is_own);
     if (fd >= 0)
         d->proc = fd;
     return fd;
@@ -287,18 +234,21 @@ void inroot_proc_end(struct inroot_driver *d)
         close(d->proc);
 }
 
+int inroot_use_proc(int proc)
+{
+    struct own own;
+    INROOT_UNCANCELLED;
+    /* The place is claimed first: a child that is made from then on never goes by /proc. */
+    const struct inroot_owning course = own_it(&own, proc, INROOT_FOR_HAND_IN, false);
+    return course.next == INROOT_OWNING_FAILS ? inroot_error_alone((int)course.error, "", "") : 0;
+}
+
+/* ---- names in it */
+
 const char *inroot_proc_name(int fd, char room[INROOT_PROC_NAME])
 {
-    static const char above[] = INROOT_PROC_TABLE;
-    size_t at = INROOT_PROC_NAME;
-    unsigned int rest = (unsigned int)fd;
-    room[--at] = 0;
-    do
-        room[--at] = (char)('0' + rest % 10);
-    while ((rest /= 10) > 0);
-    at -= sizeof above - 1;
-    memcpy(room + at, above, sizeof above - 1);
-    return room + at;
+    snprintf(room, INROOT_PROC_NAME, "thread-self/fd/%u", (unsigned)fd);
+    return room;
 }
 
 int inroot_proc_error(int proc, const char *name, int error)
@@ -310,58 +260,4 @@ int inroot_proc_error(int proc, const char *name, int error)
     case EACCES: case EPERM: case ESRCH: return inroot_proc_is_lost(proc) ? ENOSYS : error;
     default: return error;
     }
-}
-
-/* ---- what a thread keeps */
-
-static void end_thread(void *unused)
-{
-    (void)unused;
-    inroot_proc_leave();
-}
-
-static void make_key(void)
-{
-    has_key = pthread_key_create(&key, end_thread) == 0;
-}
-
-/* After dlclose(3) the destructor is gone: no thread may call it. */
-__attribute__((destructor)) static void drop_key(void)
-{
-    if (has_key)
-        pthread_key_delete(key);
-}
-
-bool inroot_proc_ends(void)
-{
-    pthread_once(&key_once, make_key);
-    return has_key && pthread_setspecific(key, &of_thread) == 0;
-}
-
-int inroot_proc_stay(void)
-{
-    struct inroot_own own;
-    bool is_new;
-    int fd = find_for_call(true, &own, &is_new);
-    const struct inroot_owning course = own_it(&own, fd, INROOT_FOR_STAY, is_new);
-    return course.next == INROOT_OWNING_FAILS ? -(int)course.error : fd;
-}
-
-void inroot_proc_leave(void)
-{
-    struct inroot_keeps keeps = {.table = of_thread, .fd = INROOT_NONE};
-    inroot_trust_end();
-    inroot_keeps_end(&keeps, true, true);
-    of_thread = keeps.table;
-}
-
-/* ---- what a program hands in */
-
-int inroot_use_proc(int proc)
-{
-    struct inroot_own own;
-    INROOT_UNCANCELLED;
-    /* The place is claimed first: a child that is made from then on never goes by /proc. */
-    const struct inroot_owning course = own_it(&own, proc, INROOT_FOR_HAND_IN, false);
-    return course.next == INROOT_OWNING_FAILS ? inroot_error_alone((int)course.error, "", "") : 0;
 }

@@ -38,7 +38,7 @@ static void call(struct removing *r, int root, const struct inroot_request *aske
 static void call_in(struct removing *r, const struct place *at, int flags, char *room)
 {
     const struct inroot_request asked = {
-        .op = INROOT_ASK_REMOVE_ALL, .flags = flags, .first = at->name, .second = "", .is_held = true,
+        .op = INROOT_ASK_REMOVE_ALL, .flags = flags, .first = at->name, .second = "",
     };
     call(r, at->dir, &asked, room);
 }
@@ -71,7 +71,7 @@ static void turn(struct removing *r, int root, const struct inroot_request *aske
     inroot_removal_next(&r->course, &r->answer);
 }
 
-ssize_t inroot_remove_tree(int root, const struct inroot_request *asked, char *room)
+static ssize_t remove_below(int root, const struct inroot_request *asked, char *room)
 {
     struct removing r;
     r.course = (struct inroot_removal){0};
@@ -80,8 +80,19 @@ ssize_t inroot_remove_tree(int root, const struct inroot_request *asked, char *r
         turn(&r, root, asked, room);
     if (r.course.next == INROOT_REMOVAL_ENDS)
         return (ssize_t)r.course.removed;
-    /* The last call may have been one in a place, for a request of its own. */
-    r.d.asked = asked;
     inroot_error_of(&r.d, (int)r.course.error);
     return -(ssize_t)r.course.error;
+}
+
+/* The kernel finds the directory that has the entry, if it can: then that is the root, and the path is a name. */
+ssize_t inroot_remove_tree(int root, const struct inroot_request *asked, char *room)
+{
+    struct inroot_entry entry;
+    struct inroot_request named = *asked;
+    if (asked->flags & INROOT_EXACT || inroot_kernel_entry(root, asked->flags, asked->first, false, &entry) != 0)
+        return remove_below(root, asked, room);
+    named.first = entry.name;
+    const ssize_t result = remove_below(entry.dir, &named, room);
+    inroot_entry_close(&entry);
+    return result;
 }

@@ -1,6 +1,7 @@
 /*
  * use.c: opens an object that was found for reading and writing, makes and opens files, and gives the status of an
- * object. Which call comes next, and what that is asked for, the proved library says (crates/open_or_make, system_calls).
+ * object. Which call comes next, and what that is asked for, the proved library says (crates/open_or_make,
+ * system_calls).
  */
 #define _GNU_SOURCE
 #include "driver.h"
@@ -15,9 +16,10 @@
 static const struct inroot_machine_flags machine = {
     .directory = O_DIRECTORY, .nofollow = O_NOFOLLOW, .direct = O_DIRECT, .largefile = O_LARGEFILE,
 };
-_Static_assert(O_RDONLY == 0 && O_WRONLY == 01 && O_RDWR == 02 && O_CREAT == 0100 && O_EXCL == 0200 && O_NOCTTY == 0400 &&
-               O_TRUNC == 01000 && O_APPEND == 02000 && O_NONBLOCK == 04000 && O_DSYNC == 010000 && O_NOATIME == 01000000 &&
-               O_CLOEXEC == 02000000 && O_SYNC == 04010000 && O_PATH == 010000000 && O_TMPFILE == (020000000 | O_DIRECTORY),
+_Static_assert(O_RDONLY == 0 && O_WRONLY == 01 && O_RDWR == 02 && O_CREAT == 0100 && O_EXCL == 0200 &&
+               O_NOCTTY == 0400 && O_TRUNC == 01000 && O_APPEND == 02000 && O_NONBLOCK == 04000 && O_DSYNC == 010000 &&
+               O_NOATIME == 01000000 && O_CLOEXEC == 02000000 && O_SYNC == 04010000 && O_PATH == 010000000 &&
+               O_TMPFILE == (020000000 | O_DIRECTORY),
                "the numbers of crates/system_calls");
 
 /* What is to be opened, and how; FLAGS are the call's. */
@@ -72,33 +74,66 @@ static int make(const struct use *use, uint8_t call, const char *path, enum inro
     inroot_course_request(&use->how, use->mode, call, &now);
     const struct inroot_request asked = {
         .op = (enum inroot_op)now.op,
-        .flags = now.takes_below ? use->flags : use->flags & ~INROOT_BELOW,
+        .flags = use->flags,
         .first = path,
         .second = "",
         .makes = now.opens ? INROOT_MAKES_OPEN : INROOT_MAKES_NEW,
         .bits = now.bits,
         .open_flags = (int)now.flags,
         .directory = now.directory,
-        .follows = now.walks,
         .gives = now.gives,
-        .takes_below = now.takes_below,
         .opened = now.asks_kind ? kind : NULL,
     };
     return (int)inroot_carry_out(use->root, &asked, room);
+}
+
+/* A directory that O_CREAT opened to be read is none that the caller wants. */
+static int check_kind(int fd, const struct use *use)
+{
+    struct inroot_use now;
+    struct stat about;
+    if (!use->how.asks_kind || use->how.directory)
+        return fd;
+    uint32_t error = inroot_errno_of(fstat(fd, &about));
+    if (!error) {
+        inroot_use_of(&use->how, inroot_kind_of(about.st_mode), &now);
+        error = now.error;
+    }
+    if (error)
+        close(fd);
+    return error ? inroot_error_alone((int)error, "Reopen", "") : fd;
+}
+
+/* By one look-up with the caller's own flags. Else the call finds it, and it is opened once more. */
+static int find(const struct use *use, const char *path, char *room)
+{
+    struct inroot_use now;
+    enum inroot_kind kind = use->how.directory ? INROOT_KIND_DIR : INROOT_KIND_FILE;
+    inroot_use_of(&use->how, (uint8_t)kind, &now);
+    const int flags = (now.what == INROOT_USE_GIVES ? O_PATH : (int)now.flags) | (use->how.follows ? 0 : O_NOFOLLOW) |
+                      (use->how.directory ? O_DIRECTORY : 0);
+    int fd = INROOT_STEPS;
+    if (!(use->flags & INROOT_EXACT) && inroot_check(use->root, use->flags) == 0)
+        fd = inroot_kernel_open(use->root, path, use->flags, flags, now.what == INROOT_USE_MAKES ? use->mode : 0);
+    if (fd >= 0)
+        return check_kind(fd, use);
+    if (fd == INROOT_STEPS) {
+        fd = make(use, INROOT_COURSE_FIND, path, &kind, room);
+        return fd < 0 ? fd : give_found(fd, kind, use);
+    }
+    return fd;
 }
 
 /* Makes the call that comes next: its descriptor or -errno. */
 static int turn(const struct use *use, struct inroot_course *course, char path[INROOT_TEXT_MAX + 1])
 {
     char text[INROOT_ROOM];
-    enum inroot_kind kind = INROOT_KIND_FILE;
     inroot_wait(course->pause);
-    int result = make(use, course->next, path, &kind, text);
-    size_t length = course->next == INROOT_COURSE_READ_LINK && result > 0 ? (size_t)result : 0;
-    if (course->next == INROOT_COURSE_FIND && result >= 0)
-        result = give_found(result, kind, use);
-    inroot_course_next(course, result < 0 ? (uint32_t)-result : 0, (const unsigned char *)text, length, (unsigned char *)path,
-                       INROOT_TEXT_MAX);
+    const bool finds = course->next == INROOT_COURSE_FIND;
+    const int result = finds ? find(use, path, text) : make(use, course->next, path, NULL, text);
+    const size_t length = course->next == INROOT_COURSE_READ_LINK && result > 0 ? (size_t)result : 0;
+    inroot_course_next(course, result < 0 ? (uint32_t)-result : 0, (const unsigned char *)text, length,
+                       (unsigned char *)path, INROOT_TEXT_MAX);
     path[course->length] = 0;
     return result;
 }
@@ -116,7 +151,7 @@ int inroot_openat(int root, const char *path, int open_flags, mode_t mode, int f
     while (course.next < INROOT_COURSE_ENDS)
         result = turn(&use, &course, text);
     if (course.next == INROOT_COURSE_FAILS)
-        result = inroot_error_alone(course.error, inroot_step_name(course.step), text);
+        result = inroot_error_alone(course.error, inroot_step_name(course.step), "");
     return result;
 }
 
@@ -130,16 +165,4 @@ int inroot_reopen(int fd, int open_flags)
     INROOT_UNCANCELLED;
     int result = reopened(fd, how);
     return result < 0 ? inroot_error_alone(-result, "Reopen", "") : result;
-}
-
-int inroot_stat(int root, const char *path, struct stat *about, int flags)
-{
-    INROOT_UNCANCELLED;
-    int fd = inroot_open(root, path, flags);
-    int result = fd;
-    if (fd >= 0) {
-        result = fstat(fd, about) == 0 ? 0 : inroot_error_alone(errno, "Stat", "");
-        close(fd);
-    }
-    return result;
 }

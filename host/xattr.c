@@ -1,8 +1,7 @@
 /*
- * xattr.c: the extended attributes of an object that was found. Linux 6.13 has system calls that take a name in a directory,
- * here in /proc. Before that all of them take a path. In a jail the driver makes /proc the thread's current directory, and the
- * path begins there. Elsewhere it begins at the top, if /proc there is the directory that the library has open, by the same mount;
- * where mounts have no numbers, if the library itself has opened it.
+ * xattr.c: the extended attributes of an object that was found. Linux 6.13 has system calls that take a name in a directory, here
+ * in /proc. Before that all of them take a path: it begins at the top, if /proc there is the directory that the library has open,
+ * by the same mount.
  */
 #define _GNU_SOURCE
 #include "driver.h"
@@ -58,23 +57,12 @@ static ssize_t by_path(const char *path, const struct attribute *one)
     }
 }
 
-static ssize_t from_jail(int proc, const char *name, const struct attribute *one)
-{
-    struct inroot_driver d = {.steps = 0};
-    ssize_t done = inroot_jail_enter(&d, proc) ? by_path(name, one) : -1;
-    int error = errno;
-    if (!inroot_jail_return(&d))
-        return -1;
-    errno = error;
-    return done;
-}
-
-/* One that was handed in may be of the same file system, and mounted elsewhere or nowhere: only the mount's number shows that. */
+/* One that was handed in may be of the same file system, and mounted elsewhere or nowhere. */
 static bool is_at_top(int proc)
 {
     struct inroot_which there, here;
     return inroot_find_which(AT_FDCWD, "/proc", &there) && inroot_find_which(proc, "", &here) &&
-           (here.object.mount != 0 || !inroot_proc_is_handed_in()) && inroot_is_same_object(&there.object, &here.object, false);
+           inroot_is_same_object(&there.object, &here.object, false);
 }
 
 static ssize_t from_top(int proc, const char *name, const struct attribute *one)
@@ -101,9 +89,7 @@ static ssize_t act_on(int proc, const char *name, void *what)
 {
     const struct attribute *one = what;
     ssize_t done = by_name(proc, name, one);
-    if (done >= 0 || !is_missing(one))
-        return done;
-    return inroot_is_jailed() ? from_jail(proc, name, one) : from_top(proc, name, one);
+    return done < 0 && is_missing(one) ? from_top(proc, name, one) : done;
 }
 
 static ssize_t act(int fd, struct attribute one)

@@ -1,9 +1,7 @@
 /*
- * agree: inroot_open() beside openat2(2) on random trees that stand still, half of the cases by /proc and half in a jail, and half of
- * them with INROOT_BELOW.
+ * agree: inroot_open() beside openat2(2) on random trees that stand still, half of the cases with INROOT_EXACT.
  *
- * usage: agree DIR CASES. Exits 0 where each case agrees: the same object, or the same error. 77: no openat2(2)
- * here. 78: no right to change a root.
+ * usage: agree DIR CASES. Exits 0 where each case agrees: the same object, or the same error. 77: no openat2(2) here.
  */
 #define _GNU_SOURCE
 #include "../openat2.h"
@@ -11,7 +9,6 @@
 
 #include <errno.h>
 #include <fcntl.h>
-#include <pthread.h>
 #include <string.h>
 #include <sys/stat.h>
 #include <sys/syscall.h>
@@ -97,9 +94,9 @@ static int by_kernel(int root, const char *path, int flags)
 }
 
 /* Whether the path means the same. */
-static int agrees_on(int root, int asked, const char *path, int flags)
+static int agrees_on(int root, const char *path, int flags)
 {
-    int wanted = by_kernel(root, path, flags), got = inroot_open(asked, path, flags);
+    int wanted = by_kernel(root, path, flags), got = inroot_open(root, path, flags);
     int same = is_same_object(wanted, got);
     if (!same)
         printf("not so: %s, flags %d: wanted what openat2(2) gives, %d, got %d\n", path, flags, wanted, got);
@@ -111,47 +108,21 @@ static int agrees_on(int root, int asked, const char *path, int flags)
 }
 
 /* Whether a random case agrees. */
-static int agrees(int root, int asked)
+static int agrees(int root)
 {
     char path[256];
-    int flags = (int)pick(&state, 8) | (pick(&state, 2) ? INROOT_BELOW : 0);
+    int flags = (int)pick(&state, 8) | (pick(&state, 2) ? INROOT_EXACT : 0);
     random_path(path, PARTS);
-    return agrees_on(root, asked, path, flags);
+    return agrees_on(root, path, flags);
 }
 
 /* Whether links do that lead back to the root, behind `..` that has led there. */
-static int agrees_at_root(int root, int asked)
+static int agrees_at_root(int root)
 {
     int same = 1;
     for (int flags = 0; flags < 8; flags++)
-        same &= agrees_on(root, asked, "down/back", flags) & agrees_on(root, asked, "down/back", flags | INROOT_BELOW);
+        same &= agrees_on(root, "down/back", flags) & agrees_on(root, "down/back", flags | INROOT_EXACT);
     return same;
-}
-
-/* The cases on one tree, and how many differ. */
-struct batch {
-    int root, cases, differ;
-};
-
-static void *by_proc(void *self)
-{
-    struct batch *batch = self;
-    batch->differ += !agrees_at_root(batch->root, batch->root);
-    for (int at = 0; at < batch->cases; at++)
-        batch->differ += !agrees(batch->root, batch->root);
-    return NULL;
-}
-
-static void *in_jail(void *self)
-{
-    struct batch *batch = self;
-    errno = -inroot_jail(batch->root);
-    sure(-errno, "inroot_jail");
-    batch->differ += !agrees_at_root(batch->root, INROOT_JAIL);
-    for (int at = 0; at < batch->cases; at++)
-        batch->differ += !agrees(batch->root, INROOT_JAIL);
-    inroot_jail_done();
-    return NULL;
 }
 
 int main(int count, char **words)
@@ -161,17 +132,14 @@ int main(int count, char **words)
     int base = sure(open(words[1], O_PATH | O_DIRECTORY | O_CLOEXEC), words[1]), cases = atoi(words[2]), differ = 0;
     if (!has_openat2())
         return NO_OPENAT2;
-    if (!may_jail(base))
-        return NO_RIGHT;
     open_proc();
     int before = open_descriptors();
     for (int tree = 0; tree < TREES; tree++) {
-        struct batch batch = {.root = make_tree(base, tree), .cases = cases / TREES};
-        pthread_t thread;
-        pthread_create(&thread, NULL, tree % 2 ? in_jail : by_proc, &batch);
-        pthread_join(thread, NULL);
-        differ += batch.differ;
-        close(batch.root);
+        int root = make_tree(base, tree);
+        differ += !agrees_at_root(root);
+        for (int at = 0; at < cases / TREES; at++)
+            differ += !agrees(root);
+        close(root);
     }
     int left = open_descriptors() - before;
     printf("agreement with openat2: %d cases on %d trees, %d differ, %d descriptors left open\n", cases / TREES * TREES, TREES, differ, left);

@@ -1,7 +1,6 @@
 /*
  * attributes: the mode, the owner, the times and the extended attributes of what was found, of each kind, by the object
- * itself. By /proc and in a jail; with the system calls of this kernel, and with those of an older one alone, which
- * says so or has a filter say so.
+ * itself. With the system calls of this kernel, and with those of an older one alone, which says so or has a filter say so.
  *
  * usage: attributes DIR. Exits 0 where each case holds. 78: no right here to do what it takes, or a part of it.
  */
@@ -29,13 +28,11 @@ static int base, root, outside;
 static char at[PATH_MAX];
 static bool lacks_right, has_devices, may_give, has_trusted, has_user;
 
-/* How an older kernel refuses what it doesn't have; 0 where all is there. */
+/* How an older kernel refuses to take a name for attributes; 0 where it doesn't. And how often it took one. */
 static int refuses;
-static int by_number, by_times;
+static int by_number;
 
 long __wrap_syscall(long number, ...);
-int __real_utimensat(int dir, const char *name, const struct timespec times[2], int flags);
-int __wrap_utimensat(int dir, const char *name, const struct timespec times[2], int flags);
 
 /* How many system calls were made. */
 static volatile int made;
@@ -44,9 +41,7 @@ COUNTED(int, statx, (int dir, const char *name, int flags, unsigned mask, struct
 COUNTED(int, fstatfs, (int fd, struct statfs *about), (fd, about))
 COUNTED(int, fchmodat, (int dir, const char *name, mode_t mode, int flags), (dir, name, mode, flags))
 COUNTED(int, fchownat, (int dir, const char *name, uid_t user, gid_t group, int flags), (dir, name, user, group, flags))
-COUNTED(int, unshare, (int what), (what))
-COUNTED(int, fchdir, (int fd), (fd))
-COUNTED(int, chdir, (const char *path), (path))
+COUNTED(int, utimensat, (int dir, const char *name, const struct timespec times[2], int flags), (dir, name, times, flags))
 COUNTED(ssize_t, getxattr, (const char *path, const char *name, void *value, size_t size), (path, name, value, size))
 
 /* Takes more words than were handed in. */
@@ -67,17 +62,6 @@ __attribute__((no_sanitize("address"))) long __wrap_syscall(long number, ...)
     return __real_syscall(number, with[0], with[1], with[2], with[3], with[4], with[5]);
 }
 
-int __wrap_utimensat(int dir, const char *name, const struct timespec times[2], int flags)
-{
-    made++;
-    if (flags & AT_EMPTY_PATH && refuses != 0) {
-        errno = EINVAL;
-        return -1;
-    }
-    by_times += (flags & AT_EMPTY_PATH) != 0;
-    return __real_utimensat(dir, name, times, flags);
-}
-
 static void make_tree(void)
 {
     sure(mkdirat(base, "root", 0755), "root");
@@ -95,9 +79,9 @@ static void make_tree(void)
     lacks_right = !has_devices || !may_give || !has_trusted || !has_user;
 }
 
-static int found(int by, const char *name)
+static int found(const char *name)
 {
-    int fd = inroot_open(by, name, INROOT_NOFOLLOW);
+    int fd = inroot_open(root, name, INROOT_NOFOLLOW);
     expect(fd >= 0, "%s is found: %d", name, fd);
     return fd;
 }
@@ -165,7 +149,6 @@ static void try_times(int fd, const char *name)
     expect(about(fd).st_mtim.tv_sec >= now - 1 && about(fd).st_atim.tv_sec >= now - 1, "%s has the present time", name);
 }
 
-/* What the object has is asked by a path of the test's own, outside of a jail: the children's names are those of the parent. */
 static void try_attribute(int fd, const char *name, const char *key)
 {
     char value[8] = "";
@@ -207,9 +190,9 @@ static void try_attributes(int fd, const char *name, const char *key)
     expect(!has_name(fd, key), "%s has no %s", name, key);
 }
 
-static void try_kind(int by, const char *name)
+static void try_kind(const char *name)
 {
-    int fd = found(by, name);
+    int fd = found(name);
     bool is_plain = strcmp(name, "file") == 0 || strcmp(name, "dir") == 0;
     if (fd < 0)
         return;
@@ -227,10 +210,10 @@ static void try_kind(int by, const char *name)
 
 /* ---- errors */
 
-static void try_errors(int by)
+static void try_errors(void)
 {
     static char large[65537];
-    static const int numbers[] = {-1, AT_FDCWD, INROOT_JAIL, 900};
+    static const int numbers[] = {-1, AT_FDCWD, -2, 900};
     const struct timespec times[2] = {{1, 1}, {1, 1}}, stay[2] = {{.tv_nsec = UTIME_OMIT}, {.tv_nsec = UTIME_OMIT}};
     char value[4];
     for (size_t one = 0; one < sizeof numbers / sizeof *numbers; one++) {
@@ -246,7 +229,7 @@ static void try_errors(int by)
         gives(inroot_fremovexattr(fd, "user.x"), -EBADF, "an attribute of %d is removed", fd);
         step_is("");
     }
-    int fd = found(by, "file");
+    int fd = found("file");
     gives(inroot_futimens(fd, stay), 0, "times that stay");
     gives(inroot_fchmod(fd, S_IFREG | 0600), -EINVAL, "a mode with a kind");
     gives(inroot_fchmod(-1, 010000), -EINVAL, "a mode that is none comes first");
@@ -269,19 +252,18 @@ static void outside_is(const struct stat *before)
 }
 
 /* Each kind, by the system calls of this kernel, of an older one, and under a filter. */
-static void try_all(int by)
+static void try_all(void)
 {
     static const int ways[] = {0, ENOSYS, EPERM};
     /* The library's own descriptor of it is open before others are counted. */
-    if (by != INROOT_JAIL)
-        open_proc();
+    open_proc();
     for (size_t way = 0; way < sizeof ways / sizeof *ways; way++) {
         struct stat before = about(outside);
         refuses = ways[way];
         int open_before = open_descriptors();
         for (int one = 0; one < (has_devices ? DEVICE + 1 : DEVICE); one++)
-            try_kind(by, names[one]);
-        try_errors(by);
+            try_kind(names[one]);
+        try_errors();
         gives(open_descriptors(), open_before, "descriptors");
         outside_is(&before);
     }
@@ -289,12 +271,11 @@ static void try_all(int by)
 }
 
 /* No call makes more system calls than docs/HOST-TESTED.md has, where the kernel has them all, and where it is an older one. */
-static void count(int by)
+static void count(void)
 {
     const struct timespec times[2] = {{1, 1}, {1, 1}};
-    const int is_jail = by == INROOT_JAIL;
     char value[4];
-    int fd = found(by, "file");
+    int fd = found("file");
     made = 0;
     gives(inroot_fchmod(fd, 0600), 0, "a mode that is counted");
     gives(made, 3, "system calls for a mode");
@@ -310,13 +291,10 @@ static void count(int by)
         gives(made, 2, "system calls for an attribute");
     }
     refuses = ENOSYS;
-    made = 0;
-    gives(inroot_futimens(fd, times), 0, "times by /proc");
-    gives(made, 3, "system calls for times by /proc");
     if (has_user) {
         made = 0;
         gives(inroot_fgetxattr(fd, "user.none", value, 4), -ENODATA, "an attribute by a path");
-        gives(made, is_jail ? 6 : 5, "system calls for an attribute by a path");
+        gives(made, 5, "system calls for an attribute by a path");
     }
     refuses = 0;
     close(fd);
@@ -326,26 +304,8 @@ static void count(int by)
 
 static void by_proc(void)
 {
-    try_all(root);
-    count(root);
-    expect(by_times > 0, "the times are set without /proc");
-}
-
-static void in_jail(void)
-{
-    char path[4];
-    if (inroot_jail(root) != 0)
-        _exit(NO_RIGHT);
-    try_all(INROOT_JAIL);
-    count(INROOT_JAIL);
-    expect(getcwd(path, sizeof path) != NULL && strcmp(path, "/") == 0, "the thread is at its root: %s", path);
-}
-
-static void in_trust(void)
-{
-    if (inroot_jail_with(root, INROOT_TRUST_PROC) != 0)
-        _exit(NO_RIGHT);
-    try_all(INROOT_JAIL);
+    try_all();
+    count();
 }
 
 /* Below another root directory, where there is no /proc and none is kept: what needs none goes on. */
@@ -364,13 +324,10 @@ static void without_proc(void)
     gives(inroot_futimens(fd, times), 0, "the times without /proc");
     times_are(fd, 21, 22, 23, 24, "the file");
     gives(inroot_fgetxattr(fd, "user.x", value, 4), -ENOSYS, "an attribute without /proc");
-    refuses = ENOSYS;
-    gives(inroot_futimens(fd, NULL), -ENOSYS, "the times without /proc, on an older kernel");
-    times_are(fd, 21, 22, 23, 24, "the file");
     gives(about(fd).st_mode, before, "the mode is as it was");
 }
 
-/* Where the /proc that is handed in isn't what stands at /proc, an older kernel has no way to the attributes but in a jail. */
+/* Where the /proc that is handed in isn't what stands at /proc, an older kernel has no way to the attributes. */
 static void other_proc(void)
 {
     char path[PATH_MAX + 8], value[4];
@@ -382,7 +339,7 @@ static void other_proc(void)
         _exit(NO_RIGHT);
     int proc = sure(open(path, O_PATH | O_DIRECTORY | O_CLOEXEC), path);
     gives(inroot_use_proc(proc), 0, "it is handed in");
-    int fd = found(root, "file");
+    int fd = found("file");
     gives(inroot_fchmod(fd, 0612), 0, "the mode by another /proc");
     gives(about(fd).st_mode & 07777, 0612, "is set");
     if (has_user)
@@ -390,8 +347,6 @@ static void other_proc(void)
     refuses = ENOSYS;
     gives(inroot_fgetxattr(fd, "user.x", value, 4), -ENOSYS, "an attribute by another /proc, on an older kernel");
     expect(by_number > 0 || !has_user, "the newer system calls were made");
-    if (has_user && inroot_jail(root) == 0)
-        gives(inroot_fgetxattr(fd, "user.x", value, 4), -ENODATA, "the same in a jail");
 }
 
 /* Somebody who may change nothing. */
@@ -399,7 +354,7 @@ static void as_nobody(void)
 {
     if (!may_be_nobody())
         _exit(NO_RIGHT);
-    int fd = found(root, "file");
+    int fd = found("file");
     mode_t before = about(fd).st_mode;
     sure(seteuid(65534), "seteuid");
     gives(inroot_fchmod(fd, 0777), -EPERM, "the mode of another's file");
@@ -410,7 +365,7 @@ static void as_nobody(void)
 
 int main(int count, char **words)
 {
-    void (*const places[])(void) = {by_proc, in_jail, in_trust, without_proc, other_proc, as_nobody};
+    void (*const places[])(void) = {by_proc, without_proc, other_proc, as_nobody};
     if (count != 2)
         return 2;
     base = sure(open(words[1], O_PATH | O_DIRECTORY | O_CLOEXEC), words[1]);

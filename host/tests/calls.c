@@ -1,8 +1,8 @@
 /*
- * calls: what inroot.h says of modes, of opening once more, of nodes, second names, stat, a root that is kept, and
- * of why a call failed. By /proc, and in a jail.
+ * calls: what inroot.h says of modes, of opening once more, of nodes, second names and stat, and of why a call failed. By the
+ * kernel's walk, and with INROOT_EXACT.
  *
- * usage: calls DIR. Exits 0 where each is as it says. 78: no right to change a root, so that a half is left out.
+ * usage: calls DIR. Exits 0 where each is as it says. 78: no right to become nobody, so that a part is left out.
  */
 #define _GNU_SOURCE
 #include "support.h"
@@ -10,7 +10,6 @@
 #include <errno.h>
 #include <fcntl.h>
 #include <limits.h>
-#include <pthread.h>
 #include <signal.h>
 #include <string.h>
 #include <sys/fsuid.h>
@@ -18,7 +17,8 @@
 #include <sys/sysmacros.h>
 #include <sys/time.h>
 
-static int root, at;
+/* FLAGS are 0 or INROOT_EXACT. */
+static int root, flags;
 static char where[PATH_MAX];
 
 static int closed(int result)
@@ -38,35 +38,35 @@ static mode_t mode_of(const char *path)
 static void modes(void)
 {
     umask(027);
-    gives(inroot_mkfile(at, "m1", 0666, 0), 0, "a file's mode less the umask");
+    gives(inroot_mknod(root, "m1", S_IFREG | 0666, 0, flags), 0, "a file's mode less the umask");
     gives_mode(mode_of("m1"), (S_IFREG | 0640), "a file's mode less the umask");
-    gives(inroot_mkfile(at, "m2", 0600, 0), 0, "a file's mode");
+    gives(inroot_mknod(root, "m2", S_IFREG | 0600, 0, flags), 0, "a file's mode");
     gives_mode(mode_of("m2"), (S_IFREG | 0600), "a file's mode");
-    gives(inroot_mkfile(at, "m3", 0, 0), 0, "no mode");
+    gives(inroot_mknod(root, "m3", S_IFREG | 0, 0, flags), 0, "no mode");
     gives_mode(mode_of("m3"), S_IFREG, "no mode");
-    gives(inroot_mkdir(at, "d1", 0777, 0), 0, "a directory's");
+    gives(inroot_mkdir(root, "d1", 0777, flags), 0, "a directory's");
     gives_mode(mode_of("d1"), (S_IFDIR | 0750), "a directory's");
-    gives(inroot_mkdir(at, "d2/", 01700, 0), 0, "and its sticky bit");
+    gives(inroot_mkdir(root, "d2/", 01700, flags), 0, "and its sticky bit");
     gives_mode(mode_of("d2"), (S_IFDIR | 01700), "and its sticky bit");
-    gives(closed(inroot_mkdir_all(at, "d1/x/y", 0711, 0)), 0, "directories");
+    gives(closed(inroot_mkdir_all(root, "d1/x/y", 0711, flags)), 0, "directories");
     gives_mode(mode_of("d1"), (S_IFDIR | 0750), "one that was there");
     gives_mode(mode_of("d1/x"), (S_IFDIR | 0710), "new ones");
     gives_mode(mode_of("d1/x/y"), (S_IFDIR | 0710), "new ones");
-    gives(closed(inroot_openat(at, "m4", O_WRONLY | O_CREAT, 0666, 0)), 0, "an open one");
+    gives(closed(inroot_openat(root, "m4", O_WRONLY | O_CREAT, 0666, flags)), 0, "an open one");
     gives_mode(mode_of("m4"), (S_IFREG | 0640), "an open one");
-    gives(closed(inroot_openat(at, "m5", O_RDWR | O_CREAT | O_EXCL, 0400, 0)), 0, "for writing");
+    gives(closed(inroot_openat(root, "m5", O_RDWR | O_CREAT | O_EXCL, 0400, flags)), 0, "for writing");
     gives_mode(mode_of("m5"), (S_IFREG | 0400), "for writing");
-    gives(inroot_mkfile(at, "m6", 010000, 0), -EINVAL, "a mode that is none, of a file");
-    gives(inroot_mkdir(at, "m6", S_IFDIR | 0700, 0), -EINVAL, "a mode that is none, of a directory");
-    gives(closed(inroot_mkdir_all(at, "m6", (mode_t)-1, 0)), -EINVAL, "a mode that is none, of directories");
-    gives(closed(inroot_openat(at, "m6", O_RDWR | O_CREAT, 010000, 0)), -EINVAL,
+    gives(inroot_mknod(root, "m6", S_IFREG | 010000, 0, flags), -EINVAL, "a mode that is none, of a file");
+    gives(inroot_mkdir(root, "m6", S_IFDIR | 0700, flags), -EINVAL, "a mode that is none, of a directory");
+    gives(closed(inroot_mkdir_all(root, "m6", (mode_t)-1, flags)), -EINVAL, "a mode that is none, of directories");
+    gives(closed(inroot_openat(root, "m6", O_RDWR | O_CREAT, 010000, flags)), -EINVAL,
           "a mode that is none, of an open file");
-    gives(closed(inroot_openat(at, "m1", O_RDONLY, 0600, 0)), -EINVAL, "a mode where nothing is made");
+    gives(closed(inroot_openat(root, "m1", O_RDONLY, 0600, flags)), -EINVAL, "a mode where nothing is made");
     gives_mode(mode_of("m6"), 0, "what is made by a mode that is none");
     umask(0);
 }
 
-static void flags(void)
+static void wrong_flags(void)
 {
     static const int none[] = {
         O_ASYNC, O_WRONLY | O_RDWR, O_PATH | O_RDWR, O_PATH | O_TRUNC, O_PATH | O_CREAT | O_DIRECTORY, O_PATH | O_EXCL, O_EXCL, O_CREAT | O_DIRECTORY,
@@ -75,22 +75,22 @@ static void flags(void)
     static const int not_again[] = {O_CREAT,           O_EXCL,           O_TMPFILE | O_RDWR, O_NOFOLLOW, O_ASYNC,
                                     O_WRONLY | O_RDWR, O_PATH | O_APPEND};
     for (size_t one = 0; one < sizeof none / sizeof *none; one++) {
-        gives(closed(inroot_openat(at, "f", none[one], 0, 0)), -EINVAL, "open flags %o", (unsigned)none[one]);
+        gives(closed(inroot_openat(root, "f", none[one], 0, flags)), -EINVAL, "open flags %o", (unsigned)none[one]);
         gives(closed(inroot_openat(999, "", none[one], 0, 0)), -EINVAL,
               "open flags %o of a bad root", (unsigned)none[one]);
     }
     for (size_t one = 0; one < sizeof not_again / sizeof *not_again; one++)
         gives(closed(inroot_reopen(root, not_again[one])), -EINVAL,
               "open flags %o once more", (unsigned)not_again[one]);
-    gives(closed(inroot_openat(at, "f", O_RDONLY, 0, INROOT_NOFOLLOW)), -EINVAL, "a flag of another call");
-    gives(closed(inroot_open(at, "f", INROOT_FOLLOW)), -EINVAL, "a flag of another call");
+    gives(closed(inroot_openat(root, "f", O_RDONLY, 0, flags | INROOT_NOFOLLOW)), -EINVAL, "a flag of another call");
+    gives(closed(inroot_open(root, "f", flags | INROOT_FOLLOW)), -EINVAL, "a flag of another call");
     gives(closed(inroot_openat(999, "f", O_RDONLY, 0, 0)), -EBADF, "a root that isn't open");
     gives(closed(inroot_openat(999, "f", O_RDWR | O_CREAT, 0600, 0)), -EBADF, "a root that isn't open, to create");
-    gives(closed(inroot_openat(at, "in/up/../f", O_RDONLY, 0, INROOT_BENEATH)), -EXDEV, "beneath");
-    gives(closed(inroot_openat(at, "in", O_RDWR | O_CREAT, 0600, INROOT_NO_LINKS)), -ELOOP, "no links");
-    gives(closed(inroot_openat(at, "dangling", O_RDWR | O_CREAT, 0600, INROOT_NO_LINKS)), -ELOOP,
+    gives(closed(inroot_openat(root, "in/up/../f", O_RDONLY, 0, flags | INROOT_BENEATH)), -EXDEV, "beneath");
+    gives(closed(inroot_openat(root, "in", O_RDWR | O_CREAT, 0600, flags | INROOT_NO_LINKS)), -ELOOP, "no links");
+    gives(closed(inroot_openat(root, "dangling", O_RDWR | O_CREAT, 0600, flags | INROOT_NO_LINKS)), -ELOOP,
           "no links, and none there");
-    gives(closed(inroot_openat(at, "absent", O_RDWR | O_CREAT, 0600, INROOT_BENEATH)), -EXDEV,
+    gives(closed(inroot_openat(root, "absent", O_RDWR | O_CREAT, 0600, flags | INROOT_BENEATH)), -EXDEV,
           "a target beneath the root");
 }
 
@@ -101,7 +101,7 @@ static void flags(void)
 static void again(void)
 {
     char text[16];
-    int fd = inroot_open(at, "a/f", 0);
+    int fd = inroot_open(root, "a/f", flags);
     gives_fd(fd, "what is found");
     gives(read(fd, text, sizeof text), -1, "what was found, read");
     gives(errno, EBADF, "what was found, read: errno");
@@ -123,20 +123,20 @@ static void again(void)
     sure(renameat(root, "a/g", root, "a/f"), "renameat");
     gives(closed(inroot_reopen(999, O_RDONLY)), -EBADF, "a descriptor that is none");
     close(fd);
-    gives(inroot_mkfile(at, "gone", 0600, 0), 0, "a file");
-    fd = inroot_open(at, "gone", 0);
+    gives(inroot_mknod(root, "gone", S_IFREG | 0600, 0, flags), 0, "a file");
+    fd = inroot_open(root, "gone", flags);
     sure(unlinkat(root, "gone", 0), "unlinkat");
     gives(closed(inroot_reopen(fd, O_RDWR)), 0, "a removed one is opened once more");
     close(fd);
-    fd = inroot_open(at, "in", INROOT_NOFOLLOW);
+    fd = inroot_open(root, "in", flags | INROOT_NOFOLLOW);
     gives(closed(inroot_reopen(fd, O_RDONLY)), -ELOOP, "a link");
     close(fd);
-    fd = inroot_open(at, "a", 0);
+    fd = inroot_open(root, "a", flags);
     gives(closed(inroot_reopen(fd, O_RDONLY | O_DIRECTORY)), 0, "a directory");
     gives(closed(inroot_reopen(fd, O_RDWR)), -EISDIR, "a directory to be written");
     close(fd);
-    gives(inroot_mknod(at, "sock", S_IFSOCK | 0600, 0, 0), 0, "a socket's name");
-    gives(closed(inroot_openat(at, "sock", O_RDWR, 0, 0)), -ENXIO, "a socket");
+    gives(inroot_mknod(root, "sock", S_IFSOCK | 0600, 0, flags), 0, "a socket's name");
+    gives(closed(inroot_openat(root, "sock", O_RDWR, 0, flags)), -ENXIO, "a socket");
 }
 
 static void ring(int number)
@@ -151,12 +151,12 @@ static void interrupted(void)
     /* Again and again, since it may ring before the call waits. */
     const struct timeval soon = {.tv_usec = 20000};
     const struct itimerval often = {.it_interval = soon, .it_value = soon}, never = {{0, 0}, {0, 0}};
-    gives(inroot_mknod(at, "waits", S_IFIFO | 0600, 0, 0), 0, "a FIFO");
-    gives(closed(inroot_openat(at, "waits", O_RDONLY | O_NONBLOCK, 0, 0)), 0, "a FIFO that isn't waited for");
-    gives(closed(inroot_openat(at, "waits", O_WRONLY | O_NONBLOCK, 0, 0)), -ENXIO, "a FIFO without a reader");
+    gives(inroot_mknod(root, "waits", S_IFIFO | 0600, 0, flags), 0, "a FIFO");
+    gives(closed(inroot_openat(root, "waits", O_RDONLY | O_NONBLOCK, 0, flags)), 0, "a FIFO that isn't waited for");
+    gives(closed(inroot_openat(root, "waits", O_WRONLY | O_NONBLOCK, 0, flags)), -ENXIO, "a FIFO without a reader");
     sigaction(SIGALRM, &rings, NULL);
     setitimer(ITIMER_REAL, &often, NULL);
-    gives(closed(inroot_openat(at, "waits", O_RDONLY, 0, 0)), -EINTR, "a FIFO that is waited for");
+    gives(closed(inroot_openat(root, "waits", O_RDONLY, 0, flags)), -EINTR, "a FIFO that is waited for");
     setitimer(ITIMER_REAL, &never, NULL);
 }
 
@@ -167,10 +167,10 @@ static void rights(void)
         return;
     sure(fchmodat(root, "a/f", 0, 0), "chmod");
     sure(setfsuid(65534) < 0 ? -1 : 0, "setfsuid");
-    gives(closed(inroot_open(at, "a/f", 0)), 0, "what may not be read is found");
-    gives(closed(inroot_openat(at, "a/f", O_RDONLY, 0, 0)), -EACCES, "what may not be read");
-    gives(closed(inroot_openat(at, "a/f", O_WRONLY | O_TRUNC, 0, 0)), -EACCES, "what may not be written");
-    gives(closed(inroot_openat(at, "a/new", O_WRONLY | O_CREAT, 0600, 0)), -EACCES,
+    gives(closed(inroot_open(root, "a/f", flags)), 0, "what may not be read is found");
+    gives(closed(inroot_openat(root, "a/f", O_RDONLY, 0, flags)), -EACCES, "what may not be read");
+    gives(closed(inroot_openat(root, "a/f", O_WRONLY | O_TRUNC, 0, flags)), -EACCES, "what may not be written");
+    gives(closed(inroot_openat(root, "a/new", O_WRONLY | O_CREAT, 0600, flags)), -EACCES,
           "a directory that may not be written");
     setfsuid(0);
     sure(fchmodat(root, "a/f", 0600, 0), "chmod");
@@ -179,22 +179,22 @@ static void rights(void)
 static void nodes(void)
 {
     struct stat about;
-    gives(inroot_mknod(at, "n/fifo", S_IFIFO | 0610, 0, 0), 0, "a FIFO");
+    gives(inroot_mknod(root, "n/fifo", S_IFIFO | 0610, 0, flags), 0, "a FIFO");
     gives_mode(mode_of("n/fifo"), (S_IFIFO | 0610), "a FIFO");
-    gives(inroot_mknod(at, "n/sock", S_IFSOCK | 0600, 0, 0), 0, "a socket");
+    gives(inroot_mknod(root, "n/sock", S_IFSOCK | 0600, 0, flags), 0, "a socket");
     gives_mode(mode_of("n/sock"), (S_IFSOCK | 0600), "a socket");
-    gives(inroot_mknod(at, "n/file", S_IFREG | 0604, 0, 0), 0, "a file");
+    gives(inroot_mknod(root, "n/file", S_IFREG | 0604, 0, flags), 0, "a file");
     gives_mode(mode_of("n/file"), (S_IFREG | 0604), "a file");
-    gives(inroot_mknod(at, "n/fifo", S_IFIFO | 0600, 0, 0), -EEXIST, "a second FIFO");
-    gives(inroot_mknod(at, "n/x", S_IFDIR | 0600, 0, 0), -EINVAL, "a directory as a node");
-    gives(inroot_mknod(at, "n/x", S_IFLNK | 0600, 0, 0), -EINVAL, "a link as a node");
-    gives(inroot_mknod(at, "n/x", 0600, 0, 0), -EINVAL, "no kind");
-    gives(inroot_mknod(at, "n/x", S_IFIFO | 0600, makedev(1, 3), 0), -EINVAL, "a FIFO's device");
+    gives(inroot_mknod(root, "n/fifo", S_IFIFO | 0600, 0, flags), -EEXIST, "a second FIFO");
+    gives(inroot_mknod(root, "n/x", S_IFDIR | 0600, 0, flags), -EINVAL, "a directory as a node");
+    gives(inroot_mknod(root, "n/x", S_IFLNK | 0600, 0, flags), -EINVAL, "a link as a node");
+    gives(inroot_mknod(root, "n/x", 0600, 0, flags), -EINVAL, "no kind");
+    gives(inroot_mknod(root, "n/x", S_IFIFO | 0600, makedev(1, 3), flags), -EINVAL, "a FIFO's device");
     gives(inroot_mknod(999, "n/x", S_IFIFO | 0600, 0, 0), -EBADF, "below a root that isn't open");
     /* The lower bits alone are those of another device; the call refuses it before the C library sees it. */
     gives(inroot_mknod(999, "n/x", S_IFCHR | 0600, makedev(4097, 3), 0), -EINVAL, "a major number of more than 12 bits");
     gives(inroot_mknod(999, "n/x", S_IFBLK | 0600, makedev(1, 1048579), 0), -EINVAL, "a minor number of more than 20 bits");
-    int device = inroot_mknod(at, "n/null", S_IFCHR | 0600, makedev(1, 3), 0);
+    int device = inroot_mknod(root, "n/null", S_IFCHR | 0600, makedev(1, 3), flags);
     if (device == -EPERM)
         puts("calls: no right to make a device here");
     else
@@ -214,64 +214,64 @@ static ino_t number_of(const char *path)
 static void second_names(void)
 {
     char text[8] = "";
-    gives(inroot_link(at, "in/f", "l1", 0), 0, "a file's second name");
+    gives(inroot_link(root, "in/f", "l1", flags), 0, "a file's second name");
     gives(number_of("l1"), number_of("a/f"), "a file's second name");
-    gives(inroot_link(at, "in", "l2", 0), 0, "a link's second name");
+    gives(inroot_link(root, "in", "l2", flags), 0, "a link's second name");
     gives(number_of("l2"), number_of("in"), "a link's second name");
-    gives(inroot_link(at, "dangling", "l3", 0), 0, "that of a link to nothing");
+    gives(inroot_link(root, "dangling", "l3", flags), 0, "that of a link to nothing");
     gives(number_of("l3"), number_of("dangling"), "that of a link to nothing");
-    gives(inroot_link(at, "tofile", "l4", INROOT_FOLLOW), 0, "that of what a link leads to");
+    gives(inroot_link(root, "tofile", "l4", flags | INROOT_FOLLOW), 0, "that of what a link leads to");
     gives(number_of("l4"), number_of("a/f"), "that of what a link leads to");
-    gives(inroot_link(at, "../../tofile", "up/../l5", 0), 0, "both below the root");
+    gives(inroot_link(root, "../../tofile", "up/../l5", flags), 0, "both below the root");
     gives(number_of("l5"), number_of("tofile"), "both below the root");
-    gives(inroot_link(at, "a", "l6", 0), -EPERM, "a directory's");
-    gives(inroot_link(at, "a/f", "l1", 0), -EEXIST, "an entry that is there");
-    gives(inroot_link(at, "a/f", "dangling", 0), -EEXIST, "a link that is there");
-    gives(inroot_link(at, "none", "none/x", 0), -ENOENT, "what isn't there");
-    gives(inroot_link(at, "a/f", "none/x", 0), -ENOENT, "a directory that isn't there");
-    gives(inroot_link(at, "a/f", "l7/", 0), -ENOTDIR, "a slash at the end");
-    gives(inroot_link(at, "a/f", "..", 0), -EINVAL, "no name");
-    gives(inroot_link(at, "a/f", "l7", INROOT_NOFOLLOW), -EINVAL, "a flag that is none");
+    gives(inroot_link(root, "a", "l6", flags), -EPERM, "a directory's");
+    gives(inroot_link(root, "a/f", "l1", flags), -EEXIST, "an entry that is there");
+    gives(inroot_link(root, "a/f", "dangling", flags), -EEXIST, "a link that is there");
+    gives(inroot_link(root, "none", "none/x", flags), -ENOENT, "what isn't there");
+    gives(inroot_link(root, "a/f", "none/x", flags), -ENOENT, "a directory that isn't there");
+    gives(inroot_link(root, "a/f", "l7/", flags), -ENOTDIR, "a slash at the end");
+    gives(inroot_link(root, "a/f", "..", flags), -EINVAL, "no name");
+    gives(inroot_link(root, "a/f", "l7", flags | INROOT_NOFOLLOW), -EINVAL, "a flag that is none");
     gives(inroot_link(999, "a/f", "l7", 0), -EBADF, "a root that isn't open");
-    gives(inroot_link_fd(at, 999, "l7", 64), -EINVAL, "a flag that is none, and no descriptor");
-    gives(inroot_link_fd(at, 999, "l7", 0), -EBADF, "no descriptor");
-    int file = inroot_openat(at, "a", O_RDWR | O_TMPFILE, 0600, 0);
+    gives(inroot_link_fd(root, 999, "l7", 64), -EINVAL, "a flag that is none, and no descriptor");
+    gives(inroot_link_fd(root, 999, "l7", flags), -EBADF, "no descriptor");
+    int file = inroot_openat(root, "a", O_RDWR | O_TMPFILE, 0600, flags);
     gives_fd(file, "a file without a name");
     gives(write(file, "whole", 5), 5, "a file without a name");
-    gives(inroot_link_fd(at, file, "in/whole", 0), 0, "it gets a name");
+    gives(inroot_link_fd(root, file, "in/whole", flags), 0, "it gets a name");
     gives(pread(file, text, 8, 0), 5, "it gets a name");
     gives_mode(mode_of("a/whole"), (S_IFREG | 0600), "and has its mode");
     close(file);
-    file = inroot_openat(at, "a", O_RDWR | O_TMPFILE | O_EXCL, 0600, 0);
-    gives(inroot_link_fd(at, file, "a/never", 0), -ENOENT, "one that is to have no name");
+    file = inroot_openat(root, "a", O_RDWR | O_TMPFILE | O_EXCL, 0600, flags);
+    gives(inroot_link_fd(root, file, "a/never", flags), -ENOENT, "one that is to have no name");
     close(file);
-    file = inroot_open(at, "l1", 0);
+    file = inroot_open(root, "l1", flags);
     sure(unlinkat(root, "l1", 0), "unlinkat");
-    gives(inroot_link_fd(at, file, "l7", 0), 0, "one of whose names one is removed");
+    gives(inroot_link_fd(root, file, "l7", flags), 0, "one of whose names one is removed");
     close(file);
-    gives(inroot_mkfile(at, "once", 0600, 0), 0, "a file");
-    file = inroot_open(at, "once", 0);
+    gives(inroot_mknod(root, "once", S_IFREG | 0600, 0, flags), 0, "a file");
+    file = inroot_open(root, "once", flags);
     sure(unlinkat(root, "once", 0), "unlinkat");
-    gives(inroot_link_fd(at, file, "l8", 0), -ENOENT, "one that is gone");
+    gives(inroot_link_fd(root, file, "l8", flags), -ENOENT, "one that is gone");
     close(file);
 }
 
 static void told(void)
 {
     struct stat about;
-    gives(inroot_stat(at, "in/f", &about, 0), 0, "a file");
+    gives(inroot_stat(root, "in/f", &about, flags), 0, "a file");
     gives((long)about.st_ino, (long)number_of("a/f"), "the inode of a file");
     gives_mode(about.st_mode & S_IFMT, S_IFREG, "the kind of a file");
-    gives(inroot_stat(at, "in", &about, 0), 0, "what a link leads to");
+    gives(inroot_stat(root, "in", &about, flags), 0, "what a link leads to");
     gives(about.st_ino, number_of("a"), "what a link leads to");
-    gives(inroot_stat(at, "in", &about, INROOT_NOFOLLOW), 0, "a link");
+    gives(inroot_stat(root, "in", &about, flags | INROOT_NOFOLLOW), 0, "a link");
     gives_mode(about.st_mode & S_IFMT, S_IFLNK, "the kind of a link");
-    gives(inroot_stat(at, "/", &about, 0), 0, "the root");
+    gives(inroot_stat(root, "/", &about, flags), 0, "the root");
     gives(about.st_ino, number_of("."), "the root");
-    gives(inroot_stat(at, "dangling", &about, 0), -ENOENT, "a link to nothing");
-    gives(inroot_stat(at, "a/f/x", &about, 0), -ENOTDIR, "below a file");
+    gives(inroot_stat(root, "dangling", &about, flags), -ENOENT, "a link to nothing");
+    gives(inroot_stat(root, "a/f/x", &about, flags), -ENOTDIR, "below a file");
     gives(inroot_stat(999, "a", &about, 0), -EBADF, "a root that isn't open");
-    gives(inroot_stat(at, "a", &about, INROOT_FOLLOW), -EINVAL, "a flag of another call");
+    gives(inroot_stat(root, "a", &about, flags | INROOT_FOLLOW), -EINVAL, "a flag of another call");
 }
 
 /* 256 bytes, which are no name. */
@@ -279,141 +279,79 @@ static void told(void)
 #define LONG SIXTEEN SIXTEEN SIXTEEN SIXTEEN SIXTEEN SIXTEEN SIXTEEN SIXTEEN SIXTEEN SIXTEEN SIXTEEN SIXTEEN SIXTEEN SIXTEEN \
     SIXTEEN SIXTEEN
 
-/* Why a call failed: the step, its name, and what was left. */
+/* Why a call failed: the step and its name. */
+static void tells(const char *step, const char *name, int number, const char *what)
+{
+    static const unsigned long long zeros[sizeof((struct inroot_error){0}.reserved) / sizeof(unsigned long long)];
+    struct inroot_error error;
+    memset(&error, 0xff, sizeof error);
+    gives(inroot_last_error(&error), 0, "%s: its last error", what);
+    gives(error.error, number, "%s: the error told", what);
+    gives_text(error.step, step, "%s: the step", what);
+    gives_text(error.name, name, "%s: the name", what);
+    expect(memcmp(error.reserved, zeros, sizeof zeros) == 0, "%s: what is reserved isn't zero", what);
+}
+
+/* Of a path of plain names the kernel says that one is missing, and not which. */
+static void why_of_missing(void)
+{
+    const char *name = flags & INROOT_EXACT ? "none" : "";
+    gives(inroot_open(root, "a/none/x/y", flags), -ENOENT, "a missing name");
+    tells("Open", name, ENOENT, "a missing name");
+}
+
 static void why(void)
 {
     static const struct {
         const char *path;
         int flags, error;
-        const char *step, *name, *rest, *at;
+        const char *step, *name;
     } cases[] = {
-        {"a/none/x/y", 0, ENOENT, "Open", "none", "none/x/y", "/a"},
-        {"in/none", 0, ENOENT, "Open", "none", "none", "/a"},
-        {"//a//..//none//x/", 0, ENOENT, "Open", "none", "none/x/.", "/"},
-        {"a/./../a/none", 0, ENOENT, "Open", "none", "none", "/a"},
-        {"a/f/x", 0, ENOTDIR, "Open", "f", "x", "/a/f"},
-        {"in/up/../../x", INROOT_BENEATH, EXDEV, "ReadLink", "", "up/../../x", "/"},
-        {"in/f", INROOT_BENEATH, EXDEV, "ReadLink", "", "f", "/"},
-        {"in/f", INROOT_BENEATH | INROOT_ONE_BY_ONE, EXDEV, "ReadLink", "", "f", "/"},
-        {"in/f", INROOT_BENEATH | INROOT_NO_MAGICLINKS, EXDEV, "ReadLink", "", "f", "/"},
-        {"tonone/x", 0, ENOENT, "Open", "nothere", "nothere/b/x", "/"},
-        {"in/f", INROOT_NO_LINKS, ELOOP, "Open", "in", "f", "/"},
-        {"n/./b/" LONG "/..", 0, ENAMETOOLONG, "Open", "b", LONG "/..", "/n/b"},
-        {"in/" LONG "/..", 0, ENAMETOOLONG, "Open", "a", LONG "/..", "/a"},
-        {LONG "/", 0, ENAMETOOLONG, "", "", LONG "/", ""},
-        {"a", 64, EINVAL, "", "", "a", ""},
-        {"a", -1, EINVAL, "", "", "a", ""},
+        {"in/none", 0, ENOENT, "Open", "none"},
+        {"//a//..//none//x/", 0, ENOENT, "Open", "none"},
+        {"a/./../a/none", 0, ENOENT, "Open", "none"},
+        {"a/f/x", 0, ENOTDIR, "Open", "f"},
+        {"in/up/../../x", INROOT_BENEATH, EXDEV, "ReadLink", ""},
+        {"in/f", INROOT_BENEATH, EXDEV, "ReadLink", ""},
+        {"tonone/x", 0, ENOENT, "Open", "nothere"},
+        {"in/f", INROOT_NO_LINKS, ELOOP, "Open", "in"},
+        {"n/./b/" LONG "/..", 0, ENAMETOOLONG, "Open", "b"},
+        {"in/" LONG "/..", 0, ENAMETOOLONG, "Open", "a"},
+        {LONG "/", 0, ENAMETOOLONG, "", ""},
+        {"a", 64, EINVAL, "", ""},
+        {"a", -1, EINVAL, "", ""},
     };
-    static const unsigned long long zeros[15];
-    struct inroot_error error;
-    memset(&error, 0xff, sizeof error);
     sure(mkdirat(root, "n/b", 0755), "n/b");
     for (size_t one = 0; one < sizeof cases / sizeof *cases; one++) {
-        gives(inroot_open(at, cases[one].path, cases[one].flags), -cases[one].error, "%s", cases[one].path);
-        gives(inroot_last_error(&error), 0, "%s: its last error", cases[one].path);
-        gives(error.error, cases[one].error, "%s: the error told", cases[one].path);
-        gives_text(error.step, cases[one].step, "%s: the step", cases[one].path);
-        gives_text(error.name, cases[one].name, "%s: the name", cases[one].path);
-        gives_text(error.rest, cases[one].rest, "%s: the rest", cases[one].path);
-        /* Behind a `..` to the root of a jail the driver may not know the names. */
-        if (error.at[0] != 0 || strstr(cases[one].path, "..") == NULL)
-            gives_text(error.at, cases[one].at, "%s: where the walk was", cases[one].path);
-        expect(memcmp(error.reserved, zeros, sizeof zeros) == 0, "%s: what is reserved isn't zero", cases[one].path);
+        gives(inroot_open(root, cases[one].path, flags | cases[one].flags), -cases[one].error, "%s", cases[one].path);
+        tells(cases[one].step, cases[one].name, cases[one].error, cases[one].path);
     }
-    gives(inroot_mkdir(at, "n/b/.././b", 0700, 0), -EEXIST, "a directory that is there, behind `.`");
-    gives(inroot_last_error(&error), 0, "a directory that is there, behind `.`");
-    gives_text(error.rest, "b", "a directory that is there, behind `.`: the rest");
+    why_of_missing();
+    gives(inroot_mkdir(root, "in/f", 0700, flags), -EEXIST, "a directory where a file is");
+    tells("MakeDir", "f", EEXIST, "a directory where a file is");
+    gives(inroot_mkdir_all(root, "in/f/x", 0700, flags), -ENOTDIR, "directories below a file");
+    tells("Open", "f", ENOTDIR, "directories below a file");
+    gives(closed(inroot_openat(root, "a", O_WRONLY, 0, flags)), -EISDIR, "a directory to be written");
+    tells("Reopen", "", EISDIR, "a directory to be written");
+    gives(inroot_rename(root, "a/f", "none/x", 0, flags), -ENOENT, "a rename");
+    tells("Open", flags & INROOT_EXACT ? "none" : "", ENOENT, "a rename");
     sure(unlinkat(root, "n/b", AT_REMOVEDIR), "n/b");
-    gives(sizeof error, 4496, "bytes of the structure of an error");
-    gives(inroot_mkdir(at, "in/f", 0700, 0), -EEXIST, "a directory where a file is");
-    gives(inroot_last_error(&error), 0, "a directory where a file is");
-    gives_text(error.step, "MakeDir", "a directory where a file is: the step");
-    gives_text(error.name, "f", "a directory where a file is: the name");
-    gives_text(error.rest, "f", "a directory where a file is: the rest");
-    gives(inroot_mkdir(at, "in/none/./x/", 0700, 0), -ENOENT, "a directory below nothing");
-    gives(inroot_last_error(&error), 0, "a directory below nothing");
-    gives_text(error.rest, "none/./x", "a directory below nothing: the rest");
-    gives_text(error.at, "/a", "a directory below nothing: where the walk was");
-    gives(inroot_mkdir_all(at, "in/f/x", 0700, 0), -ENOTDIR, "directories below a file");
-    gives(inroot_last_error(&error), 0, "directories below a file");
-    gives_text(error.rest, "x", "directories below a file: the rest");
-    gives(closed(inroot_openat(at, "a", O_WRONLY, 0, 0)), -EISDIR, "a directory to be written");
-    gives(inroot_last_error(&error), 0, "a directory to be written");
-    gives(error.error, EISDIR, "a directory to be written: the error told");
-    gives_text(error.step, "Reopen", "a directory to be written: the step");
-    gives(inroot_rename(at, "a/f", "none/x", 0, 0), -ENOENT, "a rename");
-    gives(inroot_last_error(&error), 0, "a rename");
-    gives_text(error.step, "Open", "a rename: the step");
-    gives_text(error.name, "none", "a rename: the name");
-    gives_text(error.rest, "", "a rename: the rest");
 }
 
 /* The same of calls that walk no path: each takes the place of what was told before. */
-static void why_without_path(int which, int wanted)
-{
-    struct inroot_root *kept;
-    struct inroot_error error;
-    gives(inroot_open(at, "none", 0), -ENOENT, "what isn't there");
-    int got;
-    switch (which) {
-    case 0: got = inroot_jail_with(999, 1); break;
-    case 1: got = inroot_jail(999); break;
-    case 2: got = inroot_use_proc(999); break;
-    case 3: got = inroot_use_private_proc(); break;
-    case 4: got = inroot_root_open("/", 1, &kept); break;
-    default: got = inroot_at_end(-70000);
-    }
-    gives(got, -wanted, "call %d without a path", which);
-    gives(inroot_last_error(&error), 0, "call %d without a path", which);
-    gives(error.error, wanted, "the error told of call %d without a path", which);
-    gives_text(error.step, "", "the step of call %d without a path", which);
-}
-
 static void why_beside(void)
 {
-    const int wanted[] = {EINVAL, at == INROOT_JAIL ? EBUSY : EBADF, EBADF, EBUSY, EINVAL, EBADF};
-    for (int which = 0; which < 6; which++)
-        why_without_path(which, wanted[which]);
+    gives(inroot_open(root, "none", flags), -ENOENT, "what isn't there");
+    gives(inroot_use_proc(999), -EBADF, "a /proc that isn't open");
+    tells("", "", EBADF, "a /proc that isn't open");
+    gives(inroot_use_private_proc(), -EBUSY, "a second /proc");
+    tells("", "", EBUSY, "a second /proc");
 }
 
-static void *untold(void *unused)
+static void untold(void)
 {
     struct inroot_error error;
     gives(inroot_last_error(&error), -ENODATA, "a thread whose calls have not failed");
-    return unused;
-}
-
-static void *in_thread(void *self)
-{
-    int fd = inroot_root_fd(self);
-    for (int turn = 0; turn < 200; turn++)
-        gives(closed(inroot_open(fd, "in/f", 0)), 0, "a kept root in a thread");
-    return untold(NULL);
-}
-
-static void kept_roots(void)
-{
-    struct inroot_root *kept = NULL;
-    pthread_t threads[4];
-    char file[PATH_MAX + 8];
-    snprintf(file, sizeof file, "%s/a/f", where);
-    gives(inroot_root_open(where, 1, &kept), -EINVAL, "a flag that is none");
-    expect(kept == NULL, "a flag that is none");
-    gives(inroot_root_open("/nowhere/at/all", 0, &kept), -ENOENT, "a root that isn't there");
-    expect(kept == NULL, "a root that isn't there");
-    gives(inroot_root_open(file, 0, &kept), -ENOTDIR, "a root that is a file");
-    expect(kept == NULL, "a root that is a file");
-    gives(inroot_root_open("", 0, &kept), -ENOENT, "a root without a name");
-    expect(kept == NULL, "a root without a name");
-    gives(inroot_root_open(where, 0, &kept), 0, "a root");
-    expect(kept != NULL, "a root");
-    gives(fcntl(inroot_root_fd(kept), F_GETFD), FD_CLOEXEC, "its flag FD_CLOEXEC");
-    for (int one = 0; one < 4; one++)
-        pthread_create(&threads[one], NULL, in_thread, kept);
-    for (int one = 0; one < 4; one++)
-        pthread_join(threads[one], NULL);
-    inroot_root_close(kept);
-    inroot_root_close(NULL);
 }
 
 static void make_tree(void)
@@ -436,10 +374,10 @@ static void make_tree(void)
 static void each(void)
 {
     static void (*const parts[])(void) = {
-        flags, again, interrupted, rights, nodes, told, why, why_beside, modes, second_names,
+        wrong_flags, again, interrupted, rights, nodes, told, why, why_beside, modes, second_names,
     };
     int before = open_descriptors();
-    untold(NULL);
+    untold();
     for (size_t part = 0; part < sizeof parts / sizeof *parts; part++) {
         parts[part]();
         gives(open_descriptors(), before, "part %zu: open descriptors", part);
@@ -456,25 +394,16 @@ static void begin(const char *name)
     make_tree();
 }
 
-static void by_proc(void)
+static void by_kernel(void)
 {
-    begin("proc");
-    at = root;
+    begin("kernel");
     each();
-    int before = open_descriptors();
-    kept_roots();
-    gives(open_descriptors(), before, "a kept root: open descriptors");
 }
 
-static void in_jail(void)
+static void exactly(void)
 {
-    begin("jail");
-    at = INROOT_JAIL;
-    int failed = inroot_jail(root);
-    if (failed == -EPERM)
-        _exit(NO_RIGHT);
-    errno = -failed;
-    sure(failed, "inroot_jail");
+    begin("exact");
+    flags = INROOT_EXACT;
     each();
 }
 
@@ -494,8 +423,8 @@ int main(int count, char **words)
         return 2;
     open_proc();
     versions();
-    apart(by_proc);
-    int skipped = apart(in_jail);
+    apart(by_kernel);
+    apart(exactly);
     printf("calls: %d not as they are to be\n", wrong);
-    return wrong != 0 ? 1 : skipped != 0 || may_be_nobody() ? skipped : NO_RIGHT;
+    return wrong != 0 ? 1 : may_be_nobody() ? 0 : NO_RIGHT;
 }

@@ -5,7 +5,7 @@
  * which leaves links to each. And a directory whose name ends in ` (deleted)`, which the kernel writes of what was removed, is
  * opened only if the driver can find out that it is there. To be linked with --wrap=openat.
  *
- * usage: dead DIR. Exits 0 where that holds. 78: no right to mount, so that overlayfs or a cgroup2 is left out, or to change a root.
+ * usage: dead DIR. Exits 0 where that holds. 78: no right to mount, so that overlayfs or a cgroup2 is left out.
  */
 #define _GNU_SOURCE
 #include "support.h"
@@ -19,7 +19,7 @@
 #include <sys/stat.h>
 
 static char where[PATH_MAX];
-static int root, at;
+static int root;
 static const char *removed, *file = "f";
 
 static int my_openat(int dir, const char *name, int flags, mode_t mode)
@@ -38,17 +38,17 @@ static void one(const char *what, const char *name)
 {
     char path[64];
     snprintf(path, sizeof path, "%s/../%s", name, file);
-    int fd = inroot_open(at, path, INROOT_ONE_BY_ONE);
+    int fd = inroot_open(root, path, INROOT_EXACT);
     gives_fd(fd, "%s, %s: what stands", what, name);
     close(fd);
     removed = name;
-    fd = inroot_open(at, path, INROOT_ONE_BY_ONE | INROOT_NO_RETRY);
+    fd = inroot_open(root, path, INROOT_EXACT | INROOT_NO_RETRY);
     gives(fd, -EAGAIN, "%s, %s: what was above it by one try", what, name);
     expect(removed == NULL, "%s, %s: it was removed meanwhile", what, name);
     if (fd >= 0)
         close(fd);
     removed = NULL;
-    gives(inroot_open(at, path, INROOT_ONE_BY_ONE), -ENOENT, "%s, %s: by another try", what, name);
+    gives(inroot_open(root, path, INROOT_EXACT), -ENOENT, "%s, %s: by another try", what, name);
 }
 
 static void each(const char *what)
@@ -58,18 +58,9 @@ static void each(const char *what)
         one(what, names[name]);
 }
 
-static void by_proc(void)
+static void with_exact(void)
 {
-    at = root;
-    each("by /proc");
-}
-
-static void in_jail(void)
-{
-    if (inroot_jail(root) != 0)
-        _exit(NO_RIGHT);
-    at = INROOT_JAIL;
-    each("in a jail");
+    each("with INROOT_EXACT");
 }
 
 static void make(const char *first, const char *second)
@@ -130,23 +121,16 @@ static void on_cgroup2(void)
     for (size_t one = 0; one < sizeof names / sizeof *names; one++)
         sure(mkdirat(root, names[one], 0755), names[one]);
     file = "cgroup.procs";
-    at = root;
     each("on a cgroup2");
     for (size_t one = 0; one < sizeof names / sizeof *names; one++)
         unlinkat(root, names[one], AT_REMOVEDIR);
     sure(unlinkat(top, target, AT_REMOVEDIR), target);
 }
 
-static void by_proc_on_overlay(void)
+static void on_overlay_alone(void)
 {
     on_overlay("one");
-    by_proc();
-}
-
-static void in_jail_on_overlay(void)
-{
-    on_overlay("two");
-    in_jail();
+    with_exact();
 }
 
 static void opens_or_fails(const char *path, int flags, int wanted, const char *what)
@@ -164,9 +148,9 @@ static void called_so(int unread)
     sure(mkdirat(root, "u (deleted)", 0311), "u (deleted)");
     if (setresuid(65534, 65534, 65534) != 0)
         _exit(NO_RIGHT);
-    gives_fd(inroot_open(root, "s (deleted)", INROOT_NO_RETRY), "a directory that is called so");
-    opens_or_fails("u (deleted)", INROOT_NO_RETRY, unread, "one that may not be read");
-    opens_or_fails("u (deleted)", INROOT_ONE_BY_ONE | INROOT_NO_RETRY, unread, "the same, name by name");
+    gives_fd(inroot_open(root, "s (deleted)", INROOT_EXACT | INROOT_NO_RETRY), "a directory that is called so");
+    opens_or_fails("u (deleted)", INROOT_EXACT | INROOT_NO_RETRY, unread, "one that may not be read");
+    opens_or_fails("u (deleted)", INROOT_NO_RETRY, 0, "the same by the kernel's walk");
 }
 
 static void called_so_on_overlay(void)
@@ -185,11 +169,9 @@ int main(int count, char **words)
     if (count != 2 || realpath(words[1], where) == NULL)
         return 2;
     open_proc();
-    int skipped = apart(by_proc_on_overlay);
+    int skipped = apart(on_overlay_alone);
     if (skipped != 0)
         puts("dead: overlayfs can't be mounted here");
-    else
-        apart(in_jail_on_overlay);
     if (skipped == 0 && may_be_nobody())
         apart(called_so_on_overlay);
     const int no_groups = apart(on_cgroup2);
@@ -197,10 +179,8 @@ int main(int count, char **words)
         puts("dead: a cgroup2 can't be mounted here, or has no new groups");
     skipped |= no_groups;
     here("three");
-    apart(by_proc);
+    apart(with_exact);
     skipped |= may_be_nobody() ? apart(called_so_here) : NO_RIGHT;
-    here("four");
-    skipped |= apart(in_jail);
     printf("dead: %d not as they are to be\n", wrong);
     return wrong != 0 ? 1 : skipped;
 }

@@ -29,12 +29,12 @@ static int by_kernel(int root, const char *path, int flags)
 }
 
 /* What each gives: an error, or 0 where something was opened. */
-static void each(int root, const char *path, int kernel, int here, int below)
+static void each(int root, const char *path, int kernel, int exact, int here)
 {
-    int one = by_kernel(root, path, O_PATH), other = inroot_open(root, path, 0), third = inroot_open(root, path, INROOT_BELOW);
+    int one = by_kernel(root, path, O_PATH), other = inroot_open(root, path, INROOT_EXACT), third = inroot_open(root, path, 0);
     gives((one < 0 ? one : 0), kernel, "%s by openat2(2)", path);
-    gives((other < 0 ? other : 0), here, "%s by inroot_open()", path);
-    gives((third < 0 ? third : 0), below, "%s by inroot_open() with INROOT_BELOW", path);
+    gives((other < 0 ? other : 0), exact, "%s by inroot_open() with INROOT_EXACT", path);
+    gives((third < 0 ? third : 0), here, "%s by inroot_open()", path);
 }
 
 static void both(int root, const char *path, int kernel, int here)
@@ -50,7 +50,7 @@ static void links(void)
     sure(mknodat(root, "g (deleted)", S_IFREG | 0600, 0), "g");
     each(root, "g (deleted)", 0, -EAGAIN, 0);
     both(root, "dangling", -ENOENT, -ENOENT);
-    gives(inroot_mkfile(root, "dangling", 0644, 0), -EEXIST, "a file at a dangling link");
+    gives(inroot_mknod(root, "dangling", S_IFREG | 0644, 0, 0), -EEXIST, "a file at a dangling link");
     gives(by_kernel(root, "dangling", O_CREAT | O_EXCL | O_WRONLY), -EEXIST, "the kernel's O_EXCL at a dangling link");
     gives(inroot_mkdir_all(root, "dangling", 0755, 0), -ENOENT, "directories at a dangling link");
     gives(inroot_mkdir_all(root, "made/../dangling/x", 0755, 0), -ENOENT, "directories below a dangling link");
@@ -80,7 +80,7 @@ static void shut_directories(void)
     sure(seteuid(user), "seteuid");
     sure(chmod(where, 0), where);
     be_a_user();
-    both(root, "/", 0, -EACCES);
+    each(root, "/", 0, -EACCES, -EACCES);
 }
 
 static void magic_links(void)
@@ -92,8 +92,8 @@ static void magic_links(void)
     sure(mkdir("proc", 0755), "proc");
     if (mount("proc", "proc", "proc", 0, NULL) != 0)
         _exit(NO_RIGHT);
-    both(base, "proc/self/exe", -EXDEV, -ENOENT);
-    both(base, "proc/self/root/x", -EXDEV, -ENOENT);
+    both(base, "proc/self/exe", -EXDEV, -ELOOP);
+    both(base, "proc/self/root/x", -EXDEV, -ELOOP);
     both(base, "proc/self/status", 0, 0);
     both(base, "proc/thread-self", 0, 0);
 }
@@ -116,7 +116,7 @@ static void deep(void)
     for (int at = 0; at < 15; at++)
         strcat(strcat(path, at > 0 ? "/" : ""), name);
     int half = sure(inroot_open(root, path, 0), "half of the way");
-    /* The last check alone asks for no path. */
+    /* The kernel's walk asks for no path. */
     each(half, path, 0, -ENAMETOOLONG, 0);
     gives(inroot_remove_all(root, name, 0), 31, "what is deeper than a path is long");
 }

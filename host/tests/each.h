@@ -29,43 +29,6 @@ static int publish(int root)
     return failed;
 }
 
-static int keep_root(void)
-{
-    struct inroot_root *kept;
-    int failed = inroot_root_open("/", 0, &kept);
-    inroot_root_close(kept);
-    return failed;
-}
-
-/* A call from the directory of `a/link`, by a number that stands for it. */
-static int from_link(int root, int (*make)(int at))
-{
-    int at, dir = inroot_open(root, "a/link", 0);
-    int result = dir < 0 ? dir : inroot_at_begin(root, dir, &at);
-    if (result == 0) {
-        result = make(at);
-        inroot_at_end(at);
-    }
-    if (dir >= 0)
-        close(dir);
-    return result;
-}
-
-static int open_from(int at)
-{
-    return inroot_open(at, ".././b/f", 0);
-}
-
-static int make_from(int at)
-{
-    return inroot_mkfile(at, "new", 0644, INROOT_GIVE);
-}
-
-static int rename_from(int at)
-{
-    return inroot_rename(at, "f", "../g", INROOT_NOREPLACE, 0);
-}
-
 static int place_of_link(int root)
 {
     char place[64];
@@ -74,23 +37,6 @@ static int place_of_link(int root)
     if (fd >= 0)
         close(fd);
     return (int)length;
-}
-
-/* Walks over a tree; what isn't gone into counts as the call's error. */
-static int walk_over(int root)
-{
-    struct inroot_walk *walk;
-    struct inroot_walk_entry entry;
-    int found = inroot_walk_open(root, "a/b", 0, 0, &walk);
-    if (found < 0)
-        return found;
-    while ((found = inroot_walk_next(walk, &entry)) == 1)
-        if (entry.error != 0) {
-            found = -entry.error;
-            break;
-        }
-    inroot_walk_close(walk);
-    return found;
 }
 
 /* What was found gets the mode and the times that it has. */
@@ -114,7 +60,7 @@ static int call(int root, int number)
     case 0: return inroot_open(root, "a/link/../b/./f", 0);
     case 1: return inroot_open(root, "a/b/none", 0);
     case 2: return (int)inroot_readlink(root, "a/link", 0, text, sizeof text);
-    case 3: return inroot_mkfile(root, "a/link/new", 0644, 0);
+    case 3: return inroot_mknod(root, "a/link/new", S_IFREG | 0644, 0, 0);
     case 4: return inroot_mkdir(root, "a/link/newdir/", 0755, 0);
     case 5: return inroot_symlink(root, "some/text", "a/newlink", 0);
     case 6: return inroot_rename(root, "a/b/f", "/a/g", INROOT_NOREPLACE, 0);
@@ -131,33 +77,26 @@ static int call(int root, int number)
     case 17: return inroot_link(root, "a/link", "a/newlink", 0);
     case 18: return inroot_stat(root, "a/link/f", &about, 0);
     case 19: return publish(root);
-    case 20: return keep_root();
-    case 21: return (int)inroot_remove_all(root, "a/deep", 0);
-    case 22: return from_link(root, rename_from);
-    case 23: return place_of_link(root);
-    case 24: return inroot_open_parent(root, "a/link/new", 0, text);
-    case 25: return from_link(root, open_from);
-    case 26: return from_link(root, make_from);
-    case 27: return inroot_mkdir(root, "a/link/newdir/", 0755, INROOT_GIVE);
-    case 28: return inroot_symlink(root, "some/text", "a/newlink", INROOT_GIVE);
-    case 29: return inroot_link(root, "a/link/f", "a/newlink", INROOT_GIVE);
-    case 30: return inroot_mkfile_all(root, "a/link/new/er/file", 0644, 0755, 0);
-    case 31: return inroot_mkfile_all(root, "a/dangling", 0644, 0755, INROOT_FOLLOW);
-    case 32: return inroot_mkdir_all(root, "a/dangling/x", 0755, INROOT_FOLLOW);
-    case 33: return inroot_open_partial(root, "a/link/none/x", 0, text, sizeof text);
-    case 34: return inroot_openat(root, "a/link/new", O_PATH | O_CREAT, 0600, 0);
-    case 35: return inroot_open(root, "a/link/f", INROOT_NO_MAGICLINKS);
-    case 36: return walk_over(root);
-    case 37: return change(root);
+    case 20: return (int)inroot_remove_all(root, "a/deep", 0);
+    case 21: return place_of_link(root);
+    case 22: return inroot_open_parent(root, "a/link/new", 0, text);
+    case 23: return inroot_mkdir(root, "a/link/newdir/", 0755, INROOT_GIVE);
+    case 24: return inroot_symlink(root, "some/text", "a/newlink", INROOT_GIVE);
+    case 25: return inroot_link(root, "a/link/f", "a/newlink", INROOT_GIVE);
+    case 26: return inroot_mkfile_all(root, "a/link/new/er/file", 0644, 0755, 0);
+    case 27: return inroot_mkfile_all(root, "a/dangling", 0644, 0755, INROOT_FOLLOW);
+    case 28: return inroot_mkdir_all(root, "a/dangling/x", 0755, INROOT_FOLLOW);
+    case 29: return inroot_openat(root, "a/link/new", O_PATH | O_CREAT, 0600, 0);
+    case 30: return change(root);
     default: return (int)inroot_remove_all(root, "a/b", 0);
     }
 }
 
-enum { CALLS = 39 };
+enum { CALLS = 32 };
 
 static bool opens(int number)
 {
-    return number < 2 || (number >= 9 && number <= 14) || (number >= 24 && number <= 35);
+    return number < 2 || (number >= 9 && number <= 14) || (number >= 22 && number <= 29);
 }
 
 /* More levels than a call has handles for at first. */
@@ -200,7 +139,6 @@ __attribute__((unused)) static bool same(int a, int b)
 /* The tree below the root. */
 static void make_tree(int root)
 {
-    keep_proc();
     sure(mkdirat(root, "a", 0755), "a");
     sure(mkdirat(root, "a/b", 0755), "a/b");
     sure(mknodat(root, "a/b/f", S_IFREG | 0600, 0), "a/b/f");

@@ -2,8 +2,7 @@
  * errors: what a call gives for a bad root before anything else, what it opens, and what the kernel's words for what is
  * removed are taken for.
  *
- * usage: errors DIR. Exits 0 where each is as inroot.h says. 78: no right to become nobody, or to change a root, so that a part
- * is left out.
+ * usage: errors DIR. Exits 0 where each is as inroot.h says. 78: no right to become nobody, so that a part is left out.
  */
 #define _GNU_SOURCE
 #include "support.h"
@@ -48,11 +47,13 @@ static void bad_roots(void)
     for (size_t at = 0; at < sizeof paths / sizeof *paths; at++) {
         const char *path = paths[at];
         gives(closed(inroot_open(999, path, 0)), -EBADF, "a root that isn't open, %s", path);
-        gives(closed(inroot_open(INROOT_JAIL, path, 0)), -EBADF, "no jail, %s", path);
+        gives(closed(inroot_open(-2, path, 0)), -EBADF, "a number that is no descriptor, %s", path);
+        gives(closed(inroot_open(999, path, INROOT_EXACT)), -EBADF, "a root that isn't open, exactly, %s", path);
+        gives(closed(inroot_open(file, path, INROOT_EXACT)), -ENOTDIR, "a root that is a file, exactly, %s", path);
         gives(closed(inroot_open(file, path, 0)), -ENOTDIR, "a root that is a file, %s", path);
         gives(closed(inroot_open(file, path, INROOT_BENEATH)), -ENOTDIR, "a root that is a file, beneath, %s", path);
         gives(closed(inroot_open(999, path, 64)), -EINVAL, "a flag that is none, %s", path);
-        gives(inroot_mkfile(999, path, 0644, 0), -EBADF, "a file below what isn't open, %s", path);
+        gives(inroot_mknod(999, path, S_IFREG | 0644, 0, 0), -EBADF, "a file below what isn't open, %s", path);
         gives(inroot_rename(file, path, path, 0, 0), -ENOTDIR, "a rename below a file, %s", path);
         gives(inroot_remove_all(file, path, 0), -ENOTDIR, "a tree below a file, %s", path);
         gives(inroot_readlink(file, path, 0, text, sizeof text), -ENOTDIR, "a link below a file, %s", path);
@@ -65,8 +66,6 @@ static void bad_roots(void)
         gives(inroot_open_parent(file, path, 0, last), -ENOTDIR, "a parent below a file, %s", path);
         gives_text(last, "", "the name in a parent below a file, %s", path);
         gives(inroot_open_parent(999, path, 0, last), -EBADF, "a parent below what isn't open, %s", path);
-        gives(inroot_open_partial(file, path, 0, last, sizeof last), -ENOTDIR, "a part below a file, %s", path);
-        gives(inroot_open_partial(999, path, 0, last, sizeof last), -EBADF, "a part below what isn't open, %s", path);
         for (int follow = 0; follow <= INROOT_FOLLOW; follow += INROOT_FOLLOW) {
             gives(inroot_mkfile_all(file, path, 0600, 0700, follow), -ENOTDIR, "a file and all below a file, %s", path);
             gives(inroot_mkfile_all(999, path, 0600, 0700, follow), -EBADF, "a file and all below none, %s", path);
@@ -87,26 +86,22 @@ static void bad_roots(void)
 /* A flag that no call has is refused before anything is asked of the root. */
 static void unknown_flags(void)
 {
-    const unsigned known = INROOT_BENEATH | INROOT_NO_LINKS | INROOT_NOFOLLOW | INROOT_NO_RETRY | INROOT_FOLLOW |
-                           INROOT_ONE_BY_ONE | INROOT_NO_XDEV | INROOT_NO_MAGICLINKS | INROOT_GIVE |
-                           INROOT_BELOW;
+    const unsigned known = INROOT_BENEATH | INROOT_NO_LINKS | INROOT_NOFOLLOW | INROOT_NO_RETRY | INROOT_FOLLOW | INROOT_NO_XDEV |
+                           INROOT_GIVE | INROOT_EXACT;
     for (unsigned bit = 0; bit < 31; bit++) {
         int flag = (int)(1u << bit);
         int got = closed(inroot_open(999, "a", flag));
         bool is_opens = (known & ~(unsigned)(INROOT_FOLLOW | INROOT_GIVE)) >> bit & 1;
         gives(got, (is_opens ? -EBADF : -EINVAL), "inroot_open() with the flag 2^%u", bit);
         got = inroot_mkdir(999, "a", 0755, flag);
-        bool is_makes = (known & ~(unsigned)(INROOT_FOLLOW | INROOT_NOFOLLOW | INROOT_BELOW)) >> bit & 1;
+        bool is_makes = (known & ~(unsigned)(INROOT_FOLLOW | INROOT_NOFOLLOW)) >> bit & 1;
         gives(got, (is_makes ? -EBADF : -EINVAL), "inroot_mkdir() with the flag 2^%u", bit);
         char text[256];
         got = inroot_open_parent(999, "a", flag, text);
         bool is_parent = ((known & ~(unsigned)(INROOT_FOLLOW | INROOT_NOFOLLOW | INROOT_GIVE)) | INROOT_DIRECTORY) >> bit & 1;
         gives(got, (is_parent ? -EBADF : -EINVAL), "inroot_open_parent() with the flag 2^%u", bit);
-        got = inroot_open_partial(999, "a", flag, text, sizeof text);
-        bool is_partial = is_opens && flag != INROOT_BELOW;
-        gives(got, (is_partial ? -EBADF : -EINVAL), "inroot_open_partial() with the flag 2^%u", bit);
         got = inroot_mkfile_all(999, "a", 0600, 0700, flag);
-        bool is_all = (known & ~(unsigned)(INROOT_NOFOLLOW | INROOT_GIVE | INROOT_BELOW)) >> bit & 1;
+        bool is_all = (known & ~(unsigned)(INROOT_NOFOLLOW | INROOT_GIVE)) >> bit & 1;
         gives(got, (is_all ? -EBADF : -EINVAL), "inroot_mkfile_all() with the flag 2^%u", bit);
         got = inroot_mkdir_all(999, "a", 0700, flag);
         gives(got, (is_all ? -EBADF : -EINVAL), "inroot_mkdir_all() with the flag 2^%u", bit);
@@ -130,26 +125,27 @@ static void opened_alone(void)
     close(root);
 }
 
-/* The kernel's text of a file of such a name may be that of a removed one. It is made, renamed and removed as any other. */
+/*
+ * The kernel's text of a file of such a name may be that of a removed one: nobody can say where it stands. By the kernel's walk it is
+ * opened, made, renamed and removed as any other.
+ */
 static void files_called_so(int root)
 {
     struct stat about;
     char place[64];
-    const int below = has_openat2() ? 0 : -EAGAIN;
     int file = sure(openat(root, "g (deleted)", O_PATH | O_CLOEXEC), "openat");
     gives(inroot_place(root, file, place, sizeof place), -EXDEV, "the place of a file that is called so");
     close(file);
-    gives(closed(inroot_open(root, "g (deleted)", INROOT_NO_RETRY)), -EAGAIN, "a file that is called so");
-    gives(closed(inroot_open(root, "d/../g (deleted)", INROOT_NO_RETRY)), -EAGAIN, "the same, by steps");
-    gives(closed(inroot_open(root, "g (deleted)", INROOT_NO_RETRY | INROOT_BELOW)), below, "the same by the last check");
-    gives(closed(inroot_openat(root, "g (deleted)", O_RDONLY, 0, INROOT_NO_RETRY)), -EAGAIN, "the same to be read");
-    gives(closed(inroot_openat(root, "g (deleted)", O_RDONLY, 0, INROOT_NO_RETRY | INROOT_BELOW)), below,
-          "the same to be read, by the last check");
-    gives(inroot_stat(root, "g (deleted)", &about, INROOT_NO_RETRY), -EAGAIN, "the same, looked at");
-    gives(inroot_link(root, "g (deleted)", "h", INROOT_NO_RETRY), -EAGAIN, "a name for the same");
-    gives(inroot_mkfile(root, "i (deleted)", 0600, 0), 0, "a new file that is called so");
-    gives(inroot_rename(root, "i (deleted)", "j (deleted)", 0, 0), 0, "a name that ends so for another");
-    gives(inroot_unlink(root, "j (deleted)", 0), 0, "a file that is called so, removed");
+    gives(closed(inroot_open(root, "g (deleted)", INROOT_EXACT | INROOT_NO_RETRY)), -EAGAIN, "a file that is called so, exactly");
+    gives(closed(inroot_open(root, "d/../g (deleted)", INROOT_EXACT | INROOT_NO_RETRY)), -EAGAIN, "the same behind `..`, exactly");
+    gives(closed(inroot_open(root, "g (deleted)", INROOT_NO_RETRY)), 0, "the same by the kernel's walk");
+    gives(closed(inroot_openat(root, "g (deleted)", O_RDONLY, 0, INROOT_EXACT | INROOT_NO_RETRY)), -EAGAIN, "the same to be read, exactly");
+    gives(closed(inroot_openat(root, "g (deleted)", O_RDONLY, 0, INROOT_NO_RETRY)), 0, "the same to be read, by the kernel's walk");
+    gives(inroot_stat(root, "g (deleted)", &about, INROOT_EXACT | INROOT_NO_RETRY), -EAGAIN, "the same, looked at exactly");
+    gives(inroot_link(root, "g (deleted)", "h", INROOT_EXACT | INROOT_NO_RETRY), -EAGAIN, "a name for the same, exactly");
+    gives(inroot_mknod(root, "i (deleted)", S_IFREG | 0600, 0, INROOT_EXACT), 0, "a new file that is called so");
+    gives(inroot_rename(root, "i (deleted)", "j (deleted)", 0, INROOT_EXACT), 0, "a name that ends so for another");
+    gives(inroot_unlink(root, "j (deleted)", INROOT_EXACT), 0, "a file that is called so, removed");
 }
 
 /* Names that end as the kernel writes of what is removed. */
@@ -179,41 +175,25 @@ static void deleted_names(void)
     close(root);
 }
 
-/*
- * As nobody: a directory that may not be searched is opened where the path ends, and leads nowhere. By /proc, or in a jail
- * by these flags.
- */
-static void shut_directories(bool in_jail, int flags)
+/* As nobody: a directory that may not be searched is opened where the path ends, and leads nowhere. */
+static void shut_directories(int flags)
 {
-    int root = sure(openat(base, "open", O_PATH | O_DIRECTORY | O_CLOEXEC), "open"), at = root;
-    if (in_jail) {
-        jail_or_end(root, flags);
-        at = INROOT_JAIL;
-    }
-    if (seteuid(65534) != 0)
-        exit(1);
-    gives(closed(inroot_open(at, "shut", 0)), 0, "a directory that may not be searched");
-    gives(closed(inroot_open(at, "sub/shut", 0)), 0, "the same, deeper");
-    gives(closed(inroot_open(at, "shut/x", 0)), -EACCES, "what is in it");
-    gives(closed(inroot_open(at, "shut/..", 0)), -EACCES, "what is above it");
-    gives(closed(inroot_open(at, "sub/../sub", 0)), 0, "what may be searched");
-    gives(closed(inroot_open(at, "sub/file", 0)), 0, "a file in it");
+    int root = sure(openat(base, "open", O_PATH | O_DIRECTORY | O_CLOEXEC), "open");
+    gives(closed(inroot_open(root, "shut", flags)), 0, "a directory that may not be searched");
+    gives(closed(inroot_open(root, "sub/shut", flags)), 0, "the same, deeper");
+    gives(closed(inroot_open(root, "shut/x", flags)), -EACCES, "what is in it");
+    gives(closed(inroot_open(root, "shut/..", flags)), -EACCES, "what is above it");
+    gives(closed(inroot_open(root, "sub/../sub", flags)), 0, "what may be searched");
+    gives(closed(inroot_open(root, "sub/file", flags)), 0, "a file in it");
     close(root);
 }
 
-static void shut_by_proc(void)
+static void shut_to_nobody(void)
 {
-    shut_directories(false, 0);
-}
-
-static void shut_in_jail(void)
-{
-    shut_directories(true, 0);
-}
-
-static void shut_in_trusting_jail(void)
-{
-    shut_directories(true, INROOT_TRUST_PROC);
+    if (setresuid(65534, 65534, 65534) != 0)
+        exit(1);
+    shut_directories(0);
+    shut_directories(INROOT_EXACT);
 }
 
 int main(int count, char **words)
@@ -235,11 +215,7 @@ int main(int count, char **words)
     bad_roots();
     opened_alone();
     deleted_names();
-    int skipped = NO_RIGHT;
-    if (may_be_nobody()) {
-        apart(shut_by_proc);
-        skipped = apart(shut_in_jail) | apart(shut_in_trusting_jail);
-    }
+    int skipped = may_be_nobody() ? apart(shut_to_nobody) : NO_RIGHT;
     int left = open_descriptors() - before;
     printf("errors: %d not as they are to be, %d descriptors left open\n", wrong, left);
     return wrong != 0 || left != 0 ? 1 : skipped;

@@ -1,13 +1,11 @@
 /*
  * facts: what the driver tells the proved library is so. A C library that has no statx(2) gives what fstat(2) says, and leaves
- * the rest alone: nobody takes that for a mount. A filter may have statx(2) do nothing, and say that it was made: nobody takes two
- * objects for one by that. What a signal interrupts is read again. `..` of a directory that somebody moved
- * out of its mount is ENOENT: nobody takes it for removed; and of the top of a mount that was taken off it is that top itself:
- * nobody goes on there. What a look-up has opened is no copy of the program's descriptor, though it may get the number of one
- * that was closed.
+ * the rest alone; a filter may have statx(2) do nothing, and say that it was made: nobody takes either for a mount, or two objects
+ * for one by that. `..` of a directory that somebody moved out of its mount is ENOENT: nobody takes it for removed; and of the top
+ * of a mount that was taken off it is that top itself: nobody goes on there.
  *
  * usage: facts DIR. Exits 0 where that holds. 77: no openat2(2) here. 78: no right to do what it takes. To be linked with
- * --wrap=statx, --wrap=openat, --wrap=fstat and --wrap=read.
+ * --wrap=statx, --wrap=fstat and --wrap=openat.
  */
 #define _GNU_SOURCE
 #include "filter.h"
@@ -58,65 +56,33 @@ __attribute__((noinline)) static void fill_stack(void)
         bytes[at] = 0xff;
 }
 
-static void opens(int at, const char *path, int flags, const char *wanted)
+static void lacks(const char *what)
 {
+    char place[PATH_MAX];
+    struct inroot_error error = {0};
+    int fd = sure(openat(root, "d/e/f", O_PATH | O_CLOEXEC), "f");
     fill_stack();
-    int fd = inroot_open(at, path, flags);
-    gives_object(fd, root, wanted, "%s, flags %d", path, flags);
-    if (fd >= 0)
-        close(fd);
+    gives(inroot_open(root, "d/e/f", INROOT_EXACT), -ENOSYS, "a file, where %s", what);
+    gives(inroot_last_error(&error), 0, "the last error, where %s", what);
+    gives_text(error.step, "Kernel", "the step, where %s", what);
+    fill_stack();
+    gives(inroot_place(root, fd, place, sizeof place), -ENOSYS, "a place, where %s", what);
+    fill_stack();
+    gives(inroot_reopen(fd, O_RDONLY), -ENOSYS, "a file once more, where %s", what);
+    gives(inroot_proc_open(INROOT_PROC_SELF, "comm", O_RDONLY), -ENOSYS, "a file of /proc, where %s", what);
+    close(fd);
 }
 
 static void emulated(void)
 {
-    static const int flags[] = {0, INROOT_ONE_BY_ONE, INROOT_BELOW};
-    char place[PATH_MAX];
     is_emulated = true;
-    for (size_t one = 0; one < sizeof flags / sizeof *flags; one++) {
-        opens(root, "d/e/f", flags[one], "d/e/f");
-        opens(root, "d/e/up", flags[one], "d");
-        opens(root, "d/e/../e/f", flags[one], "d/e/f");
-    }
-    int fd = sure(openat(root, "d/e/f", O_PATH | O_CLOEXEC), "f");
-    gives(inroot_place(root, fd, place, sizeof place), 6, "the place of a file");
+    lacks("the C library has no statx(2)");
 }
 
-/* The thread's own root directory is no mount's, and no call goes on that has openat2(2) no more. */
-static void emulated_in_chroot(void)
+static void unmade(void)
 {
-    if (fchdir(root) != 0 || chroot(".") != 0)
-        _exit(NO_RIGHT);
-    refuse(SYS_openat2, ENOSYS);
-    is_emulated = true;
-    fill_stack();
-    gives(inroot_open(root, "d/e/f", 0), -EOPNOTSUPP, "in a root directory that is no mount's");
-}
-
-/* So many reads are interrupted from here on. */
-static int interrupts;
-
-ssize_t __real_read(int fd, void *bytes, size_t size);
-ssize_t __wrap_read(int fd, void *bytes, size_t size);
-
-ssize_t __wrap_read(int fd, void *bytes, size_t size)
-{
-    if (interrupts == 0)
-        return __real_read(fd, bytes, size);
-    interrupts--;
-    errno = EINTR;
-    return -1;
-}
-
-/* What a signal interrupts is read again: whether the thread's own root directory is a mount's, is known then as before. */
-static void interrupted(void)
-{
-    refuse(SYS_openat2, ENOSYS);
-    is_emulated = true;
-    int before = inroot_open(root, "d/e/f", 0);
-    interrupts = 3;
-    int behind = inroot_open(root, "d/e/f", 0);
-    gives(interrupts, 0, "reads that are to be interrupted");
-    expect(is_same_object(before, behind), "a read that was interrupted has a call give %d, and not %d", behind, before);
+    is_unmade = true;
+    lacks("statx(2) does nothing");
 }
 
 /* ---- `..` of what has left its mount */
@@ -187,45 +153,34 @@ static void mount_over(const char *from, const char *name)
     root = sure(openat(base, "box", O_PATH | O_DIRECTORY | O_CLOEXEC), "box");
 }
 
-static int opened_while(void (*is_done)(void), void (*is_undone)(void), int at, const char *path, int flags)
+static int opened_while(void (*is_done)(void), void (*is_undone)(void), const char *path, int flags)
 {
     act = is_done;
     undo = is_undone;
-    int fd = inroot_open(at, path, flags | INROOT_ONE_BY_ONE);
+    int fd = inroot_open(root, path, flags | INROOT_EXACT);
     gives(act == NULL, 1, "%s, flags %d: somebody acted", path, flags);
     return fd;
 }
 
 /* A walk that is led up to what was removed meanwhile begins again, as one does whose directory has no parent. */
-static void parents_of(int at)
+static void parents(void)
 {
-    gives(opened_while(move_out, move_in, at, "d/e/../f", INROOT_NO_RETRY), -EAGAIN, "a directory that left its mount");
+    mount_over("tree", "box");
+    gives(opened_while(move_out, move_in, "d/e/../f", INROOT_NO_RETRY), -EAGAIN, "a directory that left its mount");
     gives(without_parent >= 0, true, "the kernel has no `..` of it");
     gives(is_asked, true, "it is asked whether it was removed");
     without_parent = -1;
-    int fd = opened_while(move_out, move_in, at, "d/e/../f", 0);
+    int fd = opened_while(move_out, move_in, "d/e/../f", 0);
     gives_object(fd, base, "tree/d/f", "a directory that left its mount, and is back");
-    gives(opened_while(remove_it, NULL, at, "d/empty/../f", INROOT_NO_RETRY), -EAGAIN, "a directory that was removed");
+    gives(opened_while(remove_it, NULL, "d/empty/../f", INROOT_NO_RETRY), -EAGAIN, "a directory that was removed");
     sure(mkdirat(base, "tree/d/empty", 0755), "empty");
-}
-
-static void parents_by_proc(void)
-{
-    mount_over("tree", "box");
-    parents_of(root);
-}
-
-static void parents_in_jail(void)
-{
-    mount_over("tree", "box");
-    parents_of(root_or_jail(root, 0));
 }
 
 /* `..` of the top leads to that itself, since it stands in nothing any more. */
 static void top_that_is_taken_off(void)
 {
     mount_over("tree/d", "box/d/e");
-    const int got = opened_while(take_off, NULL, root, "d/e/../f", INROOT_NO_RETRY);
+    const int got = opened_while(take_off, NULL, "d/e/../f", INROOT_NO_RETRY);
     gives(got, -EAGAIN, "the top of a mount that is taken off");
 }
 
@@ -238,28 +193,9 @@ static void covered(void)
     sure(mount("tree/d", "box/d/e", NULL, MS_BIND, NULL), "mount");
     gives(inroot_place(root, fd, place, sizeof place), -EXDEV, "the place of what is covered");
     is_unmade = true;
-    gives(inroot_place(root, fd, place, sizeof place), -EXDEV, "the place of what is covered, where statx(2) does nothing");
-    gives(inroot_open(root, "d/e/f", 0) >= 0, true, "a call where statx(2) does nothing");
+    gives(inroot_place(root, fd, place, sizeof place), -ENOSYS, "the place of what is covered, where statx(2) does nothing since");
+    gives(inroot_open(root, "d/f", INROOT_EXACT | INROOT_NO_RETRY), -EAGAIN, "a file, where statx(2) does nothing since");
 }
-
-/* ---- a descriptor that is no copy */
-
-/* Of a directory that may not be searched a look-up from the root opens another descriptor, and `.` can't be opened. */
-static void copies(int flags)
-{
-    int at = INROOT_JAIL, dir = sure(openat(root, "shut", O_PATH | O_DIRECTORY | O_CLOEXEC), "shut");
-    const int above = root_or_jail(root, flags);
-    if (!may_be_nobody())
-        _exit(NO_RIGHT);
-    sure(seteuid(65534), "nobody");
-    gives(inroot_at_begin(above, dir, &at), 0, "a number for a directory that may not be searched");
-    int fd = inroot_open(at, ".", 0);
-    gives(is_same_object(fd, dir), true, "a directory that may not be searched, flags %d", flags);
-}
-
-static void no_copy(void) { copies(-1); }
-static void no_copy_in_jail(void) { copies(0); }
-static void no_copy_in_trust(void) { copies(INROOT_TRUST_PROC); }
 
 /* ---- */
 
@@ -269,18 +205,15 @@ static void make_tree(const char *name)
     int top = sure(openat(base, name, O_PATH | O_DIRECTORY | O_CLOEXEC), name);
     for (size_t one = 0; one < sizeof dirs / sizeof *dirs; one++)
         sure(mkdirat(top, dirs[one], 0755), dirs[one]);
-    sure(mkdirat(top, "shut", 0700), "shut");
     sure(mknodat(top, "d/f", S_IFREG | 0600, 0), "f");
     sure(mknodat(top, "d/e/f", S_IFREG | 0600, 0), "f");
-    sure(symlinkat("..", top, "d/e/up"), "up");
     close(top);
 }
 
 int main(int count, char **words)
 {
     static void (*const parts[])(void) = {
-        emulated, emulated_in_chroot, interrupted, parents_by_proc, parents_in_jail, top_that_is_taken_off,
-        covered, no_copy, no_copy_in_jail, no_copy_in_trust,
+        emulated, unmade, parents, top_that_is_taken_off, covered,
     };
     int skipped = 0;
     begin_in_box(count, words, &base, &root);
@@ -289,7 +222,6 @@ int main(int count, char **words)
     sure(mkdirat(base, "tree", 0755), "tree");
     make_tree("box");
     make_tree("tree");
-    open_proc();
     for (size_t one = 0; one < sizeof parts / sizeof *parts; one++) {
         const int status = apart(parts[one]);
         skipped = skipped ? skipped : status;

@@ -61,13 +61,13 @@ static const int numbers[] = {133, 255, 256, 258, 267, 268, 273, 276, 511, 512, 
 static int call(int root, int which)
 {
     switch (which) {
-    case 0: return inroot_open(root, "a/x", INROOT_ONE_BY_ONE);
+    case 0: return inroot_open(root, "a/x", INROOT_EXACT);
     case 1: return inroot_openat(root, "a/x", O_WRONLY | O_CREAT | O_EXCL, 0600, 0);
     case 2: return inroot_mkdir(root, "a/x", 0755, 0);
-    case 3: return inroot_mkfile(root, "a/x", 0644, 0);
+    case 3: return inroot_mknod(root, "a/x", S_IFREG | 0644, 0, 0);
     case 4: return inroot_unlink(root, "a/x", 0);
     case 5: return inroot_rmdir(root, "a/x", 0);
-    case 6: return inroot_mkdir_all(root, "a/x/y", 0755, INROOT_ONE_BY_ONE);
+    case 6: return inroot_mkdir_all(root, "a/x/y", 0755, INROOT_EXACT);
     default: return (int)inroot_remove_all(root, "a/x", 0);
     }
 }

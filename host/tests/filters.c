@@ -1,7 +1,7 @@
 /*
- * filters: a filter refuses system calls that newer kernels and C libraries have, by EPERM as sandboxes do or by
- * ENOSYS as older kernels do. The calls go on. By another error they fail. And a filter's error is given as it is where
- * the library keeps a descriptor.
+ * filters: a filter refuses openat2(2) or statx(2), by whichever error: each call that needs the system call fails by ENOSYS before it
+ * has done anything, and says so by the step `Kernel`. What the library can do without goes on. A filter's error is given as it is
+ * where the library keeps a descriptor.
  *
  * usage: filters DIR. Exits 0 where that holds. 78: no right to be filtered here.
  */
@@ -12,72 +12,64 @@
 #include <string.h>
 #include <sys/stat.h>
 
-/* The numbers are those of every machine from Linux 5.1 on. */
-enum { OPENAT2 = 437, FACCESSAT2 = 439 };
+/* The number is that of every machine. */
+enum { OPENAT2 = 437 };
 
 static int root, error;
 static long refused;
 
-static void is_file(int fd, const char *what)
+static void is_refused(int got, const char *what)
 {
-    gives_object(fd, root, "a/f", "system call %ld by %d, %s", refused, error, what);
-    if (fd >= 0)
-        close(fd);
+    struct inroot_error why = {0};
+    gives(got, -ENOSYS, "system call %ld by %d, %s", refused, error, what);
+    gives(inroot_last_error(&why), 0, "system call %ld by %d, %s: its last error", refused, error, what);
+    gives_text(why.step, "Kernel", "system call %ld by %d, %s: its step", refused, error, what);
 }
 
-static void each(int at)
+/* What the kernel's walk alone can't do. */
+static void each_by_steps(void)
 {
-    static const int flags[] = {0, INROOT_ONE_BY_ONE, INROOT_NO_XDEV, INROOT_NO_XDEV | INROOT_ONE_BY_ONE, INROOT_BELOW};
-    for (size_t one = 0; one < sizeof flags / sizeof *flags; one++) {
-        is_file(inroot_open(at, "a/f", flags[one]), "plain names");
-        is_file(inroot_open(at, "a/../l", flags[one]), "a link");
-        is_file(inroot_openat(at, "a/f", O_RDWR, 0, flags[one]), "a file to be used");
-    }
-    gives(inroot_mkdir(at, "a/new", 0755, 0), 0, "a directory");
-    gives(inroot_remove_all(at, "a/new", 0), 1, "a directory");
+    char text[PATH_MAX];
+    is_refused(inroot_open(root, "a/f", INROOT_EXACT), "INROOT_EXACT");
+    is_refused(inroot_mkdir(root, "a/new", 0755, INROOT_EXACT), "a directory with INROOT_EXACT");
+    is_refused(inroot_mkdir_all(root, "a/new/er", 0755, 0), "directories");
+    is_refused((int)inroot_place(root, root, text, sizeof text), "a place");
+}
+
+static void each(void)
+{
+    struct stat about;
+    is_refused(inroot_open(root, "a/f", 0), "plain names");
+    is_refused(inroot_open(root, "a/../l", 0), "a link");
+    is_refused(inroot_open(root, "a/none", 0), "a missing name");
+    is_refused(inroot_openat(root, "a/f", O_RDWR | O_TRUNC, 0, 0), "a file to be used");
+    is_refused(inroot_openat(root, "a/new", O_RDWR | O_CREAT, 0600, 0), "a file to be made");
+    is_refused(inroot_stat(root, "a/f", &about, 0), "a status");
+    is_refused(inroot_mkdir(root, "a/new", 0755, 0), "a directory");
+    is_refused(inroot_unlink(root, "a/f", 0), "a removal");
+    is_refused(inroot_rename(root, "a/f", "a/g", INROOT_PLAIN, 0), "a rename");
+    is_refused((int)inroot_remove_all(root, "a", 0), "a tree");
 }
 
 static void under_filter(void)
 {
-    struct inroot_root *kept;
     refuse(refused, error);
-    int failed = inroot_root_open(".", 0, &kept);
-    gives(failed, 0, "system call %ld by %d, a root that is kept", refused, error);
-    if (failed == 0)
-        each(inroot_root_fd(kept));
-    inroot_root_close(kept);
-    /* The filter leaves no right to be gained, but those that are there. */
-    if (inroot_jail(root) == 0)
-        each(INROOT_JAIL);
+    if (refused == OPENAT2)
+        each();
+    each_by_steps();
+    gives(faccessat(root, "a/f", F_OK, 0), 0, "system call %ld by %d: the file", refused, error);
+    gives(faccessat(root, "a/new", F_OK, 0), -1, "system call %ld by %d: what was to be made", refused, error);
 }
 
-/* From now on: the thread has made the system call before, which is known to be there. */
+/* From now on: the thread has made the system call before, which is known to be there. Whatever comes is an error, and nothing is made. */
 static void late(void)
 {
-    char text[PATH_MAX] = "";
-    int dir = sure(openat(root, "a", O_PATH | O_DIRECTORY | O_CLOEXEC), "a");
-    if (inroot_jail(root) != 0)
-        _exit(NO_RIGHT);
-    gives(inroot_place(INROOT_JAIL, dir, text, sizeof text), 2, "a place before");
+    close(sure(inroot_open(root, "a/f", 0), "a/f"));
+    close(sure(inroot_open(root, "a/f", INROOT_EXACT), "a/f"));
     refuse(refused, error);
-    gives(inroot_place(INROOT_JAIL, dir, text, sizeof text), 2, "system call %ld by %d, a place from now on", refused, error);
-    expect(strcmp(text, "/a") == 0, "the place is %s", text);
-}
-
-/* By another error it isn't taken for missing: nothing is opened by the text alone. */
-static void by_another_error(void)
-{
-    char text[PATH_MAX];
-    int file = sure(openat(root, "a/f", O_PATH | O_CLOEXEC), "a/f");
-    const bool is_of_names = error == EACCES || error == ENOENT;
-    refuse(OPENAT2, error);
-    gives(inroot_open(root, "a/f", 0), is_of_names ? -EAGAIN : -error, "refused by %d, plain names", error);
-    gives(inroot_open(root, "a/../l", 0), is_of_names ? -EAGAIN : -error, "refused by %d, a link", error);
-    gives(inroot_openat(root, "a/f", O_RDWR | O_TRUNC, 0, 0), is_of_names ? -EAGAIN : -error, "refused by %d, to be used", error);
-    gives(inroot_mkdir(root, "a/new", 0755, 0), is_of_names ? -EAGAIN : -error, "refused by %d, a directory", error);
-    gives(faccessat(root, "a/new", F_OK, 0), -1, "that directory");
-    gives(inroot_place(root, file, text, sizeof text), is_of_names ? -EXDEV : -error, "refused by %d, a place", error);
-    gives(inroot_open(root, "a/f", INROOT_BELOW), is_of_names ? -EAGAIN : -error, "refused by %d, by the kernel's word", error);
+    int got = inroot_mkdir(root, "a/new", 0755, INROOT_EXACT);
+    expect(got < 0, "system call %ld by %d, from now on: it gives %d", refused, error, got);
+    gives(faccessat(root, "a/new", F_OK, 0), -1, "system call %ld by %d: what was to be made", refused, error);
 }
 
 /* A descriptor of the library's own that got the number of a standard file can't be moved: the call gives the filter's error. */
@@ -93,8 +85,8 @@ static void of_a_standard_file(void)
 
 int main(int count, char **words)
 {
-    static const long calls[] = {FACCESSAT2, SYS_statx, OPENAT2};
-    static const int errors[] = {EPERM, ENOSYS}, others[] = {EACCES, ENOENT, EINVAL, EOPNOTSUPP};
+    static const long calls[] = {SYS_statx, OPENAT2};
+    static const int errors[] = {EPERM, ENOSYS, EACCES};
     int skipped = 0;
     if (count != 2)
         return 2;
@@ -104,16 +96,12 @@ int main(int count, char **words)
     sure(mknodat(root, "a/f", S_IFREG | 0600, 0), "a/f");
     sure(symlinkat("/a/f", root, "l"), "l");
     for (size_t at = 0; at < sizeof calls / sizeof *calls; at++)
-        for (size_t by = 0; by < 2; by++) {
+        for (size_t by = 0; by < sizeof errors / sizeof *errors; by++) {
             refused = calls[at];
             error = errors[by];
             skipped |= apart(under_filter) == NO_RIGHT;
             skipped |= apart(late) == NO_RIGHT;
         }
-    for (size_t by = 0; by < sizeof others / sizeof *others; by++) {
-        error = others[by];
-        skipped |= apart(by_another_error) == NO_RIGHT;
-    }
     skipped |= apart(of_a_standard_file) == NO_RIGHT;
     printf("filters: %d not as they are to be\n", wrong);
     return wrong != 0 ? 1 : skipped ? NO_RIGHT : 0;

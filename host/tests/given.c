@@ -1,20 +1,20 @@
 /*
- * given: what a call makes is given by a descriptor (INROOT_GIVE, and O_PATH with O_CREAT); by /proc, in a jail, and
- * in one that trusts. Between the making and the opening the entry is moved, and another put in its place: then
- * nothing is given; nor is what can't be looked at. To be linked with --wrap=openat, statx and fstat.
+ * given: what a call makes is given by a descriptor (INROOT_GIVE, and O_PATH with O_CREAT); by the kernel's walk and with
+ * INROOT_EXACT, also in a chroot, and with INROOT_NO_XDEV. Between the making and the opening the entry is moved, and another put in
+ * its place: then nothing is given; nor is what can't be looked at. To be linked with --wrap=openat, statx, fstat and syscall.
  *
- * usage: given DIR. Exits 0 where each is as inroot.h says. 78: no right to change a root, so that a part is left
- * out.
+ * usage: given DIR. Exits 0 where each is as inroot.h says. 78: no right to change a root, so that a part is left out.
  */
 #define _GNU_SOURCE
 #include "support.h"
+#include "wraps.h"
 
-#include <stdarg.h>
 #include <string.h>
 #include <sys/stat.h>
 #include <sys/sysmacros.h>
 
-static int root, jail_flags = -1;
+/* What each call takes beside its way. */
+static int root, more;
 
 /* What somebody else does right before the entry that was made is opened by its name. */
 static void (*meanwhile)(void);
@@ -23,34 +23,41 @@ static int refusal;
 /* The entry that was opened; and why it can't be looked at. */
 static int opened = -1, look_refusal;
 
-int __real_openat(int dir, const char *name, int flags, ...);
-int __wrap_openat(int dir, const char *name, int flags, ...);
-
 /* It was made, and is opened by its name. */
 static bool is_new(const char *name)
 {
     return (strcmp(name, "new") == 0 || strcmp(name, "/new") == 0) && faccessat(root, "a/b/new", F_OK, AT_SYMLINK_NOFOLLOW) == 0;
 }
 
-int __wrap_openat(int dir, const char *name, int flags, ...)
+/* Others act before it is opened, and that may be refused. */
+static bool may_open(void)
 {
-    va_list more;
-    va_start(more, flags);
-    mode_t mode = flags & O_CREAT ? va_arg(more, mode_t) : 0;
-    va_end(more);
-    if (is_new(name) && flags & O_PATH) {
-        void (*now)(void) = meanwhile;
-        meanwhile = NULL;
-        if (now != NULL)
-            now();
-        if (refusal) {
-            errno = refusal;
-            return -1;
-        }
-        return opened = __real_openat(dir, name, flags, mode);
-    }
-    return __real_openat(dir, name, flags, mode);
+    void (*now)(void) = meanwhile;
+    meanwhile = NULL;
+    if (now != NULL)
+        now();
+    errno = refusal;
+    return refusal == 0;
 }
+
+static int my_openat(int dir, const char *name, int open_flags, mode_t mode)
+{
+    if (!is_new(name) || !(open_flags & O_PATH))
+        return __real_openat(dir, name, open_flags, mode);
+    return opened = may_open() ? __real_openat(dir, name, open_flags, mode) : -1;
+}
+
+INSTEAD_OF_OPENAT(my_openat)
+
+/* So it is opened under INROOT_NO_XDEV. */
+static long my_syscall(long number, const long *with)
+{
+    if (number != SYS_openat2 || !is_new((const char *)with[1]))
+        return REAL_SYSCALL(number, with);
+    return opened = may_open() ? (int)REAL_SYSCALL(number, with) : -1;
+}
+
+INSTEAD_OF_SYSCALL(my_syscall)
 
 static bool is_refused(int fd)
 {
@@ -80,18 +87,19 @@ int __wrap_fstat(int fd, struct stat *about)
 
 /* ---- each kind of entry */
 
-static int make_one(int at, int kind, int flags)
+static int make_one(int kind, int gives_it)
 {
+    const int at = root, flags = gives_it | way | more;
     switch (kind) {
     case 0: return inroot_mkdir(at, "a/link/new", 0750, flags);
-    case 1: return inroot_mkfile(at, "a/link/new", 0640, flags);
+    case 1: return inroot_mknod(at, "a/link/new", S_IFREG | 0640, 0, flags);
     case 2: return inroot_mknod(at, "a/link/new", S_IFIFO | 0600, 0, flags);
     case 3: return inroot_mknod(at, "a/link/new", S_IFSOCK | 0600, 0, flags);
     case 4: return inroot_symlink(at, "some/text", "a/link/new", flags);
     case 5: return inroot_link(at, "a/b/f", "a/link/new", flags);
     case 6: return inroot_link(at, "a/b/s", "a/link/new", flags);
-    case 7: return inroot_openat(at, "a/link/new", O_PATH | O_CREAT | O_EXCL, 0640, 0);
-    default: return inroot_openat(at, "a/link/new", O_PATH | O_CREAT, 0640, 0);
+    case 7: return inroot_openat(at, "a/link/new", O_PATH | O_CREAT | O_EXCL, 0640, flags & ~INROOT_GIVE);
+    default: return inroot_openat(at, "a/link/new", O_PATH | O_CREAT, 0640, flags & ~INROOT_GIVE);
     }
 }
 
@@ -108,11 +116,11 @@ static void clean(void)
     }
 }
 
-static void each_kind(int at)
+static void each_kind(void)
 {
     for (int kind = 0; kind < KINDS; kind++) {
         struct stat about, there;
-        int fd = make_one(at, kind, INROOT_GIVE);
+        int fd = make_one(kind, INROOT_GIVE);
         expect(fd > 0, "kind %d: %d", kind, fd);
         if (fd <= 0)
             continue;
@@ -123,19 +131,19 @@ static void each_kind(int at)
         expect(fcntl(fd, F_GETFL) & O_PATH && fcntl(fd, F_GETFD) == FD_CLOEXEC, "kind %d: it is opened otherwise", kind);
         close(fd);
         if (kind != 8)
-            gives(make_one(at, kind, INROOT_GIVE), -EEXIST, "kind %d, again", kind);
+            gives(make_one(kind, INROOT_GIVE), -EEXIST, "kind %d, again", kind);
         clean();
         if (kind < 7)
-            gives(make_one(at, kind, 0), 0, "kind %d, not given", kind);
+            gives(make_one(kind, 0), 0, "kind %d, not given", kind);
         clean();
     }
 }
 
 /* A device can't be made by everyone. */
-static void devices(int at)
+static void devices(void)
 {
     struct stat about;
-    int fd = inroot_mknod(at, "a/b/new", S_IFCHR | 0600, makedev(1, 3), INROOT_GIVE);
+    int fd = inroot_mknod(root, "a/b/new", S_IFCHR | 0600, makedev(1, 3), INROOT_GIVE | way | more);
     expect(fd > 0 || fd == -EPERM, "a device: %d", fd);
     if (fd > 0) {
         sure(fstat(fd, &about), "fstat");
@@ -178,7 +186,7 @@ static void put_device(void)
 }
 
 /* The entry that was made was moved, and another may stand at its name: this isn't given, and nothing is made once more. */
-static void others(int at)
+static void others(void)
 {
     static void (*const all[])(void) = {move_away, put_directory, put_file, put_link, put_device};
     for (int kind = 0; kind < KINDS; kind++) {
@@ -188,7 +196,7 @@ static void others(int at)
             if (kind == 0 && all[one] == put_directory)
                 continue;
             meanwhile = all[one];
-            int fd = make_one(at, kind, INROOT_GIVE);
+            int fd = make_one(kind, INROOT_GIVE);
             gives(fd, -EAGAIN, "kind %d, and others %zu", kind, one);
             expect(meanwhile == NULL, "kind %d: nobody came in between", kind);
             expect(inroot_last_error(&error) == 0 && strcmp(error.step, "Give") == 0, "kind %d: the step %s", kind, error.step);
@@ -200,23 +208,23 @@ static void others(int at)
     }
 }
 
-static void another_device(int at)
+static void another_device(void)
 {
-    int fd = inroot_mknod(at, "a/b/new", S_IFCHR | 0600, makedev(1, 3), 0);
+    int fd = inroot_mknod(root, "a/b/new", S_IFCHR | 0600, makedev(1, 3), way | more);
     clean();
     if (fd != 0)
         return;
     meanwhile = put_device;
-    gives(inroot_mknod(at, "a/b/new", S_IFCHR | 0600, makedev(1, 3), INROOT_GIVE), -EAGAIN, "another device");
+    gives(inroot_mknod(root, "a/b/new", S_IFCHR | 0600, makedev(1, 3), INROOT_GIVE | way | more), -EAGAIN, "another device");
     clean();
 }
 
 /* What can't be opened was made. */
-static void refused(int at)
+static void refused(void)
 {
     for (int kind = 0; kind < KINDS; kind++) {
         refusal = EMFILE;
-        gives(make_one(at, kind, INROOT_GIVE), -EMFILE, "kind %d with no descriptor left", kind);
+        gives(make_one(kind, INROOT_GIVE), -EMFILE, "kind %d with no descriptor left", kind);
         refusal = 0;
         expect(faccessat(root, "a/b/new", F_OK, AT_SYMLINK_NOFOLLOW) == 0, "kind %d wasn't made", kind);
         clean();
@@ -224,13 +232,13 @@ static void refused(int at)
 }
 
 /* What can't be looked at was made; its error is told, and no descriptor stays open. */
-static void unseen(int at)
+static void unseen(void)
 {
     for (int kind = 0; kind < KINDS; kind++) {
         int before = open_descriptors();
         opened = -1;
         look_refusal = EIO;
-        gives(make_one(at, kind, INROOT_GIVE), -EIO, "kind %d that can't be looked at", kind);
+        gives(make_one(kind, INROOT_GIVE), -EIO, "kind %d that can't be looked at", kind);
         look_refusal = 0;
         gives(open_descriptors(), before, "kind %d: descriptors", kind);
         expect(faccessat(root, "a/b/new", F_OK, AT_SYMLINK_NOFOLLOW) == 0, "kind %d wasn't made", kind);
@@ -239,19 +247,19 @@ static void unseen(int at)
 }
 
 /* O_PATH with O_CREAT gives what is there as well. */
-static void paths(int at)
+static void paths(void)
 {
     struct stat about;
-    int fd = inroot_openat(at, "a/b/f", O_PATH | O_CREAT, 0600, 0);
+    int fd = inroot_openat(root, "a/b/f", O_PATH | O_CREAT, 0600, way | more);
     expect(fd > 0 && fcntl(fd, F_GETFL) & O_PATH, "a file that is there: %d", fd);
     close(fd);
-    gives(inroot_openat(at, "a/b", O_PATH | O_CREAT, 0600, 0), -EISDIR, "a directory that is there");
-    gives(inroot_openat(at, "a/b/f", O_PATH | O_CREAT | O_EXCL, 0600, 0), -EEXIST, "a file that is there, and O_EXCL");
-    fd = inroot_openat(at, "a/b/s", O_PATH | O_CREAT, 0600, 0);
+    gives(inroot_openat(root, "a/b", O_PATH | O_CREAT, 0600, way | more), -EISDIR, "a directory that is there");
+    gives(inroot_openat(root, "a/b/f", O_PATH | O_CREAT | O_EXCL, 0600, way | more), -EEXIST, "a file that is there, and O_EXCL");
+    fd = inroot_openat(root, "a/b/s", O_PATH | O_CREAT, 0600, way | more);
     expect(fd > 0 && fstat(fd, &about) == 0 && S_ISREG(about.st_mode), "the target of a link: %d", fd);
     close(fd);
     gives(unlinkat(root, "a/gone", 0), 0, "the target");
-    fd = inroot_openat(at, "a/b/s", O_PATH | O_CREAT | O_NOFOLLOW, 0600, 0);
+    fd = inroot_openat(root, "a/b/s", O_PATH | O_CREAT | O_NOFOLLOW, 0600, way | more);
     expect(fd > 0 && fstat(fd, &about) == 0 && S_ISLNK(about.st_mode), "the link itself: %d", fd);
     close(fd);
 }
@@ -259,15 +267,14 @@ static void paths(int at)
 static void each(void)
 {
     umask(0);
-    int at = root_or_jail(root, jail_flags);
     int before = open_descriptors();
-    each_kind(at);
-    devices(at);
-    others(at);
-    another_device(at);
-    refused(at);
-    unseen(at);
-    paths(at);
+    each_kind();
+    devices();
+    others();
+    another_device();
+    refused();
+    unseen();
+    paths();
     expect(open_descriptors() == before, "%d descriptors are left", open_descriptors() - before);
 }
 
@@ -282,11 +289,9 @@ int main(int count, char **words)
     sure(symlinkat("/a/b", root, "a/link"), "link");
     sure(symlinkat("../gone", root, "a/b/s"), "s");
     open_proc();
-    int skipped = apart(each);
-    for (jail_flags = 0; jail_flags <= INROOT_TRUST_PROC; jail_flags += INROOT_TRUST_PROC) {
-        int status = apart(each);
-        skipped = skipped ? skipped : status;
-    }
+    int skipped = in_each_way(root, each);
+    more = INROOT_NO_XDEV;
+    skipped |= in_each_way(root, each);
     printf("given: %d not as they are to be\n", wrong);
     return wrong != 0 ? 1 : skipped;
 }

@@ -2,8 +2,8 @@
  * links_race: a file is opened and made (O_CREAT) in a directory that another thread exchanges for one in which the
  * name is a link, again and again. Under INROOT_NO_LINKS no file is opened, or made, that a link leads to.
  *
- * usage: links_race DIR SECONDS. Exits 0 where that holds, and the same calls without the flag were led there. 78: no
- * right to change a root. 79: those calls were not led there.
+ * usage: links_race DIR SECONDS. Exits 0 where that holds, and the same calls without the flag were led there. 79: those
+ * calls were not led there.
  */
 #define _GNU_SOURCE
 #include "support.h"
@@ -22,7 +22,6 @@ static struct stat elsewhere;
 struct worker {
     const char *name;
     const char *directory;         /* of its own, so that nobody else makes the link's target */
-    bool jailed;
     int flags;
     unsigned long failed;
     atomic_ulong opened, refused, led, made, turns;
@@ -64,16 +63,10 @@ static void *work(void *self)
     struct worker *me = self;
     struct stat about;
     char path[16];
-    int at = root;
-    if (me->jailed) {
-        errno = -inroot_jail(root);
-        sure(-errno, "inroot_jail");
-        at = INROOT_JAIL;
-    }
     snprintf(path, sizeof path, "%s/d/f", me->directory);
     for (unsigned turn = 0; !stop; turn++) {
-        int flags = me->flags | (turn % 2 ? INROOT_ONE_BY_ONE : 0) | (turn % 4 < 2 ? INROOT_NO_RETRY : 0);
-        int fd = inroot_openat(at, path, O_RDWR | O_CREAT, 0600, flags);
+        int flags = me->flags | (turn % 2 ? INROOT_NO_RETRY : 0);
+        int fd = inroot_openat(root, path, O_RDWR | O_CREAT, 0600, flags);
         me->opened += fd >= 0;
         me->refused += fd == -ELOOP;
         me->failed += fd < 0 && fd != -ELOOP;
@@ -82,7 +75,6 @@ static void *work(void *self)
         me->led += fstat(fd, &about) == 0 && about.st_ino == elsewhere.st_ino && about.st_dev == elsewhere.st_dev;
         close(fd);
     }
-    inroot_jail_done();
     return NULL;
 }
 
@@ -133,8 +125,8 @@ static void judge(const struct worker *me)
 int main(int count, char **words)
 {
     struct worker workers[WORKERS] = {
-        {.name = "by /proc", .directory = "a", .flags = INROOT_NO_LINKS},
-        {.name = "in a jail", .directory = "b", .flags = INROOT_NO_LINKS, .jailed = true},
+        {.name = "by the kernel's walk", .directory = "a", .flags = INROOT_NO_LINKS},
+        {.name = "with INROOT_EXACT", .directory = "b", .flags = INROOT_NO_LINKS | INROOT_EXACT},
         {.name = "without the flag", .directory = "c"},
     };
     const struct goals goals = {is_met, may_end_early ? is_enough : NULL};
@@ -142,8 +134,6 @@ int main(int count, char **words)
     if (count != 3)
         return 2;
     root = sure(open(words[1], O_PATH | O_DIRECTORY | O_CLOEXEC), words[1]);
-    if (!may_jail(root))
-        return NO_RIGHT;
     sure(mknodat(root, "elsewhere", S_IFREG | 0600, 0), "elsewhere");
     sure(fstatat(root, "elsewhere", &elsewhere, AT_SYMLINK_NOFOLLOW), "elsewhere");
     open_proc();

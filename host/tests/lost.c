@@ -1,8 +1,8 @@
 /*
- * lost.c: loses memory in a part of a test, which ends by _exit(2); with a word, in a jail. checks/host looks whether the
+ * lost.c: loses memory in a part of a test, which ends by _exit(2); with a word, in a chroot. checks/host looks whether the
  * sanitizer for leaks sees it.
  *
- * usage: lost [jail]    ends with status 1 where it is seen, 78 where no jail may be begun, and 0 else
+ * usage: lost [chroot]    ends with status 1 where it is seen, 78 where there is no right to a chroot, and 0 else
  */
 #define _GNU_SOURCE
 #include "support.h"
@@ -13,15 +13,15 @@ static void lose(void)
         *(volatile char *)malloc(9) = 0;
 }
 
-static void lose_in_jail(void)
+static void lose_in_chroot(void)
 {
-    jail_or_end(sure(open("/sys", O_PATH | O_DIRECTORY | O_CLOEXEC), "/sys"), 0);
+    chroot_or_end(sure(open("/sys", O_PATH | O_DIRECTORY | O_CLOEXEC), "/sys"));
     lose();
 }
 
 int main(int count, char **words)
 {
     (void)words;
-    int skipped = apart(count == 1 ? lose : lose_in_jail);
+    int skipped = apart(count == 1 ? lose : lose_in_chroot);
     return skipped != 0 ? skipped : wrong;
 }

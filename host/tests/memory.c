@@ -1,6 +1,6 @@
 /*
  * memory: each allocation of each kind of call is refused in turn. The call then ends by ENOMEM or as it does without, and
- * leaves no descriptor open. So does a walk, which goes on without a directory for which there is none. To be linked with --wrap=malloc and --wrap=realloc.
+ * leaves no descriptor open. To be linked with --wrap=malloc and --wrap=realloc.
  *
  * usage: memory DIR. Exits 0 where that holds.
  */
@@ -32,43 +32,6 @@ void *__wrap_realloc(void *block, size_t size)
     return refuses() ? NULL : __real_realloc(block, size);
 }
 
-/* Gives how many directories a walk doesn't go into for want of memory, or why it can't be opened. */
-static int walk_all(int root)
-{
-    struct inroot_walk *walk;
-    struct inroot_walk_entry entry;
-    int missed = 0, found = inroot_walk_open(root, "/", 0, 0, &walk);
-    if (found < 0)
-        return found;
-    while ((found = inroot_walk_next(walk, &entry)) > 0) {
-        missed += entry.error == ENOMEM;
-        wrong += entry.error == ENOMEM && entry.opened != -1;
-    }
-    inroot_walk_close(walk);
-    return found < 0 ? found : missed;
-}
-
-/* A walk over all entries goes on without a directory for which there is no memory. Gives how many allocations were refused. */
-static int walks(int root)
-{
-    int missed = 0;
-    for (int at = 0;; at++) {
-        refused = false;
-        left_until_refused = at;
-        int got = walk_all(root);
-        left_until_refused = -1;
-        if (!refused) {
-            wrong += got != 0 || missed == 0;
-            return at;
-        }
-        missed += got == 1;
-        if (got != -ENOMEM && got != 0 && got != 1) {
-            printf("not so: a walk without allocation %d: got %d\n", at, got);
-            wrong++;
-        }
-    }
-}
-
 int main(int count, char **words)
 {
     int tried = 0;
@@ -76,6 +39,7 @@ int main(int count, char **words)
         return 2;
     int root = sure(open(words[1], O_PATH | O_DIRECTORY | O_CLOEXEC), words[1]);
     make_tree(root);
+    open_proc();
     int before = open_descriptors();
     for (int number = 0; number < CALLS; number++) {
         int wanted = call(root, number);
@@ -97,7 +61,6 @@ int main(int count, char **words)
             restore(root, got, number);
         }
     }
-    tried += walks(root);
     int left = open_descriptors() - before;
     printf("memory: %d allocations refused, %d ended wrongly, %d descriptors left open\n", tried, wrong, left);
     return wrong != 0 || left != 0 || tried == 0;

@@ -1,8 +1,8 @@
 /*
  * mounts: what is mounted below the root, by a bind mount of the same file system, of a file, and of another file
  * system; also one on which no link is followed (nosymfollow), which the calls keep to. Under INROOT_NO_XDEV no call
- * goes there, makes, moves or removes anything there: by /proc and in a jail, by runs of names, name by name, and
- * where openat2(2) is missing. To be linked with --wrap=syscall and --wrap=openat.
+ * goes there, makes, moves or removes anything there: by the kernel's walk and with INROOT_EXACT. To be linked with --wrap=syscall
+ * and --wrap=openat.
  *
  * usage: mounts DIR. Exits 0 where each call ends as openat2(2) does with RESOLVE_NO_XDEV, and what is mounted is as
  * it was. 77: no openat2(2) here. 78: no right to mount here.
@@ -23,17 +23,14 @@
 
 enum { FLAGS = INROOT_NO_XDEV | INROOT_NO_RETRY };
 
-/* MS_NOSYMFOLLOW, and where statx(2) tells the mount's number, which the headers may not have. */
-enum { NOSYMFOLLOW = 256, NUMBER_AT = 144 };
+/* MS_NOSYMFOLLOW, which the headers may not have. */
+enum { NOSYMFOLLOW = 256 };
 
-static int base, root, at, more_flags;
+static int base, root, more_flags;
 static char where[PATH_MAX];
 
-/*
- * Each openat2(2) is refused, and each statx(2), by which a mount has a number; or each mount's number is 0, as an emulator gives
- * it; something is mounted as `..` is about to be opened; a link is placed where a file is about to be made.
- */
-static bool is_old, has_no_numbers, has_zeros, mounts_at_dots, links_at_making;
+/* Something is mounted as `..` is about to be opened; a link is placed where a file is about to be made. */
+static bool mounts_at_dots, links_at_making;
 
 static void put(const char *source, const char *target, const char *kind)
 {
@@ -45,24 +42,17 @@ static void put(const char *source, const char *target, const char *kind)
 
 static long my_syscall(long number, const long *with)
 {
-    if ((is_old && number == SYS_openat2) || (has_no_numbers && number == SYS_statx)) {
-        errno = ENOSYS;
-        return -1;
+    if (mounts_at_dots && number == SYS_openat2 && strcmp((const char *)with[1], "..") == 0) {
+        mounts_at_dots = false;
+        put("host", "d", NULL);
     }
-    long result = REAL_SYSCALL(number, with);
-    if (has_zeros && number == SYS_statx && result == 0)
-        memset((char *)with[4] + NUMBER_AT, 0, sizeof(uint64_t));
-    return result;
+    return REAL_SYSCALL(number, with);
 }
 
 INSTEAD_OF_SYSCALL(my_syscall)
 
 static int my_openat(int dir, const char *name, int flags, mode_t mode)
 {
-    if (mounts_at_dots && strcmp(name, "..") == 0) {
-        mounts_at_dots = false;
-        put("host", "d", NULL);
-    }
     if (links_at_making && flags & O_CREAT) {
         links_at_making = false;
         sure(symlinkat("none", root, "t/other/new"), "t/other/new");
@@ -118,29 +108,18 @@ static int by_the_kernel(const char *path)
     return fd < 0 ? -errno : fd;
 }
 
-static void opens_by(const char *path, int flags)
+static void opens(const char *path)
 {
     struct stat one = {0}, other = {0};
-    /* Without the flag first: the library then knows which names are links. */
-    int free = inroot_open(at, path, INROOT_NO_RETRY | flags);
-    if (free >= 0)
-        close(free);
-    int wanted = by_the_kernel(path), got = inroot_open(at, path, FLAGS | flags);
+    int wanted = by_the_kernel(path), got = inroot_open(root, path, FLAGS | more_flags);
     bool same = wanted < 0 ? got == wanted
                            : got >= 0 && fstat(got, &one) == 0 && fstat(wanted, &other) == 0 &&
                                  one.st_ino == other.st_ino && one.st_dev == other.st_dev;
-    expect(same, "%s, flags %d%s: wanted what openat2(2) gives, %d, got %d", path, flags, is_old ? ", without openat2(2)" : "",
-           wanted, got);
+    expect(same, "%s, flags %d: wanted what openat2(2) gives, %d, got %d", path, more_flags, wanted, got);
     if (wanted >= 0)
         close(wanted);
     if (got >= 0)
         close(got);
-}
-
-static void opens(const char *path)
-{
-    opens_by(path, more_flags);
-    opens_by(path, more_flags | INROOT_BELOW);
 }
 
 /* ---- what is changed */
@@ -150,73 +129,46 @@ static void is_refused(int got, int wanted, const char *what)
     gives(got, wanted, "%s, flags %d", what, more_flags);
 }
 
-/* A directory on which something is mounted, or in that, is none to begin at. One on the root's mount is. */
-static void from_directories(void)
-{
-    char last[256], text[64];
-    int flags = FLAGS | more_flags, mounted, plain;
-    int m = sure(inroot_open(at, "t/m", 0), "t/m"), a = sure(inroot_open(at, "t/a", 0), "t/a");
-    sure(inroot_at_begin(at, m, &mounted), "inroot_at_begin");
-    sure(inroot_at_begin(at, a, &plain), "inroot_at_begin");
-    is_refused(inroot_open(mounted, "kept", flags), -EXDEV, "a file from a mount");
-    is_refused(inroot_open(mounted, "in/deep", flags), -EXDEV, "a file deeper from a mount");
-    is_refused(inroot_open(mounted, "..", flags), -EXDEV, "up from a mount");
-    is_refused(inroot_mkfile(mounted, "new", 0600, flags), -EXDEV, "a new file from a mount");
-    is_refused(inroot_rename(mounted, "kept", "/t/a/moved", 0, flags), -EXDEV, "a rename from a mount");
-    is_refused(inroot_rename(mounted, "/t/a/x", "moved", 0, flags), -EXDEV, "a rename to a mount");
-    is_refused(inroot_open(plain, "../m/kept", flags), -EXDEV, "a mount from beside it");
-    is_refused(inroot_open_parent(at, "t/m/new", flags, last), -EXDEV, "the directory of what is on a mount");
-    is_refused(inroot_open_partial(at, "t/m/none", flags, text, sizeof text), -EXDEV, "a part that is on a mount");
-    is_refused(inroot_mkfile_all(at, "t/m/in/new", 0600, 0700, flags | INROOT_FOLLOW), -EXDEV, "a file with all above");
-    is_refused(inroot_mkfile(at, "t/m/new", 0600, flags | INROOT_GIVE), -EXDEV, "a file that is given");
-    const int found[] = {inroot_open(plain, "x", flags), inroot_open(mounted, "kept", more_flags), inroot_open(mounted, "/t/a/x", flags)};
-    for (int one = 0; one < 3; one++)
-        expect(found[one] >= 0 && close(found[one]) == 0, "file %d from a directory: %d", one, found[one]);
-    inroot_at_end(mounted);
-    inroot_at_end(plain);
-    close(m);
-    close(a);
-    untouched("from directories");
-}
-
 static void changes(void)
 {
     struct stat about;
-    char text[8];
+    char text[8], last[256];
     int flags = FLAGS | more_flags, own = sure(openat(root, "t/a/x", O_PATH | O_CLOEXEC), "t/a/x");
-    is_refused(inroot_mkfile(at, "t/m/new", 0600, flags), -EXDEV, "a file");
-    is_refused(inroot_mkdir(at, "t/m/new", 0700, flags), -EXDEV, "a directory");
-    is_refused(inroot_mkdir(at, "t/m", 0700, flags), -EEXIST, "a directory where something is mounted");
-    is_refused(inroot_mkdir_all(at, "t/m/in/new", 0700, flags), -EXDEV, "directories");
-    is_refused(inroot_mkdir_all(at, "t/m", 0700, flags), -EXDEV, "directories up to a mount");
-    is_refused(inroot_symlink(at, "x", "l/new", flags), -EXDEV, "a link");
-    is_refused(inroot_openat(at, "t/m/new", O_RDWR | O_CREAT, 0600, flags), -EXDEV, "a file that is opened");
-    is_refused(inroot_openat(at, "t/m/new", O_RDWR | O_CREAT | O_EXCL, 0600, flags), -EXDEV, "a new file");
-    is_refused(inroot_openat(at, "t/m", O_RDWR | O_TMPFILE, 0600, flags), -EXDEV, "a file without a name");
-    is_refused(inroot_openat(at, "t/file", O_WRONLY | O_TRUNC, 0, flags), -EXDEV, "a file that is mounted");
-    is_refused(inroot_rename(at, "t/a/x", "t/m/moved", 0, flags), -EXDEV, "a rename to a mount");
-    is_refused(inroot_rename(at, "t/m/kept", "t/a/moved", 0, flags), -EXDEV, "a rename from a mount");
-    is_refused(inroot_rename(at, "t/m/kept", "t/m/moved", 0, flags), -EXDEV, "a rename on a mount");
-    is_refused(inroot_link(at, "t/m/kept", "t/a/moved", flags), -EXDEV, "a second name of what is on a mount");
-    is_refused(inroot_link(at, "t/a/x", "t/m/moved", flags), -EXDEV, "a second name on a mount");
-    is_refused(inroot_link_fd(at, own, "t/m/moved", flags), -EXDEV, "a second name of what is open on a mount");
-    is_refused(inroot_unlink(at, "t/m/kept", flags), -EXDEV, "what is removed");
-    is_refused(inroot_rmdir(at, "t/m/in", flags), -EXDEV, "a directory that is removed");
-    is_refused(inroot_rmdir(at, "t/m", flags), -EBUSY, "a directory on which something is mounted");
-    is_refused(inroot_unlink(at, "t/file", flags), -EBUSY, "a file on which something is mounted");
-    is_refused(inroot_stat(at, "t/m", &about, flags), -EXDEV, "what is told of");
-    is_refused((int)inroot_readlink(at, "t/m/link", flags, text, sizeof text), -EXDEV, "a link that is read");
-    is_refused((int)inroot_remove_all(at, "t/m", flags), -EXDEV, "a tree that is mounted");
-    is_refused((int)inroot_remove_all(at, "t/m/in", flags), -EXDEV, "a tree in what is mounted");
-    is_refused((int)inroot_remove_all(at, "t/file", flags), -EBUSY, "a file that is mounted");
+    is_refused(inroot_mknod(root, "t/m/new", S_IFREG | 0600, 0, flags), -EXDEV, "a file");
+    is_refused(inroot_mkdir(root, "t/m/new", 0700, flags), -EXDEV, "a directory");
+    is_refused(inroot_mkdir(root, "t/m", 0700, flags), -EEXIST, "a directory where something is mounted");
+    is_refused(inroot_mkdir_all(root, "t/m/in/new", 0700, flags), -EXDEV, "directories");
+    is_refused(inroot_mkdir_all(root, "t/m", 0700, flags), -EXDEV, "directories up to a mount");
+    is_refused(inroot_symlink(root, "x", "l/new", flags), -EXDEV, "a link");
+    is_refused(inroot_openat(root, "t/m/new", O_RDWR | O_CREAT, 0600, flags), -EXDEV, "a file that is opened");
+    is_refused(inroot_openat(root, "t/m/new", O_RDWR | O_CREAT | O_EXCL, 0600, flags), -EXDEV, "a new file");
+    is_refused(inroot_openat(root, "t/m", O_RDWR | O_TMPFILE, 0600, flags), -EXDEV, "a file without a name");
+    is_refused(inroot_openat(root, "t/file", O_WRONLY | O_TRUNC, 0, flags), -EXDEV, "a file that is mounted");
+    is_refused(inroot_rename(root, "t/a/x", "t/m/moved", 0, flags), -EXDEV, "a rename to a mount");
+    is_refused(inroot_rename(root, "t/m/kept", "t/a/moved", 0, flags), -EXDEV, "a rename from a mount");
+    is_refused(inroot_rename(root, "t/m/kept", "t/m/moved", 0, flags), -EXDEV, "a rename on a mount");
+    is_refused(inroot_link(root, "t/m/kept", "t/a/moved", flags), -EXDEV, "a second name of what is on a mount");
+    is_refused(inroot_link(root, "t/a/x", "t/m/moved", flags), -EXDEV, "a second name on a mount");
+    is_refused(inroot_link_fd(root, own, "t/m/moved", flags), -EXDEV, "a second name of what is open on a mount");
+    is_refused(inroot_unlink(root, "t/m/kept", flags), -EXDEV, "what is removed");
+    is_refused(inroot_rmdir(root, "t/m/in", flags), -EXDEV, "a directory that is removed");
+    is_refused(inroot_rmdir(root, "t/m", flags), -EBUSY, "a directory on which something is mounted");
+    is_refused(inroot_unlink(root, "t/file", flags), -EBUSY, "a file on which something is mounted");
+    is_refused(inroot_stat(root, "t/m", &about, flags), -EXDEV, "what is told of");
+    is_refused((int)inroot_readlink(root, "t/m/link", flags, text, sizeof text), -EXDEV, "a link that is read");
+    is_refused((int)inroot_remove_all(root, "t/m", flags), -EXDEV, "a tree that is mounted");
+    is_refused((int)inroot_remove_all(root, "t/m/in", flags), -EXDEV, "a tree in what is mounted");
+    is_refused((int)inroot_remove_all(root, "t/file", flags), -EBUSY, "a file that is mounted");
     close(own);
+    is_refused(inroot_open_parent(root, "t/m/new", flags, last), -EXDEV, "the directory of what is on a mount");
+    is_refused(inroot_mkfile_all(root, "t/m/in/new", 0600, 0700, flags | INROOT_FOLLOW), -EXDEV, "a file with all above");
+    is_refused(inroot_mknod(root, "t/m/new", S_IFREG | 0600, 0, flags | INROOT_GIVE), -EXDEV, "a file that is given");
     untouched("refused");
-    from_directories();
     /* On its own mount all goes as without. */
-    int made = inroot_mkdir_all(at, "t/a/y/z", 0700, flags);
+    int made = inroot_mkdir_all(root, "t/a/y/z", 0700, flags);
     gives_fd(made, "directories on the root's mount");
     gives(close(made), 0, "their closing");
-    gives(inroot_remove_all(at, "t/a/y", flags), 2, "a tree on the root's mount");
+    gives(inroot_remove_all(root, "t/a/y", flags), 2, "a tree on the root's mount");
 }
 
 /* In the order of their bytes what stands before a mount goes; nothing that is mounted does. */
@@ -224,7 +176,7 @@ static void removes(const char *tree, const char *before, const char *mounted, c
 {
     struct inroot_error why = {0};
     char path[64];
-    ssize_t got = inroot_remove_all(at, tree, FLAGS | more_flags);
+    ssize_t got = inroot_remove_all(root, tree, FLAGS | more_flags);
     gives(got, wanted, "%s is removed, flags %d", tree, more_flags);
     gives(inroot_last_error(&why), 0, "%s: its last error", tree);
     gives_text(why.name, mounted, "%s: the name of its last error", tree);
@@ -247,7 +199,7 @@ static void trees(void)
 static void up(void)
 {
     mounts_at_dots = true;
-    int fd = inroot_open(at, "d/e/..", FLAGS | INROOT_ONE_BY_ONE);
+    int fd = inroot_open(root, "d/e/..", FLAGS | INROOT_EXACT);
     gives(fd, -EXDEV, "`..` to a mount that came meanwhile");
     expect(!mounts_at_dots, "no mount came in between");
 }
@@ -255,7 +207,7 @@ static void up(void)
 /* Without the flag what is mounted is emptied, before the directory below it is refused. */
 static void without(void)
 {
-    ssize_t got = inroot_remove_all(at, "t/m", more_flags);
+    ssize_t got = inroot_remove_all(root, "t/m", more_flags);
     gives(got, -EBUSY, "a mounted tree");
     expect(!is_there(base, "host/kept"), "a mounted tree: what is in it is there still");
     expect(!is_there(base, "host/in"), "a mounted tree: a directory in it is there still");
@@ -268,9 +220,9 @@ static void without(void)
 
 static void not_followed(const char *path, int wanted)
 {
-    static const int ways[] = {0, INROOT_ONE_BY_ONE, INROOT_BELOW};
+    static const int ways[] = {0, INROOT_EXACT};
     for (size_t way = 0; way < sizeof ways / sizeof *ways; way++) {
-        int fd = inroot_open(at, path, ways[way]);
+        int fd = inroot_open(root, path, ways[way]);
         is_refused(fd < 0 ? fd : 0, wanted, path);
         if (fd >= 0)
             close(fd);
@@ -285,20 +237,20 @@ static void each_link(void)
     not_followed("t/other/abs/a/x", -ELOOP);
     not_followed("to", -ELOOP);
     not_followed("t/a/../other/x", 0);
-    is_refused(inroot_openat(at, "t/other/l", O_RDWR, 0, 0), -ELOOP, "a file behind a link");
-    is_refused(inroot_openat(at, "t/other/dangling", O_RDWR | O_CREAT, 0600, 0), -ELOOP, "a new file behind a link");
+    is_refused(inroot_openat(root, "t/other/l", O_RDWR, 0, 0), -ELOOP, "a file behind a link");
+    is_refused(inroot_openat(root, "t/other/dangling", O_RDWR | O_CREAT, 0600, 0), -ELOOP, "a new file behind a link");
     links_at_making = true;
-    is_refused(inroot_openat(at, "t/other/new", O_RDWR | O_CREAT, 0600, 0), -ELOOP, "a link came in between");
+    is_refused(inroot_openat(root, "t/other/new", O_RDWR | O_CREAT, 0600, 0), -ELOOP, "a link came in between");
     expect(!links_at_making, "no link came in between");
     gives(unlinkat(root, "t/other/new", 0), 0, "the link that came");
     expect(!is_there(root, "t/other/none"), "a file was made behind a link");
-    is_refused(inroot_link(at, "t/other/l", "t/other/second", INROOT_FOLLOW), -ELOOP, "a second name behind a link");
-    is_refused(inroot_mkdir_all(at, "t/other/abs/new", 0700, 0), -ELOOP, "directories behind a link");
+    is_refused(inroot_link(root, "t/other/l", "t/other/second", INROOT_FOLLOW), -ELOOP, "a second name behind a link");
+    is_refused(inroot_mkdir_all(root, "t/other/abs/new", 0700, 0), -ELOOP, "directories behind a link");
     /* The link itself is there as elsewhere. */
-    is_refused((int)inroot_readlink(at, "t/other/l", 0, text, sizeof text), 1, "a link's text");
-    is_refused((int)inroot_readlink(at, "to", 0, text, sizeof text), 9, "a link's text");
-    is_refused((int)inroot_readlink(at, "t/other/abs/up", 0, text, sizeof text), -ELOOP, "a link behind a link");
-    int fd = inroot_open(at, "t/other/l", INROOT_NOFOLLOW);
+    is_refused((int)inroot_readlink(root, "t/other/l", 0, text, sizeof text), 1, "a link's text");
+    is_refused((int)inroot_readlink(root, "to", 0, text, sizeof text), 9, "a link's text");
+    is_refused((int)inroot_readlink(root, "t/other/abs/up", 0, text, sizeof text), -ELOOP, "a link behind a link");
+    int fd = inroot_open(root, "t/other/l", INROOT_NOFOLLOW);
     gives_fd(fd, "a link itself");
     gives(close(fd), 0, "its closing");
 }
@@ -318,11 +270,6 @@ static void without_links(void)
     /* Before Linux 5.10 there are no such mounts. */
     if (openat(root, "t/other/l", O_PATH | O_CLOEXEC) >= 0)
         _exit(NO_RIGHT);
-    at = root;
-    each_link();
-    errno = -inroot_jail(root);
-    sure(-errno, "inroot_jail");
-    at = INROOT_JAIL;
     each_link();
 }
 
@@ -343,10 +290,10 @@ static void replaced(void)
     int opened = inroot_open(root, "here", 0);
     gives_object(opened, root, "here", "a file that is mounted");
     sure(renameat(root, "next", root, "kept"), "next");
-    gives(inroot_open(root, "here", INROOT_NO_RETRY), -EAGAIN, "it, once another has its name");
-    gives(inroot_stat(root, "here", &about, INROOT_NO_RETRY), -EAGAIN, "its status");
+    gives(inroot_open(root, "here", INROOT_EXACT | INROOT_NO_RETRY), -EAGAIN, "it, once another has its name");
+    gives(inroot_stat(root, "here", &about, INROOT_EXACT | INROOT_NO_RETRY), -EAGAIN, "its status");
     gives(inroot_place(root, opened, place, sizeof place), -ENOENT, "its place");
-    gives_object(inroot_open(root, "here", INROOT_BELOW), root, "here", "it by INROOT_BELOW");
+    gives_object(inroot_open(root, "here", 0), root, "here", "it by the kernel's walk");
     umount2("root/here", MNT_DETACH);
     sure(unlinkat(root, "here", 0), "here");
     sure(unlinkat(root, "kept", 0), "kept");
@@ -407,82 +354,27 @@ static void mount_all(void)
 static void each(void)
 {
     for (int way = 0; way < 2; way++) {
-        more_flags = way == 0 ? 0 : INROOT_ONE_BY_ONE;
+        more_flags = way == 0 ? 0 : INROOT_EXACT;
         for (size_t one = 0; one < sizeof paths / sizeof *paths; one++)
             opens(paths[one]);
         changes();
     }
 }
 
-static void by_proc(void)
+static void mounted(void)
 {
     mount_all();
-    at = root;
     each();
+    more_flags = 0;
     without();
     trees();
     up();
 }
 
-/* Nothing is mounted once the thread is below its root, since that takes paths from the top. */
-static void in_jail_by(int flags)
-{
-    mount_all();
-    errno = -inroot_jail_with(root, flags);
-    if (errno == EPERM)
-        _exit(NO_RIGHT);
-    sure(-errno, "inroot_jail");
-    at = INROOT_JAIL;
-    each();
-}
-
-static void in_jail(void)
-{
-    in_jail_by(0);
-}
-
-static void in_trusting_jail(void)
-{
-    in_jail_by(INROOT_TRUST_PROC);
-}
-
-/* Then another file system is told from the root's by its device, and a bind mount of the same one isn't seen. */
-static void by_device(void)
-{
-    mount_all();
-    at = root;
-    is_old = true;
-    is_refused(inroot_open(at, "t/other/x", FLAGS), -EXDEV, "another file system");
-    is_refused(inroot_mkdir(at, "t/other/new", 0700, FLAGS), -EXDEV, "a directory on another file system");
-    is_refused((int)inroot_remove_all(at, "t/other", FLAGS), -EXDEV, "a tree of another file system");
-    expect(is_there(root, "t/other/x"), "another file system was changed");
-    int fd = inroot_open(at, "t/m/kept", FLAGS);
-    gives_fd(fd, "a bind mount of the same file system");
-    gives(close(fd), 0, "its closing");
-}
-
-static void without_numbers(void)
-{
-    has_no_numbers = true;
-    by_device();
-}
-
-static void with_zeros(void)
-{
-    has_zeros = true;
-    by_device();
-}
-
-static void without_openat2(void)
-{
-    is_old = true;
-    by_proc();
-}
-
 int main(int count, char **words)
 {
     static void (*const parts[])(void) = {
-        by_proc, in_jail, in_trusting_jail, without_openat2, without_numbers, with_zeros, without_links, replaced,
+        mounted, without_links, replaced,
     };
     static const char *const whole[] = {"r/a", "s/a"};
     int skipped = 0;

@@ -1,10 +1,10 @@
 /*
  * new_race: a directory is moved out of the root and back, and exchanged for a link that leads out, while paths of plain names
- * are opened at once, a jail trusts, files are made and published, trees are removed in pieces, and a root that is kept is used
- * by many threads. What never stood below the root isn't opened, and nothing outside is made or removed.
+ * are opened, files are used, made and published, and trees are removed in pieces. What never stood below the root isn't opened,
+ * and nothing outside is made or removed.
  *
- * usage: new_race DIR SECONDS RACE. RACE is at_once, trust, create, publish, remove or kept. Exits 0 where that holds, and a walk
- * without a check was led out. 78: no right to change a root. 79: that walk was not led out.
+ * usage: new_race DIR SECONDS RACE. RACE is plain, use, create, publish or remove. Exits 0 where that holds, and a walk without a
+ * check was led out. 78: no right to change a root. 79: that walk was not led out.
  */
 #define _GNU_SOURCE
 #include "race.h"
@@ -15,8 +15,6 @@
 
 static int base, out, deep;
 static char where[PATH_MAX];
-
-static const int ways[] = {0, INROOT_ONE_BY_ONE, INROOT_NO_RETRY, INROOT_NO_RETRY | INROOT_ONE_BY_ONE};
 
 /* ---- who is in their way */
 
@@ -50,10 +48,16 @@ static void move_directories(void)
 
 /* ---- what workers do */
 
-static int open_plainly(int at, uint64_t *state)
+/* The flags of a call of this way, which makes one try or as many as are due. */
+static int once_or_often(int way, uint64_t *state)
+{
+    return way | (pick(state, 2) ? INROOT_NO_RETRY : 0);
+}
+
+static int open_plainly(int at, int way, uint64_t *state)
 {
     static const char *const paths[] = {"a/b/f", "a/b/g", "/a/b/c", "a/b/c/d", "a/b", "/a/b/f", "a"};
-    return inroot_open(at, paths[pick(state, 7)], pick(state, 2) ? INROOT_NO_RETRY : 0);
+    return inroot_open(at, paths[pick(state, 7)], once_or_often(way, state));
 }
 
 static const char *const everywhere[] = {
@@ -61,33 +65,33 @@ static const char *const everywhere[] = {
 };
 enum { EVERYWHERE = sizeof everywhere / sizeof *everywhere };
 
-static int open_any(int at, uint64_t *state)
+static int open_any(int at, int way, uint64_t *state)
 {
-    return inroot_open(at, everywhere[pick(state, EVERYWHERE)], ways[pick(state, 4)]);
+    return inroot_open(at, everywhere[pick(state, EVERYWHERE)], once_or_often(way, state));
 }
 
 /* Opened, looked at, and opened to be read. */
-static int use_any(int at, uint64_t *state)
+static int use_any(int at, int way, uint64_t *state)
 {
     struct stat about;
     const char *path = everywhere[pick(state, EVERYWHERE)];
     switch (pick(state, 4)) {
-    case 0: return inroot_openat(at, path, O_RDONLY | O_NONBLOCK, 0, ways[pick(state, 4)]);
-    case 1: return inroot_stat(at, path, &about, ways[pick(state, 4)]);
-    default: return open_any(at, state);
+    case 0: return inroot_openat(at, path, O_RDONLY | O_NONBLOCK, 0, once_or_often(way, state));
+    case 1: return inroot_stat(at, path, &about, once_or_often(way, state));
+    default: return open_any(at, way, state);
     }
 }
 
 /* Where `..` leads out, the name would be made there; so it would where the link is followed out. None of these makes `a/b`. */
 static const char *const made[] = {"a/b/new", "a/b/c/../new", "a/b/../new", "a/b/c/../../new"};
 
-static int create_any(int at, uint64_t *state)
+static int create_any(int at, int way, uint64_t *state)
 {
     const char *path = made[pick(state, 4)];
-    int flags = ways[pick(state, 4)], fd;
+    int flags = once_or_often(way, state), fd;
     ssize_t removed;
     switch (pick(state, 6)) {
-    case 0: return inroot_mkfile(at, path, 0600, flags);
+    case 0: return inroot_mknod(at, path, S_IFREG | 0600, 0, flags);
     case 1: return inroot_mkdir(at, path, 0700, flags);
     case 2: return inroot_symlink(at, where, path, flags);
     case 3: fd = inroot_openat(at, path, O_WRONLY | O_CREAT, 0600, flags); break;
@@ -101,10 +105,10 @@ static int create_any(int at, uint64_t *state)
     return fd < 0 ? fd : 0;
 }
 
-static int publish_any(int at, uint64_t *state)
+static int publish_any(int at, int way, uint64_t *state)
 {
     const char *path = made[pick(state, 4)];
-    int flags = ways[pick(state, 4)];
+    int flags = once_or_often(way, state);
     int fd = inroot_openat(at, "a/b/c", O_WRONLY | O_TMPFILE, 0600, flags);
     int result = fd < 0 ? fd : inroot_link_fd(at, fd, path, flags);
     if (fd >= 0)
@@ -131,7 +135,7 @@ static void make_deep(const char *name)
 }
 
 /* Its name is the thread's own. */
-static int remove_tree(int at, uint64_t *state)
+static int remove_tree(int at, int way, uint64_t *state)
 {
     static const char *const above[] = {"a/b/c", "a/b/c/../c", "a/b/../b/c"};
     char name[32], path[64];
@@ -139,13 +143,13 @@ static int remove_tree(int at, uint64_t *state)
     if (faccessat(deep, name, F_OK, 0) != 0)
         make_deep(name);
     snprintf(path, sizeof path, "%s/%s", above[pick(state, 3)], name);
-    ssize_t removed = inroot_remove_all(at, path, ways[pick(state, 4)]);
+    ssize_t removed = inroot_remove_all(at, path, once_or_often(way, state));
     return removed < 0 ? (int)removed : 0;
 }
 
-static int open_unchecked(int at, uint64_t *state)
+static int open_unchecked(int at, int way, uint64_t *state)
 {
-    (void)at;
+    (void)at, (void)way;
     return walk_unchecked(root, everywhere[pick(state, EVERYWHERE)]);
 }
 
@@ -194,7 +198,7 @@ static void is_untouched(const char *title)
 
 struct kind {
     const char *name;
-    int (*work)(int at, uint64_t *state);
+    int (*work)(int at, int way, uint64_t *state);
     void (*move)(void);
     bool ends_early;
     enum place places[8];
@@ -202,12 +206,11 @@ struct kind {
 };
 
 static const struct kind kinds[] = {
-    {"at_once", open_plainly, move_files, false, {PLAIN, BY_JAIL, BY_TRUST, CHROOT}, 4},
-    {"trust", use_any, move_directories, false, {BY_TRUST, BY_TRUST, BY_TRUST, IN_TRUST}, 4},
-    {"create", create_any, move_directories, false, {PLAIN, BY_JAIL, BY_TRUST, IN_JAIL}, 4},
-    {"publish", publish_any, move_directories, false, {PLAIN, BY_JAIL, BY_TRUST}, 3},
-    {"remove", remove_tree, move_directories, false, {PLAIN, BY_JAIL, BY_TRUST}, 3},
-    {"kept", use_any, move_directories, false, {PLAIN, PLAIN, PLAIN, PLAIN, PLAIN, PLAIN, PLAIN, PLAIN}, 8},
+    {"plain", open_plainly, move_files, false, {PLAIN, CHROOT, EXACT, EXACT_CHROOT}, 4},
+    {"use", use_any, move_directories, false, {PLAIN, PLAIN, CHROOT, EXACT, EXACT, EXACT_CHROOT}, 6},
+    {"create", create_any, move_directories, false, {PLAIN, CHROOT, EXACT, EXACT_CHROOT}, 4},
+    {"publish", publish_any, move_directories, false, {PLAIN, CHROOT, EXACT}, 3},
+    {"remove", remove_tree, move_directories, false, {PLAIN, CHROOT, EXACT}, 3},
 };
 
 static void race_of(const struct kind *kind, unsigned seconds)
@@ -223,17 +226,8 @@ static void race_of(const struct kind *kind, unsigned seconds)
 int main(int count, char **words)
 {
     const size_t one = row_of(kinds, sizeof kinds / sizeof *kinds, sizeof *kinds, count, words, where, &base);
-    struct inroot_root *kept = NULL;
     make_tree();
     open_proc();
-    if (strcmp(words[3], "kept") == 0) {
-        sure(fchdir(base), "fchdir");
-        errno = -inroot_root_open("box", 0, &kept);
-        sure(-errno, "inroot_root_open");
-        close(root);
-        root = inroot_root_fd(kept);
-    }
     race_of(&kinds[one], (unsigned)atoi(words[2]));
-    inroot_root_close(kept);
     return ending(has_shown);
 }

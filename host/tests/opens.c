@@ -1,9 +1,8 @@
 /*
  * opens: inroot_openat() beside openat2(2) with RESOLVE_IN_ROOT, each on a tree of its own: the same error, or the
- * same object opened in the same way, and then the same trees. By /proc, and in a jail.
+ * same object opened in the same way, and then the same trees. By the kernel's walk, and with INROOT_EXACT.
  *
- * usage: opens DIR. Exits 0 where each case agrees. 77: no openat2(2) here. 78: no right to change a root, so that
- * a half is left out.
+ * usage: opens DIR. Exits 0 where each case agrees. 77: no openat2(2) here.
  */
 #define _GNU_SOURCE
 #include "../openat2.h"
@@ -17,7 +16,7 @@
 #include <sys/stat.h>
 #include <sys/syscall.h>
 
-static int base, ours, theirs, asked, cases, opened;
+static int base, ours, theirs, cases, opened;
 static char at[PATH_MAX];
 
 static const char *const paths[] = {
@@ -199,12 +198,12 @@ static void compare_trees(const char *path, int way)
     gives_text(right, left, "%s, %o: the tree that it left, as the kernel leaves it", path, (unsigned)way);
 }
 
-static void compare(const char *path, int way)
+static void compare(const char *path, int way, int flags)
 {
     bool makes = way & O_CREAT || (way & O_TMPFILE) == O_TMPFILE;
     mode_t mode = makes ? 0640 : 0;
     int how = way & O_PATH ? way : way | O_NONBLOCK;
-    int wanted = as_told_here(path, way, by_kernel(path, how, mode)), got = inroot_openat(asked, path, how, mode, 0);
+    int wanted = as_told_here(path, way, by_kernel(path, how, mode)), got = inroot_openat(ours, path, how, mode, flags);
     cases++;
     opened += got >= 0;
     gives(got < 0 ? got : 0, wanted < 0 ? wanted : 0, "%s, %o, as openat2(2) gives it", path, (unsigned)way);
@@ -224,35 +223,18 @@ static void make_trees(void)
     theirs = make_tree("theirs");
 }
 
-static void by_proc(void)
+static void each(int flags, const char *by)
 {
+    cases = opened = 0;
     for (size_t path = 0; path < sizeof paths / sizeof *paths; path++)
         for (size_t way = 0; way < sizeof ways / sizeof *ways; way++) {
             make_trees();
-            asked = ours;
-            compare(paths[path], ways[way]);
+            compare(paths[path], ways[way], flags);
             compare_trees(paths[path], ways[way]);
         }
-    printf("opens: %d of %d cases opened by /proc\n", opened, cases);
-    gives_least(opened, 101, "cases that open");
-    gives_most(opened, cases - 1, "cases that open");
-}
-
-/* One jail, so that what is made by a case stands there in the next: in both trees. */
-static void in_jail(void)
-{
-    make_trees();
-    int failed = inroot_jail(ours);
-    if (failed == -EPERM)
-        _exit(NO_RIGHT);
-    asked = INROOT_JAIL;
-    cases = opened = 0;
-    for (size_t way = 0; way < sizeof ways / sizeof *ways; way++)
-        for (size_t path = 0; path < sizeof paths / sizeof *paths; path++)
-            compare(paths[path], ways[way]);
-    printf("opens: %d of %d cases opened in a jail\n", opened, cases);
-    gives_least(opened, 101, "cases that open in a jail");
-    gives_most(opened, cases - 1, "cases that open in a jail");
+    printf("opens: %d of %d cases opened %s\n", opened, cases, by);
+    gives_least(opened, 101, "cases that open %s", by);
+    gives_most(opened, cases - 1, "cases that open %s", by);
 }
 
 int main(int count, char **words)
@@ -269,10 +251,9 @@ int main(int count, char **words)
     umask(022);
     open_proc();
     int before = open_descriptors();
-    by_proc();
+    each(0, "by the kernel's walk");
+    each(INROOT_EXACT, "with INROOT_EXACT");
     int left = open_descriptors() - before;
-    int skipped = apart(in_jail);
-    compare_trees("in a jail", 0);
     printf("opens: %d not as they are to be, %d descriptors left open\n", wrong, left);
-    return wrong != 0 || left != 0 ? 1 : skipped;
+    return wrong != 0 || left != 0;
 }

@@ -1,10 +1,9 @@
 /*
  * path_once: somebody changes the text of a path as soon as a call has made a system call. What is opened, made,
- * renamed or removed is what the text said as the call began; also at a second try, after a path wasn't opened at
- * once, and where a file is made that wasn't there. To be linked with --wrap=readlinkat, --wrap=openat and
+ * renamed or removed is what the text said as the call began; also at a second try, and where a file is made that wasn't there. To be linked with --wrap=readlinkat, --wrap=openat and
  * --wrap=syscall.
  *
- * usage: path_once DIR. Exits 0 where that holds. 78: no right to change a root, so that a half is left out.
+ * usage: path_once DIR. Exits 0 where that holds.
  */
 #define _GNU_SOURCE
 #include "support.h"
@@ -16,7 +15,8 @@
 #include <sys/stat.h>
 #include <sys/syscall.h>
 
-static int root, at;
+/* FLAGS are 0, or INROOT_EXACT. */
+static int root, flags;
 
 /* The texts that the call was given, what they are changed to, and whether its first question gets a wrong answer. */
 static char first[32], second[32];
@@ -61,11 +61,6 @@ INSTEAD_OF_OPENAT(my_openat)
 
 static long my_syscall(long number, const long *with)
 {
-    if (number == SYS_getcwd && lies && with[1] >= 6) {
-        lies = false;
-        memcpy((char *)with[0], "/none", 6);
-        return 6;
-    }
     long result = REAL_SYSCALL(number, with);
     change();
     return result;
@@ -103,13 +98,13 @@ static void taken_back(const char *what)
 }
 
 /* What is there is opened, and it is this one. */
-static void opens(const char *path, int flags, bool is_tried_again)
+static void opens(const char *path, bool is_tried_again)
 {
     const char *when = is_tried_again ? "tried again" : "at the first try";
     struct stat about = {0}, wanted = status_of("a/f");
     give(path, "out/secret", "", NULL);
     lies = is_tried_again;
-    int fd = inroot_open(at, first, flags);
+    int fd = inroot_open(root, first, flags);
     taken_back(path);
     gives_fd(fd, "%s, flags %d, %s", path, flags, when);
     gives(fd < 0 ? 0 : fstat(fd, &about), 0, "%s, flags %d, %s: fstat(2) of it", path, flags, when);
@@ -121,19 +116,18 @@ static void opens(const char *path, int flags, bool is_tried_again)
 static void what_is_there(void)
 {
     static const char *const paths[] = {"a/f", "/a/f", "a/../a/f", "l/f", "a/b/../f"};
-    static const int flags[] = {0, INROOT_ONE_BY_ONE};
-    for (size_t one = 0; one < sizeof paths / sizeof *paths; one++)
-        for (size_t other = 0; other < 2; other++) {
-            opens(paths[one], flags[other], false);
-            opens(paths[one], flags[other], true);
-        }
+    for (size_t one = 0; one < sizeof paths / sizeof *paths; one++) {
+        opens(paths[one], false);
+        if (flags & INROOT_EXACT)
+            opens(paths[one], true);
+    }
 }
 
 static void files(bool is_tried_again)
 {
     give("a/new", "out/new", "", NULL);
     lies = is_tried_again;
-    int fd = inroot_openat(at, first, O_RDWR | O_CREAT, 0600, 0);
+    int fd = inroot_openat(root, first, O_RDWR | O_CREAT, 0600, flags);
     taken_back("a file that is made");
     gives_fd(fd, "a file that is made");
     gives(is_there("a/new"), true, "a file that is made: whether a/new is there");
@@ -142,7 +136,7 @@ static void files(bool is_tried_again)
         close(fd);
     unlinkat(root, "a/new", 0);
     give("a/dangling", "out/dangling", "", NULL);
-    fd = inroot_openat(at, first, O_RDWR | O_CREAT, 0600, 0);
+    fd = inroot_openat(root, first, O_RDWR | O_CREAT, 0600, flags);
     taken_back("a file at the end of a link");
     gives_fd(fd, "a file at the end of a link");
     gives(is_there("a/target"), true, "a file at the end of a link: whether a/target is there");
@@ -152,7 +146,7 @@ static void files(bool is_tried_again)
     unlinkat(root, "a/target", 0);
     give("a/new", "out/new", "", NULL);
     lies = is_tried_again;
-    gives(inroot_mkfile(at, first, 0600, 0), 0, "an empty file");
+    gives(inroot_mknod(root, first, S_IFREG | 0600, 0, flags), 0, "an empty file");
     gives(is_there("a/new"), true, "an empty file: whether a/new is there");
     gives(is_there("out/new"), false, "an empty file: whether out/new is there");
     taken_back("an empty file");
@@ -163,7 +157,7 @@ static void directories(bool is_tried_again)
 {
     give("a/b/new/er", "out/b/new/er", "", NULL);
     lies = is_tried_again;
-    int fd = inroot_mkdir_all(at, first, 0700, 0);
+    int fd = inroot_mkdir_all(root, first, 0700, flags);
     taken_back("directories");
     gives_fd(fd, "directories");
     gives(is_there("a/b/new/er"), true, "directories: whether a/b/new/er is there");
@@ -172,7 +166,7 @@ static void directories(bool is_tried_again)
         close(fd);
     give("a/b/new", "out", "", NULL);
     lies = is_tried_again;
-    gives(inroot_remove_all(at, first, 0), 2, "a tree is removed");
+    gives(inroot_remove_all(root, first, flags), 2, "a tree is removed");
     gives(is_there("out/secret"), true, "a tree is removed: whether out/secret is there");
     gives(is_there("a/b/new"), false, "a tree is removed: whether a/b/new is there");
     taken_back("a tree is removed");
@@ -183,7 +177,7 @@ static void two_texts(bool is_tried_again)
     struct stat wanted = status_of("a/f");
     give("a/f", "out/secret", "a/g", "out/g");
     lies = is_tried_again;
-    gives(inroot_rename(at, first, second, INROOT_PLAIN, 0), 0, "a rename");
+    gives(inroot_rename(root, first, second, INROOT_PLAIN, flags), 0, "a rename");
     gives(is_there("a/g"), true, "a rename: whether a/g is there");
     gives(is_there("out/g"), false, "a rename: whether out/g is there");
     taken_back("a rename");
@@ -191,7 +185,7 @@ static void two_texts(bool is_tried_again)
     sure(renameat(root, "a/g", root, "a/f"), "a/f");
     give("a/f", "out/secret", "a/g", "out/g");
     lies = is_tried_again;
-    gives(inroot_link(at, first, second, 0), 0, "a second name");
+    gives(inroot_link(root, first, second, flags), 0, "a second name");
     gives(is_there("a/g"), true, "a second name: whether a/g is there");
     gives(is_there("out/g"), false, "a second name: whether out/g is there");
     taken_back("a second name");
@@ -199,7 +193,7 @@ static void two_texts(bool is_tried_again)
     unlinkat(root, "a/g", 0);
     give("text", "other", "a/g", "out/g");
     lies = is_tried_again;
-    gives(inroot_symlink(at, first, second, 0), 0, "a link is made");
+    gives(inroot_symlink(root, first, second, flags), 0, "a link is made");
     gives(is_there("a/g"), true, "a link is made: whether a/g is there");
     gives(is_there("out/g"), false, "a link is made: whether out/g is there");
     taken_back("a link is made");
@@ -209,22 +203,16 @@ static void two_texts(bool is_tried_again)
     unlinkat(root, "a/g", 0);
 }
 
-static void each(void)
+/* A wrong answer to its first question has a call with INROOT_EXACT begin anew. */
+static void each(int way)
 {
+    flags = way;
     what_is_there();
-    for (int again = 0; again < 2; again++) {
+    for (int again = 0; again < (way & INROOT_EXACT ? 2 : 1); again++) {
         files(again);
         directories(again);
         two_texts(again);
     }
-}
-
-static void in_jail(void)
-{
-    errno = -inroot_jail(root);
-    sure(-errno, "inroot_jail");
-    at = INROOT_JAIL;
-    each();
 }
 
 int main(int count, char **words)
@@ -232,7 +220,7 @@ int main(int count, char **words)
     static const char *const dirs[] = {"a", "a/b", "out"};
     if (count != 2)
         return 2;
-    root = at = sure(open(words[1], O_PATH | O_DIRECTORY | O_CLOEXEC), words[1]);
+    root = sure(open(words[1], O_PATH | O_DIRECTORY | O_CLOEXEC), words[1]);
     for (size_t one = 0; one < sizeof dirs / sizeof *dirs; one++)
         sure(mkdirat(root, dirs[one], 0755), dirs[one]);
     sure(mknodat(root, "a/f", S_IFREG | 0600, 0), "a/f");
@@ -240,10 +228,8 @@ int main(int count, char **words)
     sure(symlinkat("/a", root, "l"), "l");
     sure(symlinkat("target", root, "a/dangling"), "a/dangling");
     open_proc();
-    each();
-    bool may = may_jail(root);
-    if (may)
-        apart(in_jail);
+    each(0);
+    each(INROOT_EXACT);
     printf("path_once: %d not as they are to be\n", wrong);
-    return wrong != 0 ? 1 : may ? 0 : NO_RIGHT;
+    return wrong != 0;
 }

@@ -7,7 +7,7 @@
  * nothing stays open. A new one that doesn't have the calling thread, as after unshare(2) with CLONE_NEWPID, is none.
  *
  * usage: private_proc DIR. Exits 0 where that holds. 78: no right to mount here, so that nothing was tried. To be linked with
- * --wrap of readlinkat and syscall.
+ * --wrap of readlinkat, statx and syscall.
  */
 #define _GNU_SOURCE
 #include "filter.h"
@@ -23,7 +23,7 @@
 static char where[4096];
 static int box;
 
-/* What is done before the next statx(2) of the library. */
+/* What is done before the next statx(2) of the library that is about a descriptor. */
 static void (*act)(void);
 
 enum { OPEN_TREE = 428, FSOPEN = 430, FSCONFIG = 431, FSMOUNT = 432 };
@@ -58,17 +58,23 @@ ssize_t __wrap_readlinkat(int dir, const char *name, char *text, size_t size)
 
 static long my_syscall(long number, const long *with)
 {
-    if (is_failing(number, with))
-        return -1;
-    void (*now)(void) = act;
-    if (now != NULL && number == SYS_statx) {
-        act = NULL;
-        now();
-    }
-    return REAL_SYSCALL(number, with);
+    return is_failing(number, with) ? -1 : REAL_SYSCALL(number, with);
 }
 
 INSTEAD_OF_SYSCALL(my_syscall)
+
+int __real_statx(int dir, const char *name, int flags, unsigned int mask, struct statx *about);
+int __wrap_statx(int dir, const char *name, int flags, unsigned int mask, struct statx *about);
+
+int __wrap_statx(int dir, const char *name, int flags, unsigned int mask, struct statx *about)
+{
+    void (*now)(void) = act;
+    if (now != NULL && dir != AT_FDCWD) {
+        act = NULL;
+        now();
+    }
+    return __real_statx(dir, name, flags, mask, about);
+}
 
 static void apart_from_others(void)
 {
@@ -103,7 +109,7 @@ static void cover_with_lies(void)
 static void reads(const char *what, int wanted)
 {
     char text[16] = "";
-    int fd = inroot_openat(box, "a/../a/f", O_RDONLY, 0, 0);
+    int fd = inroot_openat(box, "a/../a/f", O_RDONLY, 0, INROOT_EXACT);
     if (wanted < 0) {
         gives(fd, wanted, "%s", what);
         return;
@@ -121,15 +127,11 @@ static void use_private(void)
 
 static void whole(void)
 {
-    struct inroot_root *kept;
     apart_from_others();
     cover("/proc");
-    gives(inroot_root_open(where, 0, &kept), -ENOSYS, "without /proc");
     reads("without /proc", -ENOSYS);
     use_private();
     reads("a private one", 0);
-    gives(inroot_root_open(where, 0, &kept), 0, "a root by a private one");
-    inroot_root_close(kept);
 }
 
 static void in_part(void)
@@ -151,15 +153,13 @@ static void close_all_but_root(int most)
 /* The program has closed what it didn't open. /proc, which somebody has covered, doesn't take its place. */
 static void closed(void)
 {
-    struct inroot_root *kept;
     apart_from_others();
     cover_with_lies();
     use_private();
     close_all_but_root(64);
     reads("a private one that was closed", -ENOSYS);
     gives(inroot_reopen(box, O_RDONLY), -ENOSYS, "a directory once more");
-    gives(inroot_root_open(where, 0, &kept), -ENOSYS, "a root");
-    gives(inroot_jail(box), -ENOSYS, "a jail");
+    gives(inroot_proc_open(INROOT_PROC_SELF, "comm", O_RDONLY), -ENOSYS, "a file of it");
     gives(inroot_use_private_proc(), -EBUSY, "another private one");
 }
 
@@ -256,7 +256,7 @@ static void mount_other(const char *source, const char *kind, unsigned long flag
         _exit(NO_RIGHT);
 }
 
-/* The program has handed another mount of /proc in, which isn't covered, and nobody can tell the two apart. */
+/* The program has handed another mount of /proc in, which isn't covered. */
 static void attribute_by_another(void)
 {
     apart_from_others();
@@ -266,7 +266,6 @@ static void attribute_by_another(void)
         _exit(NO_RIGHT);
     int proc = sure(open(other, O_PATH | O_DIRECTORY | O_CLOEXEC), other);
     cover_with_lies();
-    refuse(SYS_statx, ENOSYS);
     set_by_paths();
     gives(inroot_use_proc(proc), 0, "inroot_use_proc");
     sets_none("another mount of /proc");
@@ -279,13 +278,6 @@ static void another(void)
     if (number_of(other) == number_of("/proc"))
         _exit(NO_RIGHT);
     by_the_number("another one by the number");
-}
-
-/* Where no mount has a number that no other one ever gets, as before Linux 6.8. */
-static void another_by_file_system(void)
-{
-    refuse(SYS_statx, ENOSYS);
-    another();
 }
 
 /* Linux 5.8 gives each mount a number, and Linux 6.8 one that no other mount ever gets. */
@@ -484,8 +476,6 @@ int main(int count, char **words)
         skipped = apart(attribute_by_another);
     if (skipped == 0)
         skipped = apart(another);
-    if (skipped == 0)
-        skipped = apart(another_by_file_system);
     if (skipped == 0)
         skipped = apart(another_mount);
     if (skipped == 0)

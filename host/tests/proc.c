@@ -39,21 +39,22 @@ static void cover(bool lies)
     }
 }
 
-/* What asks /proc to open for use and to give second names gives ENOSYS, and has made nothing. */
+/* What asks /proc to open once more, for second names and for places gives ENOSYS, and has made nothing. */
 static void no_use(const char *why)
 {
-    struct inroot_root *kept;
     struct stat about;
     int fd = sure(openat(root, "f", O_PATH | O_CLOEXEC), "f");
     gives(inroot_reopen(fd, O_RDONLY), -ENOSYS, "a file once more %s", why);
-    gives(inroot_openat(root, "f", O_RDONLY, 0, 0), -ENOSYS, "a file to be read %s", why);
-    gives_fd(inroot_openat(root, "new", O_RDWR | O_CREAT, 0600, 0), "a new file in the root itself %s", why);
-    gives(inroot_openat(root, "a/new", O_RDWR | O_CREAT, 0600, 0), -ENOSYS, "a new file %s", why);
+    gives(inroot_fchmod(fd, 0600), -ENOSYS, "the mode of a file %s", why);
+    gives(inroot_open(root, "f", INROOT_EXACT), -ENOSYS, "a file %s", why);
+    gives(inroot_openat(root, "f", O_RDONLY, 0, INROOT_EXACT), -ENOSYS, "a file to be read %s", why);
+    gives_fd(inroot_openat(root, "f", O_RDONLY, 0, 0), "a file to be read, by the kernel's walk, %s", why);
+    gives_fd(inroot_openat(root, "new", O_RDWR | O_CREAT, 0600, INROOT_EXACT), "a new file in the root itself %s", why);
+    gives(inroot_openat(root, "a/new", O_RDWR | O_CREAT, 0600, INROOT_EXACT), -ENOSYS, "a new file %s", why);
     gives(inroot_link_fd(root, fd, "g", 0), -ENOSYS, "a second name %s", why);
     gives(inroot_link(root, "f", "g", 0), -ENOSYS, "a second name of what is found %s", why);
-    gives(inroot_stat(root, "f", &about, 0), -ENOSYS, "what stands there %s", why);
-    gives(inroot_root_open(where, 0, &kept), -ENOSYS, "a root that is kept %s", why);
-    expect(kept == NULL, "a root that is kept %s", why);
+    gives(inroot_stat(root, "f", &about, INROOT_EXACT), -ENOSYS, "what stands there %s", why);
+    gives(inroot_proc_open(INROOT_PROC_SELF, "comm", O_RDONLY), -ENOSYS, "a file of it %s", why);
     gives(faccessat(root, "g", F_OK, 0), -1, "g, asked for, %s", why);
     gives(faccessat(root, "a/new", F_OK, 0), -1, "a/new, asked for, %s", why);
     sure(unlinkat(root, "new", 0), "new");
@@ -73,36 +74,15 @@ static void no_proc(void)
 {
     cover(false);
     no_use("without /proc");
-    gives(inroot_open(root, "f", 0), -ENOSYS, "a file without /proc");
-    gives(inroot_mkdir(root, "a/x", 0755, 0), -ENOSYS, "a directory without /proc");
-    gives(inroot_jail(root), -ENOSYS, "a jail without /proc");
-    gives(inroot_jail_with(root, INROOT_TRUST_PROC), -ENOSYS, "a jail that trusts without /proc");
-    gives(inroot_open(root, "none", 0), -ENOENT, "what isn't there, without /proc");
+    gives(inroot_mkdir(root, "a/x", 0755, INROOT_EXACT), -ENOSYS, "a directory without /proc");
+    gives(inroot_open(root, "none", INROOT_EXACT), -ENOENT, "what isn't there, without /proc");
 }
 
 static void forged(void)
 {
     cover(true);
     no_use("by a /proc that is none");
-    gives(inroot_open(root, "f", 0), -ENOSYS, "a file by a /proc that is none");
-    gives(inroot_open(root, "a/../f", 0), -ENOSYS, "a file after `..` by a /proc that is none");
-    gives(inroot_jail(root), -ENOSYS, "a jail by a /proc that is none");
-    gives(inroot_jail_with(root, INROOT_TRUST_PROC), -ENOSYS, "a jail that trusts by a /proc that is none");
-}
-
-/* The directory of the thread's descriptors is that of the /proc that was handed in, and is closed with it. */
-static void handed_in_to_trust(void)
-{
-    cover(true);
-    gives(inroot_use_proc(good), 0, "a /proc");
-    close(good);
-    gives(inroot_jail_with(root, INROOT_TRUST_PROC), 0, "a jail that trusts by the /proc that was handed in");
-    gives_fd(inroot_open(INROOT_JAIL, "f", 0), "a file in a jail that trusts by that /proc");
-    gives_fd(inroot_open(INROOT_JAIL, "a/g", 0), "a file deeper in a jail that trusts by that /proc");
-    close_proc();
-    gives_fd(inroot_open(INROOT_JAIL, "a", 0), "a directory in a jail that trusts whose /proc was closed");
-    gives(inroot_open(INROOT_JAIL, "f", 0), -ENOSYS, "a file in a jail that trusts whose /proc was closed");
-    gives(inroot_open(INROOT_JAIL, "a/g", 0), -ENOSYS, "a file deeper in a jail that trusts whose /proc was closed");
+    gives(inroot_open(root, "a/../f", INROOT_EXACT), -ENOSYS, "a file after `..` by a /proc that is none");
 }
 
 static void handed_in(void)
@@ -116,59 +96,18 @@ static void handed_in(void)
     gives(inroot_use_proc(good), 0, "a /proc");
     gives(inroot_use_proc(good), -EBUSY, "a second /proc");
     close(good);
-    gives_fd(inroot_open(root, "f", 0), "a file by the /proc that was handed in");
-    gives_fd(inroot_openat(root, "f", O_RDWR, 0, 0), "a file to be used by the /proc that was handed in");
-    gives(inroot_jail(root), 0, "a jail by the /proc that was handed in");
-    gives_fd(inroot_open(INROOT_JAIL, "f", 0), "a file in a jail by the /proc that was handed in");
-    gives_fd(inroot_openat(INROOT_JAIL, "f", O_RDWR, 0, 0), "a file to be used in a jail by that /proc");
+    gives_fd(inroot_open(root, "f", INROOT_EXACT), "a file by the /proc that was handed in");
+    gives_fd(inroot_openat(root, "f", O_RDWR, 0, INROOT_EXACT), "a file to be used by the /proc that was handed in");
     close_proc();
-    gives_fd(inroot_open(INROOT_JAIL, "a", 0), "a directory in a jail whose /proc was closed");
-    gives(inroot_openat(INROOT_JAIL, "a", O_RDONLY, 0, 0), -ENOSYS, "the same, to be read");
-    gives(inroot_reopen(root, O_RDONLY), -ENOSYS, "a directory once more in a jail whose /proc was closed");
-}
-
-/* Below a jail's root stands a proc(5) that somebody mounted there. It is called /proc, and it isn't the program's. */
-static void of_the_jail(void)
-{
-    char path[PATH_MAX + 16];
-    snprintf(path, sizeof path, "%s/proc", where);
-    sure(mkdir(path, 0755), path);
-    if (unshare(CLONE_NEWNS) != 0 || mount(NULL, "/", NULL, MS_REC | MS_PRIVATE, NULL) != 0 ||
-        mount("none", path, "proc", 0, NULL) != 0)
-        _exit(NO_RIGHT);
-    /* In this mount namespace, where the other one's descriptor doesn't lead. */
-    int here = sure(open(where, O_PATH | O_DIRECTORY | O_CLOEXEC), where);
-    gives(inroot_jail(here), 0, "a jail with a /proc of its own");
-    gives_fd(inroot_open(INROOT_JAIL, "f", 0), "a file in a jail with a /proc of its own");
-    close_proc();
-    gives_fd(inroot_open(INROOT_JAIL, "a", 0), "a directory in a jail with a /proc of its own");
-    int fd = inroot_open(INROOT_JAIL, "f", 0);
-    gives(fd, -ENOSYS, "a file by a /proc of the jail's own");
-    fd = inroot_openat(INROOT_JAIL, "a", O_RDONLY, 0, 0);
-    gives(fd, -ENOSYS, "a directory to be read by a /proc of the jail's own");
-    gives(inroot_link(INROOT_JAIL, "f", "g", 0), -ENOSYS, "a second name by a /proc of the jail's own");
+    no_use("by a /proc that was handed in and closed");
 }
 
 /* Opened while it was one, and covered later: what is open stays what it is. */
 static void covered_later(void)
 {
-    gives_fd(inroot_open(root, "f", 0), "a file");
+    gives_fd(inroot_open(root, "f", INROOT_EXACT), "a file");
     cover(true);
-    gives_fd(inroot_open(root, "f", 0), "a file by a /proc that was opened before");
-}
-
-/* Something else is mounted on the directory of this thread's descriptors: it is asked nothing. */
-static void table_covered(void)
-{
-    char path[64];
-    if (unshare(CLONE_NEWNS) != 0 || mount(NULL, "/", NULL, MS_REC | MS_PRIVATE, NULL) != 0)
-        _exit(NO_RIGHT);
-    snprintf(path, sizeof path, "/proc/self/task/%d/fd", (int)getpid());
-    /* The kernel may refuse mounts there. */
-    if (mount("none", path, "tmpfs", 0, NULL) != 0)
-        _exit(NO_RIGHT);
-    gives(inroot_jail_with(root, INROOT_TRUST_PROC), 0, "a jail that trusts whose table is covered");
-    gives(inroot_open(INROOT_JAIL, "f", 0), -ENOSYS, "a file in a jail that trusts whose table is covered");
+    gives_fd(inroot_open(root, "f", INROOT_EXACT), "a file by a /proc that was opened before");
 }
 
 /* It is a proc(5), but on a mount where no link of it is followed (nosymfollow, Linux 5.10). */
@@ -181,10 +120,8 @@ static void follows_none(void)
         mount(NULL, "/proc", NULL, flags, NULL) != 0 || statfs("/proc", &about) != 0 || !(about.f_flags & ST_FOLLOWS_NONE))
         _exit(NO_RIGHT);
     no_use("by a /proc that follows no link");
-    gives(inroot_open(root, "f", 0), -ENOSYS, "a file by a /proc that follows no link");
-    gives(inroot_jail(root), -ENOSYS, "a jail by a /proc that follows no link");
     gives(inroot_use_proc(good), 0, "another mount of it");
-    gives_fd(inroot_open(root, "f", 0), "a file by another mount of it");
+    gives_fd(inroot_open(root, "f", INROOT_EXACT), "a file by another mount of it");
 }
 
 /* Below another directory of a proc(5) there is no thread-self. */
@@ -193,20 +130,12 @@ static void not_its_top(void)
     int below = sure(open("/proc/sys", O_PATH | O_DIRECTORY | O_CLOEXEC), "/proc/sys");
     gives(inroot_use_proc(below), 0, "a directory of /proc");
     no_use("by a directory of /proc");
-    gives(inroot_open(root, "f", 0), -ENOSYS, "a file by a directory of /proc");
-    int failed = inroot_jail_with(root, INROOT_TRUST_PROC);
-    if (failed == -EPERM)
-        _exit(wrong != 0 ? 1 : NO_RIGHT);
-    gives(failed, 0, "a jail that trusts by a directory of /proc, which keeps none");
-    gives(inroot_open(INROOT_JAIL, "f", 0), -ENOSYS, "a file in a jail that trusts by a directory of /proc");
-    gives_fd(inroot_open(INROOT_JAIL, "a", 0), "a directory in a jail that trusts by a directory of /proc");
 }
 
 int main(int count, char **words)
 {
     static void (*const parts[])(void) = {
-        no_proc, forged, handed_in, handed_in_to_trust, covered_later, not_its_top, of_the_jail, table_covered,
-        follows_none,
+        no_proc, forged, handed_in, covered_later, not_its_top, follows_none,
     };
     if (count != 2)
         return 2;

@@ -9,8 +9,8 @@
 #include "support.h"
 #include "wraps.h"
 
-/* The root, `box` in the directory of the test, and how it is asked: by its descriptor, or in a jail. */
-static int base, root, at;
+/* The root, `box` in the directory of the test. */
+static int base, root;
 
 /*
  * What is done, before which question about a place from here on; or within it, where the kernel has looked whether the object is
@@ -62,7 +62,7 @@ static void disturb(size_t row, const char *path, int flags, const struct distur
 {
     act = how->done;
     questions = how->questions;
-    int fd = inroot_open(at, path, flags | INROOT_NO_RETRY);
+    int fd = inroot_open(root, path, flags | INROOT_NO_RETRY);
     bool has_acted = act == NULL;
     act = NULL;
     gives(fd < 0 ? fd : 0, how->wanted, "row %zu, %s, flags %d", row, path, flags);

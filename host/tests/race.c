@@ -3,8 +3,7 @@
  * is an object that was never inside. A walk that doesn't ask where it stands is the control, and must be fooled.
  *
  * usage: race DIR SECONDS [swap]. Exits 0 with no escape of inroot_open() and at least one of the control. With `swap` the
- * root's own directory is exchanged with the one outside and back, too; then the form by /proc claims nothing. 78: no right to
- * change a root. 79: the control was not fooled.
+ * root's own directory is exchanged with the one outside and back, too. 79: the control was not fooled.
  */
 #define _GNU_SOURCE
 #include "../openat2.h"
@@ -33,8 +32,7 @@ static atomic_ulong renames;
 struct resolver {
     const char *name;
     int (*resolve)(const char *path);
-    bool jailed, control;
-    int jail_flags;
+    bool control;
     unsigned long raced;
     atomic_ulong opened, failed, escaped;
 };
@@ -54,35 +52,24 @@ static bool is_outside(int fd)
     return is_one_of(fd, outside, sizeof outside / sizeof *outside);
 }
 
-static int by_proc(const char *path)
+static int by_default(const char *path)
 {
     return inroot_open(root, path, 0);
 }
 
-static int by_jail(const char *path)
+static int by_default_once(const char *path)
 {
-    return inroot_open(INROOT_JAIL, path, 0);
+    return inroot_open(root, path, INROOT_NO_RETRY);
 }
 
-static int by_proc_singly(const char *path)
+static int exactly(const char *path)
 {
-    return inroot_open(root, path, INROOT_ONE_BY_ONE);
+    return inroot_open(root, path, INROOT_EXACT);
 }
 
-static int by_jail_singly(const char *path)
+static int exactly_once(const char *path)
 {
-    return inroot_open(INROOT_JAIL, path, INROOT_ONE_BY_ONE);
-}
-
-/* By the kernel's own walk of the whole path. */
-static int by_proc_below(const char *path)
-{
-    return inroot_open(root, path, INROOT_BELOW);
-}
-
-static int by_jail_below(const char *path)
-{
-    return inroot_open(INROOT_JAIL, path, INROOT_BELOW | INROOT_NO_RETRY);
+    return inroot_open(root, path, INROOT_EXACT | INROOT_NO_RETRY);
 }
 
 static int by_kernel(const char *path)
@@ -111,8 +98,6 @@ static void *resolve(void *self)
 {
     struct resolver *me = self;
     uint64_t state = 88172645463325252u + (uintptr_t)self;
-    if (me->jailed)
-        errno = -inroot_jail_with(root, me->jail_flags), sure(-errno, "inroot_jail_with");
     while (!stop) {
         int fd = me->resolve(paths[pick(&state, PATHS)]);
         if (fd < 0) {
@@ -127,7 +112,6 @@ static void *resolve(void *self)
             fooled = true;
         close(fd);
     }
-    inroot_jail_done();
     return NULL;
 }
 
@@ -167,7 +151,7 @@ static void make_tree(void)
     sure(fstatat(out, "secret", &outside[2], 0), "out/secret");
 }
 
-enum { THREADS = 9, OURS = 7 };
+enum { THREADS = 6, OURS = 4 };
 
 /* Whether it is known that the race sees a hole before its time is over (checks/mutants --races). */
 static const bool may_end_early = false;
@@ -194,13 +178,10 @@ static bool is_enough(const void *race)
 int main(int count, char **words)
 {
     struct resolver resolvers[] = {
-        {.name = "inroot_open in a jail", .resolve = by_jail, .jailed = true},
-        {.name = "inroot_open in a jail that trusts", .resolve = by_jail, .jailed = true, .jail_flags = INROOT_TRUST_PROC},
-        {.name = "inroot_open by /proc", .resolve = by_proc},
-        {.name = "inroot_open in a jail, name by name", .resolve = by_jail_singly, .jailed = true},
-        {.name = "inroot_open by /proc, name by name", .resolve = by_proc_singly},
-        {.name = "inroot_open by /proc, INROOT_BELOW", .resolve = by_proc_below},
-        {.name = "inroot_open in a jail, INROOT_BELOW", .resolve = by_jail_below, .jailed = true},
+        {.name = "inroot_open", .resolve = by_default},
+        {.name = "inroot_open, one try", .resolve = by_default_once},
+        {.name = "inroot_open, INROOT_EXACT", .resolve = exactly},
+        {.name = "inroot_open, INROOT_EXACT, one try", .resolve = exactly_once},
         {.name = "openat2", .resolve = by_kernel},
         {.name = "a walk without a check", .resolve = unchecked, .control = true},
     };
@@ -211,8 +192,6 @@ int main(int count, char **words)
         return 2;
     swaps = count == 4;
     base = sure(open(words[1], O_PATH | O_DIRECTORY | O_CLOEXEC), words[1]);
-    if (!may_jail(base))
-        return NO_RIGHT;
     make_tree();
     open_proc();
     int before = open_descriptors();
@@ -234,8 +213,7 @@ int main(int count, char **words)
     for (int at = 0; at < OURS; at++) {
         const struct resolver *r = &resolvers[at];
         gives_least((long)r->opened, 1, "%s: what was opened", r->name);
-        if (!swaps || r->jailed)
-            gives((long)r->escaped, 0, "%s: escaped", r->name);
+        gives((long)r->escaped, 0, "%s: escaped", r->name);
     }
     return ending(fooled);
 }

@@ -13,18 +13,15 @@
 #include <string.h>
 #include <sys/stat.h>
 
-/*
- * Where a worker asks: by the root's descriptor in which thread, or by INROOT_JAIL; or by that of a root that is kept with
- * INROOT_ROOT_STAYS and INROOT_TRUST_PROC, or with INROOT_BELOW.
- */
-enum place { PLAIN, CHROOT, IN_JAIL, IN_TRUST, AFTER_JAIL, MADE, BY_JAIL, BY_TRUST, KEPT, SEEN, PLACES };
+/* Where a worker asks, and how: by the kernel's walk or by INROOT_EXACT, in a thread with the process's root directory or another. */
+enum place { PLAIN, CHROOT, EXACT, EXACT_CHROOT, PLACES };
 
 /* Who makes calls of one kind, and what came of them. */
 struct worker {
     const char *name;
     enum place place;
-    /* A call: a descriptor, 0 or -errno. */
-    int (*work)(int at, uint64_t *state);
+    /* A call with these flags: a descriptor, 0 or -errno. */
+    int (*work)(int at, int flags, uint64_t *state);
     bool control;
     unsigned long raced, removed;
     atomic_ulong calls, done, escaped;
@@ -32,7 +29,7 @@ struct worker {
 
 static atomic_bool stop, fooled;
 static atomic_ulong moves;
-static int root, kept_root, seen_root, links;
+static int root, links;
 /* Where a control wasn't fooled, though one was there. */
 static bool has_shown = true;
 
@@ -58,16 +55,16 @@ static inline bool has_escaped(int fd)
 }
 
 /*
- * Whether this thread's last call had INROOT_BELOW. What somebody removes just while the kernel looks it up, such a call may
- * open, as openat2(2) itself does (removed.c). No other call is excused, and no object whose entry isn't called removed.
+ * Whether the kernel walked for this thread's last call. What somebody removes just while the kernel looks it up, such a call may
+ * open, as openat2(2) itself does (removed.c). No call with INROOT_EXACT is excused, and no object whose entry isn't called removed.
  */
-static _Thread_local bool by_last_check;
+static _Thread_local bool by_kernel;
 
 static inline void judge(struct worker *me, int fd)
 {
     if (!has_escaped(fd))
         return;
-    if (by_last_check && !me->control && is_called_removed(links, fd)) {
+    if (by_kernel && !me->control && is_called_removed(links, fd)) {
         me->removed++;
         return;
     }
@@ -80,12 +77,10 @@ static inline void *work_on(void *self)
 {
     struct worker *me = self;
     uint64_t state = 88172645463325252u + (uintptr_t)self;
-    int at = me->place == BY_JAIL || me->place == BY_TRUST ? INROOT_JAIL : root;
-    if (me->place == KEPT || me->place == SEEN)
-        at = me->place == KEPT ? kept_root : seen_root;
+    const int flags = me->place == EXACT || me->place == EXACT_CHROOT ? INROOT_EXACT : 0;
+    by_kernel = flags == 0;
     while (!stop) {
-        by_last_check = me->place == SEEN;
-        int got = me->work(at, &state);
+        int got = me->work(root, flags, &state);
         me->calls++;
         me->done += got >= 0;
         me->raced += got == -EAGAIN;
@@ -97,33 +92,16 @@ static inline void *work_on(void *self)
     return NULL;
 }
 
-static inline void enter_jail(int flags)
-{
-    int failed = inroot_jail_with(root, flags);
-    errno = -failed;
-    sure(failed, "inroot_jail_with");
-}
-
 /* Goes to its place first. */
 static inline void *work_there(void *self)
 {
-    struct worker *me = self;
-    pthread_t made;
-    if (me->place == CHROOT) {
+    const struct worker *me = self;
+    if (me->place == CHROOT || me->place == EXACT_CHROOT) {
         sure(unshare(CLONE_FS), "unshare");
         sure(fchdir(root), "fchdir");
         sure(chroot("."), "chroot");
-    } else if (me->place != PLAIN && me->place != KEPT && me->place != SEEN) {
-        enter_jail(me->place == IN_TRUST || me->place == BY_TRUST ? INROOT_TRUST_PROC : 0);
     }
-    if (me->place == AFTER_JAIL)
-        inroot_jail_done();
-    if (me->place != MADE)
-        return work_on(self);
-    errno = pthread_create(&made, NULL, work_on, self);
-    sure(-errno, "pthread_create");
-    pthread_join(made, NULL);
-    return NULL;
+    return work_on(self);
 }
 
 static inline void *in_the_way(void *what)
@@ -207,20 +185,14 @@ static inline void race(const char *name, struct worker *workers, int count, voi
  * Workers that make calls of this kind in all these places at once, beside one that makes a control's. Nothing outside may be
  * changed.
  */
-static inline void race_in(const char *title, const struct worker *control, int (*work)(int at, uint64_t *state),
+static inline void race_in(const char *title, const struct worker *control, int (*work)(int at, int flags, uint64_t *state),
                            const enum place *places, int count, void (*move)(void), unsigned seconds)
 {
     static const char *const names[] = {
-        [PLAIN] = "by a descriptor",
-        [CHROOT] = "by a descriptor in a chroot",
-        [IN_JAIL] = "by a descriptor in a jail",
-        [IN_TRUST] = "by a descriptor in a jail that trusts",
-        [AFTER_JAIL] = "by a descriptor after a jail",
-        [MADE] = "by a descriptor in a thread that a jailed one made",
-        [BY_JAIL] = "in a jail",
-        [BY_TRUST] = "in a jail that trusts",
-        [KEPT] = "by a root that stays",
-        [SEEN] = "by a root with INROOT_BELOW",
+        [PLAIN] = "by the kernel's walk",
+        [CHROOT] = "by the kernel's walk in a chroot",
+        [EXACT] = "with INROOT_EXACT",
+        [EXACT_CHROOT] = "with INROOT_EXACT in a chroot",
     };
     _Static_assert(sizeof names / sizeof *names == PLACES, "each place has its name");
     struct worker workers[MOST_WORKERS] = {*control};
@@ -246,7 +218,7 @@ static inline size_t row_of(const void *rows, size_t rows_count, size_t size, in
     if (one == rows_count)
         exit(2);
     *base = sure(open(where, O_PATH | O_DIRECTORY | O_CLOEXEC), where);
-    if (!may_jail(*base))
+    if (!may_chroot(*base))
         exit(NO_RIGHT);
     return one;
 }

@@ -2,8 +2,8 @@
  * removed: somebody removes an entry just while the kernel looks it up, and moves its directory into the root before the
  * kernel asks where the entry stands. A server of FUSE holds its answers back until that is done: the directory `b` stands in
  * the root as it is looked up, and outside as long as the entry is there. So the object never stood in the root. openat2(2)
- * opens it, and so does a call with INROOT_BELOW; the kernel says of that descriptor that its entry was removed. A call
- * without the flag opens nothing, also if the entry has a name that ends in ` (deleted)` as it is looked up, and the name without
+ * opens it, and so does a call; the kernel says of that descriptor that its entry was removed. A call with INROOT_EXACT
+ * opens nothing, also if the entry has a name that ends in ` (deleted)` as it is looked up, and the name without
  * that as it is removed: then the kernel says of the removed entry what it said of the one that stood there.
  *
  * usage: removed DIR. Exits 0 where that holds. 77: no openat2(2) here. 78: no right to mount such a file system, or to change
@@ -261,7 +261,7 @@ static int meet(pid_t caller, const struct object *it, unsigned each, unsigned f
 
 /* ---- who makes the call */
 
-enum place { BY_KERNEL, BY_DESCRIPTOR, IN_CHROOT, IN_JAIL, IN_TRUSTING_JAIL, BY_STAYING_ROOT, BY_SEEN_ROOT, FROM_DIRECTORY };
+enum place { BY_KERNEL, BY_DESCRIPTOR, IN_CHROOT };
 
 struct way {
     const char *name;
@@ -269,39 +269,10 @@ struct way {
     int flags;
 };
 
-static char where_box[PATH_MAX];
-
-static int kept_root(int flags)
+static void come_to(enum place place, int root)
 {
-    struct inroot_root *kept;
-    errno = -inroot_root_open(where_box, flags, &kept);
-    sure(-errno, where_box);
-    return inroot_root_fd(kept);
-}
-
-static int number_of_d(int root)
-{
-    int at, dir = sure(openat(root, "d", O_PATH | O_DIRECTORY | O_CLOEXEC), "d");
-    errno = -inroot_at_begin(root, dir, &at);
-    sure(-errno, "inroot_at_begin");
-    return at;
-}
-
-/* What the call is given as the root. */
-static int come_to(enum place place, int root)
-{
-    switch (place) {
-    case IN_CHROOT:
-        if (fchdir(root) != 0 || chroot(".") != 0)
-            _exit(NO_RIGHT);
-        return root;
-    case IN_JAIL: return root_or_jail(root, 0);
-    case IN_TRUSTING_JAIL: return root_or_jail(root, INROOT_TRUST_PROC);
-    case BY_STAYING_ROOT: return kept_root(INROOT_ROOT_STAYS | INROOT_TRUST_PROC);
-    case BY_SEEN_ROOT: return kept_root(INROOT_BELOW);
-    case FROM_DIRECTORY: return number_of_d(root);
-    default: return root;
-    }
+    if (place == IN_CHROOT && (fchdir(root) != 0 || chroot(".") != 0))
+        _exit(NO_RIGHT);
 }
 
 static int open_it(const struct way *way, int at, const char *path)
@@ -316,19 +287,14 @@ static int open_it(const struct way *way, int at, const char *path)
 static void call(const struct way *way, const struct object *it)
 {
     struct stat about;
-    const char *path = way->place == FROM_DIRECTORY ? it->path + strlen("d/") : it->path;
     int root = sure(openat(top, "box", O_PATH | O_DIRECTORY | O_CLOEXEC), "box");
     int links = sure(open("/proc/self/fd", O_PATH | O_DIRECTORY | O_CLOEXEC), "/proc/self/fd");
     open_proc();
-    int at = come_to(way->place, root);
-    /* What was a link before is followed without a conversation. */
-    if (it->text != NULL) {
-        snprintf(shared->text, sizeof shared->text, "d");
-        gives_fd(open_it(way, at, path), "%s: a link to a directory", way->name);
+    come_to(way->place, root);
+    if (it->text != NULL)
         snprintf(shared->text, sizeof shared->text, "%s", it->text);
-    }
     __atomic_store_n(&shared->caller, getpid(), __ATOMIC_RELEASE);
-    int fd = open_it(way, at, path);
+    int fd = open_it(way, root, it->path);
     __atomic_store_n(&shared->caller, 0, __ATOMIC_RELEASE);
     shared->got = fd < 0 ? fd : 0;
     if (fd < 0)
@@ -405,7 +371,7 @@ static const struct object plain[] = {
     {.name = "a file behind ..", .path = "d/b/../b/f", .entry = "f"},
 };
 /* Whoever renames anything on the machine has openat2(2) refuse `..`. */
-enum { PLAIN = sizeof plain / sizeof *plain, LINKED = 2, UP = 3 };
+enum { PLAIN = sizeof plain / sizeof *plain, UP = 3 };
 
 /* Of the name by which these are removed the kernel then says what it said of the one by which they were looked up. */
 static const struct object called_so[] = {
@@ -417,27 +383,16 @@ enum { CALLED_SO = sizeof called_so / sizeof *called_so };
 static const struct way by_last_check[] = {
     {"openat2(2), RESOLVE_BENEATH", BY_KERNEL, RESOLVE_BENEATH},
     {"openat2(2), RESOLVE_IN_ROOT", BY_KERNEL, RESOLVE_IN_ROOT},
-    {"INROOT_BELOW", BY_DESCRIPTOR, INROOT_BELOW},
-    {"INROOT_BELOW, beneath", BY_DESCRIPTOR, INROOT_BELOW | INROOT_BENEATH},
-    {"INROOT_BELOW, in a chroot", IN_CHROOT, INROOT_BELOW},
-    {"INROOT_BELOW, in a jail", IN_JAIL, INROOT_BELOW},
-    {"INROOT_BELOW, in a jail that trusts", IN_TRUSTING_JAIL, INROOT_BELOW},
-    {"a root with INROOT_BELOW", BY_SEEN_ROOT, 0},
+    {"by the kernel's walk", BY_DESCRIPTOR, 0},
+    {"by the kernel's walk, beneath", BY_DESCRIPTOR, INROOT_BENEATH},
+    {"by the kernel's walk, in a chroot", IN_CHROOT, 0},
 };
 
 static const struct way by_witnesses[] = {
-    {"by a descriptor", BY_DESCRIPTOR, 0},
-    {"by a descriptor, one try", BY_DESCRIPTOR, INROOT_NO_RETRY},
-    {"by a descriptor, name by name", BY_DESCRIPTOR, INROOT_ONE_BY_ONE},
-    {"by a descriptor, on one mount", BY_DESCRIPTOR, INROOT_NO_XDEV},
-    {"by a descriptor in a chroot", IN_CHROOT, 0},
-    {"in a jail", IN_JAIL, 0},
-    {"in a jail, name by name", IN_JAIL, INROOT_ONE_BY_ONE},
-    {"in a jail that trusts", IN_TRUSTING_JAIL, 0},
-    {"in a jail that trusts, name by name", IN_TRUSTING_JAIL, INROOT_ONE_BY_ONE},
-    {"by a root that stays", BY_STAYING_ROOT, 0},
-    {"from a directory", FROM_DIRECTORY, 0},
-    {"from a directory, name by name", FROM_DIRECTORY, INROOT_ONE_BY_ONE},
+    {"with INROOT_EXACT", BY_DESCRIPTOR, INROOT_EXACT},
+    {"with INROOT_EXACT, one try", BY_DESCRIPTOR, INROOT_EXACT | INROOT_NO_RETRY},
+    {"with INROOT_EXACT, on one mount", BY_DESCRIPTOR, INROOT_EXACT | INROOT_NO_XDEV},
+    {"with INROOT_EXACT, in a chroot", IN_CHROOT, INROOT_EXACT},
 };
 
 static void each(void)
@@ -450,8 +405,7 @@ static void each(void)
     }
     for (size_t one = 0; one < sizeof by_witnesses / sizeof *by_witnesses; one++)
         for (int what = 0; what < PLAIN; what++)
-            if (by_witnesses[one].place != FROM_DIRECTORY || what != LINKED)
-                opens_nothing(&by_witnesses[one], &plain[what]);
+            opens_nothing(&by_witnesses[one], &plain[what]);
     for (size_t one = 0; one < sizeof by_witnesses / sizeof *by_witnesses; one++)
         for (int what = 0; what < CALLED_SO; what++)
             opens_nothing(&by_witnesses[one], &called_so[what]);
@@ -465,7 +419,6 @@ int main(int count, char **words)
     if (!has_openat2())
         return NO_OPENAT2;
     snprintf(where, sizeof where, "%.4000s/m", words[1]);
-    snprintf(where_box, sizeof where_box, "%s/box", where);
     sure(mkdir(where, 0755), where);
     shared = mmap(NULL, sizeof *shared, PROT_READ | PROT_WRITE, MAP_SHARED | MAP_ANONYMOUS, -1, 0);
     sure(shared == MAP_FAILED ? -1 : 0, "mmap");

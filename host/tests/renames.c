@@ -1,10 +1,9 @@
 /*
- * renames: what inroot_rename() does by each of its modes to an entry that is there already, and to one that isn't. By /proc, in
- * a jail, and name by name. Its inode shows which object an entry leads to, and kind and device show a whiteout. And for
+ * renames: what inroot_rename() does by each of its modes to an entry that is there already, and to one that isn't. By the
+ * kernel's walk and with INROOT_EXACT. Its inode shows which object an entry leads to, and kind and device show a whiteout. And for
  * which of several reasons the kernel refuses a rename, as renames_stood of crates/step_calls has it.
  *
- * usage: renames DIR. Exits 0 where each is as inroot.h says. 78: no right to change a root, or no whiteouts here, so that a part
- * is left out.
+ * usage: renames DIR. Exits 0 where each is as inroot.h says. 78: no whiteouts here, so that a part is left out.
  */
 #define _GNU_SOURCE
 #include "support.h"
@@ -101,12 +100,12 @@ static void kernels_own(void)
     close(gone);
 }
 
-static void one(size_t row, int at, int flags)
+static void one(size_t row, int flags)
 {
     sure(mknodat(root, "a/f", S_IFREG | 0600, 0), "a/f");
     sure(mknodat(root, "b/g", S_IFREG | 0600, 0), "b/g");
     const ino_t objects[] = {0, inode("a/f"), inode("b/g"), a_whiteout};
-    int got = inroot_rename(at, rows[row].from, rows[row].to, rows[row].mode, flags);
+    int got = inroot_rename(root, rows[row].from, rows[row].to, rows[row].mode, flags);
     gives(got, -rows[row].error, "row %zu, flags %d", row, flags);
     gives(inode(rows[row].from), objects[rows[row].at_from],
           "row %zu, flags %d: the inode at %s", row, flags, rows[row].from);
@@ -127,23 +126,15 @@ static bool makes_whiteouts(void)
     return has;
 }
 
-static void each(int at)
+static void each(void)
 {
     for (size_t row = 0; row < sizeof rows / sizeof *rows; row++) {
         if (rows[row].mode & INROOT_WHITEOUT && rows[row].error == 0 && !has_whiteouts)
             continue;
-        one(row, at, 0);
-        one(row, at, INROOT_ONE_BY_ONE | INROOT_NO_RETRY);
+        one(row, 0);
+        one(row, INROOT_EXACT);
+        one(row, INROOT_EXACT | INROOT_NO_RETRY);
     }
-}
-
-static void in_jail(void)
-{
-    int failed = inroot_jail(root);
-    if (failed == -EPERM)
-        _exit(NO_RIGHT);
-    gives(failed, 0, "a jail");
-    each(INROOT_JAIL);
 }
 
 int main(int count, char **words)
@@ -156,8 +147,7 @@ int main(int count, char **words)
     sure(symlinkat("b", root, "l"), "l");
     has_whiteouts = makes_whiteouts();
     kernels_own();
-    each(root);
-    int skipped = apart(in_jail);
+    each();
     printf("renames: %d not as they are to be\n", wrong);
-    return wrong != 0 ? 1 : !has_whiteouts ? NO_RIGHT : skipped;
+    return wrong != 0 ? 1 : !has_whiteouts ? NO_RIGHT : 0;
 }

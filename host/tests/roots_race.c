@@ -1,11 +1,10 @@
 /*
  * roots_race: one thread moves a directory out of the root and back, to a place that has the same path from the top as it has
- * from the root, while others resolve paths below the root, which each has in another way. What never stood below the root
- * isn't opened, and nothing is made or cut off outside.
+ * from the root, while others resolve paths below the root: by the kernel's walk and with INROOT_EXACT, in the process's root
+ * directory and in a chroot. What never stood below the root isn't opened, and nothing is made or cut off outside.
  *
- * usage: roots_race DIR SECONDS RACE. RACE is all, or one way to have a root: chroot, jail, done, made, own; or one place for
- * it: bind, namespace, overlay, renamed; or kept, of which the library keeps something, kept_renamed. Exits 0 where that holds, and a walk without a check was led out. 78: no right here to
- * do so. 79: that walk was not led out.
+ * usage: roots_race DIR SECONDS RACE. RACE is all, or chroot; or a place for the root: bind, namespace, overlay, renamed. Exits 0
+ * where that holds, and a walk without a check was led out. 78: no right here to do so. 79: that walk was not led out.
  */
 #define _GNU_SOURCE
 #include "race.h"
@@ -65,27 +64,22 @@ static void rename_root_too(void)
 
 /* ---- what workers do */
 
-static const int ways[] = {
-    0, INROOT_ONE_BY_ONE, INROOT_NO_RETRY, INROOT_NO_RETRY | INROOT_ONE_BY_ONE, INROOT_BELOW, INROOT_BELOW | INROOT_NO_RETRY,
-};
-
-/* What a call by the last check alone may open once it was removed, it may cut off, too: so that one only reads. */
-static int resolve(int at, uint64_t *state)
+/* What a call by the kernel's walk may open once it was removed, it may cut off, too: so that one only reads. */
+static int resolve(int at, int way, uint64_t *state)
 {
-    int flags = ways[pick(state, sizeof ways / sizeof *ways)];
+    int flags = way | (pick(state, 2) ? INROOT_NO_RETRY : 0);
     char path[PATH_MAX + 80];
-    by_last_check |= (flags & INROOT_BELOW) != 0;
     snprintf(path, sizeof path, "%s%s", pick(state, 2) ? "./" : "", paths[pick(state, PATHS)]);
     switch (pick(state, 16)) {
-    case 0: return inroot_openat(at, path, by_last_check ? O_RDONLY : O_WRONLY | O_TRUNC, 0, flags);
-    case 1: return inroot_mkfile(at, paths[TO_NEW], 0600, flags & ~INROOT_BELOW);
+    case 0: return inroot_openat(at, path, by_kernel ? O_RDONLY : O_WRONLY | O_TRUNC, 0, flags);
+    case 1: return inroot_mknod(at, paths[TO_NEW], S_IFREG | 0600, 0, flags);
     default: return inroot_open(at, path, flags);
     }
 }
 
-static int without_check(int at, uint64_t *state)
+static int without_check(int at, int way, uint64_t *state)
 {
-    (void)at;
+    (void)at, (void)way;
     return walk_unchecked(plain_root, paths[pick(state, PATHS)]);
 }
 
@@ -136,17 +130,6 @@ static void make_tree(const char *names, const char *other)
     sure(symlinkat("../../secret", inner, "b/x/up"), "up");
     sure(symlinkat("../y/f", inner, "b/x/on"), "on");
     sure(symlinkat("f", inner, "b/last"), "last");
-}
-
-/* The root once more, as the library keeps it. */
-static int kept_by(int flags)
-{
-    struct inroot_root *kept;
-    char box[PATH_MAX + 24];
-    snprintf(box, sizeof box, "%s/box", where);
-    errno = -inroot_root_open(box, flags, &kept);
-    sure(-errno, box);
-    return inroot_root_fd(kept);
 }
 
 /* The secret has its text, and beside it nothing was made. */
@@ -221,10 +204,7 @@ static void race_of(const char *name, unsigned places, void (*move)(void), unsig
     is_untouched(title);
 }
 
-enum {
-    ALL = 1 << PLAIN | 1 << CHROOT | 1 << IN_JAIL | 1 << IN_TRUST | 1 << AFTER_JAIL | 1 << MADE | 1 << BY_JAIL | 1 << BY_TRUST,
-    SOME = 1 << PLAIN | 1 << IN_JAIL | 1 << BY_JAIL,
-};
+enum { ALL = 1 << PLAIN | 1 << CHROOT | 1 << EXACT | 1 << EXACT_CHROOT };
 
 static const struct {
     const char *name;
@@ -232,17 +212,11 @@ static const struct {
     void (*mount)(void), (*move)(void);
 } races[] = {
     {"all", ALL, NULL, move_out_and_in},
-    {"chroot", 1 << CHROOT, NULL, move_out_and_in},
-    {"jail", 1 << IN_JAIL | 1 << IN_TRUST, NULL, move_out_and_in},
-    {"done", 1 << AFTER_JAIL, NULL, move_out_and_in},
-    {"made", 1 << MADE, NULL, move_out_and_in},
-    {"own", 1 << BY_JAIL | 1 << BY_TRUST, NULL, move_out_and_in},
-    {"bind", SOME, by_bind, move_out_and_in},
-    {"namespace", SOME, by_namespace, move_out_and_in},
-    {"overlay", SOME, NULL, move_out_and_in},
-    {"renamed", 1 << PLAIN | 1 << BY_JAIL, NULL, rename_root_too},
-    {"kept", 1 << KEPT | 1 << SEEN, NULL, move_out_and_in},
-    {"kept_renamed", 1 << KEPT | 1 << SEEN, NULL, rename_root_too},
+    {"chroot", 1 << CHROOT | 1 << EXACT_CHROOT, NULL, move_out_and_in},
+    {"bind", ALL, by_bind, move_out_and_in},
+    {"namespace", ALL, by_namespace, move_out_and_in},
+    {"overlay", ALL, NULL, move_out_and_in},
+    {"renamed", 1 << PLAIN | 1 << EXACT, NULL, rename_root_too},
 };
 
 int main(int count, char **words)
@@ -256,8 +230,6 @@ int main(int count, char **words)
     if (races[one].mount != NULL)
         races[one].mount();
     open_proc();
-    kept_root = kept_by(INROOT_ROOT_STAYS | INROOT_TRUST_PROC);
-    seen_root = kept_by(INROOT_BELOW);
     race_of(words[3], races[one].places, races[one].move, (unsigned)atoi(words[2]));
     return ending(has_shown);
 }

@@ -14,7 +14,7 @@
 
 #include <sys/vfs.h>
 
-static int root, at;
+static int root;
 static char where_box[4096], where_served[4096];
 static struct stat secret;
 static const char *who = "";
@@ -41,32 +41,26 @@ static const char *below(const char *path)
     return text;
 }
 
-static int open_file(void) { return number_of(inroot_open(at, below("a/b/f"), 0)); }
-static int open_one_by_one(void) { return number_of(inroot_open(at, below("a/b/f"), INROOT_ONE_BY_ONE)); }
-static int open_up(void) { return number_of(inroot_open(at, below("a/b/../../t/f"), 0)); }
-static int open_link(void) { return number_of(inroot_open(at, below("a/b/l"), 0)); }
-static int open_below(void) { return number_of(inroot_open(at, below("a/b/../b/f"), INROOT_BELOW)); }
-static int open_to_read(void) { return number_of(inroot_openat(at, below("a/b/f"), O_RDONLY, 0, 0)); }
-static int open_on_mount(void) { return number_of(inroot_open(at, below("a/../a/b/f"), INROOT_NO_XDEV)); }
-
-static int open_from(void)
+static int open_file(void) { return number_of(inroot_open(root, below("a/b/f"), 0)); }
+static int open_exact(void) { return number_of(inroot_open(root, below("a/b/f"), INROOT_EXACT)); }
+static int open_up(void) { return number_of(inroot_open(root, below("a/b/../../t/f"), 0)); }
+static int open_link(void) { return number_of(inroot_open(root, below("a/b/l"), 0)); }
+static int open_up_exact(void) { return number_of(inroot_open(root, below("a/b/../../t/f"), INROOT_EXACT)); }
+static int open_link_by_kernel(void)
 {
-    int other = -1, dir = inroot_open(at, below("a/b"), 0);
-    int number = dir < 0 ? dir : inroot_at_begin(at, dir, &other);
-    if (number == 0) {
-        number = number_of(inroot_open(other, "../../t/f", 0));
-        inroot_at_end(other);
-    }
-    if (dir >= 0)
-        close(dir);
-    return number;
+    const struct open_how how = {.flags = O_PATH | O_CLOEXEC, .resolve = RESOLVE_IN_ROOT};
+    int fd = (int)syscall(SYS_openat2, root, below("a/b/l"), &how, sizeof how);
+    return number_of(fd < 0 ? -errno : fd);
 }
+static int open_link_exact(void) { return number_of(inroot_open(root, below("a/b/l"), INROOT_EXACT)); }
+static int open_to_read(void) { return number_of(inroot_openat(root, below("a/b/f"), O_RDONLY, 0, 0)); }
+static int open_on_mount(void) { return number_of(inroot_open(root, below("a/../a/b/f"), INROOT_NO_XDEV)); }
 
 static int place(void)
 {
     char text[256] = "";
-    int fd = inroot_open(at, below("a/b/f"), 0);
-    int length = fd < 0 ? fd : (int)inroot_place(at, fd, text, sizeof text);
+    int fd = inroot_open(root, below("a/b/f"), 0);
+    int length = fd < 0 ? fd : (int)inroot_place(root, fd, text, sizeof text);
     if (fd >= 0)
         close(fd);
     if (length >= 0)
@@ -74,23 +68,7 @@ static int place(void)
     return length;
 }
 
-static int walk(void)
-{
-    struct inroot_walk *walk;
-    struct inroot_walk_entry entry;
-    int got, count = inroot_walk_open(at, below("a"), 0, 0, &walk);
-    if (count != 0)
-        return count;
-    for (; (got = inroot_walk_next(walk, &entry)) != 0; count += got > 0) {
-        const char *name = entry.name;
-        expect(got < 0 || (name[0] != 0 && strchr(name, '/') == NULL && strcmp(name, ".") != 0 && strcmp(name, "..") != 0),
-               "%s: a walk gives the name '%s'", who, name);
-    }
-    inroot_walk_close(walk);
-    return count;
-}
-
-static int remove_all(void) { return (int)inroot_remove_all(at, below("a/b/d"), INROOT_NO_RETRY); }
+static int remove_all(void) { return (int)inroot_remove_all(root, below("a/b/d"), INROOT_NO_RETRY); }
 
 static const struct {
     const char *name;
@@ -98,18 +76,17 @@ static const struct {
     int found;
 } rows[] = {
     {"open a file", open_file, LABEL_FILE},
-    {"open a file, name by name", open_one_by_one, LABEL_FILE},
+    {"open a file exactly", open_exact, LABEL_FILE},
     {"open behind ..", open_up, LABEL_OTHER},
+    {"open behind .. exactly", open_up_exact, LABEL_OTHER},
     {"open a link's target", open_link, LABEL_OTHER},
-    {"open by the last check alone", open_below, LABEL_FILE},
+    {"open a link's target exactly", open_link_exact, LABEL_OTHER},
     {"open for reading", open_to_read, LABEL_FILE},
     {"open on one mount", open_on_mount, LABEL_FILE},
-    {"open from a directory", open_from, LABEL_OTHER},
     {"the place of a file", place, 0},
-    {"walk", walk, 0},
     {"remove all", remove_all, 0},
 };
-enum { ROWS = sizeof rows / sizeof *rows, ONE_MOUNT = 6, FIRST_WITHOUT = 8 };
+enum { ROWS = sizeof rows / sizeof *rows, ONE_MOUNT = 7, FIRST_WITHOUT = 8 };
 
 /* ---- what is lied about */
 
@@ -195,7 +172,10 @@ static void with_names(void)
         }
 }
 
-/* A link may lead anywhere in the root. Each text, and the object, or the error where the kernel has none of its own. */
+/*
+ * A link may lead anywhere in the root. Each text, and the object, or the error. By an empty one the kernel's walk stays where the
+ * link is.
+ */
 static void with_texts(void)
 {
     static char longest[4095];
@@ -218,7 +198,9 @@ static void with_texts(void)
         who = texts[one].text;
         memcpy(lies->text, texts[one].text, texts[one].length);
         lies->text_length = texts[one].length;
-        gives(open_link(), prefix[0] ? texts[one].served : texts[one].own, "a link's text of %u bytes: '%.30s'", texts[one].length, who);
+        const int exact = prefix[0] ? texts[one].served : texts[one].own, by_kernel = open_link_by_kernel();
+        gives(open_link_exact(), exact, "a link's text of %u bytes: '%.30s', exactly", texts[one].length, who);
+        gives(open_link(), by_kernel < 0 ? exact : by_kernel, "a link's text of %u bytes: '%.30s'", texts[one].length, who);
         tell_truth();
     }
 }
@@ -257,7 +239,6 @@ static void by_descriptor(void)
 {
     begin("", 0);
     prefix = "m/";
-    at = root;
     each();
 }
 
@@ -269,18 +250,18 @@ enum { NO_LINK_FOLLOWED = 256, ST_NO_LINK_FOLLOWED = 0x2000 };
 static void follow_none(void)
 {
     static const int errors[] = {EIO, ENOSYS, EPERM, ENOENT, EINTR, EAGAIN};
-    static const int flags[] = {0, INROOT_ONE_BY_ONE};
+    static const int flags[] = {0, INROOT_EXACT};
     struct statfs about;
     if (fstatfs(root, &about) != 0 || !(about.f_flags & ST_NO_LINK_FOLLOWED))
         return;
     for (size_t one = 0; one < sizeof flags / sizeof *flags; one++) {
         tell_truth();
-        gives(inroot_open(at, "a/b/l", flags[one]), -ELOOP, "a link where none is followed, flags %d", flags[one]);
+        gives(inroot_open(root, "a/b/l", flags[one]), -ELOOP, "a link where none is followed, flags %d", flags[one]);
         for (size_t error = 0; error < sizeof errors / sizeof *errors; error++) {
             lies->asked = FUSE_STATFS;
             lies->error = errors[error];
             lies->times = 3;
-            int got = inroot_open(at, "a/b/l", flags[one] | INROOT_NO_RETRY);
+            int got = inroot_open(root, "a/b/l", flags[one] | INROOT_NO_RETRY);
             gives(got, errors[error] == EINTR ? -ELOOP : -errors[error], "the same, where the server gives %d instead", errors[error]);
         }
     }
@@ -289,15 +270,6 @@ static void follow_none(void)
 static void where_no_link_is_followed(void)
 {
     begin("m", NO_LINK_FOLLOWED);
-    at = root;
-    follow_none();
-}
-
-static void where_no_link_is_followed_in_jail(void)
-{
-    begin("m", NO_LINK_FOLLOWED);
-    jail_or_end(root, 0);
-    at = INROOT_JAIL;
     follow_none();
 }
 
@@ -307,30 +279,13 @@ static void in_chroot(void)
     begin("m/box", 0);
     if (fchdir(root) != 0 || chroot(".") != 0)
         _exit(NO_RIGHT);
-    at = root;
-    each();
-}
-
-static void in_jail(void)
-{
-    begin("m", 0);
-    jail_or_end(root, 0);
-    at = INROOT_JAIL;
-    each();
-}
-
-static void in_trusting_jail(void)
-{
-    begin("m", 0);
-    jail_or_end(root, INROOT_TRUST_PROC);
-    at = INROOT_JAIL;
     each();
 }
 
 int main(int count, char **words)
 {
     static void (*const ways[])(void) = {
-        by_descriptor, in_chroot, in_jail, in_trusting_jail, where_no_link_is_followed, where_no_link_is_followed_in_jail,
+        by_descriptor, in_chroot, where_no_link_is_followed,
     };
     struct stat now;
     int skipped = 0;

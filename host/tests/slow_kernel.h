@@ -1,8 +1,8 @@
 /*
  * slow_kernel.h: a kernel whose calls take their time, and others who move directories meanwhile, between any two system calls of
- * the driver or within one: openat2(2) looks up one name after another and at last where it is; getcwd(2), and readlinkat(2) of a
- * link in /proc, look first whether the object is gone and then for its names, as the kernel does. To be linked with --wrap of each
- * function that is wrapped here.
+ * the driver or within one: openat2(2) looks up one name after another and at last where it is; readlinkat(2) of a link in /proc
+ * looks first whether the object is gone and then for its names, as the kernel does. To be linked with --wrap of each function that
+ * is wrapped here.
  */
 #ifndef SLOW_KERNEL_H
 #define SLOW_KERNEL_H
@@ -149,37 +149,14 @@ static long look_up(int top, const char *names, const struct open_how *how)
     return error != 0 ? -1 : fd;
 }
 
-/* In a jail: the names are those that the link to the current directory has by then. */
-static long tell_directory(char *text, size_t size)
-{
-    char later[PATH_MAX];
-    ask();
-    long length = __real_syscall(SYS_getcwd, text, size);
-    int error = errno;
-    if (length <= 2 || size <= 2) {
-        errno = error;
-        return length;
-    }
-    ask();
-    ssize_t now = __real_readlinkat(proc, "thread-self/cwd", later, sizeof later - 1);
-    later[now < 0 ? 0 : now] = 0;
-    char *end = strstr(later, deleted);
-    if (end != NULL) {
-        *end = 0;
-        strcpy(text, later);
-        length = (long)strlen(text) + 1;
-    } else {
-        length = __real_syscall(SYS_getcwd, text, size);
-    }
-    return length;
-}
-
+/* One name, or `..`, takes one moment. */
 static long my_syscall(long number, const long *with)
 {
+    const struct open_how *how = (const struct open_how *)with[2];
+    if (number == SYS_openat2 && how->resolve & RESOLVE_BENEATH)
+        return look_up((int)with[0], (const char *)with[1], how);
     if (number == SYS_openat2)
-        return look_up((int)with[0], (const char *)with[1], (const struct open_how *)with[2]);
-    if (number == SYS_getcwd)
-        return tell_directory((char *)with[0], (size_t)with[1]);
+        ask();
     return REAL_SYSCALL(number, with);
 }
 

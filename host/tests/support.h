@@ -153,7 +153,7 @@ static inline bool is_same_object(int fd, int other)
 
 /*
  * Whether the kernel says of this descriptor that its entry was removed. LINKS is /proc/self/fd, which was opened before: a
- * thread in a jail has no /proc. No name may end so itself.
+ * thread in a chroot has no /proc. No name may end so itself.
  */
 __attribute__((unused)) static bool is_called_removed(int links, int fd)
 {
@@ -201,7 +201,7 @@ static inline int sure(int result, const char *what)
     return result;
 }
 
-/* Asked one by one, since below the root of a jail there is no /proc. */
+/* Asked one by one, since in a chroot there is no /proc. */
 static inline int open_descriptors(void)
 {
     int count = 0;
@@ -223,19 +223,6 @@ static inline int take_gaps(int root)
     return fd;
 }
 
-/* What calls take as the root: in a jail by these flags, or where they are negative the descriptor. */
-static inline int root_or_jail(int root, int flags)
-{
-    if (flags < 0)
-        return root;
-    int failed = inroot_jail_with(root, flags);
-    if (failed == -EPERM)
-        _exit(NO_RIGHT);
-    errno = -failed;
-    sure(failed, "inroot_jail_with");
-    return INROOT_JAIL;
-}
-
 /* Has the calls ask a /proc that is open already, so that descriptors can be counted. */
 static inline void open_proc(void)
 {
@@ -246,17 +233,9 @@ static inline void open_proc(void)
         exit(1);
 }
 
-/* The same by one that the library opens, and opens anew where a program has closed it. */
-__attribute__((unused)) static void keep_proc(void)
-{
-    struct inroot_root *unused;
-    sure(inroot_root_open("/", 0, &unused), "inroot_root_open");
-    inroot_root_close(unused);
-}
-
 /*
  * What looks for lost memory, where the program is built with that sanitizer; its name is LLVM's and GCC's. It reads /proc. So a
- * thread in a jail goes back to the root that the program began with, whose descriptor is behind those that tests count.
+ * thread in a chroot goes back to the root that the program began with, whose descriptor is behind those that tests count.
  */
 extern int __lsan_do_recoverable_leak_check(void) __attribute__((weak));
 static int root_at_first = -1;
@@ -282,32 +261,30 @@ __attribute__((constructor, unused)) static void keep_first_root(void)
     close(fd);
 }
 
-/* Ends a process in which a part of a check ran. Memory that is lost there is wrong, too. */
+/* Ends a process in which a part of a check ran. Memory that is lost there is wrong, too. No count is one that says *skipped*. */
 __attribute__((unused, noreturn)) static void end_part(void)
 {
     if (__lsan_do_recoverable_leak_check) {
         lift_limit();
-        /* Who has no right to go back is in no jail; else the sanitizer itself ends the process as one that failed. */
+        /* Who has no right to go back is in no chroot; else the sanitizer itself ends the process as one that failed. */
         bool back = seteuid(getuid()) == 0 && fchdir(root_at_first) == 0 && chroot(".") == 0;
         expect(back || errno == EPERM, "a part goes back to its first root: %s", strerror(errno));
         expect(__lsan_do_recoverable_leak_check() == 0, "no memory is lost");
     }
     fflush(stdout);
-    _exit(wrong > 100 ? 100 : wrong);
+    _exit(wrong < NO_OPENAT2 ? wrong : NO_OPENAT2 - 1);
 }
 
-/* Runs it in a process of its own, and adds up what wasn't as it is to be. */
-__attribute__((unused)) static int apart(void (*what)(void))
+/* Gives this process another root directory, or ends it as one that was skipped. */
+__attribute__((unused)) static void chroot_or_end(int root)
 {
-    int status;
-    fflush(stdout);
-    pid_t child = sure(fork(), "fork");
-    if (child == 0) {
-        wrong = 0;
-        what();
-        end_part();
-    }
-    sure(waitpid(child, &status, 0), "waitpid");
+    if (fchdir(root) != 0 || chroot(".") != 0)
+        _exit(NO_RIGHT);
+}
+
+/* How a process ended in which a part ran: adds up what wasn't as it is to be, or gives that it was skipped. */
+static inline int count_part(int status)
+{
     if (!WIFEXITED(status))
         expect(false, "it ended by signal %d", WTERMSIG(status));
     else if (WEXITSTATUS(status) == NO_OPENAT2 || WEXITSTATUS(status) == NO_RIGHT)
@@ -315,6 +292,42 @@ __attribute__((unused)) static int apart(void (*what)(void))
     else
         wrong += WEXITSTATUS(status);
     return 0;
+}
+
+/* Runs it in a process of its own, and below this root directory if that isn't negative. */
+__attribute__((unused)) static int apart_in(int root, void (*what)(void))
+{
+    int status;
+    fflush(stdout);
+    pid_t child = sure(fork(), "fork");
+    if (child == 0) {
+        wrong = 0;
+        if (root >= 0)
+            chroot_or_end(root);
+        what();
+        end_part();
+    }
+    sure(waitpid(child, &status, 0), "waitpid");
+    return count_part(status);
+}
+
+__attribute__((unused)) static int apart(void (*what)(void))
+{
+    return apart_in(-1, what);
+}
+
+/* By which way a part makes its calls: 0, the kernel's walk, or INROOT_EXACT. */
+__attribute__((unused)) static int way;
+
+/* Runs it by each way, and by each in a chroot, which is left out where there is no right to it. */
+__attribute__((unused)) static int in_each_way(int root, void (*what)(void))
+{
+    int skipped = 0;
+    for (way = 0; way <= INROOT_EXACT; way += INROOT_EXACT) {
+        apart(what);
+        skipped |= apart_in(root, what);
+    }
+    return skipped;
 }
 
 /* A directory `box` below the one that is given, as the root. */
@@ -327,17 +340,6 @@ static inline void begin_in_box(int count, char **words, int *base, int *root)
     *base = sure(open(words[1], O_PATH | O_DIRECTORY | O_CLOEXEC), words[1]);
     sure(mkdirat(*base, "box", 0755), "box");
     *root = sure(openat(*base, "box", O_PATH | O_DIRECTORY | O_CLOEXEC), "box");
-}
-
-/* The same calls by the root's descriptor, in a jail, and in one that trusts: each in a process of its own. Gives how the check ends. */
-__attribute__((unused)) static int in_each_way(const char *name, void (*by_proc)(void), void (*in_jail)(void),
-                                               void (*in_trusting_jail)(void))
-{
-    apart(by_proc);
-    int skipped = apart(in_jail);
-    apart(in_trusting_jail);
-    printf("%s: %d not as they are to be\n", name, wrong);
-    return wrong != 0 ? 1 : skipped;
 }
 
 /* A child of fork(2), which waits for a byte. */
@@ -381,25 +383,15 @@ __attribute__((unused)) static bool may_be_nobody(void)
     return geteuid() == 0 && seteuid(65534) == 0 && seteuid(0) == 0;
 }
 
-/* Whether threads may be given a root of their own here. */
-__attribute__((unused)) static bool may_jail(int root)
+/* Whether a thread may be given another root directory here. */
+__attribute__((unused)) static bool may_chroot(int root)
 {
     int status;
     pid_t child = sure(fork(), "fork");
     if (child == 0)
-        _exit(inroot_jail(root) == 0 ? 0 : 1);
+        _exit(fchdir(root) == 0 && chroot(".") == 0 ? 0 : 1);
     sure(waitpid(child, &status, 0), "waitpid");
     return WIFEXITED(status) && WEXITSTATUS(status) == 0;
-}
-
-/* Gives this thread the root as its own; or ends the process as a check does that has no right to. */
-__attribute__((unused)) static void jail_or_end(int root, int flags)
-{
-    int failed = inroot_jail_with(root, flags);
-    if (failed == -EPERM)
-        _exit(NO_RIGHT);
-    errno = -failed;
-    sure(failed, "inroot_jail_with");
 }
 
 #endif

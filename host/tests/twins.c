@@ -11,12 +11,11 @@
 #define _GNU_SOURCE
 #include "slow_kernel.h"
 
-#include <pthread.h>
 #include <sched.h>
 #include <sys/mount.h>
 
 /* The inner q is below the root, and the outer ones are outside: at the same path from the top, and in a directory like the root. */
-static int base, root, inner, outer, other, at;
+static int base, root, inner, outer, other;
 static char below[PATH_MAX + 64];
 
 /* ---- what others do */
@@ -107,12 +106,11 @@ static void exchange_back(void)
 struct attack {
     const char *name, *path;
     struct moves moves;
-    int flags;
     /* What is opened where nobody acts, and stands inside; none where nothing inside is called so. */
     const struct stat *stands;
 };
 
-typedef int opener(const char *path, int flags);
+typedef int opener(const char *path);
 
 static struct stat of_g, of_inner;
 
@@ -122,7 +120,7 @@ static bool is_fooled(const struct attack *a, opener *open_it)
     struct stat about = {0};
     moves = &a->moves;
     moment = next_move = 0;
-    int fd = open_it(a->path, a->flags | INROOT_NO_RETRY);
+    int fd = open_it(a->path);
     count_of_moments = 0;
     if (fd >= 0)
         sure(fstat(fd, &about), a->path);
@@ -184,47 +182,45 @@ static int attack_within(const struct attack *a, opener *open_it)
     return fooled;
 }
 
-static int open_it(const char *path, int flags)
+static int open_it(const char *path)
 {
-    return inroot_open(at, path, flags);
+    return inroot_open(root, path, INROOT_EXACT | INROOT_NO_RETRY);
 }
 
 static const struct attack all[] = {
-    {"up and down", "x/../../secret", {{move_out, move_in}, 2}, 0, NULL},
-    {"a file", "f", {{make_outside, remove_outside}, 2}, 0, NULL},
-    {"another directory's file", "x/../y/f", {{make_deeper, remove_deeper}, 2}, 0, NULL},
-    {"a directory", "c", {{make_outside, remove_outside}, 2}, 0, NULL},
-    {"another file", "g", {{exchange_outside, exchange_back}, 2}, 0, &of_g},
+    {"up and down", "x/../../secret", {{move_out, move_in}, 2}, NULL},
+    {"a file", "f", {{make_outside, remove_outside}, 2}, NULL},
+    {"another directory's file", "x/../y/f", {{make_deeper, remove_deeper}, 2}, NULL},
+    {"a directory", "c", {{make_outside, remove_outside}, 2}, NULL},
+    {"another file", "g", {{exchange_outside, exchange_back}, 2}, &of_g},
 };
 #define LOWER_MOVES {{bring_lower, take_lower, bring_lower, remove_lower}, 4}
 static const struct attack layered[] = {
-    {"a directory of a lower layer", "c", LOWER_MOVES, 0, NULL},
-    {"the same, called so", "c (deleted)", LOWER_MOVES, 0, NULL},
+    {"a directory of a lower layer", "c", LOWER_MOVES, NULL},
+    {"the same, called so", "c (deleted)", LOWER_MOVES, NULL},
 };
 /* The root is renamed while what was moved out is asked for. */
 static const struct attack beside_renames = {
-    "up", "x/../..", {{move_aside, rename_root, rename_root, move_back}, 4}, 0, &of_inner,
+    "up", "x/../..", {{move_aside, rename_root, rename_root, move_back}, 4}, &of_inner,
 };
 enum { ATTACKS = sizeof all / sizeof *all };
 
-static void attack_by(const char *who, const struct attack *one, int flags, const char *before,
-                      int (*how)(const struct attack *, opener *))
+static void attack_by(const char *who, const struct attack *one, const char *before, int (*how)(const struct attack *, opener *))
 {
     char path[PATH_MAX + 80];
     struct attack a = *one;
     snprintf(path, sizeof path, "%s%s/%s", before, below, a.path);
     a.path = path;
-    a.flags = flags;
     int fooled = how(&a, open_it);
-    gives(fooled, 0, "%s, %s, %s, flags %d%s: openings of what never stood inside", who, a.name, before, flags, lies ? ", numbers lie" : "");
+    gives(fooled, 0, "%s, %s, %s%s: openings of what never stood inside", who, a.name, before, lies ? ", numbers lie" : "");
 }
 
 static void each(const char *who)
 {
     for (int one = 0; one < ATTACKS; one++)
-        for (int way = 0; way < 4; way++) {
-            lies = all[one].stands != NULL && way < 2;
-            attack_by(who, &all[one], way % 2 ? INROOT_ONE_BY_ONE : 0, way / 2 ? "./" : "", attack);
+        for (int way = 0; way < 2; way++) {
+            lies = all[one].stands != NULL && way == 0;
+            attack_by(who, &all[one], way == 1 ? "./" : "", attack);
             lies = false;
         }
 }
@@ -233,19 +229,13 @@ static void each(const char *who)
 static void each_twice(const char *who)
 {
     for (int one = 1; one < ATTACKS; one++)
-        attack_by(who, &all[one], INROOT_ONE_BY_ONE, "", attack_twice);
+        attack_by(who, &all[one], "", attack_twice);
 }
 
-static void jail_by(int flags)
+static void in_no_chroot(void)
 {
-    jail_or_end(root, flags);
-}
-
-static void in_no_jail(void)
-{
-    at = root;
     each("by a descriptor");
-    attack_by("by a descriptor, beside renames of the root", &beside_renames, 0, "", attack_twice);
+    attack_by("by a descriptor, beside renames of the root", &beside_renames, "", attack_twice);
     proc_lies = true;
     each("by a descriptor, where /proc lies");
 }
@@ -254,59 +244,22 @@ static void enter_root(void)
 {
     if (fchdir(root) != 0 || chroot(".") != 0)
         _exit(NO_RIGHT);
-    at = root;
 }
 
 static void in_chroot(void)
 {
     enter_root();
-    each("by a descriptor, in a chroot");
-    each_twice("by a descriptor, in a chroot");
-}
-
-static void *as_made(void *unused)
-{
-    at = root;
-    each("by a descriptor, in a thread that a jailed one made");
-    return unused;
-}
-
-static void in_jail(void)
-{
-    pthread_t made;
-    jail_by(0);
-    at = INROOT_JAIL;
-    each("in a jail");
-    each_twice("in a jail");
-    at = root;
-    each("by a descriptor, in a jail");
-    errno = pthread_create(&made, NULL, as_made, NULL);
-    sure(-errno, "pthread_create");
-    pthread_join(made, NULL);
-    at = INROOT_JAIL;
-    each("in a jail, again");
-    inroot_jail_done();
-    at = root;
-    each("by a descriptor, after a jail");
-}
-
-static void in_trusting_jail(void)
-{
-    jail_by(INROOT_TRUST_PROC);
-    at = INROOT_JAIL;
-    each("in a jail that trusts");
-    at = root;
-    each("by a descriptor, in a jail that trusts");
+    each("in a chroot");
+    each_twice("in a chroot");
 }
 
 /* ---- the control */
 
 /* Each part is opened in the one before, and nothing is asked. */
-static int unchecked(const char *path, int flags)
+static int unchecked(const char *path)
 {
     char text[PATH_MAX], *rest = text, *part;
     int dir = openat(root, ".", O_PATH | O_DIRECTORY | O_CLOEXEC);
-    (void)flags;
     strcpy(text, path);
     while (dir >= 0 && (part = strsep(&rest, "/")) != NULL) {
         int next = openat(dir, part, O_PATH | O_NOFOLLOW | O_CLOEXEC);
@@ -396,7 +349,7 @@ static void on_layers(void)
     for (int one = 0; one < 2; one++) {
         const int before = removed;
         brought = one == 0 ? "b/c" : "b/c (deleted)";
-        attack_by("by a descriptor, in a chroot, on overlayfs", &layered[one], INROOT_ONE_BY_ONE, "", attack_within);
+        attack_by("in a chroot, on overlayfs", &layered[one], "", attack_within);
         gives_least(removed - before, 100, "%s: how many were removed", layered[one].name);
     }
 }
@@ -412,10 +365,8 @@ int main(int count, char **words)
     begin_here();
     open_proc();
     apart(be_led_out);
-    apart(in_no_jail);
+    apart(in_no_chroot);
     int skipped = apart(in_chroot);
-    apart(in_jail);
-    apart(in_trusting_jail);
     skipped |= apart(on_layers);
     printf("twins: %d not as they are to be\n", wrong);
     return wrong != 0 ? 1 : skipped;

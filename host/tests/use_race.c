@@ -3,8 +3,8 @@
  * that leads out of the root. What is read is never what is outside, and nothing outside is made, written or
  * linked.
  *
- * usage: use_race DIR SECONDS. Exits 0 where that holds, and a walk without checks was led out. 78: no right to
- * change a root. 79: that walk was not led out.
+ * usage: use_race DIR SECONDS. Exits 0 where that holds, and a walk without checks was led out. 79: that walk was not
+ * led out.
  */
 #define _GNU_SOURCE
 #include "support.h"
@@ -29,7 +29,6 @@ enum { DOINGS = 8 };
 
 struct worker {
     const char *name;
-    bool jailed;
     atomic_ulong done[DOINGS], failed;
     unsigned long escaped;
     int flags;
@@ -135,22 +134,13 @@ static int doing(int which, int at, struct worker *me)
 static void *work(void *self)
 {
     struct worker *me = self;
-    int at = root;
-    if (me->jailed) {
-        errno = -inroot_jail(root);
-        sure(-errno, "inroot_jail");
-        at = INROOT_JAIL;
-    }
     for (int which = 0; !stop; which = (which + 1) % DOINGS) {
-        /* Both ways of walking, by turns. */
-        me->flags ^= which == 0 ? INROOT_ONE_BY_ONE : 0;
-        int result = doing(which, at, me);
+        int result = doing(which, root, me);
         me->done[which] += result >= 0;
         me->failed += result < 0;
         if (result > 0)
             close(result);
     }
-    inroot_jail_done();
     return NULL;
 }
 
@@ -207,8 +197,6 @@ static void begin(const char *dir)
 {
     static const char *const dirs[] = {"root", "root/x", "root/x/d", "out"};
     base = sure(open(dir, O_PATH | O_DIRECTORY | O_CLOEXEC), dir);
-    if (!may_jail(base))
-        exit(NO_RIGHT);
     if (realpath(dir, outside) == NULL)
         exit(1);
     strcat(outside, "/out");
@@ -261,7 +249,7 @@ static void judge(struct worker *me)
 
 int main(int count, char **words)
 {
-    struct worker workers[WORKERS] = {{.name = "in a jail", .jailed = true}, {.name = "by /proc"}};
+    struct worker workers[WORKERS] = {{.name = "by the kernel's walk"}, {.name = "with INROOT_EXACT", .flags = INROOT_EXACT}};
     static const struct goals goals = {is_met, is_enough};
     pthread_t swapper, threads[WORKERS], unchecked;
     if (count != 3)

@@ -1,10 +1,9 @@
 /*
- * ways: both ways of walking, with runs of names and name by name, beside one another on random trees that stand
+ * ways: both ways of walking, by the kernel first and with INROOT_EXACT, beside one another on random trees that stand
  * still but for the calls themselves: each call gives the same, what it opened has the same path, and then the
  * trees are the same.
  *
- * usage: ways DIR CASES. Exits 0 where that holds. 77: no openat2(2) here, so that there is one way alone. 78: no
- * right to change a root. To be linked with --wrap=syscall.
+ * usage: ways DIR CASES. Exits 0 where that holds. 77: no openat2(2) here. To be linked with --wrap=syscall.
  */
 #define _GNU_SOURCE
 #include "../openat2.h"
@@ -14,7 +13,6 @@
 #include <dirent.h>
 #include <errno.h>
 #include <limits.h>
-#include <pthread.h>
 #include <stdarg.h>
 #include <string.h>
 #include <sys/stat.h>
@@ -28,8 +26,7 @@ static int base, proc;
 
 /* One way on one tree: the outcomes of its cases as one number each, and at last the tree as one. */
 struct side {
-    int root, asked, flags, cases;
-    bool jailed;
+    int root, flags, cases;
     uint64_t state, tree;
     uint64_t *outcomes;
     unsigned long opened, changed;
@@ -42,16 +39,16 @@ static uint64_t mix(uint64_t sum, const char *text, size_t length)
     return sum;
 }
 
-/* How many runs were tried, and how many succeeded. */
+/* How many paths the kernel walked, and how many of them to an object. */
 static unsigned long tried, passed;
 
 static long my_syscall(long number, const long *with)
 {
     long result = REAL_SYSCALL(number, with);
-    /* A run that goes on is of directories. What is looked up below the root for its place, in both ways, may be anything. */
-    bool runs = number == SYS_openat2 && ((const struct open_how *)with[2])->flags & O_DIRECTORY && strcmp((const char *)with[1], ".") != 0;
-    tried += runs;
-    passed += runs && result >= 0;
+    const struct open_how *how = (const struct open_how *)with[2];
+    bool walks = number == SYS_openat2 && with[0] >= 0 && !(how->resolve & RESOLVE_NO_SYMLINKS) && how->resolve & (RESOLVE_IN_ROOT | RESOLVE_BENEATH);
+    tried += walks;
+    passed += walks && result >= 0;
     return result;
 }
 
@@ -142,10 +139,9 @@ static uint64_t told(const struct side *me, int fd)
     snprintf(name, sizeof name, "thread-self/fd/%d", fd);
     ssize_t length = sure((int)readlinkat(proc, name, path, sizeof path), name);
     snprintf(name, sizeof name, "thread-self/fd/%d", me->root);
-    ssize_t above = me->jailed ? 0 : sure((int)readlinkat(proc, name, root, sizeof root), name);
+    ssize_t above = sure((int)readlinkat(proc, name, root, sizeof root), name);
     sure(fstat(fd, &about), "fstat");
-    bool is_root = me->jailed ? length == 1 : length == above;
-    uint64_t sum = is_root ? 1 : mix(1, path + above, (size_t)(length - above));
+    uint64_t sum = length == above ? 1 : mix(1, path + above, (size_t)(length - above));
     close(fd);
     return sum * 4 + (S_ISDIR(about.st_mode) ? 1 : S_ISLNK(about.st_mode) ? 2 : 3);
 }
@@ -160,9 +156,9 @@ static uint64_t call(struct side *me, unsigned which, const char *path, const ch
 {
     char text[PATH_MAX];
     struct stat about;
-    int at = me->asked;
+    int at = me->root;
     switch (which) {
-    case 0: return (uint64_t)inroot_mkfile(at, path, 0600, flags);
+    case 0: return (uint64_t)inroot_mknod(at, path, S_IFREG | 0600, 0, flags);
     case 1: return (uint64_t)inroot_mkdir(at, path, 0700, flags);
     case 2: return (uint64_t)inroot_symlink(at, other, path, flags);
     case 3: return (uint64_t)inroot_unlink(at, path, flags);
@@ -178,16 +174,9 @@ static uint64_t call(struct side *me, unsigned which, const char *path, const ch
     }
 }
 
-static void *make_calls(void *self)
+static void make_calls(struct side *me)
 {
-    struct side *me = self;
     char path[256], other[256];
-    me->asked = me->root;
-    if (me->jailed) {
-        errno = -inroot_jail(me->root);
-        sure(-errno, "inroot_jail");
-        me->asked = INROOT_JAIL;
-    }
     for (int at = 0; at < me->cases; at++) {
         unsigned which = pick(&me->state, OPERATIONS);
         int flags = me->flags | (pick(&me->state, 4) ? 0 : (int)pick(&me->state, 4));
@@ -198,18 +187,14 @@ static void *make_calls(void *self)
         me->opened += holds && which > 10;
         me->changed += holds && which < 8;
     }
-    inroot_jail_done();
-    return NULL;
 }
 
 /* A side on a tree of its own, made and asked by the same random numbers. */
 static void run(struct side *side, const char *name, uint64_t seed)
 {
-    pthread_t thread;
     side->state = seed;
     side->root = make_tree(name, &side->state);
-    pthread_create(&thread, NULL, make_calls, side);
-    pthread_join(thread, NULL);
+    make_calls(side);
     side->tree = sum_of(side->root, 7);
     close(side->root);
 }
@@ -223,22 +208,19 @@ int main(int count, char **words)
     proc = sure(open("/proc", O_PATH | O_DIRECTORY | O_CLOEXEC), "/proc");
     if (!has_openat2())
         return NO_OPENAT2;
-    if (!may_jail(base))
-        return NO_RIGHT;
     open_proc();
     int cases = atoi(words[2]) / TREES, before = open_descriptors();
     uint64_t *outcomes = calloc((size_t)cases * 2, sizeof *outcomes);
     for (int tree = 0; tree < TREES && outcomes != NULL; tree++) {
         char name[32];
-        struct side sides[2] = {{.flags = 0}, {.flags = INROOT_ONE_BY_ONE}};
+        struct side sides[2] = {{.flags = 0}, {.flags = INROOT_EXACT}};
         for (int way = 0; way < 2; way++) {
             sides[way].outcomes = outcomes + way * cases;
             sides[way].cases = cases;
-            sides[way].jailed = tree % 2;
             snprintf(name, sizeof name, "tree%d.%d", tree, way);
             unsigned long before_it = tried;
             run(&sides[way], name, 0x9e3779b97f4a7c15 + (uint64_t)tree);
-            gives((tried > before_it), (way == 0), "tree %d: whether a run of names was opened on side %d", tree, way);
+            gives((tried > before_it), (way == 0), "tree %d: whether the kernel walked a path on side %d", tree, way);
         }
         for (int at = 0; at < cases; at++)
             differ += outcomes[at] != outcomes[cases + at];
@@ -249,7 +231,7 @@ int main(int count, char **words)
     free(outcomes);
     int left = open_descriptors() - before;
     printf(
-        "ways: %d cases on %d trees, %lu opened, %lu changed something, %lu runs of %lu passed, %lu differ, "
+        "ways: %d cases on %d trees, %lu opened, %lu changed something, %lu of %lu paths walked by the kernel, %lu differ, "
         "%d descriptors left open\n",
         cases * TREES, TREES, opened, changed, passed, tried, differ, left);
     return wrong != 0 || differ != 0 || left != 0 || opened == 0 || changed == 0;
