@@ -8,7 +8,6 @@
 
 #include <errno.h>
 #include <fcntl.h>
-#include <linux/magic.h>
 #include <sys/stat.h>
 #include <sys/syscall.h>
 #include <sys/vfs.h>
@@ -57,33 +56,29 @@ static uint32_t ask_file_system(int fd, struct inroot_step_answer *answer)
 }
 
 /*
- * Whether a link of this name leads to an object and not along its text: only the kernel knows, and refuses to follow
- * it then. It does so before it looks where the link leads. So it refuses a link beyond that one, and so would the walk
- * that comes to it. Gives 0, ELOOP, or why the kernel can't say.
+ * Whether the link leads to an object and not along its text: only the kernel knows, and refuses to follow it by its name then. It
+ * does so before it looks where the link leads. So it refuses a link beyond that one, and so would the walk that comes to it.
  */
-static uint32_t ask_magic(const struct inroot_driver *d, int dir)
+static uint32_t ask_magic(struct inroot_driver *d, const struct inroot_work *w)
 {
     const struct open_how how = {.flags = O_PATH | O_CLOEXEC, .resolve = RESOLVE_BENEATH | RESOLVE_NO_MAGICLINKS};
+    int dir, error = d->link == w->dir ? inroot_handles_fd(d, d->link_dir, &dir) : ESTALE;
+    if (error)
+        return (uint32_t)error;
     const int fd = inroot_openat2(dir, d->link_name, &how);
-    const uint32_t error = inroot_errno_of(fd);
+    error = (int)inroot_errno_of(fd);
     if (fd >= 0)
         close(fd);
-    return error == EXDEV || error == ENOTDIR || error == ENAMETOOLONG ? 0 : error;
+    return (uint32_t)error;
 }
 
-/* A link that is followed is none of a mount with nosymfollow, and no magic one, which some file systems have. */
-static uint32_t ask_whether_followed(struct inroot_driver *d, const struct inroot_work *w,
-                                     struct inroot_step_answer *answer)
+static uint32_t ask_mount_flags(int fd, struct inroot_step_answer *answer)
 {
     struct statfs about;
-    int dir;
-    if (fstatfs(w->looks, &about) != 0)
+    if (fstatfs(fd, &about) != 0)
         return (uint32_t)errno;
     answer->number = (uint64_t)about.f_flags;
-    if (about.f_type != PROC_SUPER_MAGIC && about.f_type != SECURITYFS_MAGIC && about.f_type != AAFS_MAGIC)
-        return 0;
-    const int lost = d->link == w->dir ? inroot_handles_fd(d, d->link_dir, &dir) : ESTALE;
-    return lost ? (uint32_t)lost : ask_magic(d, dir);
+    return 0;
 }
 
 static uint32_t open_to_read(struct inroot_work *w)
@@ -113,13 +108,14 @@ static uint32_t turn(struct inroot_driver *d, struct inroot_work *w, struct inro
     case INROOT_CALL_OPEN_ANY: return open_entry(d, w, 0);
     case INROOT_CALL_SPARE: return inroot_handles_spare(d, w->dir) ? 0 : EMFILE;
     case INROOT_CALL_KIND: return ask_object(w->fd, answer);
-    case INROOT_CALL_IS_ROOT: w->handle = inroot_handles_share(d, INROOT_ROOT_HANDLE); return 0;
     case INROOT_CALL_LINKS: return ask_object(w->looks, answer);
     case INROOT_CALL_LAYERS: return ask_file_system(w->looks, answer);
     case INROOT_CALL_OPEN_TO_READ: return open_to_read(w);
     case INROOT_CALL_READ: return read_some(w);
     case INROOT_CALL_CLOSE_READ: return inroot_errno_of(close(w->reads));
-    case INROOT_CALL_NO_FOLLOW: return ask_whether_followed(d, w, answer);
+    case INROOT_CALL_NO_FOLLOW: return ask_mount_flags(w->looks, answer);
+    case INROOT_CALL_MAY_HOLD_MAGIC: return ask_file_system(w->looks, answer);
+    case INROOT_CALL_MAGIC: return ask_magic(d, w);
     case INROOT_CALL_READ_LINK: return read_link(w);
     default: return inroot_errno_of(close(w->fd));
     }

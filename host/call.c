@@ -145,12 +145,10 @@ static void note(struct work *w)
     w->answer.owns_proc = d->proc_is_own;
 }
 
-/* A thing of the try itself. The kernel has walked the path before, in vain; and it has what the library needs. */
+/* A thing of the try itself. */
 static void walk(struct work *w)
 {
     switch (w->course.next) {
-    case INROOT_CALLING_AT_ONCE: tell(w, -ENOENT); break;
-    case INROOT_CALLING_SECOND: tell(w, 0); break;
     case INROOT_CALLING_PLACE: tell(w, inroot_stands(w->d, w->root, w->room)); break;
     case INROOT_CALLING_TAKE: tell(w, inroot_handles_take(w->d, w->told.handle)); break;
     default:

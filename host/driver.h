@@ -151,8 +151,6 @@ uint64_t inroot_handles_put(struct inroot_driver *d, int fd, enum inroot_kind ki
 /* The same as inroot_handles_fd() of a handle whose descriptor was let go. */
 int inroot_handles_fd_again(struct inroot_driver *d, uint64_t handle, int *fd);
 struct inroot_result inroot_handles_close(struct inroot_driver *d, uint64_t handle);
-/* A second handle on the root, by the same descriptor. */
-uint64_t inroot_handles_share(struct inroot_driver *d, uint64_t root);
 /*
  * Takes the descriptor out of a handle, for the caller to keep, and notes its kind; or another one of the same
  * directory, where that one shares something with the caller's own. Returns it, or -errno. No handle is used after
@@ -290,7 +288,7 @@ struct inroot_result inroot_list(struct inroot_driver *d, uint64_t handle);
 struct inroot_work {
     struct inroot_step_facts facts;
     struct inroot_step course;
-    uint64_t dir, handle;          /* whose descriptor isn't let go; and a second one of the root, or zero */
+    uint64_t dir;                  /* whose descriptor isn't let go */
     enum inroot_way how;
     int at;                        /* the directory */
     const char *name;

@@ -221,7 +221,7 @@ int inroot_handles_fd_again(struct inroot_driver *d, uint64_t handle, int *fd)
 static void close_slot(struct inroot_driver *d, const struct inroot_slot *slot)
 {
     drop_inner(d);
-    if (slot->fd < 0 || slot->is_shared)
+    if (slot->fd < 0)
         return;
     if (slot->above >= 0 && d->slots[slot->above].fd == INROOT_AWAY) {
         d->inner = slot->fd;
@@ -243,14 +243,6 @@ struct inroot_result inroot_handles_close(struct inroot_driver *d, uint64_t hand
     return (struct inroot_result){.what = INROOT_ANSWER_DONE};
 }
 
-uint64_t inroot_handles_share(struct inroot_driver *d, uint64_t root)
-{
-    int fd = inroot_handles_slot(d, root)->fd;
-    uint64_t handle = inroot_handles_put(d, fd, INROOT_KIND_DIR, INROOT_BY_ROOT, root);
-    inroot_handles_slot(d, handle)->is_shared = true;
-    return handle;
-}
-
 int inroot_handles_take(struct inroot_driver *d, uint64_t handle)
 {
     const struct inroot_slot *slot = inroot_handles_slot(d, handle);
@@ -258,13 +250,10 @@ int inroot_handles_take(struct inroot_driver *d, uint64_t handle)
     struct inroot_taking taking = {0};
     if (d->asked->opened != NULL)
         *d->asked->opened = (enum inroot_kind)slot->kind;
-    inroot_take(slot->is_shared, false, fd >= 0, &taking);
+    inroot_take(handle == INROOT_ROOT_HANDLE, fd >= 0, &taking);
     if (taking.error)
         return -(int)taking.error;
     if (taking.anew)
         d->step = INROOT_STEP_DUP;
-    const int given = taking.anew ? inroot_open_anew(d, handle) : fd;
-    if (taking.closes)
-        close(fd);
-    return given;
+    return taking.anew ? inroot_open_anew(d, handle) : fd;
 }

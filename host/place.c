@@ -117,7 +117,7 @@ static void ask(struct search *s)
 
 static void converse(struct search *s)
 {
-    inroot_place_begin(&s->facts, &s->told);
+    inroot_place_begin(&s->told);
     while (s->told.what < INROOT_PLACE_STANDS) {
         ask(s);
         inroot_place_next(&s->facts, &s->answer, (const unsigned char *)s->above, s->above_length, (const unsigned char *)s->text,
@@ -147,7 +147,7 @@ static struct inroot_result find_place(struct inroot_driver *d, int root, struct
     struct search s = {
         .d = d, .root = root, .found = INROOT_NONE, .slot = slot,
         .facts = {
-            .directory = slot->kind == INROOT_KIND_DIR, .seen = slot->way == INROOT_SEEN_BELOW, .second = true,
+            .directory = slot->kind == INROOT_KIND_DIR, .seen = slot->way == INROOT_SEEN_BELOW,
         },
         .above = above, .text = text, .again = again,
     };
@@ -181,7 +181,7 @@ static bool look_first(int root, struct inroot_slot *slot, const char *names)
 static uint8_t come_before(const struct inroot_driver *d, int root, struct inroot_slot *slot, const char *passed)
 {
     const struct inroot_held held = {
-        .way = slot->way, .directory = slot->kind == INROOT_KIND_DIR, .named = passed != NULL, .second = true, .below = d->below,
+        .way = slot->way, .directory = slot->kind == INROOT_KIND_DIR, .named = passed != NULL, .below = d->below,
     };
     uint8_t next = inroot_place_before(&held);
     return next == INROOT_HELD_LOOK_UP ? inroot_place_behind(&held, look_first(root, slot, passed)) : next;
@@ -243,7 +243,6 @@ static uint32_t find(struct asking *a)
 {
     struct inroot_result result = find_place(a->d, a->root, &a->slot, a->text, &a->length);
     uint32_t error = result.what == INROOT_ANSWER_NAMES ? 0 : (uint32_t)a->d->unmade;
-    a->answer.length = a->length;
     a->d->unmade = 0;
     return error;
 }
@@ -263,13 +262,12 @@ static uint32_t turn(struct asking *a)
 ssize_t inroot_stands(struct inroot_driver *d, int root, char *room)
 {
     struct asking a = {.d = d, .root = root, .text = room, .slot = {.way = INROOT_BY_NAME, .above = -1}};
-    const struct inroot_asking_facts facts = {0};
     d->step = INROOT_STEP_NAME_BELOW;
-    inroot_asking_begin(&facts, &a.course);
+    inroot_asking_begin(&a.course);
     while (a.course.next < INROOT_ASKING_ENDS) {
-        a.answer = (struct inroot_asking_answer){.openat2 = true};
+        a.answer = (struct inroot_asking_answer){.links = 0};
         a.answer.error = turn(&a);
-        inroot_asking_next(&a.course, &facts, &a.answer);
+        inroot_asking_next(&a.course, &a.answer);
     }
     return a.course.next == INROOT_ASKING_ENDS ? (ssize_t)a.length : -(ssize_t)a.course.error;
 }

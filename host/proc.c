@@ -5,7 +5,7 @@
  * library looks for: then the library checks whether it is the one that it opened, and does without. Another mount of that
  * proc(5), as a container's, may be covered: the library doesn't go by it. A program that hands one in may know that /proc is
  * covered: so the library never goes by /proc in its place. Which system call comes next, and what is believed, the proved
- * library says (crates/find_proc); and whose what was found is, too (crates/keep_open).
+ * library says (crates/find_proc); and whose what was found is, too.
  */
 #define _GNU_SOURCE
 #include "driver.h"
@@ -13,11 +13,10 @@
 #include <errno.h>
 #include <fcntl.h>
 #include <stdio.h>
-#include <string.h>
 #include <sys/vfs.h>
 #include <unistd.h>
 
-/* A descriptor of one, and which one it is: its file, its mount, its file system. */
+/* A descriptor of one, and which one it is: its file, and its mount. */
 struct own {
     int fd;
     struct inroot_proc_file file;
@@ -93,10 +92,8 @@ static uint32_t ask_file(struct finding *f, int fd)
 static uint32_t ask_system(struct finding *f, int fd)
 {
     struct statfs about;
-    _Static_assert(sizeof about.f_fsid == sizeof f->answer.file.system, "the number of a file system");
     if (fstatfs(fd, &about) != 0)
         return (uint32_t)errno;
-    memcpy(&f->answer.file.system, &about.f_fsid, sizeof about.f_fsid);
     f->answer.kind = (uint64_t)about.f_type;
     f->answer.flags = (uint64_t)about.f_flags;
     return 0;
@@ -128,14 +125,13 @@ static uint32_t close_low(struct finding *f)
 static uint32_t turn(struct finding *f)
 {
     switch (f->course.next) {
-    case INROOT_FINDING_ASK_MOUNT: case INROOT_FINDING_ASK_FILE: return ask_file(f, f->at_hand);
-    case INROOT_FINDING_ASK_SYSTEM: return ask_system(f, f->at_hand);
+    case INROOT_FINDING_ASK: return ask_file(f, f->at_hand);
     case INROOT_FINDING_OPEN: return opened(f, open("/proc", O_PATH | O_DIRECTORY | O_NOFOLLOW | O_CLOEXEC));
     case INROOT_FINDING_RAISE: return copy_above(f);
     case INROOT_FINDING_CLOSE_LOW: return close_low(f);
     case INROOT_FINDING_LOOK: return ask_system(f, f->fd);
     case INROOT_FINDING_COPY: return opened(f, openat(f->fd, ".", O_PATH | O_DIRECTORY | O_CLOEXEC));
-    case INROOT_FINDING_IDENTIFY: case INROOT_FINDING_NUMBER: return ask_file(f, f->fd);
+    case INROOT_FINDING_IDENTIFY: return ask_file(f, f->fd);
     default: return inroot_errno_of(close(f->fd));
     }
 }

@@ -51,14 +51,14 @@ static struct inroot_work work_on(unsigned what, uint64_t handle, int dir, const
     };
 }
 
-/* Makes a step that opens. The root that is shared has its handle already. */
+/* Makes a step that opens. */
 static struct inroot_result open_by(struct inroot_driver *d, struct inroot_work *work)
 {
     inroot_by_calls(d, work);
     if (work->course.next != INROOT_ENDS_OPENED)
         return ended(d, &work->course);
     const enum inroot_kind kind = work->course.kind;
-    return opened(work->handle != 0 ? work->handle : inroot_handles_put(d, work->fd, kind, work->how, work->dir), kind);
+    return opened(inroot_handles_put(d, work->fd, kind, work->how, work->dir), kind);
 }
 
 int inroot_open_anew(struct inroot_driver *d, uint64_t handle)
@@ -100,16 +100,13 @@ static struct inroot_result open_name(struct inroot_driver *d, const struct inro
     return result;
 }
 
-/* The root's own second handle, by the caller's descriptor. No system call has seen whether the root is one. */
+/* The root's own second handle. */
 static struct inroot_result open_root(struct inroot_driver *d, uint64_t root, int dir)
 {
     if (!inroot_handles_reserve(d))
         return inroot_unmade(d, ENOMEM);
     struct inroot_work work = work_on(INROOT_STEP_DUP, root, dir, ".");
-    work.facts.goes_on = true;
-    struct inroot_result result = open_by(d, &work);
-    d->steps -= work.handle != 0;
-    return result;
+    return open_by(d, &work);
 }
 
 static struct inroot_result open_parent(struct inroot_driver *d, uint64_t handle, int dir)
@@ -126,7 +123,7 @@ static struct inroot_result open_parent(struct inroot_driver *d, uint64_t handle
 static struct inroot_result read_link(struct inroot_driver *d, uint64_t handle, int fd, char *text, size_t *length)
 {
     struct inroot_work work = {
-        .facts = {.what = INROOT_STEP_READLINK, .follows = true}, .dir = handle, .looks = fd, .text = text,
+        .facts = {.what = INROOT_STEP_READLINK}, .dir = handle, .looks = fd, .text = text,
     };
     work.facts.link = inroot_handles_slot(d, handle)->kind == INROOT_KIND_LINK;
     inroot_by_calls(d, &work);
