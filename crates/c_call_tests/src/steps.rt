@@ -57,9 +57,6 @@ fn step(what: u8) -> Facts {
         mode: 0,
         directory: false,
         mount: false,
-        is_last: false,
-        takes_link: false,
-        follows: false,
         link: false,
         second_name: false,
     }
@@ -131,9 +128,9 @@ fn descriptors_are_spared(rt: HostRuntime) -> Result<(), Fail> {
     Ok(())
 }
 
-// openat2(2), RESOLVE_NO_XDEV: EXDEV. RESOLVE_NO_MAGICLINKS: ELOOP.
+// openat2(2), RESOLVE_NO_XDEV: EXDEV.
 #[test]
-fn mounts_and_magic_links(rt: HostRuntime) -> Result<(), Fail> {
+fn mounts_are_asked(rt: HostRuntime) -> Result<(), Fail> {
     let facts = Facts {
         mount: true,
         ..step(OPEN)
@@ -141,42 +138,27 @@ fn mounts_and_magic_links(rt: HostRuntime) -> Result<(), Fail> {
     let mount = works(&facts, begin(&facts));
     assert!(rt; mount.next == MOUNT);
     assert!(rt; ends(works(&facts, fails(&facts, mount, EXDEV)), UNMADE, EXDEV));
-    let holder = next(&facts, works(&facts, mount), &gave(1, 0, LINK));
-    assert!(rt; holder.next == MAY_HOLD_MAGIC);
-    let plain = says(&facts, holder, EXT4);
-    assert!(rt; plain.next == OPENED && plain.kind == LINK);
-    // readlink(2) of a magic link follows none; a walk of its text would.
-    let meant = Facts {
-        is_last: true,
-        takes_link: true,
-        ..facts
+    let link = next(&facts, works(&facts, mount), &gave(1, 0, LINK));
+    assert!(rt; link.next == OPENED && link.kind == LINK);
+    Ok(())
+}
+
+// openat2(2), RESOLVE_NO_MAGICLINKS: ELOOP. Each link that is read is followed.
+#[test]
+fn magic_links_are_not_read(rt: HostRuntime) -> Result<(), Fail> {
+    let facts = Facts {
+        link: true,
+        ..step(READ_TEXT)
     };
-    let walked = Facts {
-        follows: true,
-        ..meant
-    };
-    let between = Facts {
-        is_last: false,
-        ..meant
-    };
-    assert!(rt; next(&meant, mount, &gave(1, 0, LINK)).next == KIND);
-    assert!(rt; next(&meant, works(&meant, mount), &gave(1, 0, LINK)).next == OPENED);
-    assert!(rt; next(&walked, works(&walked, mount), &gave(1, 0, LINK)).next == MAY_HOLD_MAGIC);
-    assert!(rt; next(&between, works(&between, mount), &gave(1, 0, LINK)).next == MAY_HOLD_MAGIC);
+    let holder = says(&facts, begin(&facts), 1);
+    assert!(rt; holder.next == MAY_HOLD_MAGIC && says(&facts, holder, EXT4).next == READ_LINK);
     let magic = says(&facts, holder, PROC);
     assert!(rt; magic.next == MAGIC && fails(&facts, magic, EINTR).next == MAGIC);
-    let led_out = fails(&facts, magic, EXDEV);
-    assert!(rt; led_out.next == OPENED && led_out.kind == LINK);
-    assert!(rt;
-        works(&facts, magic).next == OPENED && fails(&facts, magic, ENOTDIR).next == OPENED
-    );
-    let refused = fails(&facts, magic, ELOOP);
-    assert!(rt; refused.next == CLOSE);
-    assert!(rt; ends(works(&facts, refused), UNMADE, ELOOP));
-    let none_left = fails(&facts, magic, EMFILE);
-    assert!(rt; none_left.next == CLOSE);
-    assert!(rt; ends(works(&facts, none_left), UNMADE, EMFILE));
-    assert!(rt; ends(works(&facts, fails(&facts, magic, ENOENT)), UNMADE, ENOENT));
+    assert!(rt; works(&facts, magic).next == READ_LINK && fails(&facts, magic, EXDEV).next == READ_LINK);
+    assert!(rt; fails(&facts, magic, ENOTDIR).next == READ_LINK);
+    assert!(rt; ends(fails(&facts, magic, ELOOP), UNMADE, ELOOP));
+    assert!(rt; ends(fails(&facts, magic, EMFILE), UNMADE, EMFILE));
+    assert!(rt; ends(fails(&facts, magic, ENOENT), UNMADE, ENOENT));
     Ok(())
 }
 
@@ -251,23 +233,17 @@ fn texts_are_read(rt: HostRuntime) -> Result<(), Fail> {
     assert!(rt; flags.next == NO_FOLLOW && ends(says(&facts, flags, NOSYMFOLLOW), UNMADE, ELOOP));
     assert!(rt; fails(&facts, flags, EINTR).next == NO_FOLLOW);
     assert!(rt; ends(fails(&facts, flags, EIO), UNMADE, EIO));
-    let read = says(&facts, flags, 1);
+    let read = says(&facts, says(&facts, flags, 1), EXT4);
     assert!(rt; read.next == READ_LINK && works(&facts, read).next == TEXT);
     assert!(rt; fails(&facts, read, EINTR).next == READ_LINK);
     assert!(rt; ends(fails(&facts, read, EINVAL), UNMADE, EINVAL));
     let file = Facts {
         link: false,
-        is_last: true,
         ..facts
     };
-    assert!(rt; begin(&file).next == READ_LINK);
-    assert!(rt; ends(fails(&file, begin(&file), ENOENT), REFUSED, EINVAL));
-    assert!(rt; ends(fails(&file, begin(&file), EIO), UNMADE, EIO));
-    let followed = Facts {
-        follows: true,
-        ..file
-    };
-    assert!(rt; begin(&followed).next == NO_FOLLOW);
+    let other = says(&file, says(&file, begin(&file), 1), EXT4);
+    assert!(rt; ends(fails(&file, other, ENOENT), REFUSED, EINVAL));
+    assert!(rt; ends(fails(&file, other, EIO), UNMADE, EIO));
     Ok(())
 }
 

@@ -22,9 +22,6 @@ facts_of what = record {
   mode = 0;
   directory = true;
   mount = false;
-  is_last = false;
-  takes_link = false;
-  follows = false;
   link = false;
   second_name = false;
 }

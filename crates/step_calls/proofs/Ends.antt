@@ -3,7 +3,7 @@ use Rattle.std.proofs.Common.{◌≡◌, ℕ, true, false, if◌then◌else◌, 
 use Rattle.std.specs.Prelude.{◌==◌}
 use Rattle.system_calls.specs.Errors.{ENOENT, EINTR, ENFILE, EMFILE}
 use Rattle.step_calls.specs.Refusals.{is_refusal}
-use Rattle.step_calls.specs.History.{asks, bars_magic, came_to, ends_by, fails, gone, knows, not_opened, opened, stayed, there, unasked, waits, Next}
+use Rattle.step_calls.specs.History.{asks, came_to, ends_by, fails, gone, knows, not_opened, opened, stayed, there, unasked, waits, Next}
 use Rattle.step_calls.specs.declared.course.TheConstants.{SPARE, MOUNT, KIND, MAY_HOLD_MAGIC, LINKS, CLOSE, OPENED, DONE, REFUSED, UNMADE}
 use Rattle.step_calls.specs.declared.facts.Facts.{Facts}
 use Rattle.step_calls.specs.declared.facts.TheConstants.{PARENT, DIRECTORY, LINK}
@@ -15,22 +15,18 @@ ends_all P f error r u =
     if_elim P (is_refusal f.what f.mode f.text error) (fails REFUSED error) (fails UNMADE error) r (λ b. u)
 
 pub came_all : (P : Next → Type 0) (f : Facts) (k : ℕ) → ((f.what == PARENT) ≡ true → P (asks LINKS))
-    → P (knows MAY_HOLD_MAGIC k) → P (knows OPENED k) → P (came_to f k)
-came_all P f k links magic opened =
-    if_elim P (f.what == PARENT) (asks LINKS)
-    (if bars_magic f && (k == LINK) then knows MAY_HOLD_MAGIC k else knows OPENED k)
-    links
-    (λ b. if_elim P (bars_magic f && (k == LINK)) (knows MAY_HOLD_MAGIC k) (knows OPENED k) (λ c. magic) (λ c. opened))
+    → P (knows OPENED k) → P (came_to f k)
+came_all P f k links opened = if_elim P (f.what == PARENT) (asks LINKS) (knows OPENED k) links (λ b. opened)
 
 pub stayed_all : (P : Next → Type 0) (f : Facts) (k : ℕ) → P (asks KIND) → ((f.what == PARENT) ≡ true → P (asks LINKS))
-    → P (knows MAY_HOLD_MAGIC k) → P (knows OPENED k) → P (stayed f k)
-stayed_all P f k kind links magic opened =
-    if_elim P (k == 0) (asks KIND) (came_to f k) (λ b. kind) (λ b. came_all P f k links magic opened)
+    → P (knows OPENED k) → P (stayed f k)
+stayed_all P f k kind links opened =
+    if_elim P (k == 0) (asks KIND) (came_to f k) (λ b. kind) (λ b. came_all P f k links opened)
 
 pub opened_all : (P : Next → Type 0) (f : Facts) (k : ℕ) → P (knows MOUNT k) → P (asks KIND)
-    → ((f.what == PARENT) ≡ true → P (asks LINKS)) → P (knows MAY_HOLD_MAGIC k) → P (knows OPENED k) → P (opened f k)
-opened_all P f k mount kind links magic is_open =
-    if_elim P f.mount (knows MOUNT k) (stayed f k) (λ b. mount) (λ b. stayed_all P f k kind links magic is_open)
+    → ((f.what == PARENT) ≡ true → P (asks LINKS)) → P (knows OPENED k) → P (opened f k)
+opened_all P f k mount kind links is_open =
+    if_elim P f.mount (knows MOUNT k) (stayed f k) (λ b. mount) (λ b. stayed_all P f k kind links is_open)
 
 pub unopened_all : (P : Next → Type 0) (f : Facts) (how error : ℕ) → ((error == EINTR) ≡ true → P (asks how))
     → ((error == EINTR) ≡ false → ((error == EMFILE) || (error == ENFILE)) ≡ true → P (waits SPARE how error))

@@ -6,7 +6,7 @@ use Rattle.std.proofs.lemmas.Bool.{eqb-true, false≢true}
 use Rattle.system_calls.specs.Errors.{ENOENT, EINTR, EEXIST, EXDEV, ENOTDIR, ELOOP}
 use Rattle.step_calls.specs.History.{after_exchange, asked, asks, came_to, ends_by, fails, gone, has_followed, has_magic, is_ordinary, keeps_links, knows, next_after, not_ordinary, not_read, opened, stayed, there, unasked, waits, opens_directory, opens_any, spares, asks_mount, asks_kind, asks_holder, asks_magic, asks_links, asks_layers, opens_to_read, reads, closes_read, asks_follow, reads_link, changes, closes, Exchange, IsHistory, Next}
 use Rattle.step_calls.specs.Promises.{is_no_error, is_none_left, NoError}
-use Rattle.step_calls.specs.declared.course.TheConstants.{OPEN_DIRECTORY, OPEN_ANY, MAGIC, LAYERS, OPEN_TO_READ, READ, CLOSE_READ, NO_FOLLOW, READ_LINK, CLOSE, OPENED, TEXT, REFUSED, UNMADE, DONE}
+use Rattle.step_calls.specs.declared.course.TheConstants.{OPEN_DIRECTORY, OPEN_ANY, MAY_HOLD_MAGIC, MAGIC, LAYERS, OPEN_TO_READ, READ, CLOSE_READ, NO_FOLLOW, READ_LINK, CLOSE, OPENED, TEXT, REFUSED, UNMADE, DONE}
 use Rattle.step_calls.specs.declared.facts.Facts.{Facts}
 use Rattle.step_calls.specs.declared.facts.TheConstants.{OPEN, DIRECTORY}
 use Rattle.step_calls.proofs.Ends.{came_all, ends_all, gone_all, opened_all, stayed_all, there_all, unasked_all, unopened_all}
@@ -52,14 +52,14 @@ well f (opens_directory error) due =
     second_is (error == 0) _ (second_is (error == EINTR) _ (second_is (is_none_left error) _ x)) in
     if_elim P (error == 0) (opened f DIRECTORY) _
     (λ b. let ok = first_is (error == 0) ((error == EINTR) || (is_none_left error || ((f.what == OPEN) && (error == ENOTDIR)))) b in
-    opened_all P f DIRECTORY (λ h. (ok, refl)) (λ h. (ok, refl)) (λ l h. (ok, refl)) (λ h. (ok, refl)) (λ h. (ok, refl)))
+    opened_all P f DIRECTORY (λ h. (ok, refl)) (λ h. (ok, refl)) (λ l h. (ok, refl)) (λ h. (ok, refl)))
     (λ b. if_elim P ((f.what == OPEN) && (error == ENOTDIR)) (asks OPEN_ANY) _ (λ d h. (other d, refl))
     (λ d. unopened_all P f OPEN_DIRECTORY error (λ x h. (interrupted x, refl)) (λ x y h. (spared y, refl)) (λ r h. no_way h) no_way))
 well f (opens_any error) due =
     let P = Well f (opens_any error) due in
     if_elim P (error == 0) (opened f 0) _
     (λ b. let ok = first_is (error == 0) ((error == EINTR) || is_none_left error) b in
-    opened_all P f 0 (λ h. (ok, refl)) (λ h. (ok, refl)) (λ l h. (ok, refl)) (λ h. (ok, refl)) (λ h. (ok, refl)))
+    opened_all P f 0 (λ h. (ok, refl)) (λ h. (ok, refl)) (λ l h. (ok, refl)) (λ h. (ok, refl)))
     (λ b. unopened_all P f OPEN_ANY error
     (λ x h. (second_is (error == 0) _ (first_is (error == EINTR) (is_none_left error) x), refl))
     (λ x y h. (second_is (error == 0) _ (second_is (error == EINTR) _ y), refl)) (λ r h. no_way h) no_way)
@@ -71,19 +71,19 @@ well f (spares error) due =
 well f (asks_mount error) due =
     let P = Well f (asks_mount error) due in
     if_elim P (error == 0) (stayed f due.kind) (waits CLOSE UNMADE EXDEV)
-    (λ b. stayed_all P f due.kind (λ h. (b, refl)) (λ l h. (b, refl)) (λ h. (b, refl)) (λ h. (b, refl))) (λ b. no_way)
+    (λ b. stayed_all P f due.kind (λ h. (b, refl)) (λ l h. (b, refl)) (λ h. (b, refl))) (λ b. no_way)
 well f (asks_kind error kind) due =
     let P = Well f (asks_kind error kind) due in
     if_elim P (error == 0) (came_to f kind) (waits CLOSE UNMADE error)
-    (λ b. came_all P f kind (λ l h. (b, refl)) (λ h. (b, refl)) (λ h. (b, refl))) (λ b. no_way)
+    (λ b. came_all P f kind (λ l h. (b, refl)) (λ h. (b, refl))) (λ b. no_way)
 well f (asks_holder error type) due =
-    if_elim (Well f (asks_holder error type) due) ((error == 0) && not (has_magic type)) (knows OPENED due.kind)
-    (knows MAGIC due.kind) (λ b h. (refl, refl)) (λ b h. (refl, refl))
+    if_elim (Well f (asks_holder error type) due) ((error == 0) && not (has_magic type)) (asks READ_LINK)
+    (asks MAGIC) (λ b h. (refl, refl)) (λ b h. (refl, refl))
 well f (asks_magic error) due =
     let P = Well f (asks_magic error) due in
-    if_elim P (error == EINTR) (knows MAGIC due.kind) _
+    if_elim P (error == EINTR) (asks MAGIC) _
     (λ b h. (first_is (error == EINTR) (is_ordinary error) b, refl))
-    (λ b. if_elim P (is_ordinary error) (knows OPENED due.kind) (waits CLOSE UNMADE (not_ordinary error))
+    (λ b. if_elim P (is_ordinary error) (asks READ_LINK) (fails UNMADE (not_ordinary error))
     (λ c h. (second_is (error == EINTR) (is_ordinary error) c, refl)) (λ c. no_way))
 well f (asks_links error links) due =
     let P = Well f (asks_links error links) due in
@@ -122,7 +122,7 @@ well f (asks_follow error flags) due =
     let P = Well f (asks_follow error flags) due in
     if_elim P (error == EINTR) (asks NO_FOLLOW) _
     (λ b h. (first_is (error == EINTR) ((error == 0) && has_followed flags) b, refl))
-    (λ b. if_elim P ((error == 0) && has_followed flags) (asks READ_LINK)
+    (λ b. if_elim P ((error == 0) && has_followed flags) (asks MAY_HOLD_MAGIC)
     (fails UNMADE (if error == 0 then ELOOP else error))
     (λ c h. (second_is (error == EINTR) _ c, refl)) (λ c. no_way))
 well f (reads_link error) due =

@@ -2,7 +2,7 @@
 use Rattle.std.proofs.Common.{◌≡◌, ◌≤◌, ◌+◌, ℕ, suc, List, [], ◌∷◌, Bool, true, if◌then◌else◌, ◌&&◌, not, length, ap, arith}
 use Rattle.std.specs.Prelude.{◌==◌}
 use Rattle.system_calls.specs.Errors.{ENOENT, EINTR, EEXIST, EXDEV, ENOTDIR, ELOOP}
-use Rattle.step_calls.specs.History.{after_exchange, asked, asks, came_to, ends_by, fails, first, gone, has_followed, has_magic, is_ordinary, keeps_links, knows, next_after, not_ordinary, not_read, opened, stayed, there, unasked, waits, opens_directory, opens_any, spares, asks_mount, asks_kind, asks_holder, asks_magic, asks_links, asks_layers, opens_to_read, reads, closes_read, asks_follow, reads_link, changes, closes, wants_own_text, Exchange, IsHistory, Next}
+use Rattle.step_calls.specs.History.{after_exchange, asked, asks, came_to, ends_by, fails, first, gone, has_followed, has_magic, is_ordinary, keeps_links, knows, next_after, not_ordinary, not_read, opened, stayed, there, unasked, waits, opens_directory, opens_any, spares, asks_mount, asks_kind, asks_holder, asks_magic, asks_links, asks_layers, opens_to_read, reads, closes_read, asks_follow, reads_link, changes, closes, Exchange, IsHistory, Next}
 use Rattle.step_calls.specs.Promises.{cost_of, costs}
 use Rattle.step_calls.specs.declared.course.TheConstants.{OPEN_DIRECTORY, OPEN_ANY, SPARE, MOUNT, KIND, MAY_HOLD_MAGIC, MAGIC, LINKS, LAYERS, OPEN_TO_READ, READ, CLOSE_READ, NO_FOLLOW, READ_LINK, CHANGE, CLOSE, OPENED, TEXT, REFUSED, UNMADE, DONE}
 use Rattle.step_calls.specs.declared.facts.Facts.{Facts}
@@ -19,12 +19,12 @@ rank next =
     else (if next == SPARE then 8
     else (if next == KIND then 7
     else (if next == LINKS then 6
-    else (if next == MAY_HOLD_MAGIC then 5
+    else (if next == NO_FOLLOW then 5
     else (if next == LAYERS then 5
-    else (if next == MAGIC then 4
+    else (if next == MAY_HOLD_MAGIC then 4
     else (if next == OPEN_TO_READ then 4
     else (if next == READ then 3
-    else (if next == NO_FOLLOW then 3
+    else (if next == MAGIC then 3
     else (if next == CLOSE_READ then 2
     else (if next == READ_LINK then 2
     else (if next == CHANGE then 2
@@ -43,13 +43,13 @@ falls : (f : Facts) (e : Exchange) (due : Next) → Falls e (after_exchange f e 
 falls f (opens_directory error) due =
     let P = Falls (opens_directory error) in
     if_elim P (error == 0) (opened f DIRECTORY) _
-    (λ b. opened_all P f DIRECTORY (omega arith) (omega arith) (λ l. omega arith) (omega arith) (omega arith))
+    (λ b. opened_all P f DIRECTORY (omega arith) (omega arith) (λ l. omega arith) (omega arith))
     (λ b. if_elim P ((f.what == OPEN) && (error == ENOTDIR)) (asks OPEN_ANY) _ (λ d. omega arith)
     (λ d. unopened_all P f OPEN_DIRECTORY error (λ x. omega (arith, one error x)) (λ x y. omega arith) (λ r. omega arith) (omega arith)))
 falls f (opens_any error) due =
     let P = Falls (opens_any error) in
     if_elim P (error == 0) (opened f 0) _
-    (λ b. opened_all P f 0 (omega arith) (omega arith) (λ l. omega arith) (omega arith) (omega arith))
+    (λ b. opened_all P f 0 (omega arith) (omega arith) (λ l. omega arith) (omega arith))
     (λ b. unopened_all P f OPEN_ANY error (λ x. omega (arith, one error x)) (λ x y. omega arith) (λ r. omega arith) (omega arith))
 falls f (spares error) due =
     let P = Falls (spares error) in
@@ -60,18 +60,18 @@ falls f (spares error) due =
 falls f (asks_mount error) due =
     let P = Falls (asks_mount error) in
     if_elim P (error == 0) (stayed f due.kind) (waits CLOSE UNMADE EXDEV)
-    (λ b. stayed_all P f due.kind (omega arith) (λ l. omega arith) (omega arith) (omega arith)) (λ b. omega arith)
+    (λ b. stayed_all P f due.kind (omega arith) (λ l. omega arith) (omega arith)) (λ b. omega arith)
 falls f (asks_kind error kind) due =
     let P = Falls (asks_kind error kind) in
     if_elim P (error == 0) (came_to f kind) (waits CLOSE UNMADE error)
-    (λ b. came_all P f kind (λ l. omega arith) (omega arith) (omega arith)) (λ b. omega arith)
+    (λ b. came_all P f kind (λ l. omega arith) (omega arith)) (λ b. omega arith)
 falls f (asks_holder error type) due =
-    if_elim (Falls (asks_holder error type)) ((error == 0) && not (has_magic type)) (knows OPENED due.kind)
-    (knows MAGIC due.kind) (λ b. omega arith) (λ b. omega arith)
+    if_elim (Falls (asks_holder error type)) ((error == 0) && not (has_magic type)) (asks READ_LINK)
+    (asks MAGIC) (λ b. omega arith) (λ b. omega arith)
 falls f (asks_magic error) due =
     let P = Falls (asks_magic error) in
-    if_elim P (error == EINTR) (knows MAGIC due.kind) _ (λ b. omega (arith, one error b))
-    (λ b. if_elim P (is_ordinary error) (knows OPENED due.kind) (waits CLOSE UNMADE (not_ordinary error)) (λ c. omega arith) (λ c. omega arith))
+    if_elim P (error == EINTR) (asks MAGIC) _ (λ b. omega (arith, one error b))
+    (λ b. if_elim P (is_ordinary error) (asks READ_LINK) (fails UNMADE (not_ordinary error)) (λ c. omega arith) (λ c. omega arith))
 falls f (asks_links error links) due =
     let P = Falls (asks_links error links) in
     if_elim P (error == 0) (if links == 0 then gone f else asks LAYERS) (unasked f error)
@@ -102,7 +102,7 @@ falls f closes_read due =
 falls f (asks_follow error flags) due =
     let P = Falls (asks_follow error flags) in
     if_elim P (error == EINTR) (asks NO_FOLLOW) _ (λ b. omega (arith, one error b))
-    (λ b. if_elim P ((error == 0) && has_followed flags) (asks READ_LINK)
+    (λ b. if_elim P ((error == 0) && has_followed flags) (asks MAY_HOLD_MAGIC)
     (fails UNMADE (if error == 0 then ELOOP else error))
     (λ c. omega arith) (λ c. omega arith))
 falls f (reads_link error) due =
@@ -128,8 +128,8 @@ rank_first f =
     (λ b. if_elim P (f.what == DUP) (asks OPEN_DIRECTORY) _
     (λ c. omega arith)
     (λ c. if_elim P (f.what == PARENT) (asks OPEN_DIRECTORY) _ (λ d. omega arith)
-    (λ d. if_elim P (f.what == READ_TEXT) (if wants_own_text f then asks READ_LINK else asks NO_FOLLOW) _
-    (λ g. if_elim P (wants_own_text f) (asks READ_LINK) (asks NO_FOLLOW) (λ h. omega arith) (λ h. omega arith))
+    (λ d. if_elim P (f.what == READ_TEXT) (asks NO_FOLLOW) _
+    (λ g. omega arith)
     (λ g. if_elim P (f.what == IS_THERE) (asks LINKS) (asks CHANGE) (λ h. omega arith) (λ h. omega arith)))))
 
 few_step : (f : Facts) (history : List Exchange) → IsHistory f history

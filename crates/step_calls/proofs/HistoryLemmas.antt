@@ -3,9 +3,9 @@ use Rattle.std.proofs.Common.{◌≡◌, ℕ, List, [], ◌∷◌, Bool, true, f
 use Rattle.std.specs.Prelude.{◌==◌}
 use Rattle.std.proofs.lemmas.Bool.{false≢true}
 use Rattle.system_calls.specs.Errors.{ENOENT, EINTR, EEXIST, EXDEV, ENOTDIR, ELOOP}
-use Rattle.step_calls.specs.History.{after_exchange, asked, asks, came_to, ends_by, fails, first, gone, has_followed, has_magic, is_ordinary, keeps_links, knows, next_after, not_ordinary, not_read, opened, stayed, there, unasked, waits, opens_directory, opens_any, spares, asks_mount, asks_kind, asks_holder, asks_magic, asks_links, asks_layers, opens_to_read, reads, closes_read, asks_follow, reads_link, changes, closes, wants_own_text, Exchange, IsHistory, Next}
+use Rattle.step_calls.specs.History.{after_exchange, asked, asks, came_to, ends_by, fails, first, gone, has_followed, has_magic, is_ordinary, keeps_links, knows, next_after, not_ordinary, not_read, opened, stayed, there, unasked, waits, opens_directory, opens_any, spares, asks_mount, asks_kind, asks_holder, asks_magic, asks_links, asks_layers, opens_to_read, reads, closes_read, asks_follow, reads_link, changes, closes, Exchange, IsHistory, Next}
 use Rattle.step_calls.specs.Promises.{holds_after, holds_by, needs_opened, needs_read, reads_after, reads_by}
-use Rattle.step_calls.specs.declared.course.TheConstants.{OPEN_DIRECTORY, OPEN_ANY, READ, CLOSE_READ, NO_FOLLOW, LINKS, LAYERS, OPEN_TO_READ, READ_LINK, MAGIC, CHANGE, CLOSE, OPENED, TEXT, DONE, REFUSED, UNMADE}
+use Rattle.step_calls.specs.declared.course.TheConstants.{OPEN_DIRECTORY, OPEN_ANY, READ, CLOSE_READ, NO_FOLLOW, LINKS, LAYERS, OPEN_TO_READ, READ_LINK, MAY_HOLD_MAGIC, MAGIC, CHANGE, CLOSE, OPENED, TEXT, DONE, REFUSED, UNMADE}
 use Rattle.step_calls.specs.declared.facts.Facts.{Facts}
 use Rattle.step_calls.specs.declared.facts.TheConstants.{IS_THERE, OPEN, DUP, PARENT, READ_TEXT, DIRECTORY}
 use Rattle.step_calls.proofs.Ends.{came_all, ends_all, gone_all, opened_all, stayed_all, there_all, unasked_all, unopened_all}
@@ -17,8 +17,8 @@ use Rattle.step_calls.proofs.MomentLemmas.{if_elim}
 pub record Each (P : Next → Type 0) (f : Facts) (e : Exchange) (due : Next) : Type 0 where
   pub mount : (k : ℕ) → P (knows 4 k)
   pub kind : P (asks 5)
-  pub holder : (k : ℕ) → P (knows 6 k)
-  pub magic : (k : ℕ) → P (knows MAGIC k)
+  pub holder : P (asks MAY_HOLD_MAGIC)
+  pub magic : P (asks MAGIC)
   pub links : P (asks LINKS)
   pub layers : P (asks LAYERS)
   pub to_read : P (asks OPEN_TO_READ)
@@ -39,13 +39,13 @@ pub record Each (P : Next → Type 0) (f : Facts) (e : Exchange) (due : Next) : 
 pub each : (P : Next → Type 0) (f : Facts) (e : Exchange) (due : Next) → Each P f e due → P (after_exchange f e due)
 each P f (opens_directory error) due c =
     if_elim P (error == 0) (opened f DIRECTORY) _
-    (λ b. opened_all P f DIRECTORY (c.mount DIRECTORY) c.kind (λ l. c.links) (c.holder DIRECTORY) (c.is_open DIRECTORY))
+    (λ b. opened_all P f DIRECTORY (c.mount DIRECTORY) c.kind (λ l. c.links) (c.is_open DIRECTORY))
     (λ b. if_elim P ((f.what == OPEN) && (error == ENOTDIR)) (asks OPEN_ANY) _ (λ d. c.any)
     (λ d. unopened_all P f OPEN_DIRECTORY error (λ x. c.directory) (λ x y. c.spare OPEN_DIRECTORY error)
     (λ r. c.refused error) (c.unmade error)))
 each P f (opens_any error) due c =
     if_elim P (error == 0) (opened f 0) _
-    (λ b. opened_all P f 0 (c.mount 0) c.kind (λ l. c.links) (c.holder 0) (c.is_open 0))
+    (λ b. opened_all P f 0 (c.mount 0) c.kind (λ l. c.links) (c.is_open 0))
     (λ b. unopened_all P f OPEN_ANY error (λ x. c.any) (λ x y. c.spare OPEN_ANY error)
     (λ r. c.refused error) (c.unmade error))
 each P f (spares error) due c =
@@ -54,18 +54,17 @@ each P f (spares error) due c =
     (λ b. c.unmade due.error)
 each P f (asks_mount error) due c =
     if_elim P (error == 0) (stayed f due.kind) _
-    (λ b. stayed_all P f due.kind c.kind (λ l. c.links) (c.holder due.kind) (c.is_open due.kind))
+    (λ b. stayed_all P f due.kind c.kind (λ l. c.links) (c.is_open due.kind))
     (λ b. c.close UNMADE EXDEV)
 each P f (asks_kind error kind) due c =
-    if_elim P (error == 0) (came_to f kind) _ (λ b. came_all P f kind (λ l. c.links) (c.holder kind) (c.is_open kind))
+    if_elim P (error == 0) (came_to f kind) _ (λ b. came_all P f kind (λ l. c.links) (c.is_open kind))
     (λ b. c.close UNMADE error)
 each P f (asks_holder error type) due c =
-    if_elim P ((error == 0) && not (has_magic type)) (knows OPENED due.kind) (knows MAGIC due.kind)
-    (λ b. c.is_open due.kind) (λ b. c.magic due.kind)
+    if_elim P ((error == 0) && not (has_magic type)) (asks READ_LINK) (asks MAGIC) (λ b. c.read_link) (λ b. c.magic)
 each P f (asks_magic error) due c =
-    if_elim P (error == EINTR) (knows MAGIC due.kind) _ (λ b. c.magic due.kind)
-    (λ b. if_elim P (is_ordinary error) (knows OPENED due.kind) (waits CLOSE UNMADE (not_ordinary error)) (λ d. c.is_open due.kind)
-    (λ d. c.close UNMADE (not_ordinary error)))
+    if_elim P (error == EINTR) (asks MAGIC) _ (λ b. c.magic)
+    (λ b. if_elim P (is_ordinary error) (asks READ_LINK) (fails UNMADE (not_ordinary error)) (λ d. c.read_link)
+    (λ d. c.unmade (not_ordinary error)))
 each P f (asks_links error links) due c =
     if_elim P (error == 0) (if links == 0 then gone f else asks LAYERS) (unasked f error)
     (λ b. if_elim P (links == 0) (gone f) (asks LAYERS)
@@ -92,9 +91,9 @@ each P f closes_read due c =
     (λ h. unasked_all P f due.error (λ x. c.close UNMADE due.error) (λ x. c.unmade due.error)))
 each P f (asks_follow error flags) due c =
     if_elim P (error == EINTR) (asks NO_FOLLOW) _ (λ b. c.no_follow)
-    (λ b. if_elim P ((error == 0) && has_followed flags) (asks READ_LINK)
+    (λ b. if_elim P ((error == 0) && has_followed flags) (asks MAY_HOLD_MAGIC)
     (fails UNMADE (if error == 0 then ELOOP else error))
-    (λ d. c.read_link)
+    (λ d. c.holder)
     (λ d. c.unmade (if error == 0 then ELOOP else error)))
 each P f (reads_link error) due c =
     if_elim P (error == 0) (asks TEXT) _ (λ b. c.text)
@@ -117,8 +116,8 @@ no_change f e due =
     (record {
       mount = λ k. refl;
       kind = refl;
-      holder = λ k. refl;
-      magic = λ k. refl;
+      holder = refl;
+      magic = refl;
       links = refl;
       layers = refl;
       to_read = refl;
@@ -177,13 +176,13 @@ unasked_holds f was error is =
     (λ b. (is ∙ with_child (f.what == PARENT) false b) ∙ none (f.what == PARENT))
 
 came_holds : (f : Facts) (was : Bool) (k : ℕ) → was ≡ true → was ≡ needs_opened f (came_to f k).next
-came_holds f was k is = came_all (λ n. was ≡ needs_opened f n.next) f k (λ b. is ∙ child f b) is is
+came_holds f was k is = came_all (λ n. was ≡ needs_opened f n.next) f k (λ b. is ∙ child f b) is
 
 stayed_holds : (f : Facts) (was : Bool) (k : ℕ) → was ≡ true → was ≡ needs_opened f (stayed f k).next
-stayed_holds f was k is = stayed_all (λ n. was ≡ needs_opened f n.next) f k is (λ b. is ∙ child f b) is is
+stayed_holds f was k is = stayed_all (λ n. was ≡ needs_opened f n.next) f k is (λ b. is ∙ child f b) is
 
 opened_holds : (f : Facts) (was : Bool) (k : ℕ) → was ≡ true → was ≡ needs_opened f (opened f k).next
-opened_holds f was k is = opened_all (λ n. was ≡ needs_opened f n.next) f k is is (λ b. is ∙ child f b) is is
+opened_holds f was k is = opened_all (λ n. was ≡ needs_opened f n.next) f k is is (λ b. is ∙ child f b) is
 
 holds_step : (f : Facts) (e : Exchange) (due : Next) (was : Bool) → was ≡ needs_opened f (asked e)
     → holds_by e was ≡ needs_opened f (after_exchange f e due).next
@@ -209,12 +208,12 @@ holds_step f (asks_kind error kind) due was is =
     if_elim (λ (n : Next). was ≡ needs_opened f n.next) (error == 0) (came_to f kind) (waits CLOSE UNMADE error)
     (λ b. came_holds f was kind is) (λ b. is)
 holds_step f (asks_holder error type) due was is =
-    if_elim (λ (n : Next). was ≡ needs_opened f n.next) ((error == 0) && not (has_magic type)) (knows OPENED due.kind)
-    (knows MAGIC due.kind) (λ b. is) (λ b. is)
+    if_elim (λ (n : Next). was ≡ needs_opened f n.next) ((error == 0) && not (has_magic type)) (asks READ_LINK)
+    (asks MAGIC) (λ b. is) (λ b. is)
 holds_step f (asks_magic error) due was is =
     let P = λ (n : Next). was ≡ needs_opened f n.next in
-    if_elim P (error == EINTR) (knows MAGIC due.kind) _ (λ b. is)
-    (λ b. if_elim P (is_ordinary error) (knows OPENED due.kind) (waits CLOSE UNMADE (not_ordinary error)) (λ c. is) (λ c. is))
+    if_elim P (error == EINTR) (asks MAGIC) _ (λ b. is)
+    (λ b. if_elim P (is_ordinary error) (asks READ_LINK) (fails UNMADE (not_ordinary error)) (λ c. is) (λ c. is))
 holds_step f (asks_links error links) due was is =
     let P = λ (n : Next). was ≡ needs_opened f n.next in
     if_elim P (error == 0) (if links == 0 then gone f else asks LAYERS) (unasked f error)
@@ -240,7 +239,7 @@ holds_step f closes_read due was is =
 holds_step f (asks_follow error flags) due was is =
     let P = λ (n : Next). was ≡ needs_opened f n.next in
     if_elim P (error == EINTR) (asks NO_FOLLOW) _ (λ b. is)
-    (λ b. if_elim P ((error == 0) && has_followed flags) (asks READ_LINK)
+    (λ b. if_elim P ((error == 0) && has_followed flags) (asks MAY_HOLD_MAGIC)
     (fails UNMADE (if error == 0 then ELOOP else error))
     (λ c. is) (λ c. is))
 holds_step f (reads_link error) due was is =
@@ -272,8 +271,8 @@ holds_first f =
     (λ b. if_elim P (f.what == DUP) (asks OPEN_DIRECTORY) _
     (λ c. n)
     (λ c. if_elim P (f.what == PARENT) (asks OPEN_DIRECTORY) _ (λ d. n)
-    (λ d. if_elim P (f.what == READ_TEXT) (if wants_own_text f then asks READ_LINK else asks NO_FOLLOW) _
-    (λ g. if_elim P (wants_own_text f) (asks READ_LINK) (asks NO_FOLLOW) (λ h. n) (λ h. n))
+    (λ d. if_elim P (f.what == READ_TEXT) (asks NO_FOLLOW) _
+    (λ g. n)
     (λ g. if_elim P (f.what == IS_THERE) (asks LINKS) (asks CHANGE) (λ h. shut (f.what == PARENT) d) (λ h. n)))))
 
 pub holds : (f : Facts) (history : List Exchange) → IsHistory f history
@@ -304,12 +303,12 @@ reads_step f closes_read due was is =
     (λ c. unasked_all P f due.error (λ x. refl) (λ x. refl)))
 reads_step f (opens_directory error) due was is =
     let P = λ (n : Next). was ≡ needs_read n.next in
-    if_elim P (error == 0) (opened f DIRECTORY) _ (λ b. opened_all P f DIRECTORY is is (λ l. is) is is)
+    if_elim P (error == 0) (opened f DIRECTORY) _ (λ b. opened_all P f DIRECTORY is is (λ l. is) is)
     (λ b. if_elim P ((f.what == OPEN) && (error == ENOTDIR)) (asks OPEN_ANY) _ (λ d. is)
     (λ d. unopened_all P f OPEN_DIRECTORY error (λ x. is) (λ x y. is) (λ r. is) is))
 reads_step f (opens_any error) due was is =
     let P = λ (n : Next). was ≡ needs_read n.next in
-    if_elim P (error == 0) (opened f 0) _ (λ b. opened_all P f 0 is is (λ l. is) is is)
+    if_elim P (error == 0) (opened f 0) _ (λ b. opened_all P f 0 is is (λ l. is) is)
     (λ b. unopened_all P f OPEN_ANY error (λ x. is) (λ x y. is) (λ r. is) is)
 reads_step f (spares error) due was is =
     let P = λ (n : Next). was ≡ needs_read n.next in
@@ -318,17 +317,17 @@ reads_step f (spares error) due was is =
 reads_step f (asks_mount error) due was is =
     let P = λ (n : Next). was ≡ needs_read n.next in
     if_elim P (error == 0) (stayed f due.kind) (waits CLOSE UNMADE EXDEV)
-    (λ b. stayed_all P f due.kind is (λ l. is) is is) (λ b. is)
+    (λ b. stayed_all P f due.kind is (λ l. is) is) (λ b. is)
 reads_step f (asks_kind error kind) due was is =
     let P = λ (n : Next). was ≡ needs_read n.next in
-    if_elim P (error == 0) (came_to f kind) (waits CLOSE UNMADE error) (λ b. came_all P f kind (λ l. is) is is) (λ b. is)
+    if_elim P (error == 0) (came_to f kind) (waits CLOSE UNMADE error) (λ b. came_all P f kind (λ l. is) is) (λ b. is)
 reads_step f (asks_holder error type) due was is =
-    if_elim (λ (n : Next). was ≡ needs_read n.next) ((error == 0) && not (has_magic type)) (knows OPENED due.kind)
-    (knows MAGIC due.kind) (λ b. is) (λ b. is)
+    if_elim (λ (n : Next). was ≡ needs_read n.next) ((error == 0) && not (has_magic type)) (asks READ_LINK)
+    (asks MAGIC) (λ b. is) (λ b. is)
 reads_step f (asks_magic error) due was is =
     let P = λ (n : Next). was ≡ needs_read n.next in
-    if_elim P (error == EINTR) (knows MAGIC due.kind) _ (λ b. is)
-    (λ b. if_elim P (is_ordinary error) (knows OPENED due.kind) (waits CLOSE UNMADE (not_ordinary error)) (λ c. is) (λ c. is))
+    if_elim P (error == EINTR) (asks MAGIC) _ (λ b. is)
+    (λ b. if_elim P (is_ordinary error) (asks READ_LINK) (fails UNMADE (not_ordinary error)) (λ c. is) (λ c. is))
 reads_step f (asks_links error links) due was is =
     let P = λ (n : Next). was ≡ needs_read n.next in
     if_elim P (error == 0) (if links == 0 then gone f else asks LAYERS) (unasked f error)
@@ -341,7 +340,7 @@ reads_step f (asks_layers error type) due was is =
 reads_step f (asks_follow error flags) due was is =
     let P = λ (n : Next). was ≡ needs_read n.next in
     if_elim P (error == EINTR) (asks NO_FOLLOW) _ (λ b. is)
-    (λ b. if_elim P ((error == 0) && has_followed flags) (asks READ_LINK)
+    (λ b. if_elim P ((error == 0) && has_followed flags) (asks MAY_HOLD_MAGIC)
     (fails UNMADE (if error == 0 then ELOOP else error))
     (λ c. is) (λ c. is))
 reads_step f (reads_link error) due was is =
@@ -367,8 +366,8 @@ reads_first f =
     (λ b. if_elim P (f.what == DUP) (asks OPEN_DIRECTORY) _
     (λ c. refl)
     (λ c. if_elim P (f.what == PARENT) (asks OPEN_DIRECTORY) _ (λ d. refl)
-    (λ d. if_elim P (f.what == READ_TEXT) (if wants_own_text f then asks READ_LINK else asks NO_FOLLOW) _
-    (λ g. if_elim P (wants_own_text f) (asks READ_LINK) (asks NO_FOLLOW) (λ h. refl) (λ h. refl))
+    (λ d. if_elim P (f.what == READ_TEXT) (asks NO_FOLLOW) _
+    (λ g. refl)
     (λ g. if_elim P (f.what == IS_THERE) (asks LINKS) (asks CHANGE) (λ h. refl) (λ h. refl)))))
 
 pub is_read : (f : Facts) (history : List Exchange) → IsHistory f history

@@ -1,5 +1,5 @@
 -- A text that was read was the link's.
-use Rattle.std.proofs.Common.{◌≡◌, ◌≢◌, ◌≤◌, ℕ, suc, List, [], ◌∷◌, false, if◌then◌else◌, ◌&&◌, refl, sym, subst, arith}
+use Rattle.std.proofs.Common.{◌≡◌, ◌≢◌, ◌≤◌, ℕ, suc, List, [], ◌∷◌, false, if◌then◌else◌, ◌&&◌, not, refl, sym, subst, arith}
 use Rattle.std.specs.Prelude.{◌==◌, Option, Some, None, MatchBool}
 use Rattle.std.proofs.lemmas.Bool.{eqb-true}
 use Rattle.path_text.specs.declared.errno.Errno.TheVariants.{Invalid}
@@ -10,9 +10,9 @@ use Rattle.tree_model.specs.declared.inode.Object.TheVariants as object
 use Rattle.tree_model.specs.declared.step.StepOf.TheVariants.{ReadLink}
 use Rattle.tree_model.specs.State.{State, object_at}
 use Rattle.tree_model.specs.Steps.{held, outcome, reads as reads_node}
-use Rattle.step_calls.specs.History.{after_exchange, asks, asked, ends_by, fails, first, has_followed, next_after, not_read, opens_directory, opens_any, spares, asks_mount, asks_kind, asks_holder, asks_magic, asks_links, asks_layers, opens_to_read, reads, closes_read, asks_follow, reads_link, changes, closes, wants_own_text, Exchange, IsHistory, Next}
+use Rattle.step_calls.specs.History.{after_exchange, asks, asked, ends_by, fails, first, has_followed, has_magic, is_ordinary, next_after, not_ordinary, not_read, opens_directory, opens_any, spares, asks_mount, asks_kind, asks_holder, asks_magic, asks_links, asks_layers, opens_to_read, reads, closes_read, asks_follow, reads_link, changes, closes, Exchange, IsHistory, Next}
 use Rattle.step_calls.specs.Moments.{moment, AreAnswers, IsNoLink, LinkSays, LinksWereRead, World}
-use Rattle.step_calls.specs.declared.course.TheConstants.{NO_FOLLOW, READ_LINK, TEXT, REFUSED, UNMADE}
+use Rattle.step_calls.specs.declared.course.TheConstants.{NO_FOLLOW, MAY_HOLD_MAGIC, MAGIC, READ_LINK, TEXT, REFUSED, UNMADE}
 use Rattle.step_calls.specs.declared.facts.Facts.{Facts}
 use Rattle.step_calls.specs.declared.facts.TheConstants.{READ_TEXT}
 use Rattle.step_calls.proofs.MomentLemmas.{if_elim}
@@ -23,10 +23,12 @@ HadText w now = (n : ℕ) × (n ≤ now) × (object_at (w.states n).nodes w.node
 abbrev Says : World → ℕ → ℕ → Type 0
 Says w now next =
     MatchBool (next == NO_FOLLOW) (Unit {0})
+    (MatchBool (next == MAY_HOLD_MAGIC) (Unit {0})
+    (MatchBool (next == MAGIC) (Unit {0})
     (MatchBool (next == READ_LINK) (Unit {0})
     (MatchBool (next == TEXT) (HadText w now)
     (MatchBool (next == REFUSED) (IsNoLink w)
-    (MatchBool (next == UNMADE) (Unit {0}) ⊥))))
+    (MatchBool (next == UNMADE) (Unit {0}) ⊥))))))
 
 abbrev Stood : World → ℕ → Next → Type 0
 Stood w now due = Says w now due.next
@@ -40,9 +42,14 @@ step : (w : World) (f : Facts) (now : ℕ) (e : Exchange) (due : Next) → f.wha
     → (f.link ≡ false → IsNoLink w) → LinkSays w now e → Says w now (asked e) → Stood w (suc now) (after_exchange f e due)
 step w f now (asks_follow error flags) due links none says was =
     if_elim (Stood w (suc now)) (error == EINTR) (asks NO_FOLLOW) _ (λ b. tt)
-    (λ b. if_elim (Stood w (suc now)) ((error == 0) && has_followed flags) (asks READ_LINK)
+    (λ b. if_elim (Stood w (suc now)) ((error == 0) && has_followed flags) (asks MAY_HOLD_MAGIC)
     (fails UNMADE (if error == 0 then ELOOP else error))
     (λ c. tt) (λ c. tt))
+step w f now (asks_holder error type) due links none says was =
+    if_elim (Stood w (suc now)) ((error == 0) && not (has_magic type)) (asks READ_LINK) (asks MAGIC) (λ b. tt) (λ b. tt)
+step w f now (asks_magic error) due links none says was =
+    if_elim (Stood w (suc now)) (error == EINTR) (asks MAGIC) _ (λ b. tt)
+    (λ b. if_elim (Stood w (suc now)) (is_ordinary error) (asks READ_LINK) (fails UNMADE (not_ordinary error)) (λ c. tt) (λ c. tt))
 step w f now (reads_link error) due links none says was =
     if_elim (Stood w (suc now)) (error == 0) (asks TEXT) _ (λ b. (suc now, omega arith, says (eqb-true error 0 b)))
     (λ b. if_elim (Stood w (suc now)) (error == EINTR) (asks READ_LINK) _ (λ c. tt)
@@ -53,8 +60,6 @@ step w f now (opens_any error) due links none says was = absurd was
 step w f now (spares error) due links none says was = absurd was
 step w f now (asks_mount error) due links none says was = absurd was
 step w f now (asks_kind error kind) due links none says was = absurd was
-step w f now (asks_holder error type) due links none says was = absurd was
-step w f now (asks_magic error) due links none says was = absurd was
 step w f now (asks_links error count) due links none says was = absurd was
 step w f now (asks_layers error type) due links none says was = absurd was
 step w f now (opens_to_read error) due links none says was = absurd was
@@ -65,8 +70,7 @@ step w f now closes due links none says was = absurd was
 
 begins : (w : World) (f : Facts) → f.what ≡ READ_TEXT → Stood w 0 (first f)
 begins w f links =
-    subst (λ (n : ℕ). Stood w 0 (first (record f { what = n }))) (sym links)
-    (if_elim (Stood w 0) (wants_own_text f) (asks READ_LINK) (asks NO_FOLLOW) (λ b. tt) (λ b. tt))
+    subst (λ (n : ℕ). Stood w 0 (first (record f { what = n }))) (sym links) tt
 
 stood : (w : World) (f : Facts) (history : List Exchange) → f.what ≡ READ_TEXT
     → (f.link ≡ false → IsNoLink w) → AreAnswers (LinkSays w) history → IsHistory f history

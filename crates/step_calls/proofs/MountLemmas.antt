@@ -3,7 +3,7 @@ use Rattle.std.proofs.Common.{◌≡◌, ℕ, List, [], ◌∷◌, Bool, true, f
 use Rattle.std.specs.Prelude.{◌==◌}
 use Rattle.std.proofs.lemmas.Bool.{false≢true}
 use Rattle.system_calls.specs.Errors.{ENOENT, EINTR, EEXIST, EXDEV, ENOTDIR, ELOOP}
-use Rattle.step_calls.specs.History.{after_exchange, asked, asks, ends_by, fails, first, gone, has_followed, keeps_links, knows, next_after, not_read, opened, stayed, there, unasked, waits, opens_directory, opens_any, spares, asks_mount, asks_kind, asks_holder, asks_magic, asks_links, asks_layers, opens_to_read, reads, closes_read, asks_follow, reads_link, changes, closes, wants_own_text, Exchange, IsHistory, Next}
+use Rattle.step_calls.specs.History.{after_exchange, asked, asks, ends_by, fails, first, gone, has_followed, has_magic, is_ordinary, keeps_links, knows, next_after, not_ordinary, not_read, opened, stayed, there, unasked, waits, opens_directory, opens_any, spares, asks_mount, asks_kind, asks_holder, asks_magic, asks_links, asks_layers, opens_to_read, reads, closes_read, asks_follow, reads_link, changes, closes, Exchange, IsHistory, Next}
 use Rattle.step_calls.specs.Leave.{has_stayed, stayed_by, MountsAreKept}
 use Rattle.step_calls.specs.Promises.{is_about_child}
 use Rattle.step_calls.specs.declared.course.TheConstants.{OPEN_DIRECTORY, OPEN_ANY, MOUNT, KIND, MAY_HOLD_MAGIC, MAGIC, LINKS, LAYERS, OPEN_TO_READ, READ, CLOSE_READ, READ_LINK, NO_FOLLOW, CHANGE, CLOSE, OPENED, TEXT, DONE, REFUSED, UNMADE}
@@ -14,7 +14,7 @@ use Rattle.step_calls.proofs.MomentLemmas.{if_elim}
 
 -- what comes behind that answer, where it is due
 abbrev is_behind : ℕ → Bool
-is_behind next = (next == KIND) || ((next == MAY_HOLD_MAGIC) || ((next == MAGIC) || (next == OPENED)))
+is_behind next = (next == KIND) || (next == OPENED)
 
 abbrev needs_mount : Facts → ℕ → Bool
 needs_mount f next = is_behind next || ((f.what == PARENT) && is_about_child next)
@@ -72,8 +72,12 @@ module _ (f : Facts) (mount : f.mount ≡ true) where
   mount_step (asks_mount error) due said was =
       if_elim (Kept f (error == 0)) (error == 0) (stayed f due.kind) (waits CLOSE UNMADE EXDEV) (λ b h. b) (λ b. no)
   mount_step (asks_kind error kind) due said was = λ h. was refl
-  mount_step (asks_holder error type) due said was = λ h. was refl
-  mount_step (asks_magic error) due said was = λ h. was refl
+  mount_step (asks_holder error type) due said was =
+      if_elim (Kept f said) ((error == 0) && not (has_magic type)) (asks READ_LINK) (asks MAGIC) (λ b. no) (λ b. no)
+  mount_step (asks_magic error) due said was =
+      let P = Kept f said in
+      if_elim P (error == EINTR) (asks MAGIC) _ (λ b. no)
+      (λ b. if_elim P (is_ordinary error) (asks READ_LINK) (fails UNMADE (not_ordinary error)) (λ c. no) (λ c. no))
   mount_step (asks_links error links) due said was =
       let P = Kept f said in
       if_elim P (error == 0) (if links == 0 then gone f else asks LAYERS) (unasked f error)
@@ -99,7 +103,7 @@ module _ (f : Facts) (mount : f.mount ≡ true) where
   mount_step (asks_follow error flags) due said was =
       let P = Kept f said in
       if_elim P (error == EINTR) (asks NO_FOLLOW) _ (λ b. no)
-      (λ b. if_elim P ((error == 0) && has_followed flags) (asks READ_LINK)
+      (λ b. if_elim P ((error == 0) && has_followed flags) (asks MAY_HOLD_MAGIC)
       (fails UNMADE (if error == 0 then ELOOP else error)) (λ c. no) (λ c. no))
   mount_step (reads_link error) due said was =
       let P = Kept f said in
@@ -122,8 +126,8 @@ module _ (f : Facts) (mount : f.mount ≡ true) where
       (λ b. if_elim P f.directory (asks OPEN_DIRECTORY) (asks OPEN_ANY) (λ c. no) (λ c. no))
       (λ b. if_elim P (f.what == DUP) (asks OPEN_DIRECTORY) _ (λ c. no)
       (λ c. if_elim P (f.what == PARENT) (asks OPEN_DIRECTORY) _ (λ d. no)
-      (λ d. if_elim P (f.what == READ_TEXT) (if wants_own_text f then asks READ_LINK else asks NO_FOLLOW) _
-      (λ g. if_elim P (wants_own_text f) (asks READ_LINK) (asks NO_FOLLOW) (λ h. no) (λ h. no))
+      (λ d. if_elim P (f.what == READ_TEXT) (asks NO_FOLLOW) _
+      (λ g. no)
       (λ g. if_elim P (f.what == IS_THERE) (asks LINKS) (asks CHANGE)
       (λ h is. absurd (false≢true (sym d ∙ first_of (f.what == PARENT) is))) (λ h. no)))))
 

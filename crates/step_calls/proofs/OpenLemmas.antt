@@ -11,7 +11,7 @@ use Rattle.tree_model.specs.declared.inode.Object.TheVariants as object
 use Rattle.tree_model.specs.declared.step.StepOf.TheVariants.{Open}
 use Rattle.tree_model.specs.State.{State, child, is_dir, object_at}
 use Rattle.tree_model.specs.Steps.{held, is_full, kind_of, outcome}
-use Rattle.step_calls.specs.History.{after_close, after_exchange, asks, came_to, ends_by, fails, first, has_magic, is_ordinary, knows, next_after, not_opened, not_ordinary, opened, stayed, waits, opens_directory, opens_any, spares, asks_mount, asks_kind, asks_holder, asks_magic, asks_links, asks_layers, opens_to_read, reads, closes_read, asks_follow, reads_link, changes, closes, asked, bars_magic, Exchange, IsHistory, Next}
+use Rattle.step_calls.specs.History.{after_close, after_exchange, asks, came_to, ends_by, fails, first, has_magic, is_ordinary, knows, next_after, not_opened, not_ordinary, opened, stayed, waits, opens_directory, opens_any, spares, asks_mount, asks_kind, asks_holder, asks_magic, asks_links, asks_layers, opens_to_read, reads, closes_read, asks_follow, reads_link, changes, closes, asked, Exchange, IsHistory, Next}
 use Rattle.step_calls.specs.Moments.{has_kind, moment, AreAnswers, HasNoEntry, IsWorld, OpenSays, OpensName, OpensStood, Stays, World}
 use Rattle.step_calls.specs.declared.course.TheConstants.{OPEN_DIRECTORY, OPEN_ANY, SPARE, MOUNT, KIND, MAY_HOLD_MAGIC, MAGIC, LINKS, CHANGE, CLOSE, OPENED, REFUSED, UNMADE}
 use Rattle.step_calls.specs.declared.facts.Facts.{Facts}
@@ -28,7 +28,7 @@ record Found (w : World) (now : ℕ) (what : Object) : Type 0 where
   is : object_at (w.states now).nodes (w.on now) ≡ Some what
 
 abbrev tells_kind : ℕ → Bool
-tells_kind next = (next == OPENED) || ((next == MAY_HOLD_MAGIC) || (next == MAGIC))
+tells_kind next = next == OPENED
 
 abbrev is_about : ℕ → Bool
 is_about next = (next == MOUNT) || ((next == KIND) || tells_kind next)
@@ -106,9 +106,7 @@ came : (w : World) (f : Facts) (now k : ℕ) (what : Object) → f.what ≡ OPEN
     → Stood w now (came_to f k)
 came w f now k what at_open found kind =
     subst (λ (n : ℕ). Stood w now (came_to (record f { what = n }) k)) (sym at_open)
-    (if_elim (Stood w now) (bars_magic f && (k == 3)) (knows MAY_HOLD_MAGIC k) (knows OPENED k)
-    (λ b. known w now MAY_HOLD_MAGIC k what found (λ s. kind) (λ s. kind) refl refl refl)
-    (λ b. known w now OPENED k what found (λ s. kind) (λ s. kind) refl refl refl))
+    (known w now OPENED k what found (λ s. kind) (λ s. kind) refl refl refl)
 
 stays_on : (w : World) (f : Facts) (now k : ℕ) (what : Object) → f.what ≡ OPEN → Found w now what
     → (k ≢ 0 → k ≡ has_kind what) → Stood w now (stayed f k)
@@ -180,22 +178,6 @@ step w f now (asks_kind error kind) due at_open world at says was =
     came w f (suc now) kind k.what at_open found
     (told.2 ∙ ap has_kind (same_Some told.0 k.what (sym told.1 ∙ found.is))))
     (λ b. closes_it w (suc now) error)
-step w f now (asks_holder error type) due at_open world at says was =
-    let k = was.about (ap is_about (sym at)) in
-    let found = later w now k.what world says k.found in
-    let kind = k.sure (ap tells_kind (sym at)) in
-    if_elim (Stood w (suc now)) ((error == 0) && not (has_magic type)) (knows OPENED due.kind) (knows MAGIC due.kind)
-    (λ b. known w (suc now) OPENED due.kind k.what found (λ s. kind) (λ s. kind) refl refl refl)
-    (λ b. known w (suc now) MAGIC due.kind k.what found (λ s. kind) (λ s. kind) refl refl refl)
-step w f now (asks_magic error) due at_open world at says was =
-    let k = was.about (ap is_about (sym at)) in
-    let found = later w now k.what world says k.found in
-    let kind = k.sure (ap tells_kind (sym at)) in
-    if_elim (Stood w (suc now)) (error == EINTR) (knows MAGIC due.kind) _
-    (λ b. known w (suc now) MAGIC due.kind k.what found (λ s. kind) (λ s. kind) refl refl refl)
-    (λ b. if_elim (Stood w (suc now)) (is_ordinary error) (knows OPENED due.kind) (waits CLOSE UNMADE (not_ordinary error))
-    (λ b. known w (suc now) OPENED due.kind k.what found (λ s. kind) (λ s. kind) refl refl refl)
-    (λ b. closes_it w (suc now) (not_ordinary error)))
 step w f now closes due at_open world at says was =
     subst (λ (n : ℕ). Stood w (suc now) (after_close (record due { behind = n }))) (sym (was.behind (sym at)))
     (plain w (suc now) (fails UNMADE due.error) refl)
@@ -205,6 +187,8 @@ step w f now (opens_to_read error) due at_open world at says was = absurd (false
 step w f now (reads error) due at_open world at says was = absurd (false≢true (ap is_opening at ∙ was.opening))
 step w f now closes_read due at_open world at says was = absurd (false≢true (ap is_opening at ∙ was.opening))
 step w f now (asks_follow error flags) due at_open world at says was = absurd (false≢true (ap is_opening at ∙ was.opening))
+step w f now (asks_holder error type) due at_open world at says was = absurd (false≢true (ap is_opening at ∙ was.opening))
+step w f now (asks_magic error) due at_open world at says was = absurd (false≢true (ap is_opening at ∙ was.opening))
 step w f now (reads_link error) due at_open world at says was = absurd (false≢true (ap is_opening at ∙ was.opening))
 step w f now (changes error) due at_open world at says was = absurd (false≢true (ap is_opening at ∙ was.opening))
 

@@ -3,7 +3,7 @@ use Rattle.std.proofs.Common.{◌≡◌, ◌≢◌, ℕ, List, [], ◌∷◌, tr
 use Rattle.std.specs.Prelude.{◌==◌, MatchBool}
 use Rattle.std.proofs.lemmas.Bool.{eqb-true}
 use Rattle.system_calls.specs.Errors.{ENOENT, EINTR, EEXIST, EXDEV, ENOTDIR, ENFILE, EMFILE, ELOOP}
-use Rattle.step_calls.specs.History.{after_exchange, asked, asks, came_to, ends_by, fails, first, gone, has_followed, has_magic, is_ordinary, keeps_links, knows, next_after, not_opened, not_ordinary, not_read, opened, stayed, there, unasked, waits, opens_directory, opens_any, spares, asks_mount, asks_kind, asks_holder, asks_magic, asks_links, asks_layers, opens_to_read, reads, closes_read, asks_follow, reads_link, changes, closes, wants_own_text, bars_magic, Exchange, IsHistory, Next}
+use Rattle.step_calls.specs.History.{after_exchange, asked, asks, came_to, ends_by, fails, first, gone, has_followed, has_magic, is_ordinary, keeps_links, knows, next_after, not_opened, not_ordinary, not_read, opened, stayed, there, unasked, waits, opens_directory, opens_any, spares, asks_mount, asks_kind, asks_holder, asks_magic, asks_links, asks_layers, opens_to_read, reads, closes_read, asks_follow, reads_link, changes, closes, Exchange, IsHistory, Next}
 use Rattle.step_calls.specs.Promises.{is_about_child, RefusalsAreOwn}
 use Rattle.step_calls.specs.Refusals.{is_refusal}
 use Rattle.step_calls.specs.declared.course.TheConstants.{OPEN_DIRECTORY, OPEN_ANY, SPARE, MOUNT, KIND, MAY_HOLD_MAGIC, MAGIC, LINKS, LAYERS, OPEN_TO_READ, READ, CLOSE_READ, READ_LINK, NO_FOLLOW, CHANGE, CLOSE, OPENED, TEXT, DONE, REFUSED, UNMADE}
@@ -32,9 +32,7 @@ module _ (f : Facts) where
 
   came : (k : ℕ) → Stood f (came_to f k)
   came k =
-      if_elim (Stood f) (f.what == PARENT) (asks LINKS) _
-      (eqb-true f.what PARENT)
-      (λ b. if_elim (Stood f) (bars_magic f && (k == LINK)) (knows MAY_HOLD_MAGIC k) (knows OPENED k) (λ c. tt) (λ c. tt))
+      if_elim (Stood f) (f.what == PARENT) (asks LINKS) (knows OPENED k) (eqb-true f.what PARENT) (λ b. tt)
 
   stays : (k : ℕ) → Stood f (stayed f k)
   stays k = if_elim (Stood f) (k == 0) (asks KIND) (came_to f k) (λ b. tt) (λ b. came k)
@@ -78,11 +76,10 @@ module _ (f : Facts) where
   step (asks_kind error kind) due was =
       if_elim (Stood f) (error == 0) (came_to f kind) (waits CLOSE UNMADE error) (λ b. came kind) (λ b. closes_it error)
   step (asks_holder error type) due was =
-      if_elim (Stood f) ((error == 0) && not (has_magic type)) (knows OPENED due.kind) (knows MAGIC due.kind) (λ b. tt) (λ b. tt)
+      if_elim (Stood f) ((error == 0) && not (has_magic type)) (asks READ_LINK) (asks MAGIC) (λ b. tt) (λ b. tt)
   step (asks_magic error) due was =
-      if_elim (Stood f) (error == EINTR) (knows MAGIC due.kind) _ (λ b. tt)
-      (λ b. if_elim (Stood f) (is_ordinary error) (knows OPENED due.kind) (waits CLOSE UNMADE (not_ordinary error)) (λ c. tt)
-      (λ c. closes_it (not_ordinary error)))
+      if_elim (Stood f) (error == EINTR) (asks MAGIC) _ (λ b. tt)
+      (λ b. if_elim (Stood f) (is_ordinary error) (asks READ_LINK) (fails UNMADE (not_ordinary error)) (λ c. tt) (λ c. tt))
   step (asks_links error links) due was =
       if_elim (Stood f) (error == 0) (if links == 0 then gone f else asks LAYERS) (unasked f error)
       (λ b. if_elim (Stood f) (links == 0) (gone f) (asks LAYERS) (λ c. is_gone was) (λ c. was))
@@ -102,7 +99,7 @@ module _ (f : Facts) where
       (λ c. is_unasked due.error))
   step (asks_follow error flags) due was =
       if_elim (Stood f) (error == EINTR) (asks NO_FOLLOW) _ (λ b. tt)
-      (λ b. if_elim (Stood f) ((error == 0) && has_followed flags) (asks READ_LINK)
+      (λ b. if_elim (Stood f) ((error == 0) && has_followed flags) (asks MAY_HOLD_MAGIC)
       (fails UNMADE (if error == 0 then ELOOP else error))
       (λ c. tt) (λ c. tt))
   step (reads_link error) due was =
@@ -123,8 +120,8 @@ module _ (f : Facts) where
       (λ b. if_elim (Stood f) (f.what == DUP) (asks OPEN_DIRECTORY) _
       (λ c. tt)
       (λ c. if_elim (Stood f) (f.what == PARENT) (asks OPEN_DIRECTORY) _ (λ d. tt)
-      (λ d. if_elim (Stood f) (f.what == READ_TEXT) (if wants_own_text f then asks READ_LINK else asks NO_FOLLOW) _
-      (λ e. if_elim (Stood f) (wants_own_text f) (asks READ_LINK) (asks NO_FOLLOW) (λ g. tt) (λ g. tt))
+      (λ d. if_elim (Stood f) (f.what == READ_TEXT) (asks NO_FOLLOW) _
+      (λ e. tt)
       (λ e. if_elim (Stood f) (f.what == IS_THERE) (asks LINKS) (asks CHANGE)
       (λ g. absurd (is_step (eqb-true f.what IS_THERE g))) (λ g. tt)))))
 

@@ -4,7 +4,7 @@ use Rattle.std.specs.Prelude.{◌≡◌, ℕ, List, [], ◌∷◌, ◌==◌, Boo
 use Rattle.system_calls.specs.Errors.{EPERM, ENOENT, EINTR, EEXIST, EXDEV, ENOTDIR, EINVAL, ENFILE, EMFILE, ENAMETOOLONG, ENOSYS, ELOOP}
 use Rattle.step_calls.specs.Refusals.{is_refusal}
 use Rattle.step_calls.specs.declared.facts.Facts.{Facts}
-use Rattle.step_calls.specs.declared.facts.TheConstants.{IS_THERE, OPEN, DUP, PARENT, READ_TEXT, DIRECTORY, LINK}
+use Rattle.step_calls.specs.declared.facts.TheConstants.{IS_THERE, OPEN, DUP, PARENT, READ_TEXT, DIRECTORY}
 use Rattle.step_calls.specs.declared.course.TheConstants.{OPEN_DIRECTORY, OPEN_ANY, SPARE, MOUNT, KIND, MAY_HOLD_MAGIC, MAGIC, LINKS, LAYERS, OPEN_TO_READ, READ, CLOSE_READ, NO_FOLLOW, READ_LINK, CHANGE, CLOSE, OPENED, TEXT, DONE, REFUSED, UNMADE}
 
 -- ---- numbers of statfs(2), <linux/magic.h>
@@ -38,17 +38,6 @@ BTRFS = 2435016766
 abbrev pub NOSYMFOLLOW : ℕ
 NOSYMFOLLOW = 8192
 
--- ---- what is wanted
-
--- Of a ReadLink: the walk has come to the link that it was to find. Its text is what the caller wants, unless that is
--- walked afterwards.
-abbrev pub wants_own_text : Facts → Bool
-wants_own_text f = f.is_last && not f.follows
-
--- Of an Open: no magic link may be followed. It may be opened only where it is what the caller wants.
-abbrev pub bars_magic : Facts → Bool
-bars_magic f = not (f.is_last && (f.takes_link && not f.follows))
-
 -- ---- exchanges
 
 -- What was asked for: 0 or the error that it gave, and what it told.
@@ -62,7 +51,7 @@ pub data Exchange : Type 0 where
   asks_mount : ℕ → Exchange
   -- fstat(2): which kind it is
   asks_kind : ℕ → ℕ → Exchange
-  -- fstatfs(2) of it: the type of its file system
+  -- fstatfs(2) of the link: the type of its file system
   asks_holder : ℕ → ℕ → Exchange
   -- openat2(2) with RESOLVE_NO_MAGICLINKS, of its name
   asks_magic : ℕ → Exchange
@@ -133,11 +122,9 @@ ends_by f error = if is_refusal f.what f.mode f.text error then fails REFUSED er
 
 -- ---- what was opened
 
--- Its kind is known. A link may be a magic one. A directory above counts only if the child is there.
+-- Its kind is known. A directory above counts only if the child is there.
 abbrev pub came_to : Facts → ℕ → Next
-came_to f kind =
-    if f.what == PARENT then asks LINKS
-    else (if bars_magic f && (kind == LINK) then knows MAY_HOLD_MAGIC kind else knows OPENED kind)
+came_to f kind = if f.what == PARENT then asks LINKS else knows OPENED kind
 
 abbrev pub stayed : Facts → ℕ → Next
 stayed f kind = if kind == 0 then asks KIND else came_to f kind
@@ -170,28 +157,6 @@ after_mount f error kind = if error == 0 then stayed f kind else waits CLOSE UNM
 
 abbrev pub after_kind : Facts → ℕ → ℕ → Next
 after_kind f error kind = if error == 0 then came_to f kind else waits CLOSE UNMADE error
-
--- ---- magic links
-
-abbrev pub has_magic : ℕ → Bool
-has_magic type = (type == PROC) || ((type == SECURITYFS) || (type == AAFS))
-
-abbrev pub after_holder : ℕ → ℕ → ℕ → Next
-after_holder error type kind = if (error == 0) && not (has_magic type) then knows OPENED kind else knows MAGIC kind
-
--- openat2(2): a magic link is refused before the kernel looks where it leads. So the link is none where it was
--- followed; or led out of the directory, through what is no directory, or along too long a path.
-abbrev pub is_ordinary : ℕ → Bool
-is_ordinary error = (error == 0) || ((error == EXDEV) || ((error == ENOTDIR) || (error == ENAMETOOLONG)))
-
--- a link of which the kernel can't be asked counts as a magic one
-abbrev pub not_ordinary : ℕ → ℕ
-not_ordinary error = if (error == ENOSYS) || (error == EPERM) then ELOOP else error
-
-abbrev pub after_magic : ℕ → ℕ → Next
-after_magic error kind =
-    if error == EINTR then knows MAGIC kind
-    else (if is_ordinary error then knows OPENED kind else waits CLOSE UNMADE (not_ordinary error))
 
 -- ---- whether a directory is there still
 
@@ -235,7 +200,7 @@ abbrev pub after_close_read : Facts → ℕ → Next
 after_close_read f why =
     if why == 0 then there f 0 else (if why == ENOENT then gone f else unasked f why)
 
--- ---- links' texts
+-- ---- links' texts: each link that is read is followed
 
 -- the mount has its links followed (mount(8), nosymfollow)
 abbrev pub has_followed : ℕ → Bool
@@ -245,8 +210,28 @@ has_followed flags = not (bit_and flags NOSYMFOLLOW == NOSYMFOLLOW)
 abbrev pub after_follow : ℕ → ℕ → Next
 after_follow error flags =
     if error == EINTR then asks NO_FOLLOW
-    else (if (error == 0) && has_followed flags then asks READ_LINK
+    else (if (error == 0) && has_followed flags then asks MAY_HOLD_MAGIC
     else fails UNMADE (if error == 0 then ELOOP else error))
+
+abbrev pub has_magic : ℕ → Bool
+has_magic type = (type == PROC) || ((type == SECURITYFS) || (type == AAFS))
+
+abbrev pub after_holder : ℕ → ℕ → Next
+after_holder error type = if (error == 0) && not (has_magic type) then asks READ_LINK else asks MAGIC
+
+-- openat2(2): a magic link is refused before the kernel looks where it leads. So the link is none where it was
+-- followed; or led out of the directory, through what is no directory, or along too long a path.
+abbrev pub is_ordinary : ℕ → Bool
+is_ordinary error = (error == 0) || ((error == EXDEV) || ((error == ENOTDIR) || (error == ENAMETOOLONG)))
+
+-- a link of which the kernel can't be asked counts as a magic one
+abbrev pub not_ordinary : ℕ → ℕ
+not_ordinary error = if (error == ENOSYS) || (error == EPERM) then ELOOP else error
+
+abbrev pub after_magic : ℕ → Next
+after_magic error =
+    if error == EINTR then asks MAGIC
+    else (if is_ordinary error then asks READ_LINK else fails UNMADE (not_ordinary error))
 
 -- readlinkat(2) of no link, with an empty path, gives ENOENT, which is the table's EINVAL; of a link it gives neither
 -- for a reason of the tree
@@ -279,8 +264,8 @@ after_exchange f (opens_any error) due = after_any f error
 after_exchange f (spares error) due = after_spare error due
 after_exchange f (asks_mount error) due = after_mount f error due.kind
 after_exchange f (asks_kind error kind) due = after_kind f error kind
-after_exchange f (asks_holder error type) due = after_holder error type due.kind
-after_exchange f (asks_magic error) due = after_magic error due.kind
+after_exchange f (asks_holder error type) due = after_holder error type
+after_exchange f (asks_magic error) due = after_magic error
 after_exchange f (asks_links error links) due = after_links f error links
 after_exchange f (asks_layers error type) due = after_layers f error type
 after_exchange f (opens_to_read error) due = after_open_to_read f error
@@ -296,7 +281,7 @@ first f =
     if f.what == OPEN then (if f.directory then asks OPEN_DIRECTORY else asks OPEN_ANY)
     else (if f.what == DUP then (asks OPEN_DIRECTORY)
     else (if f.what == PARENT then asks OPEN_DIRECTORY
-    else (if f.what == READ_TEXT then (if wants_own_text f then asks READ_LINK else asks NO_FOLLOW)
+    else (if f.what == READ_TEXT then (asks NO_FOLLOW)
     else (if f.what == IS_THERE then asks LINKS else asks CHANGE))))
 
 abbrev pub next_after : Facts → List Exchange → Next

@@ -2,10 +2,10 @@
 -- links. And a step stays on the root's mount by an answer.
 use Rattle.std.specs.Prelude.{◌≡◌, List, [], ◌∷◌, ◌==◌, Bool, true, false, ◌&&◌, not}
 use Rattle.std.specs.List.{list_any}
-use Rattle.step_calls.specs.History.{has_followed, has_magic, is_ordinary, next_after, opens_directory, opens_any, asks_mount, asks_holder, asks_magic, asks_follow, wants_own_text, bars_magic, Exchange, IsHistory}
+use Rattle.step_calls.specs.History.{has_followed, has_magic, is_ordinary, next_after, opens_directory, opens_any, asks_mount, asks_holder, asks_magic, asks_follow, Exchange, IsHistory}
 use Rattle.step_calls.specs.declared.course.TheConstants.{OPENED, TEXT}
 use Rattle.step_calls.specs.declared.facts.Facts.{Facts}
-use Rattle.step_calls.specs.declared.facts.TheConstants.{LINK, OPEN, READ_TEXT}
+use Rattle.step_calls.specs.declared.facts.TheConstants.{READ_TEXT}
 
 -- statfs(2), proc(5): the link's file system has no magic link; openat2(2), RESOLVE_NO_MAGICLINKS: the kernel, which
 -- may follow none, has looked where this one leads
@@ -19,15 +19,11 @@ abbrev pub says_followed : Exchange → Bool
 says_followed (asks_follow error flags) = (error == 0) && has_followed flags
 says_followed _ = false
 
--- where a magic link is barred, an opened link isn't one by an answer
-abbrev pub NoMagicIsOpened : Type 0
-NoMagicIsOpened = (f : Facts) (history : List Exchange) → f.what ≡ OPEN → bars_magic f ≡ true → IsHistory f history
-    → (next_after f history).next ≡ OPENED → (next_after f history).kind ≡ LINK → list_any says_ordinary history ≡ true
-
--- a text that is to be followed stood on a mount that has links followed, by an answer
+-- a text is told only if an answer says that its mount has links followed, and one that it is no magic link's
 abbrev pub TextsAreFollowed : Type 0
-TextsAreFollowed = (f : Facts) (history : List Exchange) → f.what ≡ READ_TEXT → wants_own_text f ≡ false
-    → IsHistory f history → (next_after f history).next ≡ TEXT → list_any says_followed history ≡ true
+TextsAreFollowed = (f : Facts) (history : List Exchange) → f.what ≡ READ_TEXT → IsHistory f history
+    → (next_after f history).next ≡ TEXT
+    → (list_any says_followed history ≡ true) × (list_any says_ordinary history ≡ true)
 
 -- statx(2): what was opened last is on the root's mount
 abbrev pub stayed_by : Exchange → Bool → Bool

@@ -3,7 +3,7 @@ use Rattle.std.specs.Prelude.{◌≡◌, ◌≢◌, ℕ, ◌+◌, List, [], ◌�
 use Rattle.system_calls.specs.Errors.{ENOENT, EINTR, ENOTDIR, ENFILE, EMFILE}
 use Rattle.step_calls.specs.History.{has_followed, is_ordinary, next_after, Exchange, opens_directory, opens_any, spares, asks_mount, asks_kind, asks_holder, asks_magic, asks_links, asks_layers, opens_to_read, reads, closes_read, asks_follow, reads_link, changes, closes, IsHistory}
 use Rattle.step_calls.specs.Refusals.{is_refusal}
-use Rattle.step_calls.specs.declared.course.TheConstants.{MOUNT, KIND, MAY_HOLD_MAGIC, MAGIC, LINKS, LAYERS, OPEN_TO_READ, READ, CLOSE_READ, CLOSE, OPENED, REFUSED}
+use Rattle.step_calls.specs.declared.course.TheConstants.{MOUNT, KIND, LINKS, LAYERS, OPEN_TO_READ, READ, CLOSE_READ, CLOSE, OPENED, REFUSED}
 use Rattle.step_calls.specs.declared.facts.Facts.{Facts}
 use Rattle.step_calls.specs.declared.facts.TheConstants.{IS_THERE, OPEN, PARENT}
 
@@ -24,8 +24,7 @@ holds_after (e ∷ older) = holds_by e (holds_after older)
 abbrev pub is_about_opened : ℕ → Bool
 is_about_opened next =
     (next == MOUNT)
-    || ((next == KIND) || ((next == MAY_HOLD_MAGIC) || ((next == MAGIC) || ((next == CLOSE)
-    || (next == OPENED)))))
+    || ((next == KIND) || ((next == CLOSE) || (next == OPENED)))
 
 -- looks at the directory below `..`, after that was opened
 abbrev pub is_about_child : ℕ → Bool

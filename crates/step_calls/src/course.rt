@@ -21,29 +21,29 @@ pub const MOUNT: u8 = 4;
 /// fstat(2) of what was opened: its kind.
 pub const KIND: u8 = 5;
 
-/// fstatfs(2) of what was opened: the type of its file system.
-pub const MAY_HOLD_MAGIC: u8 = 6;
-
-/// openat2(2) of the name with O_PATH, RESOLVE_BENEATH and RESOLVE_NO_MAGICLINKS; what it opens is closed.
-pub const MAGIC: u8 = 7;
-
 /// fstat(2) of the directory: how many links it has.
-pub const LINKS: u8 = 8;
+pub const LINKS: u8 = 6;
 
 /// fstatfs(2) of the directory: the type of its file system.
-pub const LAYERS: u8 = 9;
+pub const LAYERS: u8 = 7;
 
 /// openat(2) of `.` in the directory with O_RDONLY, O_DIRECTORY and O_CLOEXEC.
-pub const OPEN_TO_READ: u8 = 10;
+pub const OPEN_TO_READ: u8 = 8;
 
 /// getdents64(2).
-pub const READ: u8 = 11;
+pub const READ: u8 = 9;
 
 /// close(2) of what was opened to be read.
-pub const CLOSE_READ: u8 = 12;
+pub const CLOSE_READ: u8 = 10;
 
 /// fstatfs(2) of the link: the flags of its mount.
-pub const NO_FOLLOW: u8 = 13;
+pub const NO_FOLLOW: u8 = 11;
+
+/// fstatfs(2) of the link: the type of its file system.
+pub const MAY_HOLD_MAGIC: u8 = 12;
+
+/// openat2(2) of the link's name with O_PATH, RESOLVE_BENEATH and RESOLVE_NO_MAGICLINKS; what it opens is closed.
+pub const MAGIC: u8 = 13;
 
 /// readlinkat(2) of the link's descriptor.
 pub const READ_LINK: u8 = 14;

@@ -34,12 +34,6 @@ pub struct Facts {
     pub directory: bool,
     /// OPEN, DUP, PARENT: what is opened must be on the root's mount.
     pub mount: bool,
-    /// OPEN: the name is the last part of the path. READ_TEXT: the walk has come to the link that it was to find.
-    pub is_last: bool,
-    /// OPEN: a link at the path's end is meant itself.
-    pub takes_link: bool,
-    /// OPEN, READ_TEXT: the text of a link that is read is walked afterwards.
-    pub follows: bool,
     /// READ_TEXT: the object was opened as a link.
     pub link: bool,
     /// A change: an object that is there gets a second name (linkat(2)).

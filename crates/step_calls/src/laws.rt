@@ -3,7 +3,7 @@ ghost use Rattle.std.specs.Prelude.{◌≡◌, ◌≤◌, ◌+◌, ◌⊎◌, Li
 ghost use Rattle.std.specs.List.{AllByRecursion};
 ghost use Rattle.step_calls.specs.Changes.{MakesStood, RemovalsStood};
 ghost use Rattle.step_calls.specs.History.{next_after, Exchange, IsHistory};
-ghost use Rattle.step_calls.specs.Leave.{MountsAreKept, NoMagicIsOpened, TextsAreFollowed};
+ghost use Rattle.step_calls.specs.Leave.{MountsAreKept, TextsAreFollowed};
 ghost use Rattle.step_calls.specs.Moments.{LinksWereRead, OpensStood, ParentsStood, ThereStood};
 ghost use Rattle.step_calls.specs.Renames.{RenamesStood};
 ghost use Rattle.step_calls.specs.Promises.{costs, holds_after, needs_opened, needs_read, reads_after, NoError, RefusalsAreOwn};
@@ -69,13 +69,11 @@ pub fn no_error_is_passed_over()
         → AllByRecursion (NoError f) history }
 {}
 
-/// A link that isn't what the caller wants is opened only if an answer says that it is no magic one: its file system has none
-/// (statfs(2)), or the kernel looked where it leads (openat2(2), RESOLVE_NO_MAGICLINKS). And a text that is to be
-/// followed is given only if an answer says that its mount has links followed (statfs(2); mount(8), nosymfollow). No
-/// other error passes for such an answer.
+/// A link's text is told only if an answer says that its mount has links followed (statfs(2); mount(8), nosymfollow), and one
+/// says that the link is no magic one: its file system has none (statfs(2)), or the kernel looked where it leads
+/// (openat2(2), RESOLVE_NO_MAGICLINKS). No other error passes for such an answer.
 pub fn links_are_followed_by_leave()
-    ensures magic { NoMagicIsOpened }
-    ensures mounts { TextsAreFollowed }
+    ensures { TextsAreFollowed }
 {}
 
 /// Where what is opened must be on the root's mount, it is opened only if an answer says so of just what was opened

@@ -1,14 +1,16 @@
 //! What comes after the system calls that look at what is open: whether a directory is there still; a link's text.
 ghost use Rattle.std.specs.Prelude.{◌≡◌};
 ghost use Rattle.step_calls.specs.Course.{due_of};
-ghost use Rattle.step_calls.specs.History.{after_change, after_close, after_close_read, after_follow, after_layers, after_links, after_open_to_read, after_read, after_read_link, gone, has_followed, keeps_links, not_read, there, unasked};
+ghost use Rattle.step_calls.specs.History.{after_change, after_close, after_close_read, after_follow, after_holder, after_layers, after_links, after_magic, after_open_to_read, after_read, after_read_link, gone, has_followed, has_magic, is_ordinary, keeps_links, not_ordinary, not_read, there, unasked};
 
 use crate::course::{
-    CLOSE, CLOSE_READ, Course, DONE, LAYERS, NO_FOLLOW, OPEN_TO_READ, OPENED, READ, READ_LINK,
-    REFUSED, TEXT, UNMADE, asks, ends_by, fails, knows, waits,
+    CLOSE, CLOSE_READ, Course, DONE, LAYERS, MAGIC, MAY_HOLD_MAGIC, NO_FOLLOW, OPEN_TO_READ, OPENED,
+    READ, READ_LINK, REFUSED, TEXT, UNMADE, asks, ends_by, fails, knows, waits,
 };
 use crate::facts::{DIRECTORY, Facts, PARENT};
-use system_calls::errors::{EEXIST, EINTR, EINVAL, ELOOP, ENOENT};
+use system_calls::errors::{
+    EEXIST, EINTR, EINVAL, ELOOP, ENAMETOOLONG, ENOENT, ENOSYS, ENOTDIR, EPERM, EXDEV,
+};
 
 const OVERLAYFS: u64 = 0x794c_7630;
 
@@ -21,6 +23,12 @@ const RDTGROUP: u64 = 0x0765_5821;
 const BTRFS: u64 = 0x9123_683e;
 
 const NOSYMFOLLOW: u64 = 0x2000;
+
+const PROC: u64 = 0x9fa0;
+
+const SECURITYFS: u64 = 0x7363_6673;
+
+const AAFS: u64 = 0x5a3c_69f0;
 
 fn gone(facts: &Facts) -> Course
     ensures { due_of result ≡ gone facts.now }
@@ -137,9 +145,53 @@ pub(crate) fn after_follow(error: u32, flags: u64) -> Course
     if error == EINTR {
         asks(NO_FOLLOW)
     } else if error == 0 && has_followed(flags) {
-        asks(READ_LINK)
+        asks(MAY_HOLD_MAGIC)
     } else {
         fails(UNMADE, if error == 0 { ELOOP } else { error })
+    }
+}
+
+fn has_magic(file_system: u64) -> bool
+    ensures { result ≡ has_magic file_system }
+{
+    file_system == PROC || (file_system == SECURITYFS || file_system == AAFS)
+}
+
+pub(crate) fn after_holder(error: u32, file_system: u64) -> Course
+    ensures { due_of result ≡ after_holder error file_system }
+{
+    if error == 0 && !has_magic(file_system) {
+        asks(READ_LINK)
+    } else {
+        asks(MAGIC)
+    }
+}
+
+fn is_ordinary(error: u32) -> bool
+    ensures { result ≡ is_ordinary error }
+{
+    error == 0 || (error == EXDEV || (error == ENOTDIR || error == ENAMETOOLONG))
+}
+
+fn not_ordinary(error: u32) -> u32
+    ensures { result ≡ not_ordinary error }
+{
+    if error == ENOSYS || error == EPERM {
+        ELOOP
+    } else {
+        error
+    }
+}
+
+pub(crate) fn after_magic(error: u32) -> Course
+    ensures { due_of result ≡ after_magic error }
+{
+    if error == EINTR {
+        asks(MAGIC)
+    } else if is_ordinary(error) {
+        asks(READ_LINK)
+    } else {
+        fails(UNMADE, not_ordinary(error))
     }
 }
 

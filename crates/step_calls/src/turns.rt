@@ -1,7 +1,7 @@
 //! The first system call of a step, and the next one behind an answer.
 ghost use Rattle.std.specs.Prelude.{◌≡◌, List, [], ◌∷◌, true, false};
 ghost use Rattle.step_calls.specs.Course.{due_of, exchange_of, IsAt};
-ghost use Rattle.step_calls.specs.History.{after_exchange, first, is_question, wants_own_text, Exchange};
+ghost use Rattle.step_calls.specs.History.{after_exchange, first, is_question, Exchange};
 
 use crate::course::{
     CHANGE, CLOSE_READ, Course, KIND, LAYERS, LINKS, MAGIC, MAY_HOLD_MAGIC, MOUNT, NO_FOLLOW,
@@ -9,19 +9,12 @@ use crate::course::{
 };
 use crate::facts::{Answer, DUP, Facts, IS_THERE, OPEN, PARENT, READ_TEXT};
 use crate::looks::{
-    after_change, after_close, after_close_read, after_follow, after_layers, after_links,
-    after_open_to_read, after_read, after_read_link,
+    after_change, after_close, after_close_read, after_follow, after_holder, after_layers, after_links,
+    after_magic, after_open_to_read, after_read, after_read_link,
 };
 use crate::opens::{
-    after_any, after_directory, after_holder, after_kind, after_magic, after_mount, after_spare,
+    after_any, after_directory, after_kind, after_mount, after_spare,
 };
-
-// The caller wants the text, and it isn't walked.
-fn wants_own_text(facts: &Facts) -> bool
-    ensures { result ≡ wants_own_text facts.now }
-{
-    facts.is_last && !facts.follows
-}
 
 fn first(facts: &Facts) -> Course
     ensures { due_of result ≡ first facts.now }
@@ -35,13 +28,7 @@ fn first(facts: &Facts) -> Course
             }
         }
         DUP | PARENT => asks(OPEN_DIRECTORY),
-        READ_TEXT => {
-            if wants_own_text(facts) {
-                asks(READ_LINK)
-            } else {
-                asks(NO_FOLLOW)
-            }
-        }
+        READ_TEXT => asks(NO_FOLLOW),
         IS_THERE => asks(LINKS),
         _ => asks(CHANGE),
     }
@@ -63,14 +50,14 @@ fn after(facts: &Facts, course: Course, answer: &Answer) -> Course
         SPARE => after_spare(course, answer.error),
         MOUNT => after_mount(facts, answer.error, course.kind),
         KIND => after_kind(facts, answer.error, answer.kind),
-        MAY_HOLD_MAGIC => after_holder(answer.error, answer.number, course.kind),
-        MAGIC => after_magic(answer.error, course.kind),
         LINKS => after_links(facts, answer.error, answer.number),
         LAYERS => after_layers(facts, answer.error, answer.number),
         OPEN_TO_READ => after_open_to_read(facts, answer.error),
         READ => after_read(facts, answer.error),
         CLOSE_READ => after_close_read(facts, course.error),
         NO_FOLLOW => after_follow(answer.error, answer.number),
+        MAY_HOLD_MAGIC => after_holder(answer.error, answer.number),
+        MAGIC => after_magic(answer.error),
         READ_LINK => after_read_link(facts, answer.error),
         CHANGE => after_change(facts, answer.error),
         _ => after_close(course),
