@@ -306,7 +306,7 @@ static void call(void)
     case 8: asked.result = inroot_mkdir_all(root, asked.first, 0755, (int)flags); break;
     case 9: asked.result = inroot_remove_all(root, asked.first, (int)flags); break;
     case 10: asked.result = open_for_use(asked.mode, (int)flags); break;
-    case 11: asked.result = inroot_mknod(root, asked.first, S_IFIFO | 0600, 0, (int)flags); break;
+    case 11: asked.result = inroot_mknod(root, asked.first, S_IFSOCK | 0600, 0, (int)flags); break;
     case 12: asked.result = inroot_link(root, asked.first, asked.second, (int)(flags | (asked.flags & 4 ? INROOT_FOLLOW : 0))); break;
     case 13: asked.result = inroot_stat(root, asked.first, &about, (int)(flags | (asked.flags & 4))); break;
     case 14: asked.result = inroot_open_parent(root, asked.first, (int)flags, text); break;
