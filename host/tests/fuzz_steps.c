@@ -18,6 +18,7 @@ enum { OVERLAYFS = 0x794c7630, PROC = 0x9fa0, SECURITYFS = 0x73636673, AAFS = 0x
 /* What was seen of a step. */
 struct seen {
     bool is_open, reads, changed, is_gone, is_magic, is_kept;
+    bool asks_magic;               /* whether it is a magic link */
     uint32_t why;                  /* the last error that isn't passed over */
     uint8_t kind;
     uint64_t exchanges, costs;
@@ -137,6 +138,7 @@ static void others(const struct inroot_step_facts *facts, uint8_t next, const st
         break;
     case INROOT_CALL_MAY_HOLD_MAGIC: case INROOT_CALL_MAGIC:
         MUST(seen->is_open && bars_magic(facts) && seen->kind == INROOT_KIND_LINK);
+        seen->asks_magic = true;
         if (next == INROOT_CALL_MAY_HOLD_MAGIC)
             seen->is_magic = error != 0 || holds_magic(answer->number);
         else
@@ -183,6 +185,7 @@ static void must_end(const struct inroot_step_facts *facts, const struct inroot_
     case INROOT_ENDS_OPENED:
         MUST(seen->why == 0 && !seen->is_gone && !seen->is_magic);
         MUST(now->kind == seen->kind && now->kind != 0);
+        MUST(now->kind != INROOT_KIND_LINK || !bars_magic(facts) || seen->asks_magic);
         break;
     case INROOT_ENDS_TEXT: case INROOT_ENDS_DONE:
         MUST(seen->why == 0 && !seen->is_gone && !seen->is_kept);

@@ -127,11 +127,22 @@ static bool ends_as_gone(const unsigned char *text, size_t length)
     return length >= size && memcmp(text + length - size, end, size) == 0;
 }
 
+/* The bytes over and over: a small case can't have long texts otherwise. */
+static unsigned char *many_of(const uint8_t *bytes, size_t size, size_t times)
+{
+    unsigned char *copy = malloc(size * times + 1);
+    if (copy == NULL)
+        abort();
+    for (size_t at = 0; at < times && size > 0; at++)
+        memcpy(copy + at * size, bytes, size);
+    return copy;
+}
+
 static void places(size_t size, const uint8_t *bytes, size_t length)
 {
-    size_t root_length = size < length ? size : length;
-    unsigned char *root = copy_of(bytes, root_length), *path = copy_of(bytes + root_length, length - root_length);
-    size_t path_length = length - root_length;
+    const size_t root_length = size < length ? size : length, times = size % 16 == 15 ? 128 : 1;
+    const size_t path_length = (length - root_length) * times;
+    unsigned char *root = copy_of(bytes, root_length), *path = many_of(bytes + root_length, length - root_length, times);
     ssize_t wanted = place_of(root, root_length, path, path_length);
     struct inroot_place_told told = after(INROOT_PLACE_OBJECT_LINK, root, root_length, path, path_length);
     if (path_length > 4095)
