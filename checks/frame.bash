@@ -46,3 +46,29 @@ end() {
     is_well
     exit
 }
+
+# ---- checks/last_green: a row for each part of ./check deep that was green, with the day, the commit and how much was skipped
+
+# note_green PART SKIPPED: writes the row of a part that was green just now. The files must be those of a commit.
+note_green() {
+    local commit rows
+    if ! commit=$(git rev-parse --short=8 HEAD 2>/dev/null) || [ -n "$(git status --porcelain -- . ':!checks/last_green')" ]; then
+        echo "checks/last_green: no row for $1, since the files are not those of a commit"
+        return
+    fi
+    rows=$(grep -v "^$1 " checks/last_green)
+    printf '%s\n' "$rows" "$(printf '%-9s %s %s %s skipped' "$1" "$(date -u +%F)" "$commit" "$2")" | LC_ALL=C sort >checks/last_green
+}
+
+# tell_old PART..: a line for each part that was not green since dist/RELEASE was written.
+tell_old() {
+    local part release row commit
+    release=$(git log -1 --format=%H -- dist/RELEASE 2>/dev/null)
+    [ -n "$release" ] || echo 'checks/last_green: here is no git that has dist/RELEASE, to tell which parts of ./check deep are old'
+    for part; do
+        row=$(grep "^$part " checks/last_green)
+        read -r _ _ commit _ <<<"$row"
+        [ -z "$release" ] || git merge-base --is-ancestor "$release" "${commit:-none}" 2>/dev/null ||
+            echo "checks/last_green: older than the release: ./check deep $part: ${row:-never green}"
+    done
+}

@@ -1,6 +1,6 @@
 /*
- * by_calls.c: the system calls of one step, each a short function. Which one comes next, and how the step ends by what they gave, the
- * proved library says (crates/step_calls).
+ * by_calls.c: the system calls of one step, each a short function. Which one comes next, and how the step ends by what
+ * they gave, the proved library says (crates/step_calls).
  */
 #define _GNU_SOURCE
 #include "driver.h"
@@ -17,7 +17,8 @@
 static uint32_t open_entry(const struct inroot_driver *d, struct inroot_work *w, int flags)
 {
     static const enum inroot_way ways[] = {
-        [INROOT_STEP_OPEN] = INROOT_BY_NAME, [INROOT_STEP_DUP] = INROOT_BY_ROOT, [INROOT_STEP_PARENT] = INROOT_BY_PARENT,
+        [INROOT_STEP_OPEN] = INROOT_BY_NAME, [INROOT_STEP_DUP] = INROOT_BY_ROOT,
+        [INROOT_STEP_PARENT] = INROOT_BY_PARENT,
     };
     flags |= O_PATH | O_NOFOLLOW | O_CLOEXEC;
     w->how = ways[w->facts.what];
@@ -26,8 +27,8 @@ static uint32_t open_entry(const struct inroot_driver *d, struct inroot_work *w,
 }
 
 /*
- * The kernel says ENOENT of `..`, too, where somebody moved the directory out of the mount by which it was opened. Such a one isn't
- * removed: others are in the way.
+ * The kernel says ENOENT of `..`, too, where somebody moved the directory out of the mount by which it was opened. Such
+ * a one isn't removed: others are in the way.
  */
 static uint32_t open_directory(const struct inroot_driver *d, struct inroot_work *w)
 {
@@ -56,9 +57,9 @@ static uint32_t ask_file_system(int fd, struct inroot_step_answer *answer)
 }
 
 /*
- * Whether a link of this name leads to an object and not along its text: only the kernel knows, and refuses to follow it then. It
- * does so before it looks where the link leads. So it refuses a link beyond that one, and so would the walk that comes to it. Gives
- * 0, ELOOP, or why the kernel can't say.
+ * Whether a link of this name leads to an object and not along its text: only the kernel knows, and refuses to follow
+ * it then. It does so before it looks where the link leads. So it refuses a link beyond that one, and so would the walk
+ * that comes to it. Gives 0, ELOOP, or why the kernel can't say.
  */
 static uint32_t ask_magic(const struct inroot_driver *d, int dir)
 {
@@ -70,8 +71,9 @@ static uint32_t ask_magic(const struct inroot_driver *d, int dir)
     return error == EXDEV || error == ENOTDIR || error == ENAMETOOLONG ? 0 : error;
 }
 
-/* A link that is followed must be none of a mount with nosymfollow; and no magic one, where the file system may have such. */
-static uint32_t ask_whether_followed(struct inroot_driver *d, const struct inroot_work *w, struct inroot_step_answer *answer)
+/* A link that is followed is none of a mount with nosymfollow, and no magic one, which some file systems have. */
+static uint32_t ask_whether_followed(struct inroot_driver *d, const struct inroot_work *w,
+                                     struct inroot_step_answer *answer)
 {
     struct statfs about;
     int dir;
@@ -133,7 +135,7 @@ void inroot_by_calls(struct inroot_driver *d, struct inroot_work *w)
     }
 }
 
-/* How the question ends: done if the directory is there, refused if it was removed, not made where that can't be known. */
+/* How the question ends: done if it is there, refused if it was removed, not made where that can't be known. */
 static uint8_t ask_there(int fd)
 {
     struct inroot_work work = {.facts = {.what = INROOT_IS_THERE}, .looks = fd};

@@ -59,8 +59,9 @@ static void converse(struct work *w)
     /* Not in the room: the library writes there while it reads this. */
     char text[INROOT_TEXT_MAX + 1];
     w->numbers.root = inroot_handles_begin(d, w->root);
-    inroot_begin(&w->numbers, (const unsigned char *)asked->first, strlen(asked->first), (const unsigned char *)asked->second,
-                 d->second_length, &kept, told, (unsigned char *)w->room, INROOT_ROOM);
+    inroot_begin(&w->numbers, (const unsigned char *)asked->first, strlen(asked->first),
+                 (const unsigned char *)asked->second, d->second_length, &kept, told, (unsigned char *)w->room,
+                 INROOT_ROOM);
     while (told->what < INROOT_REPLY_OPENED) {
         size_t length;
         struct inroot_result result = make(d, told, w->room, text, &length);
@@ -197,7 +198,8 @@ static ssize_t refuse(struct work *w)
 }
 
 /* Takes turns with the library. What it gives, or -errno. */
-static ssize_t run(struct inroot_driver *d, int root, const struct inroot_request *asked, char *room, uint32_t error, bool may_retry)
+static ssize_t run(struct inroot_driver *d, int root, const struct inroot_request *asked, char *room, uint32_t error,
+                   bool may_retry)
 {
     struct work w = {
         .d = d, .asked = asked, .room = room, .root = root,
@@ -207,7 +209,8 @@ static ssize_t run(struct inroot_driver *d, int root, const struct inroot_reques
         },
     };
     const struct inroot_calling_facts facts = {
-        .error = error, .places = asked->places, .may_retry = may_retry, .finds_again = asked->op == INROOT_ASK_MKDIR_ALL,
+        .error = error, .places = asked->places, .may_retry = may_retry,
+        .finds_again = asked->op == INROOT_ASK_MKDIR_ALL,
         .gives = asked->makes == INROOT_MAKES_OPEN || asked->gives,
     };
     if (!inroot_has_floor())

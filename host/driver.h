@@ -66,7 +66,7 @@ struct inroot_change {
     int dir, other_dir;
     const char *name, *other;      /* the second of a rename, or the text of a link */
     int made;                      /* what was made and opened, or INROOT_NONE */
-    uint32_t unopened;             /* why the new entry could not be opened, or zero; EAGAIN where its name has another or none */
+    uint32_t unopened;             /* why the new entry could not be opened, or zero */
 };
 
 /* The directory that has an entry, which is the root's own descriptor or one to be closed, and the entry's name. */
@@ -90,7 +90,7 @@ struct inroot_driver {
     int unopened;                  /* as that of a change */
     uint8_t step;                  /* the last one that the proved call asked for, but for Close, or none */
     int unmade;                    /* why a step wasn't made, where one wasn't: the call ends by this */
-    uint32_t used, serial;         /* of the slots, so many were taken so far; and the last handle's number above its slot */
+    uint32_t used, serial;         /* so many slots were taken; and the last handle's number above its slot */
     char *names;                   /* those of the directory that was listed last */
     size_t listed;                 /* bytes of names that the call holds */
     size_t name_length;            /* of the name that `step` was about */
@@ -113,7 +113,7 @@ struct inroot_driver {
     char deepest_name[NAME_MAX + 1];
     char step_name[NAME_MAX + 1];  /* what `step` was about */
     char link_name[NAME_MAX + 1];
-    char passed[3072];             /* longer ones aren't known, which costs time alone */
+    char passed[INROOT_TEXT_MAX];
     struct inroot_slot few[INROOT_FEW];
 };
 
@@ -123,8 +123,9 @@ static inline uint32_t inroot_errno_of(long given)
     return given < 0 ? (uint32_t)errno : 0;
 }
 
-/* From here to the end of the block no thread is cancelled: a call leaves nothing open, and lets go of what it holds. */
-#define INROOT_UNCANCELLED __attribute__((cleanup(inroot_cancel_again), unused)) int inroot_cancels = inroot_cancel_not()
+/* From here to the end of the block the thread isn't cancelled: a call leaves nothing open. */
+#define INROOT_UNCANCELLED \
+    __attribute__((cleanup(inroot_cancel_again), unused)) int inroot_cancels = inroot_cancel_not()
 
 static inline int inroot_cancel_not(void)
 {
@@ -153,8 +154,9 @@ struct inroot_result inroot_handles_close(struct inroot_driver *d, uint64_t hand
 /* A second handle on the root, by the same descriptor. */
 uint64_t inroot_handles_share(struct inroot_driver *d, uint64_t root);
 /*
- * Takes the descriptor out of a handle, for the caller to keep, and notes its kind; or another one of the same directory, where that
- * one shares something with the caller's own. Returns it, or -errno. No handle is used after that.
+ * Takes the descriptor out of a handle, for the caller to keep, and notes its kind; or another one of the same
+ * directory, where that one shares something with the caller's own. Returns it, or -errno. No handle is used after
+ * that.
  */
 int inroot_handles_take(struct inroot_driver *d, uint64_t handle);
 /* Closes the descriptor of one directory above this one, if one can be spared. */
@@ -162,8 +164,11 @@ bool inroot_handles_spare(struct inroot_driver *d, uint64_t handle);
 
 /* passed.c */
 /* Keeps by which name, of so many bytes and a NUL, the walk has come from a directory to what was OPENED. */
-void inroot_passed_name(struct inroot_driver *d, uint64_t dir, const char *name, size_t length, const struct inroot_result *opened);
-/* The names that lead from the root to a handle, a slash before each, with a NUL; or NULL, where the driver doesn't know them. */
+void inroot_passed_name(struct inroot_driver *d, uint64_t dir, const char *name, size_t length,
+                        const struct inroot_result *opened);
+/* The same of a directory whose place was found: the names, a slash before each, or a slash alone. */
+void inroot_passed_place(struct inroot_driver *d, uint64_t dir, const char *place, size_t length);
+/* The names that lead from the root to a handle, a slash before each, with a NUL; or NULL where nobody knows. */
 const char *inroot_passed_names(struct inroot_driver *d, uint64_t handle, size_t *length);
 
 /* below.c */
@@ -177,7 +182,7 @@ bool inroot_has_floor(void);
 /* Opens names through no link, by O_PATH and these flags, and by RESOLVE bits: the descriptor, or -1 with errno. */
 int inroot_look_up(int dir, const char *names, uint64_t flags, uint64_t resolve);
 
-/* kernel_walk.c: each gives INROOT_STEPS, if the kernel's walk doesn't do it; or -errno, if the call fails so, which is noted. */
+/* kernel_walk.c: each gives INROOT_STEPS, where the kernel's walk doesn't do it; or -errno, which is noted. */
 /* Makes a call: what it gives. */
 int inroot_kernel_walk(int root, const struct inroot_request *asked);
 /* Opens what a path means by flags of open(2). */
@@ -206,8 +211,8 @@ const char *inroot_step_name(unsigned step);
 /* proc.c */
 enum { INROOT_PROC_NAME = 48 };
 /*
- * A /proc that is one, or -errno; IS_CALLERS where the caller is to close it. One that is at hand is any file of that proc(5), or
- * SURELY the directory that was opened. If the program has handed one in, there is no other.
+ * A /proc that is one, or -errno; IS_CALLERS where the caller is to close it. One that is at hand is any file of that
+ * proc(5), or SURELY the directory that was opened. If the program has handed one in, there is no other.
  */
 int inroot_proc_find(bool surely, bool *is_callers);
 /* Whether the program has one already; and whether a descriptor is of a proc(5). */
@@ -221,8 +226,8 @@ void inroot_proc_end(struct inroot_driver *d);
 /* The name in /proc of a descriptor of this thread, which is written into the room. */
 const char *inroot_proc_name(int fd, char room[INROOT_PROC_NAME]);
 /*
- * The error of a system call on such a name. If there is no such link at all, or the number is another file's by now, there is no
- * such /proc.
+ * The error of a system call on such a name. If there is no such link at all, or the number is another file's by now,
+ * there is no such /proc.
  */
 int inroot_proc_error(int proc, const char *name, int error);
 
@@ -265,12 +270,14 @@ struct inroot_which {
 /* Of what is open, or has a name in that directory. Whether it could be asked, or errno. */
 bool inroot_find_which(int fd, const char *name, struct inroot_which *which);
 /*
- * The names that lead from the root to what the walk holds. The slot may have another descriptor of it afterwards: the one that the
- * kernel's look-up below the root gave.
+ * The names that lead from the root to what the walk holds. The slot may have another descriptor of it afterwards: the
+ * one that the kernel's look-up below the root gave.
  */
-struct inroot_result inroot_name_below(struct inroot_driver *d, const struct inroot_told *step, char *text, size_t *length);
+struct inroot_result inroot_name_below(struct inroot_driver *d, const struct inroot_told *step, char *text,
+                                       size_t *length);
 /*
- * The path of the request's object below the root: the length of the text in the room, or -errno; -EAGAIN: it isn't below.
+ * The path of the request's object below the root: the length of the text in the room, or -errno; -EAGAIN: it isn't
+ * below.
  */
 ssize_t inroot_stands(struct inroot_driver *d, int root, char *room);
 
@@ -279,8 +286,8 @@ struct inroot_result inroot_list(struct inroot_driver *d, uint64_t handle);
 
 /* by_calls.c */
 /*
- * A step, and by what its system calls are made. A driver sets what they need. What was opened is FD, and HOW it was; or the root
- * itself, by HANDLE.
+ * A step, and by what its system calls are made. A driver sets what they need. What was opened is FD, and HOW it was;
+ * or the root itself, by HANDLE.
  */
 struct inroot_work {
     struct inroot_step_facts facts;
@@ -296,7 +303,7 @@ struct inroot_work {
 };
 /* Makes the step, as the library says: FACTS, and how it ENDS in the course. */
 void inroot_by_calls(struct inroot_driver *d, struct inroot_work *work);
-/* Whether somebody removed the directory; and whether somebody may have: it is on overlayfs, btrfs or in a cgroup, and can't be read. */
+/* Whether somebody removed the directory; and whether somebody may have, since that can't be known. */
 bool inroot_is_dead(int fd);
 bool inroot_may_be_dead(int fd);
 

@@ -76,7 +76,8 @@ void inroot_give(struct inroot_change *change)
 {
     const struct inroot_giving_facts facts = facts_of(change);
     const char *text = change->what == INROOT_STEP_MAKE_LINK ? change->other : "";
-    struct giving g = {.change = change, .fd = INROOT_NONE, .known = facts.linked ? change->asked->object : change->made};
+    const int known = facts.linked ? change->asked->object : change->made;
+    struct giving g = {.change = change, .fd = INROOT_NONE, .known = known};
     inroot_giving_begin(&g.course);
     while (g.course.next < INROOT_GIVING_GIVES) {
         g.answer.error = turn(&g);

@@ -1,7 +1,7 @@
 /*
  * handles.c: the handles of a proved call. Each has a slot with its descriptor. While a call removes a tree, the driver
- * closes the descriptor of a directory far above the one that is being cleared, and opens it again by `..` when its turn
- * comes. The proved library says which one, whether that one is back, and which descriptor a call hands out.
+ * closes the descriptor of a directory far above the one that is being cleared, and opens it again by `..` when its
+ * turn comes. The proved library says which one, whether that one is back, and which descriptor a call hands out.
  */
 #define _GNU_SOURCE
 #include "driver.h"
@@ -21,7 +21,7 @@ static int32_t index_of(uint64_t handle)
     return (int32_t)(uint32_t)handle;
 }
 
-/* Takes a slot, of which there is one. A handle's number counts up above its slot, so that none comes twice in a call. */
+/* Takes a slot, of which there is one. A handle's number counts up above its slot: none comes twice in a call. */
 static uint64_t take_slot(struct inroot_driver *d, int fd, enum inroot_kind kind, enum inroot_way way)
 {
     bool is_free = d->free >= 0;
@@ -81,7 +81,10 @@ bool inroot_handles_grow(struct inroot_driver *d)
 /* Room for what a file system calls an object by (name_to_handle_at(2)). */
 enum { HANDLE_ROOM = 128 };
 
-/* What the file system calls the directory by: with a number that counts how often the inode's was used. 0 where it can't be asked. */
+/*
+ * What the file system calls the directory by: with a number that counts how often the inode's was used. 0 where it
+ * can't be asked.
+ */
 static uint64_t handle_of(int fd)
 {
     int mount;
@@ -97,8 +100,8 @@ static uint64_t handle_of(int fd)
 }
 
 /*
- * The birth tells a directory from a later one with the same number, but not from one of the same tick of the clock: the handle does.
- * It is kept beside the seconds. If the directory can't be asked, the identity is empty.
+ * The birth tells a directory from a later one with the same number, but not from one of the same tick of the clock:
+ * the handle does. It is kept beside the seconds. If the directory can't be asked, the identity is empty.
  */
 static void identify(int fd, struct inroot_birth *who)
 {
@@ -117,8 +120,8 @@ static void identify(int fd, struct inroot_birth *who)
 }
 
 /*
- * On overlayfs a directory gets another birth as it is copied up. So it is copied up before it is let go, by a change of no owner;
- * where that fails, its birth says nothing.
+ * On overlayfs a directory gets another birth as it is copied up. So it is copied up before it is let go, by a change
+ * of no owner; where that fails, its birth says nothing.
  */
 static void identify_for_later(int fd, struct inroot_birth *who)
 {

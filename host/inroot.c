@@ -118,7 +118,7 @@ int inroot_mkdir(int root, const char *path, mode_t mode, int flags)
 
 int inroot_mknod(int root, const char *path, mode_t mode, dev_t dev, int flags)
 {
-    /* The kernel takes so many bits, and a C library may leave out the others: it would make the node of another device. */
+    /* The kernel takes so many bits. A C library may leave out the others, and make the node of another device. */
     if (!inroot_is_node(mode, dev) || dev > UINT32_MAX)
         return inroot_error_alone(EINVAL, "", "");
     return make(root, INROOT_ASK_MKFILE, path, mode & S_IFMT, mode & ~(mode_t)S_IFMT, dev, flags);
@@ -127,7 +127,8 @@ int inroot_mknod(int root, const char *path, mode_t mode, dev_t dev, int flags)
 int inroot_symlink(int root, const char *text, const char *path, int flags)
 {
     const struct inroot_request asked = {
-        .op = INROOT_ASK_SYMLINK, .flags = flags & ~INROOT_GIVE, .first = path, .second = text, .gives = flags & INROOT_GIVE,
+        .op = INROOT_ASK_SYMLINK, .flags = flags & ~INROOT_GIVE, .first = path, .second = text,
+        .gives = flags & INROOT_GIVE,
     };
     return inroot_carry_out_alone(root, &asked);
 }

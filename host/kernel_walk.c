@@ -1,8 +1,8 @@
 /*
- * kernel_walk.c: one openat2(2) walks a path, through links and `..`, and not out of the root. Behind it comes the one system call
- * of a change, in the directory that it opened. If a look-up doesn't succeed, nothing is open and nothing was changed, and the steps
- * make the call. Once a change was tried there is no other way. The proved library parts a path, and says which ones the kernel may
- * walk; and of which a missing name is the call's error.
+ * kernel_walk.c: one openat2(2) walks a path, through links and `..`, and not out of the root. Behind it comes the one
+ * system call of a change, in the directory that it opened. If a look-up doesn't succeed, nothing is open and nothing
+ * was changed, and the steps make the call. Once a change was tried there is no other way. The proved library parts a
+ * path, and says which ones the kernel may walk; and of which a missing name is the call's error.
  */
 #define _GNU_SOURCE
 #include "driver.h"
@@ -30,8 +30,8 @@ static uint64_t resolve_of(int flags)
 }
 
 /*
- * Whether one system call may walk the path. A walk that met no link is one that might have followed some. For a path of slashes
- * alone the kernel doesn't search the root, as the steps do.
+ * Whether one system call may walk the path. A walk that met no link is one that might have followed some. For a path
+ * of slashes alone the kernel doesn't search the root, as the steps do.
  */
 static bool may_walk(const struct look *look)
 {
@@ -57,51 +57,54 @@ static bool is_missing(const struct look *look)
     return fd < 0 && errno == ENOENT;
 }
 
-/*
- * What the look-up opens, or INROOT_STEPS, or the call's own error: a missing name; a signal, as a FIFO or the like is opened for
- * use.
- */
+/* What the look-up opens; INROOT_STEPS, with errno; or -EINTR of what is opened for use, as a FIFO. */
 static int look_up(const struct look *look, int flags, mode_t mode)
 {
     const struct open_how how = {
         .flags = (uint64_t)(unsigned)(flags | O_CLOEXEC), .mode = mode, .resolve = resolve_of(look->flags),
     };
-    if (!may_walk(look))
-        return INROOT_STEPS;
-    const int fd = inroot_openat2(look->root, look->path, &how);
-    if (fd >= 0)
-        return fd;
-    if (errno == EINTR && !(flags & O_PATH))
+    errno = 0;
+    const int fd = may_walk(look) ? inroot_openat2(look->root, look->path, &how) : INROOT_NONE;
+    if (fd < 0 && errno == EINTR)
         return inroot_error_alone(EINTR, "Reopen", "");
-    return errno == ENOENT && is_missing(look) ? inroot_error_alone(ENOENT, "Open", "") : INROOT_STEPS;
+    return fd < 0 ? INROOT_STEPS : fd;
 }
 
 int inroot_kernel_open(int root, const char *path, int flags, int open_flags, mode_t mode)
 {
     const struct look look = {.root = root, .flags = flags, .path = path, .length = strlen(path)};
-    return look_up(&look, open_flags, mode);
+    const int fd = look_up(&look, open_flags, mode);
+    return fd == INROOT_STEPS && errno == ENOENT && is_missing(&look) ? inroot_error_alone(ENOENT, "Open", "") : fd;
 }
 
 /* ---- an object */
 
+static int tell_kind(int fd, enum inroot_kind *kind)
+{
+    struct stat about;
+    if (fstat(fd, &about) != 0) {
+        close(fd);
+        return INROOT_STEPS;
+    }
+    *kind = (enum inroot_kind)inroot_kind_of(about.st_mode);
+    return fd;
+}
+
 static int open_object(int root, const struct inroot_request *asked)
 {
-    const bool is_directory = asked->directory || asked->op == INROOT_ASK_MKDIR_ALL;
-    struct stat about;
-    const int fd = inroot_kernel_open(root, asked->first, asked->flags,
-                                      O_PATH | (asked->op == INROOT_ASK_RESOLVE_NOFOLLOW ? O_NOFOLLOW : 0) |
-                                          (is_directory ? O_DIRECTORY : 0), 0);
-    /* All directories of a path are made where they are missing. */
-    if (fd == -ENOENT && asked->op == INROOT_ASK_MKDIR_ALL)
-        return INROOT_STEPS;
-    if (fd < 0 || asked->opened == NULL)
-        return fd;
-    if (fstat(fd, &about) == 0) {
-        *asked->opened = (enum inroot_kind)inroot_kind_of(about.st_mode);
-        return fd;
-    }
-    close(fd);
-    return INROOT_STEPS;
+    const int flags = O_PATH | (asked->op == INROOT_ASK_RESOLVE_NOFOLLOW ? O_NOFOLLOW : 0) |
+                      (asked->directory ? O_DIRECTORY : 0);
+    const int fd = inroot_kernel_open(root, asked->first, asked->flags, flags, 0);
+    return fd >= 0 && asked->opened != NULL ? tell_kind(fd, asked->opened) : fd;
+}
+
+/* Where all directories are there already. */
+static int open_all(int root, const struct inroot_request *asked)
+{
+    const struct look look = {
+        .root = root, .flags = asked->flags, .path = asked->first, .length = strlen(asked->first),
+    };
+    return look_up(&look, O_PATH | O_DIRECTORY, 0);
 }
 
 /* ---- an entry, and the directory that has it */
@@ -112,7 +115,7 @@ void inroot_entry_close(const struct inroot_entry *entry)
         close(entry->dir);
 }
 
-/* The directory's path has no slash at its end, but where it is the root's alone. No look-up is made where it is the root. */
+/* Where the directory is the root itself no look-up is made. Else its path goes without the slashes at its end. */
 int inroot_kernel_entry(int root, int flags, const char *path, bool takes_slash, struct inroot_entry *entry)
 {
     struct inroot_parted parted = {0};
@@ -176,10 +179,19 @@ static int change_entry(int root, const struct inroot_request *asked)
     return result;
 }
 
-/* With a slash at the end of a path the steps look first whether a directory is there. */
+static bool ends_in_name(const char *path)
+{
+    struct inroot_parted parted = {0};
+    inroot_split((const unsigned char *)path, strlen(path), false, &parted);
+    return parted.error == 0;
+}
+
+/* What both paths end in comes first. With a slash there the steps look whether a directory is there. */
 static int rename_entry(int root, const struct inroot_request *asked)
 {
     struct inroot_entry from, to;
+    if (!ends_in_name(asked->second))
+        return INROOT_STEPS;
     int result = inroot_kernel_entry(root, asked->flags, asked->first, false, &from);
     if (result < 0)
         return result;
@@ -208,7 +220,8 @@ int inroot_kernel_walk(int root, const struct inroot_request *asked)
     if (asked->flags & INROOT_EXACT || asked->places)
         return INROOT_STEPS;
     switch (asked->op) {
-    case INROOT_ASK_RESOLVE: case INROOT_ASK_RESOLVE_NOFOLLOW: case INROOT_ASK_MKDIR_ALL: return open_object(root, asked);
+    case INROOT_ASK_RESOLVE: case INROOT_ASK_RESOLVE_NOFOLLOW: return open_object(root, asked);
+    case INROOT_ASK_MKDIR_ALL: return open_all(root, asked);
     case INROOT_ASK_READLINK: case INROOT_ASK_REMOVE_ALL: return INROOT_STEPS;
     case INROOT_ASK_RENAME: return rename_entry(root, asked);
     default: return is_plain(asked) ? change_entry(root, asked) : INROOT_STEPS;

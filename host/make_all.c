@@ -1,6 +1,6 @@
 /*
- * make_all.c: makes all missing parts of a path, and gives the object at its end. Proved calls say which call comes next, where its
- * path begins, and what is closed before.
+ * make_all.c: makes all missing parts of a path, and gives the object at its end. Proved calls say which call comes
+ * next, where its path begins, and what is closed before.
  */
 #define _GNU_SOURCE
 #include "driver.h"
@@ -13,8 +13,8 @@
 enum { MODE_BITS = 07777 };
 
 /*
- * What is asked for, how far it has come, and the path; what the next call is about, and the same from the root; and the last call's
- * error.
+ * What is asked for, how far it has come, and the path; what the next call is about, and the same from the root; and
+ * the last call's error.
  */
 struct work {
     int root, flags;
@@ -32,8 +32,8 @@ static struct inroot_outcome outcome_of(int result)
 }
 
 /*
- * A part may begin at a directory that was found: then the names at which that stands below the root come before it. Gives 0 or
- * -errno.
+ * A part may begin at a directory that was found: then the names at which that stands below the root come before it.
+ * Gives 0 or -errno.
  */
 static int join(struct work *w, const char *part)
 {
@@ -60,7 +60,9 @@ static ssize_t carry_out(struct work *w, const char *part, struct inroot_request
     asked.flags = w->flags;
     asked.first = w->joined;
     asked.second = "";
-    return failed ? failed : room == NULL ? inroot_carry_out_alone(w->root, &asked) : inroot_carry_out(w->root, &asked, room);
+    if (failed)
+        return failed;
+    return room == NULL ? inroot_carry_out_alone(w->root, &asked) : inroot_carry_out(w->root, &asked, room);
 }
 
 static struct inroot_outcome find(struct work *w)
@@ -99,7 +101,7 @@ static struct inroot_outcome read_link(struct work *w, char *text, size_t *text_
     return (struct inroot_outcome){.error = length < 0 ? (uint32_t)-length : 0};
 }
 
-/* ---- as much of a part as is there. The proved library says which beginning is tried next, and how (crates/open_partial). */
+/* ---- as much of a part as is there: the proved library says which beginning is tried next (crates/open_partial) */
 
 /* Opens the first pieces of the text that are tried. */
 static int open_pieces(struct work *w, char *text, size_t length, const struct inroot_search *search)
@@ -169,7 +171,8 @@ static void turn(struct work *w)
     size_t text_length = 0;
     inroot_wait(w->making.pause);
     const struct inroot_outcome outcome = call(w, text, &text_length);
-    inroot_making_next(&w->making, &outcome, (const unsigned char *)text, text_length, (unsigned char *)w->path, INROOT_TEXT_MAX);
+    inroot_making_next(&w->making, &outcome, (const unsigned char *)text, text_length, (unsigned char *)w->path,
+                       INROOT_TEXT_MAX);
     let_go(w->making.closes_base);
     let_go(w->making.closes_from);
     let_go(w->making.closes_given);

@@ -1,14 +1,14 @@
 /*
- * passed.c: the names that a walk has passed, from the root on, as far as the driver knows them. The proved call has its own,
- * which count. The driver looks these up from the root and compares the result with the object that it holds: so wrong names
- * cost only time.
+ * passed.c: the names that a walk has passed, from the root on, as far as the driver knows them: behind `..` from the
+ * place on that was found there. The proved call has its own, which count. The driver looks these up from the root and
+ * compares the result with the object that it holds: so wrong names cost only time.
  */
 #define _GNU_SOURCE
 #include "driver.h"
 
 #include <string.h>
 
-/* How long the names are, a slash before each, that lead to a directory's handle; or -1, where the driver doesn't know them. */
+/* How long the names are, a slash before each, that lead to a directory's handle; or -1 where nobody knows. */
 static ssize_t base_of(struct inroot_driver *d, uint64_t handle)
 {
     if (inroot_handles_slot(d, handle)->way == INROOT_BY_ROOT)
@@ -17,7 +17,8 @@ static ssize_t base_of(struct inroot_driver *d, uint64_t handle)
 }
 
 /* A link may be followed: then the walk stands in its directory still. So the directory's names stay, too. */
-static void keep_link(struct inroot_driver *d, uint64_t dir, const char *name, size_t length, uint64_t link, size_t passed)
+static void keep_link(struct inroot_driver *d, uint64_t dir, const char *name, size_t length, uint64_t link,
+                      size_t passed)
 {
     d->link = link;
     d->link_dir = dir;
@@ -27,7 +28,8 @@ static void keep_link(struct inroot_driver *d, uint64_t dir, const char *name, s
         memcpy(d->link_name, name, length + 1);
 }
 
-void inroot_passed_name(struct inroot_driver *d, uint64_t dir, const char *name, size_t length, const struct inroot_result *opened)
+void inroot_passed_name(struct inroot_driver *d, uint64_t dir, const char *name, size_t length,
+                        const struct inroot_result *opened)
 {
     const ssize_t base = base_of(d, dir);
     size_t passed = base < 0 || (size_t)base + 1 + length >= sizeof d->passed ? 0 : (size_t)base + 1 + length;
@@ -41,6 +43,14 @@ void inroot_passed_name(struct inroot_driver *d, uint64_t dir, const char *name,
         d->passed_handle = passed > 0 ? opened->handle : 0;
         d->passed_length = passed;
     }
+}
+
+void inroot_passed_place(struct inroot_driver *d, uint64_t dir, const char *place, size_t length)
+{
+    const bool fits = length < sizeof d->passed;
+    d->passed_handle = fits ? dir : 0;
+    d->passed_length = fits && length > 1 ? length : 0;
+    memcpy(d->passed, place, d->passed_length);
 }
 
 const char *inroot_passed_names(struct inroot_driver *d, uint64_t handle, size_t *length)

@@ -1,6 +1,6 @@
 /*
- * steps.c: each step that a proved call asks for: what is known of it before its system calls, and what its end is to the call
- * (docs/HOST-WHY.md has the map and what is trusted).
+ * steps.c: each step that a proved call asks for: what is known of it before its system calls, and what its end is to
+ * the call (docs/HOST-WHY.md has the map and what is trusted).
  */
 #define _GNU_SOURCE
 #include "driver.h"
@@ -11,8 +11,8 @@
 /* ---- answers */
 
 /*
- * A step that wasn't made, for this error: as if there had been no memory for it. So the call closes what it opened, and ends. The
- * caller gets the error itself.
+ * A step that wasn't made, for this error: as if there had been no memory for it. So the call closes what it opened,
+ * and ends. The caller gets the error itself.
  */
 struct inroot_result inroot_unmade(struct inroot_driver *d, int error)
 {
@@ -85,7 +85,8 @@ static struct inroot_result leave_here(struct inroot_driver *d, const struct inr
 }
 
 /* Opens one name, as a directory at first. Keeps by which names the walk has come there. */
-static struct inroot_result open_name(struct inroot_driver *d, const struct inroot_told *step, int dir, const char *name)
+static struct inroot_result open_name(struct inroot_driver *d, const struct inroot_told *step, int dir,
+                                      const char *name)
 {
     if (d->begun && inroot_is_deepest(inroot_handles_slot(d, step->handle)))
         return leave_here(d, step, name);
@@ -94,7 +95,7 @@ static struct inroot_result open_name(struct inroot_driver *d, const struct inro
     struct inroot_work work = work_on(INROOT_STEP_OPEN, step->handle, dir, name);
     work.facts.directory = true;
     struct inroot_result result = open_by(d, &work);
-    if (result.what == INROOT_ANSWER_OPENED && !d->counts)
+    if (result.what == INROOT_ANSWER_OPENED && !d->begun)
         inroot_passed_name(d, step->handle, name, step->first, &result);
     return result;
 }
@@ -120,6 +121,16 @@ static struct inroot_result open_parent(struct inroot_driver *d, uint64_t handle
 }
 
 /* ---- other steps */
+
+/* The walk goes on from a directory by the names that were found. */
+static struct inroot_result name_below(struct inroot_driver *d, const struct inroot_told *step, char *text,
+                                       size_t *length)
+{
+    struct inroot_result result = inroot_name_below(d, step, text, length);
+    if (result.what == INROOT_ANSWER_NAMES && inroot_handles_slot(d, step->handle)->kind == INROOT_KIND_DIR)
+        inroot_passed_place(d, step->handle, text, *length);
+    return result;
+}
 
 /* Each link that is read is one that the walk, or the driver, follows. */
 static struct inroot_result read_link(struct inroot_driver *d, uint64_t handle, int fd, char *text, size_t *length)
@@ -150,10 +161,12 @@ static struct inroot_result changed(struct inroot_driver *d, const struct inroot
 }
 
 /* Changes an entry: its name lies in the room, and behind that another name or a link's text. */
-static struct inroot_result change_entry(struct inroot_driver *d, const struct inroot_told *step, int dir, const char *room)
+static struct inroot_result change_entry(struct inroot_driver *d, const struct inroot_told *step, int dir,
+                                         const char *room)
 {
     struct inroot_change change = {
-        .asked = d->asked, .what = step->what, .dir = dir, .name = room, .other = room + step->first + 1, .made = INROOT_NONE,
+        .asked = d->asked, .what = step->what, .dir = dir, .name = room, .other = room + step->first + 1,
+        .made = INROOT_NONE,
     };
     int error = step->what == INROOT_STEP_RENAME ? inroot_handles_fd(d, step->other, &change.other_dir) : 0;
     if (error)
@@ -181,7 +194,7 @@ struct inroot_result inroot_make(struct inroot_driver *d, const struct inroot_to
     case INROOT_STEP_DUP: return open_root(d, step->handle, dir);
     case INROOT_STEP_PARENT: return open_parent(d, step->handle, dir);
     case INROOT_STEP_READLINK: return read_link(d, step->handle, dir, text, length);
-    case INROOT_STEP_NAME_BELOW: return inroot_name_below(d, step, text, length);
+    case INROOT_STEP_NAME_BELOW: return name_below(d, step, text, length);
     case INROOT_STEP_LIST: return inroot_list(d, step->handle);
     default: return change_entry(d, step, dir, room);
     }

@@ -1,6 +1,7 @@
 /*
  * use.c: opens an object that was found for reading and writing, makes and opens files, and gives the status of an
- * object. Which call comes next, and what that is asked for, the proved library says (crates/open_or_make, system_calls).
+ * object. Which call comes next, and what that is asked for, the proved library says (crates/open_or_make,
+ * system_calls).
  */
 #define _GNU_SOURCE
 #include "driver.h"
@@ -15,9 +16,10 @@
 static const struct inroot_machine_flags machine = {
     .directory = O_DIRECTORY, .nofollow = O_NOFOLLOW, .direct = O_DIRECT, .largefile = O_LARGEFILE,
 };
-_Static_assert(O_RDONLY == 0 && O_WRONLY == 01 && O_RDWR == 02 && O_CREAT == 0100 && O_EXCL == 0200 && O_NOCTTY == 0400 &&
-               O_TRUNC == 01000 && O_APPEND == 02000 && O_NONBLOCK == 04000 && O_DSYNC == 010000 && O_NOATIME == 01000000 &&
-               O_CLOEXEC == 02000000 && O_SYNC == 04010000 && O_PATH == 010000000 && O_TMPFILE == (020000000 | O_DIRECTORY),
+_Static_assert(O_RDONLY == 0 && O_WRONLY == 01 && O_RDWR == 02 && O_CREAT == 0100 && O_EXCL == 0200 &&
+               O_NOCTTY == 0400 && O_TRUNC == 01000 && O_APPEND == 02000 && O_NONBLOCK == 04000 && O_DSYNC == 010000 &&
+               O_NOATIME == 01000000 && O_CLOEXEC == 02000000 && O_SYNC == 04010000 && O_PATH == 010000000 &&
+               O_TMPFILE == (020000000 | O_DIRECTORY),
                "the numbers of crates/system_calls");
 
 /* What is to be opened, and how; FLAGS are the call's. */
@@ -130,8 +132,8 @@ static int turn(const struct use *use, struct inroot_course *course, char path[I
     const bool finds = course->next == INROOT_COURSE_FIND;
     const int result = finds ? find(use, path, text) : make(use, course->next, path, NULL, text);
     const size_t length = course->next == INROOT_COURSE_READ_LINK && result > 0 ? (size_t)result : 0;
-    inroot_course_next(course, result < 0 ? (uint32_t)-result : 0, (const unsigned char *)text, length, (unsigned char *)path,
-                       INROOT_TEXT_MAX);
+    inroot_course_next(course, result < 0 ? (uint32_t)-result : 0, (const unsigned char *)text, length,
+                       (unsigned char *)path, INROOT_TEXT_MAX);
     path[course->length] = 0;
     return result;
 }

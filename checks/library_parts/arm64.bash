@@ -187,7 +187,7 @@ if lacks $arm-gcc 'the library as arm64'; then
     :
 elif [ -z "$emulator" ]; then
     skip 'the library as arm64' 'there is no qemu-aarch64 here'
-elif ! echo 'int main(void) { return 0; }' | $arm-gcc -static -x c -o "$work/arm-static" - 2>/dev/null; then
+elif ! compiles $arm-gcc -static; then
     skip 'the library as arm64' "there is no static C library for $arm-gcc here"
 else
     arm_root=$(readlink -f -- "$(dirname -- "$($arm-gcc -print-file-name=libc.so)")/..")

@@ -73,7 +73,7 @@ if ! lacks go 'bindings/go and the example in Go'; then
     cp "$work/unpack-go-archive" "$work/used" && ! is_shared
     verdict $? 'a Go program that is built with inroot_static takes the shared library'
     has "the tests of examples/clients/securejoin" env -C examples/clients/securejoin go test -count=1 ./...
-    if [ -e "$work/static" ]; then
+    if compiles cc -static; then
         has 'a Go program, static' env -C examples/runtime/unpack-go \
             go build -ldflags '-linkmode external -extldflags -static' -o "$work/unpack-go-static" .
         cp "$work/unpack-go-static" "$work/used" && ! is_shared

@@ -11,10 +11,6 @@ built_by() {
         [ "$(nm -D --defined-only "$at/libinroot.so.0" | awk '$2 == "T"' | wc -l)" -eq "$(wc -l <<<"$wanted")" ]
     verdict $? "$name: what is built gives other calls, or the tool does not run"
 }
-# compiles COMPILER OPTIONS..: whether it makes a program with them.
-compiles() {
-    echo 'int main(void) { return 0; }' | "$@" -x c -o "$work/compiled" - 2>/dev/null
-}
 
 if compiles cc -flto=auto -ffat-lto-objects; then
     built_by lto CFLAGS='-O1 -flto=auto' LDFLAGS=-flto=auto

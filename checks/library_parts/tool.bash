@@ -3,12 +3,17 @@
 
 fs=$prefix/bin/inroot-fs
 # What is expected below is watched by sanitizers where the compiler has them.
-watched_fs=$work/watched-fs
-cc -std=gnu11 -g -fsanitize=address,undefined -fno-sanitize-recover=all -Ihost -o "$watched_fs" host/inroot-fs*.c \
-    "$prefix/lib/libinroot.a" -pthread 2>/dev/null || {
-    skip 'inroot-fs under sanitizers' 'the compiler has none'
-    watched_fs=$fs
-}
+watched_fs=$fs
+sanitized='-fsanitize=address,undefined -fno-sanitize-recover=all'
+# shellcheck disable=SC2086
+if compiles cc $sanitized; then
+    watched_fs=$work/watched-fs
+    has 'inroot-fs under sanitizers' cc -std=gnu11 -g $sanitized -Ihost -o "$watched_fs" host/inroot-fs*.c \
+        "$prefix/lib/libinroot.a" -pthread
+else
+    skip 'inroot-fs and unpack under sanitizers' 'the compiler has none'
+    sanitized=
+fi
 # expect STATUS STDOUT STDERR ARGS..: below the box; STDERR is the first line, or empty. Standard input is the case's.
 expect() {
     local status=$1 out=$2 err=$3 got said

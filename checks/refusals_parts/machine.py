@@ -8,7 +8,7 @@ import subprocess
 import sys
 import tempfile
 
-from frame import PROGRAM, read, skip, started
+from frame import PROGRAM, read, skip, started, verdict
 
 PART = (sys.argv + ["gate"])[1]
 # One request is refused alone; and then, in the long part, all later ones, too.
@@ -28,13 +28,15 @@ resource.setrlimit(resource.RLIMIT_CPU, (300, resource.getrlimit(resource.RLIMIT
 
 
 def is_built():
-    """Builds the library, or skips what takes it."""
+    """Builds the library, or skips what takes it where no C compiler builds an empty one."""
     compiler = shutil.which(os.environ.get("CC") or "cc")
-    words = [compiler, "-O2", "-shared", "-fPIC", "-o", f"{ROOM}/faults.so", "checks/faults.c", "-ldl"]
-    if compiler and started(words).status == 0:
-        return True
-    skip("refused memory, reads, writes and threads, and memory measured", "no C compiler here builds checks/faults.c")
-    return False
+    words = [compiler, "-O2", "-shared", "-fPIC", "-o", f"{ROOM}/faults.so", "-x", "c"]
+    if not compiler or started([*words, "/dev/null", "-ldl"]).status:
+        skip("refused memory, reads, writes and threads, and memory measured", "no C compiler here builds a shared library")
+        return False
+    made = started([*words, "checks/faults.c", "-ldl"])
+    verdict(made.status == 0, "checks/faults.c is not built", made.err)
+    return made.status == 0
 
 
 def write(name, text):

@@ -1,8 +1,9 @@
 /*
- * automount: a directory below the root on which autofs mounts. A call that goes through it, or wants a directory at its end, has it
- * mounted, as open(2) does, and finds or makes what is in there; a call that only finds it mounts nothing, as open(2) with O_PATH.
- * By a descriptor, in a jail and in one that trusts; by runs of names, name by name and with INROOT_BELOW. The daemon is the test's
- * own: it mounts an empty file system with the file `f` and the directory `d`.
+ * automount: a directory below the root on which autofs mounts. A call that goes through it, wants a directory at its end or opens it
+ * for use has it mounted, as open(2) does, and finds or makes what is in there; a call that only finds it mounts nothing, as open(2)
+ * with O_PATH. With INROOT_EXACT each call has it mounted, since a step opens each name as a directory first.
+ * By the kernel's walk and with INROOT_EXACT, also in a chroot. The daemon is the test's own: it mounts an empty file system with the
+ * file `f` and the directory `d`.
  *
  * usage: automount DIR. Exits 0 where that holds. 77: no openat2(2) here. 78: no right to mount here, or no autofs.
  */
@@ -18,9 +19,9 @@
 #include <sys/prctl.h>
 #include <sys/vfs.h>
 
-enum { BY_DESCRIPTOR = -1, TRAP = 0x187, SECONDS = 60 };
+enum { TRAP = 0x187, SECONDS = 60 };
 
-static int base, root, way, flags, case_at;
+static int base, root, case_at;
 static char where[PATH_MAX], trap[PATH_MAX + 16], place[PATH_MAX + 16];
 
 /* ---- the daemon */
@@ -84,78 +85,77 @@ static void begin_daemon(void)
 
 /* ---- the calls */
 
-static int open_it(int at, const char *path)
+static int open_it(const char *path)
 {
-    return inroot_open(at, path, flags);
+    return inroot_open(root, path, way);
 }
 
-static int read_it(int at, const char *path)
+static int read_it(const char *path)
 {
-    return inroot_openat(at, path, O_RDONLY, 0, flags);
+    return inroot_openat(root, path, O_RDONLY, 0, way);
 }
 
-static int read_directory(int at, const char *path)
+static int read_directory(const char *path)
 {
-    return inroot_openat(at, path, O_RDONLY | O_DIRECTORY, 0, flags);
+    return inroot_openat(root, path, O_RDONLY | O_DIRECTORY, 0, way);
 }
 
-static int create(int at, const char *path)
+static int create(const char *path)
 {
-    return inroot_openat(at, path, O_RDWR | O_CREAT | O_EXCL, 0600, flags);
+    return inroot_openat(root, path, O_RDWR | O_CREAT | O_EXCL, 0600, way);
 }
 
-static int make_all(int at, const char *path)
+static int make_all(const char *path)
 {
-    return inroot_mkdir_all(at, path, 0755, flags & ~INROOT_BELOW);
+    return inroot_mkdir_all(root, path, 0755, way);
 }
 
-static int open_parent(int at, const char *path)
+static int open_parent(const char *path)
 {
     char last[256];
-    return inroot_open_parent(at, path, flags, last);
+    return inroot_open_parent(root, path, way, last);
 }
 
-/* What each call gives is of this file system; or it fails by this error. */
+/* Of which file system is what each call gives, by the kernel's walk and with INROOT_EXACT. */
 static const struct {
     const char *path;
-    int (*call)(int at, const char *path);
-    long wanted;
+    int (*call)(const char *path);
+    long wanted, exact;
 } cases[] = {
-    {"net/k", open_it, TRAP},
-    {"net/k", read_it, -ENOENT},
-    {"net/k/", open_it, TMPFS_MAGIC},
-    {"net/k", read_directory, TMPFS_MAGIC},
-    {"net/k/f", open_it, TMPFS_MAGIC},
-    {"net/k/f", read_it, TMPFS_MAGIC},
-    {"net/k/d/../f", open_it, TMPFS_MAGIC},
-    {"net/k/../k/f", open_it, TMPFS_MAGIC},
-    {"l/f", open_it, TMPFS_MAGIC},
-    {"net/k/new", create, TMPFS_MAGIC},
-    {"net/k/n/e/w", make_all, TMPFS_MAGIC},
-    {"net/k/new", open_parent, TMPFS_MAGIC},
-    {"net/k/..", open_it, TRAP},
+    {"net/k", open_it, TRAP, TMPFS_MAGIC},
+    {"net/k", read_it, TMPFS_MAGIC, TMPFS_MAGIC},
+    {"net/k/", open_it, TMPFS_MAGIC, TMPFS_MAGIC},
+    {"net/k", read_directory, TMPFS_MAGIC, TMPFS_MAGIC},
+    {"net/k/f", open_it, TMPFS_MAGIC, TMPFS_MAGIC},
+    {"net/k/f", read_it, TMPFS_MAGIC, TMPFS_MAGIC},
+    {"net/k/d/../f", open_it, TMPFS_MAGIC, TMPFS_MAGIC},
+    {"net/k/../k/f", open_it, TMPFS_MAGIC, TMPFS_MAGIC},
+    {"l/f", open_it, TMPFS_MAGIC, TMPFS_MAGIC},
+    {"net/k/new", create, TMPFS_MAGIC, TMPFS_MAGIC},
+    {"net/k/n/e/w", make_all, TMPFS_MAGIC, TMPFS_MAGIC},
+    {"net/k/new", open_parent, TMPFS_MAGIC, TMPFS_MAGIC},
+    {"net/k/..", open_it, TRAP, TRAP},
 };
 enum { CASES = sizeof cases / sizeof *cases };
 
 static void one(void)
 {
     struct statfs about = {0};
-    int at = root_or_jail(root, way);
     alarm(SECONDS);
-    int fd = cases[case_at].call(at, cases[case_at].path);
+    int fd = cases[case_at].call(cases[case_at].path);
     const long got = fd < 0 ? fd : fstatfs(fd, &about) == 0 ? (long)about.f_type : -errno;
-    gives(got, cases[case_at].wanted, "case %d, %s, way %d, flags %d", case_at, cases[case_at].path, way, flags);
+    gives(got, way ? cases[case_at].exact : cases[case_at].wanted, "case %d, %s, flags %d", case_at, cases[case_at].path, way);
 }
 
 /* Each case begins without the mount. */
 static int each(void)
 {
-    static const int more[] = {0, INROOT_ONE_BY_ONE, INROOT_BELOW};
     int skipped = 0;
     for (case_at = 0; case_at < CASES; case_at++)
-        for (size_t at = 0; at < sizeof more / sizeof *more; at++) {
-            flags = more[at];
-            skipped |= apart(one);
+        for (way = 0; way <= INROOT_EXACT; way += INROOT_EXACT) {
+            apart(one);
+            umount2(place, MNT_DETACH);
+            skipped |= apart_in(root, one);
             umount2(place, MNT_DETACH);
         }
     return skipped;
@@ -169,9 +169,8 @@ int main(int count, char **words)
     if (realpath(words[1], where) == NULL)
         return 1;
     begin_daemon();
-    int skipped = 0;
-    for (way = BY_DESCRIPTOR; way <= INROOT_TRUST_PROC; way += way == 0 ? INROOT_TRUST_PROC : 1)
-        skipped |= each();
+    open_proc();
+    const int skipped = each();
     printf("automount: %d not as they are to be\n", wrong);
     return wrong != 0 ? 1 : skipped;
 }

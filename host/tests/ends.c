@@ -51,6 +51,7 @@ static void make_one(void)
 
 static void each_call(void)
 {
+    open_proc();
     for (number = 0; number < CALLS; number++) {
         char name[16];
         int before = open_descriptors();
@@ -75,6 +76,7 @@ static void use_proc(void)
 
 static void handed_in_twice(void)
 {
+    gives(inroot_use_proc(proc), 0, "the first /proc");
     cancelled("inroot_use_proc", use_proc);
 }
 

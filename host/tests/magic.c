@@ -1,10 +1,10 @@
 /*
- * magic: which links are followed under INROOT_NO_MAGICLINKS, below the root `/` with its proc(5). openat2(2) with RESOLVE_IN_ROOT
- * and RESOLVE_NO_MAGICLINKS says the same, and comes to the same objects. And if the kernel can't say which kind a link is, by
- * any error, or since no descriptor is left or the object is gone just then, no call follows the link. To be linked with
+ * magic: which links are followed below the root `/` with its proc(5): along a text, and none of the kernel's own. openat2(2) with
+ * RESOLVE_IN_ROOT and RESOLVE_NO_MAGICLINKS says the same, and comes to the same objects. And if the kernel can't say which kind a
+ * link is, by any error, or since no descriptor is left or the object is gone just then, no call follows the link. To be linked with
  * --wrap=syscall.
  *
- * usage: magic DIR. Exits 0 where that holds. 77: no openat2(2) here. 78: no right to change a root, so that a part is left out.
+ * usage: magic DIR. Exits 0 where that holds. 77: no openat2(2) here.
  */
 #define _GNU_SOURCE
 #include "support.h"
@@ -14,7 +14,7 @@
 #include <sys/resource.h>
 #include <sys/stat.h>
 
-static int root, jail_flags = -1;
+static int root;
 
 static const char *const paths[] = {
     "proc/self/root", "proc/self/root/proc", "proc/self/cwd", "proc/self/exe", "proc/thread-self/fd/0", "proc/self/ns/mnt",
@@ -35,11 +35,11 @@ static int by_kernel(const char *path, uint64_t flags)
     return fd < 0 ? -errno : fd;
 }
 
-static void agrees(int at, const char *path, int flags)
+static void agrees(const char *path, int flags)
 {
     const bool nofollow = flags & INROOT_NOFOLLOW;
     struct stat a, b;
-    int mine = inroot_open(at, path, flags | INROOT_NO_MAGICLINKS), kernels = by_kernel(path, nofollow ? O_NOFOLLOW : 0);
+    int mine = inroot_open(root, path, flags), kernels = by_kernel(path, nofollow ? O_NOFOLLOW : 0);
     if (mine < 0 || kernels < 0) {
         expect(mine == kernels, "%s with %d: %d, and by the kernel %d", path, flags, mine, kernels);
     } else {
@@ -55,21 +55,22 @@ static void agrees(int at, const char *path, int flags)
 
 static void each(void)
 {
-    static const int flags[] = {0, INROOT_NOFOLLOW, INROOT_ONE_BY_ONE, INROOT_NOFOLLOW | INROOT_ONE_BY_ONE};
     char text[64];
-    int at = root_or_jail(root, jail_flags);
     int before = open_descriptors();
-    for (int one = 0; one < PATHS; one++)
-        for (size_t with = 0; with < sizeof flags / sizeof *flags; with++)
-            agrees(at, paths[one], flags[with]);
-    /* A link that is read, or removed, isn't followed. Without the flag each leads along its text, below the root. */
-    expect(inroot_readlink(at, "proc/self/root", INROOT_NO_MAGICLINKS, text, sizeof text) > 0, "its text");
-    gives(inroot_readlink(at, "proc/self/cwd/x", INROOT_NO_MAGICLINKS, text, sizeof text), -ELOOP, "a text behind one");
-    gives(inroot_mkdir(at, "proc/self/cwd/x", 0700, INROOT_NO_MAGICLINKS), -ELOOP, "a directory behind one");
-    gives(inroot_openat(at, "proc/self/exe", O_RDONLY, 0, INROOT_NO_MAGICLINKS), -ELOOP, "to be read");
-    int fd = inroot_open(at, "proc/self/root", 0);
-    expect(fd >= 0, "without the flag: %d", fd);
-    close(fd);
+    for (int one = 0; one < PATHS; one++) {
+        agrees(paths[one], way);
+        agrees(paths[one], way | INROOT_NOFOLLOW);
+    }
+    /* A link that is read, or removed, isn't followed. */
+    gives_least(inroot_readlink(root, "proc/self/root", way, text, sizeof text), 1, "its text");
+    gives(inroot_readlink(root, "proc/self/cwd/x", way, text, sizeof text), -ELOOP, "a text behind one");
+    gives(inroot_mkdir(root, "proc/self/cwd/x", 0700, way), -ELOOP, "a directory behind one");
+    gives(inroot_mkdir_all(root, "proc/self/cwd/x/y", 0700, way | INROOT_FOLLOW), -ELOOP, "directories behind one");
+    gives(inroot_openat(root, "proc/self/exe", O_RDONLY, 0, way), -ELOOP, "to be read");
+    gives(inroot_openat(root, "proc/self/cwd/x", O_RDWR | O_CREAT, 0600, way), -ELOOP, "to be made behind one");
+    gives(inroot_remove_all(root, "proc/self/cwd/x", way), -ELOOP, "a tree behind one");
+    gives(inroot_rename(root, "proc/self/cwd/x", "tmp/x", 0, way), -ELOOP, "to be renamed from behind one");
+    gives(inroot_rename(root, "none", "proc/self/cwd/x", 0, way), -ELOOP, "to be renamed to behind one");
     expect(open_descriptors() == before, "%d descriptors are left", open_descriptors() - before);
 }
 
@@ -102,9 +103,9 @@ static long my_syscall(long number, const long *with)
 
 INSTEAD_OF_SYSCALL(my_syscall)
 
-static void gives_no_object(int at, const char *path, int flags, int due, const char *what)
+static void gives_no_object(const char *path, int flags, int due, const char *what)
 {
-    int fd = inroot_open(at, path, flags | INROOT_NO_MAGICLINKS | INROOT_NO_RETRY);
+    int fd = inroot_open(root, path, flags | INROOT_NO_RETRY);
     if (due != 0)
         gives(fd, due, "%s, flags %d, %s", path, flags, what);
     expect(fd < 0, "%s, flags %d, %s: followed", path, flags, what);
@@ -118,67 +119,56 @@ static bool tells_of_a_text(int error)
     return error == EXDEV || error == ENOTDIR || error == ENAMETOOLONG || error == EINTR;
 }
 
-static void by_errors(int at)
+static void by_errors(void)
 {
     char what[64];
     for (refusal = 1; refusal < 134; refusal++) {
-        const bool is_told = refusal == EPERM || refusal == ENOSYS;
         snprintf(what, sizeof what, "error %d", refusal);
         if (!tells_of_a_text(refusal))
-            gives_no_object(at, "proc/self/cwd", 0, is_told ? -ELOOP : -refusal, what);
+            gives_no_object("proc/self/cwd", way, -refusal, what);
     }
     refusal = 0;
 }
 
-static void by_few_descriptors(int at)
+static void by_few_descriptors(void)
 {
     struct rlimit limit, less;
     char what[64];
     sure(getrlimit(RLIMIT_NOFILE, &limit), "getrlimit");
-    for (int flags = 0; flags <= INROOT_ONE_BY_ONE; flags += INROOT_ONE_BY_ONE)
-        for (int left = 0; left < 8; left++) {
-            less = limit;
-            less.rlim_cur = (rlim_t)take_gaps(root) + (rlim_t)left;
-            sure(setrlimit(RLIMIT_NOFILE, &less), "setrlimit");
-            snprintf(what, sizeof what, "%d descriptors are left", left);
-            gives_no_object(at, "proc/self/cwd", flags, 0, what);
-            gives_no_object(at, "proc/self/root/proc", flags, 0, what);
-            sure(setrlimit(RLIMIT_NOFILE, &limit), "setrlimit");
-        }
+    for (int left = 0; left < 8; left++) {
+        less = limit;
+        less.rlim_cur = (rlim_t)take_gaps(root) + (rlim_t)left;
+        sure(setrlimit(RLIMIT_NOFILE, &less), "setrlimit");
+        snprintf(what, sizeof what, "%d descriptors are left", left);
+        gives_no_object("proc/self/cwd", way, 0, what);
+        gives_no_object("proc/self/root/proc", way, 0, what);
+        sure(setrlimit(RLIMIT_NOFILE, &limit), "setrlimit");
+    }
 }
 
-static void by_what_is_gone(int at)
+static void by_what_is_gone(void)
 {
     kept_open = sure(open(".", O_PATH | O_CLOEXEC), ".");
     sure(dup2(root, GONE), "dup2");
-    gives_no_object(at, "proc/self/fd/700", 0, -ELOOP, "while it is there");
+    gives_no_object("proc/self/fd/700", way, -ELOOP, "while it is there");
     is_away = true;
-    gives_no_object(at, "proc/self/fd/700", 0, -ENOENT, "while it is gone");
-    gives_no_object(at, "proc/self/fd/700", INROOT_ONE_BY_ONE, -ENOENT, "while it is gone");
+    gives_no_object("proc/self/fd/700", way, -ENOENT, "while it is gone");
     is_away = false;
 }
 
 static void unsaid(void)
 {
-    int at = root_or_jail(root, jail_flags);
-    by_errors(at);
-    by_what_is_gone(at);
-    by_few_descriptors(at);
+    by_errors();
+    by_what_is_gone();
+    by_few_descriptors();
 }
 
-/* A directory with magic links as the root, so that the link stands in the root of a jail. */
+/* A directory with magic links as the root. */
 static void in_proc(void)
 {
     root = sure(open("/proc/self", O_PATH | O_DIRECTORY | O_CLOEXEC), "/proc/self");
-    int at = root;
-    if (jail_flags >= 0) {
-        jail_or_end(root, jail_flags);
-        at = INROOT_JAIL;
-    }
-    gives(inroot_open(at, "root", INROOT_NO_MAGICLINKS), -ELOOP, "a magic link in the root");
-    gives(inroot_open(at, "cwd", INROOT_NO_MAGICLINKS | INROOT_ONE_BY_ONE), -ELOOP, "a magic link in the root, by one name");
-    int fd = inroot_open(at, "root", INROOT_NO_MAGICLINKS | INROOT_NOFOLLOW);
-    expect(fd >= 0, "itself: %d", fd);
+    gives(inroot_open(root, "cwd", way), -ELOOP, "a magic link in the root");
+    gives_fd(inroot_open(root, "cwd", way | INROOT_NOFOLLOW), "itself");
 }
 
 int main(int count, char **words)
@@ -189,12 +179,11 @@ int main(int count, char **words)
         return NO_OPENAT2;
     root = sure(open("/", O_PATH | O_DIRECTORY | O_CLOEXEC), "/");
     open_proc();
-    int skipped = 0;
-    for (jail_flags = -1; jail_flags <= INROOT_TRUST_PROC; jail_flags += jail_flags < 0 ? 1 : INROOT_TRUST_PROC) {
-        int all = apart(each), own = apart(in_proc);
+    for (way = 0; way <= INROOT_EXACT; way += INROOT_EXACT) {
+        apart(each);
+        apart(in_proc);
         apart(unsaid);
-        skipped = skipped ? skipped : all ? all : own;
     }
     printf("magic: %d not as they are to be\n", wrong);
-    return wrong != 0 ? 1 : skipped;
+    return wrong != 0;
 }

@@ -1,7 +1,7 @@
 /*
- * make_all: all that is missing of a path is made, through links that lead to what is missing as well (INROOT_FOLLOW); by /proc, in
- * a jail, and in one that trusts. Others make, remove and replace what the call has just come to. Nothing is made outside. To be
- * linked with --wrap=openat.
+ * make_all: all that is missing of a path is made, through links that lead to what is missing as well (INROOT_FOLLOW); by the
+ * kernel's walk and with INROOT_EXACT, also in a chroot. Others make, remove and replace what the call has just come to. Nothing is
+ * made outside. To be linked with --wrap=openat.
  *
  * usage: make_all DIR. Exits 0 where each is as inroot.h says. 78: no right to change a root, so that a part is left out.
  */
@@ -14,7 +14,7 @@
 #include <string.h>
 #include <sys/stat.h>
 
-static int root, beside, jail_flags = -1;
+static int root, beside;
 static char outside[PATH_MAX];
 
 /* What somebody else does right before the file is made: by turns, so many times. */
@@ -131,7 +131,7 @@ struct made {
     mode_t mode;
 };
 
-static void files(int at)
+static void files(void)
 {
     static const struct made cases[] = {
         {"a/x/y/z", 0, 0, "a/x/y/z", S_IFREG | 0640}, {"new", 0, 0, "new", S_IFREG | 0640},
@@ -155,13 +155,11 @@ static void files(int at)
         {"etc/resolv.conf", INROOT_FOLLOW | INROOT_NO_LINKS, ELOOP, NULL, 0},
         {"var/run/x", INROOT_FOLLOW | INROOT_BENEATH, EXDEV, NULL, 0}, {"a/up", 0, ENOENT, NULL, 0},
         {"a/up", INROOT_FOLLOW, 0, "outside/x", S_IFREG | 0640},
-        {"a/x/y/z", INROOT_ONE_BY_ONE, 0, "a/x/y/z", S_IFREG | 0640},
-        {"chain", INROOT_FOLLOW | INROOT_ONE_BY_ONE, 0, "new/l/k", S_IFREG | 0640},
     };
     for (size_t one = 0; one < sizeof cases / sizeof *cases; one++) {
         const struct made *made = &cases[one];
         make_tree();
-        int fd = inroot_mkfile_all(at, made->path, 0640, 0711, made->flags);
+        int fd = inroot_mkfile_all(root, made->path, 0640, 0711, made->flags | way);
         if (made->error)
             gives(fd, -made->error, "%s with %d", made->path, made->flags);
         else
@@ -170,7 +168,7 @@ static void files(int at)
     }
 }
 
-static void directories(int at)
+static void directories(void)
 {
     static const struct made cases[] = {
         {"a/x/y", INROOT_FOLLOW, 0, "a/x/y", S_IFDIR | 0711}, {"a/b/", INROOT_FOLLOW, 0, "a/b", S_IFDIR | 0755},
@@ -186,12 +184,11 @@ static void directories(int at)
         {"var/run", INROOT_FOLLOW | INROOT_NO_LINKS, ELOOP, NULL, 0},
         {"var/run", INROOT_FOLLOW | INROOT_BENEATH, EXDEV, NULL, 0},
         {"dir/f/x", INROOT_FOLLOW, ENOTDIR, NULL, 0},
-        {"chain/y", INROOT_FOLLOW | INROOT_ONE_BY_ONE, 0, "new/l/k/y", S_IFDIR | 0711},
     };
     for (size_t one = 0; one < sizeof cases / sizeof *cases; one++) {
         const struct made *made = &cases[one];
         make_tree();
-        int fd = inroot_mkdir_all(at, made->path, 0711, made->flags);
+        int fd = inroot_mkdir_all(root, made->path, 0711, made->flags | way);
         if (made->error)
             gives(fd, -made->error, "directories %s with %d", made->path, made->flags);
         else
@@ -201,24 +198,24 @@ static void directories(int at)
 }
 
 /* Directories above get a mode of their own, and what is there keeps its own. */
-static void modes(int at)
+static void modes(void)
 {
     make_tree();
-    finds(inroot_mkfile_all(at, "a/x/y/z", 04751, 01750, 0), "a/x/y/z", S_IFREG | 04751, "a file of another mode");
+    finds(inroot_mkfile_all(root, "a/x/y/z", 04751, 01750, way), "a/x/y/z", S_IFREG | 04751, "a file of another mode");
     gives(mode_of("a/x"), S_IFDIR | 01750, "a directory above");
     gives(mode_of("a/x/y"), S_IFDIR | 01750, "a directory above");
     gives(mode_of("a"), S_IFDIR | 0755, "a directory that is there");
-    finds(inroot_mkfile_all(at, "a/x/y/z", 0600, 0700, 0), "a/x/y/z", S_IFREG | 04751, "a file that is there");
+    finds(inroot_mkfile_all(root, "a/x/y/z", 0600, 0700, way), "a/x/y/z", S_IFREG | 04751, "a file that is there");
     remove_tree();
 }
 
 /* As many links as one path may have, and one more. */
-static void chains(int at)
+static void chains(void)
 {
     for (int count = 39; count <= 42; count++) {
         make_tree();
         make_chain(count);
-        int file = inroot_mkfile_all(at, "l1", 0640, 0755, INROOT_FOLLOW);
+        int file = inroot_mkfile_all(root, "l1", 0640, 0755, INROOT_FOLLOW | way);
         if (count <= 40)
             finds(file, "end", S_IFREG | 0640, "the end of a chain");
         else
@@ -239,19 +236,18 @@ static int make_long_link(const char *name, size_t length)
     return failed == 0;
 }
 
-/* The last call failed so, about this entry. */
-static void told(int got, int error, const char *step, const char *rest, const char *what)
+/* The last call failed so. */
+static void told(int got, int error, const char *step, const char *what)
 {
     struct inroot_error why;
     gives(got, -error, "%s", what);
     gives(inroot_last_error(&why), 0, "%s: its last error", what);
     gives(why.error, error, "%s: the error", what);
     gives_text(why.step, step, "%s: the step", what);
-    gives_text(why.rest, rest, "%s: what is left", what);
 }
 
 /* A link's text with what comes behind it has 4,095 bytes at most, the file's name with it. */
-static void long_links(int at)
+static void long_links(void)
 {
     static const struct { const char *path; size_t length; bool fits; } cases[] = {
         {"long", 4095, true}, {"long/", 4095, true}, {"long/x", 4093, true}, {"long/x", 4094, false}, {"long//x", 4093, true},
@@ -261,11 +257,12 @@ static void long_links(int at)
             const char *path = cases[one].path, *name = strchr(path, 'x') ? "end/x" : "end";
             make_tree();
             if ((!file || path[strlen(path) - 1] != '/') && make_long_link("long", cases[one].length)) {
-                int fd = file ? inroot_mkfile_all(at, path, 0640, 0711, INROOT_FOLLOW) : inroot_mkdir_all(at, path, 0711, INROOT_FOLLOW);
+                const int flags = INROOT_FOLLOW | way;
+                int fd = file ? inroot_mkfile_all(root, path, 0640, 0711, flags) : inroot_mkdir_all(root, path, 0711, flags);
                 if (cases[one].fits)
                     finds(fd, name, file ? S_IFREG | 0640 : S_IFDIR | 0711, path);
                 else
-                    told(fd, ENAMETOOLONG, "ReadLink", "long", path);
+                    told(fd, ENAMETOOLONG, "ReadLink", path);
             }
             remove_tree();
         }
@@ -306,75 +303,74 @@ static void come_and_go(int turn)
         sure(symlinkat("x", root, "a/n/x"), "x");
 }
 
-static int with_others(int at, void (*what)(int turn), int times, int flags)
+static int with_others(void (*what)(int turn), int times, int flags)
 {
     meanwhile = what;
     turns = 0;
     most_turns = times;
-    int fd = inroot_mkfile_all(at, "a/n/x", 0640, 0755, flags);
+    int fd = inroot_mkfile_all(root, "a/n/x", 0640, 0755, flags | way);
     meanwhile = NULL;
     expect(turns > 0, "nobody came in between");
     return fd;
 }
 
 /* What an error is about that is no single step's: a link that isn't followed, a directory, no name, and others at each try. */
-static void errors(int at)
+static void errors(void)
 {
     make_tree();
-    told(inroot_mkfile_all(at, "etc/resolv.conf", 0640, 0711, 0), ENOENT, "MakeFile", "resolv.conf", "a link");
-    told(inroot_mkfile_all(at, "a/b", 0640, 0711, INROOT_FOLLOW), EISDIR, "", "a/b", "a directory");
-    told(inroot_mkfile_all(at, "a/new/", 0640, 0711, 0), ENOTDIR, "", "a/new/", "a slash");
-    told(inroot_mkfile_all(at, "a/new/..", 0640, 0711, 0), EINVAL, "", "a/new/..", "no name");
+    told(inroot_mkfile_all(root, "etc/resolv.conf", 0640, 0711, way), ENOENT, "MakeFile", "a link");
+    told(inroot_mkfile_all(root, "a/b", 0640, 0711, INROOT_FOLLOW | way), EISDIR, "", "a directory");
+    told(inroot_mkfile_all(root, "a/new/", 0640, 0711, way), ENOTDIR, "", "a slash");
+    told(inroot_mkfile_all(root, "a/new/..", 0640, 0711, way), EINVAL, "", "no name");
     gives(mode_of("a/new"), 0, "nothing was made");
     is_taken = true;
     for (int follow = 0; follow <= 1; follow++) {
-        const int flags = follow ? INROOT_FOLLOW : 0;
+        const int flags = way | (follow ? INROOT_FOLLOW : 0);
         creations = 0;
-        told(inroot_mkfile_all(at, "a/n/x", 0640, 0711, flags | INROOT_NO_RETRY), EAGAIN, "MakeDir", "a/n/x", "one try");
+        told(inroot_mkfile_all(root, "a/n/x", 0640, 0711, flags | INROOT_NO_RETRY), EAGAIN, "MakeDir", "one try");
         gives(creations, 1, "files to be made by one try");
         creations = 0;
-        told(inroot_mkfile_all(at, "a/n/x", 0640, 0711, flags), EAGAIN, "MakeDir", "a/n/x", "all tries");
+        told(inroot_mkfile_all(root, "a/n/x", 0640, 0711, flags), EAGAIN, "MakeDir", "all tries");
         gives(creations, INROOT_TRIES, "files to be made by all tries");
     }
     is_taken = false;
     remove_tree();
 }
 
-static void others(int at)
+static void others(void)
 {
     make_tree();
-    finds(with_others(at, make_it, 1, 0), "a/n/x", S_IFREG | 0644, "another's file");
+    finds(with_others(make_it, 1, 0), "a/n/x", S_IFREG | 0644, "another's file");
     remove_tree();
     make_tree();
-    gives(with_others(at, make_link, 1, 0), -ENOENT, "another's link");
+    gives(with_others(make_link, 1, 0), -ENOENT, "another's link");
     remove_tree();
     make_tree();
-    finds(with_others(at, make_link, 1, INROOT_FOLLOW), "a/m", S_IFREG | 0640, "another's link, followed");
+    finds(with_others(make_link, 1, INROOT_FOLLOW), "a/m", S_IFREG | 0640, "another's link, followed");
     remove_tree();
     make_tree();
-    gives(with_others(at, make_directory, 1, INROOT_FOLLOW), -EISDIR, "another's directory");
+    gives(with_others(make_directory, 1, INROOT_FOLLOW), -EISDIR, "another's directory");
     remove_tree();
     make_tree();
-    int fd = with_others(at, replace_above, 1, 0);
+    int fd = with_others(replace_above, 1, 0);
     finds(fd, "a/was/x", S_IFREG | 0640, "a file in what was moved");
     remove_tree();
     make_tree();
-    gives(with_others(at, come_and_go, 1, INROOT_FOLLOW), -ELOOP, "a link to itself");
+    gives(with_others(come_and_go, 1, INROOT_FOLLOW), -ELOOP, "a link to itself");
     remove_tree();
 }
 
 static void each(void)
 {
     umask(0);
-    int at = root_or_jail(root, jail_flags);
     int before = open_descriptors();
-    files(at);
-    directories(at);
-    modes(at);
-    chains(at);
-    long_links(at);
-    errors(at);
-    others(at);
+    files();
+    directories();
+    modes();
+    chains();
+    long_links();
+    errors();
+    others();
     expect(open_descriptors() == before, "%d descriptors are left", open_descriptors() - before);
 }
 
@@ -389,11 +385,7 @@ int main(int count, char **words)
     sure(getcwd(outside, sizeof outside - 16) == NULL ? -1 : 0, "getcwd");
     strcat(outside, "/outside");
     open_proc();
-    int skipped = apart(each);
-    for (jail_flags = 0; jail_flags <= INROOT_TRUST_PROC; jail_flags += INROOT_TRUST_PROC) {
-        int status = apart(each);
-        skipped = skipped ? skipped : status;
-    }
+    const int skipped = in_each_way(root, each);
     printf("make_all: %d not as they are to be\n", wrong);
     return wrong != 0 ? 1 : skipped;
 }

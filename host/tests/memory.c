@@ -39,6 +39,7 @@ int main(int count, char **words)
         return 2;
     int root = sure(open(words[1], O_PATH | O_DIRECTORY | O_CLOEXEC), words[1]);
     make_tree(root);
+    open_proc();
     int before = open_descriptors();
     for (int number = 0; number < CALLS; number++) {
         int wanted = call(root, number);

@@ -173,8 +173,7 @@ static void go_on_in_child(void)
         cover_with_lies();
         gives(inroot_reopen(file, O_RDONLY), -ENOSYS, "a file once more in a child that was made meanwhile");
         reads("in a child that was made meanwhile", -ENOSYS);
-        fflush(stdout);
-        _exit(wrong != 0);
+        end_part();
     }
     sure(waitpid(child, &status, 0), "waitpid");
     ended_well(status, "a child that was made meanwhile");
@@ -404,12 +403,14 @@ static void signals(void)
 /* What was made is of the children's processes: this thread isn't there. A copy of /proc is tried then. */
 static void of_children(void)
 {
+    const int own = sure(open("/proc/self/ns/pid", O_RDONLY | O_CLOEXEC), "/proc/self/ns/pid");
     if (unshare(CLONE_NEWPID) != 0)
         _exit(NO_RIGHT);
     int before = open_descriptors();
     use_private();
     gives(open_descriptors(), before + 1, "a namespace of the children's: open descriptors");
     reads("where children have processes of their own", 0);
+    sure(setns(own, CLONE_NEWPID), "setns");
 }
 
 /* A new one that is none, and no copy: ENOSYS, and not the copy's error. */

@@ -1,6 +1,7 @@
 /*
  * quiet: where nobody acts, no place is in doubt: what stands in directories of the machine, and below mounts of several kinds, is
- * opened by one try in each spelling of its path, and is what openat2(2) opens by RESOLVE_IN_ROOT, by the same mount.
+ * opened by one try in each spelling of its path, and is what openat2(2) opens by RESOLVE_IN_ROOT, by the same mount: by the kernel's walk and
+ * with INROOT_EXACT, also in a chroot.
  *
  * usage: quiet DIR. Exits 0 where that holds. 77: no openat2(2) here. 78: no right to change a root or to mount, so that a part is
  * left out.
@@ -23,12 +24,12 @@ enum { MOST = 250, DEEP = 5 };
 
 static char where[PATH_MAX];
 static const char *what;
-static int root, at, paths, differ;
+static int root, paths, differ;
 static bool by_any_mount;
 
 static int by_kernel(const char *path)
 {
-    const struct open_how how = {.flags = O_PATH | O_CLOEXEC, .resolve = RESOLVE_IN_ROOT};
+    const struct open_how how = {.flags = O_PATH | O_CLOEXEC, .resolve = RESOLVE_IN_ROOT | RESOLVE_NO_MAGICLINKS};
     int fd;
     /* A rename anywhere on the machine may refuse `..`. */
     do
@@ -71,15 +72,15 @@ static bool is_called_so(int fd, const char *path, size_t length)
 }
 
 /*
- * For a `.` at the end the kernel searches the directory, which it may have no right to; here the path ends at its name. And the
- * driver can't know of a file whose name ends in ` (deleted)` that it is there.
+ * For a `.` at the end the kernel searches the directory, which it may have no right to; here the path ends at its name. And with
+ * INROOT_EXACT the driver can't know of a file whose name ends in ` (deleted)` that it is there.
  */
-static int wanted_of(const char *path)
+static int wanted_of(const char *path, int flags)
 {
     char text[PATH_MAX];
     size_t length = strlen(path);
     int fd = by_kernel(path);
-    if (is_called_so(fd, path, length)) {
+    if (flags & INROOT_EXACT && is_called_so(fd, path, length)) {
         close(fd);
         return -EAGAIN;
     }
@@ -93,7 +94,7 @@ static int wanted_of(const char *path)
 static bool agrees(const char *path, int flags)
 {
     for (int turn = 0; turn < 3; turn++) {
-        int one = inroot_open(at, path, flags | INROOT_NO_RETRY), other = wanted_of(path);
+        int one = inroot_open(root, path, flags | INROOT_NO_RETRY), other = wanted_of(path, flags);
         bool same = is_same(one, other);
         if (!same && turn == 2)
             printf("quiet: %s: %s, flags %d: %d, and the kernel %d\n", what, path, flags, one, other);
@@ -123,7 +124,7 @@ static void spell(int way, const char *path, const char *top, const char *rest, 
 
 static void in_each_spelling(const char *path)
 {
-    static const int flags[] = {0, INROOT_ONE_BY_ONE};
+    static const int flags[] = {0, INROOT_EXACT};
     char text[4 * PATH_MAX], top[NAME_MAX + 1];
     size_t first = strcspn(path, "/");
     snprintf(top, sizeof top, "%.*s", (int)(first < sizeof top ? first : 0), path);
@@ -156,27 +157,24 @@ static void walk(const char *path, int deep)
     closedir(all);
 }
 
-/* By the root's descriptor, and in a jail. */
-static void both_ways(void)
+/* And then in a chroot. */
+static void all_paths(void)
 {
-    at = root;
     walk("", DEEP);
-    int by_proc = paths;
+    int before = paths;
     paths = 0;
-    if (inroot_jail(root) == 0) {
-        at = INROOT_JAIL;
+    if (fchdir(root) == 0 && chroot(".") == 0)
         walk("", DEEP);
-    }
-    printf("quiet: %s: %d paths by /proc, %d in a jail, %d differ\n", what, by_proc, paths, differ);
-    gives(differ, 0, "%s: paths that differ, of %d", what, by_proc);
-    gives_least(by_proc, 1, "%s: paths", what);
+    printf("quiet: %s: %d paths, %d in a chroot, %d differ\n", what, before, paths, differ);
+    gives(differ, 0, "%s: paths that differ, of %d", what, before);
+    gives_least(before, 1, "%s: paths", what);
 }
 
 static void of_machine(void)
 {
     root = open(what, O_PATH | O_DIRECTORY | O_CLOEXEC);
     if (root >= 0)
-        both_ways();
+        all_paths();
 }
 
 /* ---- mounts */
@@ -245,7 +243,7 @@ static void of_binds(void)
     mount_at("tmpfs", "one/tmp", "tmpfs", NULL);
     mount_at("one/a", "one/again", NULL, NULL);
     open_root("one");
-    both_ways();
+    all_paths();
 }
 
 static void of_overlay(void)
@@ -261,12 +259,12 @@ static void of_overlay(void)
     snprintf(options, sizeof options, "lowerdir=%s/lower,upperdir=%s/upper,workdir=%s/work", where, where, where);
     mount_at("overlay", "mount", "overlay", options);
     open_root("mount");
-    both_ways();
+    all_paths();
 }
 
 /*
- * The root is mounted over itself after it was opened: `..` leads the kernel to that mount, and here to the root as it was
- * opened. Where something else is mounted over it, `..` leads to what isn't the root, and by /proc nothing is opened.
+ * The root is mounted over itself after it was opened: `..` leads the kernel to that mount, and INROOT_EXACT to the root as it was
+ * opened. Where something else is mounted over it, `..` leads the kernel to that, and with INROOT_EXACT nothing is opened.
  */
 static void of_covered(void)
 {
@@ -276,14 +274,14 @@ static void of_covered(void)
     open_root("covered");
     mount_at("covered", "covered", NULL, NULL);
     by_any_mount = true;
-    at = root;
     walk("", DEEP);
     gives(differ, 0, "%s: paths that differ, of %d", what, paths);
     gives_least(paths, 1, "%s: paths", what);
     mount_at("tmpfs", "covered", "tmpfs", NULL);
     gives_fd(inroot_open(root, "a/f", INROOT_NO_RETRY), "a file below a root that is covered");
-    int covered = inroot_open(root, "a/..", INROOT_NO_RETRY);
-    gives(covered, -EAGAIN, "what covers the root");
+    const int cover = by_kernel("a/..");
+    expect(is_same(inroot_open(root, "a/..", INROOT_NO_RETRY), cover), "what covers the root is what the kernel's walk opens");
+    gives(inroot_open(root, "a/..", INROOT_EXACT | INROOT_NO_RETRY), -EAGAIN, "what covers the root");
 }
 
 /* Many of its objects are of one moment. */
@@ -295,7 +293,7 @@ static void of_proc(void)
     apart_from_others();
     mount_at("/proc/sys", "top/p", NULL, NULL);
     open_root("top");
-    both_ways();
+    all_paths();
 }
 
 int main(int count, char **words)
@@ -316,7 +314,7 @@ int main(int count, char **words)
     skipped |= apart(of_overlay);
     skipped |= apart(of_covered);
     skipped |= apart(of_proc);
-    skipped |= may_jail(root) ? 0 : NO_RIGHT;
+    skipped |= may_chroot(root) ? 0 : NO_RIGHT;
     printf("quiet: %d not as they are to be\n", wrong);
     return wrong != 0 ? 1 : skipped;
 }

@@ -15,6 +15,7 @@
 #include <stdio.h>
 #include <stdlib.h>
 #include <string.h>
+#include <sys/resource.h>
 #include <sys/stat.h>
 #include <sys/syscall.h>
 #include <sys/wait.h>
@@ -232,19 +233,58 @@ static inline void open_proc(void)
         exit(1);
 }
 
-/* Runs it in a process of its own, and adds up what wasn't as it is to be. */
-__attribute__((unused)) static int apart(void (*what)(void))
+/*
+ * What looks for lost memory, where the program is built with that sanitizer; its name is LLVM's and GCC's. It reads /proc. So a
+ * thread in a chroot goes back to the root that the program began with, whose descriptor is behind those that tests count.
+ */
+extern int __lsan_do_recoverable_leak_check(void) __attribute__((weak));
+static int root_at_first = -1;
+
+static inline void lift_limit(void)
 {
-    int status;
-    fflush(stdout);
-    pid_t child = sure(fork(), "fork");
-    if (child == 0) {
-        wrong = 0;
-        what();
-        fflush(stdout);
-        _exit(wrong > 100 ? 100 : wrong);
+    struct rlimit most;
+    if (getrlimit(RLIMIT_NOFILE, &most) == 0) {
+        most.rlim_cur = most.rlim_max;
+        setrlimit(RLIMIT_NOFILE, &most);
     }
-    sure(waitpid(child, &status, 0), "waitpid");
+}
+
+__attribute__((constructor, unused)) static void keep_first_root(void)
+{
+    struct rlimit most;
+    if (!__lsan_do_recoverable_leak_check || getrlimit(RLIMIT_NOFILE, &most) != 0)
+        return;
+    int fd = sure(open("/", O_PATH | O_DIRECTORY | O_CLOEXEC), "/");
+    lift_limit();
+    root_at_first = sure(fcntl(fd, F_DUPFD_CLOEXEC, 2048), "a descriptor behind 2047");
+    setrlimit(RLIMIT_NOFILE, &most);
+    close(fd);
+}
+
+/* Ends a process in which a part of a check ran. Memory that is lost there is wrong, too. No count is one that says *skipped*. */
+__attribute__((unused, noreturn)) static void end_part(void)
+{
+    if (__lsan_do_recoverable_leak_check) {
+        lift_limit();
+        /* Who has no right to go back is in no chroot; else the sanitizer itself ends the process as one that failed. */
+        bool back = seteuid(getuid()) == 0 && fchdir(root_at_first) == 0 && chroot(".") == 0;
+        expect(back || errno == EPERM, "a part goes back to its first root: %s", strerror(errno));
+        expect(__lsan_do_recoverable_leak_check() == 0, "no memory is lost");
+    }
+    fflush(stdout);
+    _exit(wrong < NO_OPENAT2 ? wrong : NO_OPENAT2 - 1);
+}
+
+/* Gives this process another root directory, or ends it as one that was skipped. */
+__attribute__((unused)) static void chroot_or_end(int root)
+{
+    if (fchdir(root) != 0 || chroot(".") != 0)
+        _exit(NO_RIGHT);
+}
+
+/* How a process ended in which a part ran: adds up what wasn't as it is to be, or gives that it was skipped. */
+static inline int count_part(int status)
+{
     if (!WIFEXITED(status))
         expect(false, "it ended by signal %d", WTERMSIG(status));
     else if (WEXITSTATUS(status) == NO_OPENAT2 || WEXITSTATUS(status) == NO_RIGHT)
@@ -252,6 +292,42 @@ __attribute__((unused)) static int apart(void (*what)(void))
     else
         wrong += WEXITSTATUS(status);
     return 0;
+}
+
+/* Runs it in a process of its own, and below this root directory if that isn't negative. */
+__attribute__((unused)) static int apart_in(int root, void (*what)(void))
+{
+    int status;
+    fflush(stdout);
+    pid_t child = sure(fork(), "fork");
+    if (child == 0) {
+        wrong = 0;
+        if (root >= 0)
+            chroot_or_end(root);
+        what();
+        end_part();
+    }
+    sure(waitpid(child, &status, 0), "waitpid");
+    return count_part(status);
+}
+
+__attribute__((unused)) static int apart(void (*what)(void))
+{
+    return apart_in(-1, what);
+}
+
+/* By which way a part makes its calls: 0, the kernel's walk, or INROOT_EXACT. */
+__attribute__((unused)) static int way;
+
+/* Runs it by each way, and by each in a chroot, which is left out where there is no right to it. */
+__attribute__((unused)) static int in_each_way(int root, void (*what)(void))
+{
+    int skipped = 0;
+    for (way = 0; way <= INROOT_EXACT; way += INROOT_EXACT) {
+        apart(what);
+        skipped |= apart_in(root, what);
+    }
+    return skipped;
 }
 
 /* A directory `box` below the one that is given, as the root. */
@@ -284,8 +360,7 @@ __attribute__((unused)) static struct child begin_child(void (*what)(void))
         wrong = 0;
         sure((int)read(go[0], &byte, 1), "read");
         what();
-        fflush(stdout);
-        _exit(wrong > 100 ? 100 : wrong);
+        end_part();
     }
     close(go[0]);
     return (struct child){child, go[1]};

@@ -1,7 +1,6 @@
 /*
- * threads: whose descriptors, current directory and root a call asks about, in threads and processes of all kinds: after
- * fork(2), vfork(2) and unshare(2), after the main thread has ended, in a thread that is cancelled or ends, under signals, and in
- * a thread whose children share its current directory.
+ * threads: whose descriptors and root a call asks about, in threads and processes of all kinds: after fork(2), vfork(2) and
+ * unshare(2), after the main thread has ended, in a thread that is cancelled or ends, and under signals.
  *
  * usage: threads DIR. Exits 0 where each call's answer is about the caller.
  */
@@ -10,24 +9,14 @@
 
 #include <errno.h>
 #include <fcntl.h>
-#include <limits.h>
 #include <pthread.h>
 #include <sched.h>
 #include <signal.h>
 #include <stdatomic.h>
-#include <string.h>
 #include <sys/stat.h>
 #include <sys/time.h>
 
 static int base, root, outside;
-static atomic_bool stop;
-
-static void jail_here(void)
-{
-    int failed = inroot_jail(root);
-    errno = -failed;
-    sure(failed, "inroot_jail");
-}
 
 /* Puts another table of descriptors in the way: what is open there, on the numbers that come next, is the file f. */
 static void fill(const char *path)
@@ -41,17 +30,18 @@ static void fill(const char *path)
 /* In a child, where each number that comes next is that of the directory `a` in the parent's table. */
 static void in_child(void)
 {
-    int fd = inroot_open(INROOT_JAIL, "f", INROOT_NO_RETRY);
-    gives_object(fd, root, "f", "f after fork");
-    int dir = inroot_open(INROOT_JAIL, "a/b", INROOT_NO_RETRY);
-    gives_fd(dir, "a/b after fork");
-    gives(inroot_open(INROOT_JAIL, "none", INROOT_NO_RETRY), -ENOENT, "none after fork");
+    for (way = 0; way <= INROOT_EXACT; way += INROOT_EXACT) {
+        int fd = inroot_open(root, "f", INROOT_NO_RETRY | way);
+        gives_object(fd, root, "f", "f after fork");
+        int dir = inroot_open(root, "a/b", INROOT_NO_RETRY | way);
+        gives_object(dir, root, "a/b", "a/b after fork");
+        gives(inroot_open(root, "none", INROOT_NO_RETRY | way), -ENOENT, "none after fork");
+    }
 }
 
-static void *fork_in_jail(void *unused)
+static void *fork_here(void *unused)
 {
-    jail_here();
-    int first = inroot_open(INROOT_JAIL, "f", 0);
+    int first = inroot_open(root, "f", INROOT_EXACT);
     gives_fd(first, "f before the fork");
     close(first);
     struct child child = begin_child(in_child);
@@ -60,29 +50,25 @@ static void *fork_in_jail(void *unused)
     return unused;
 }
 
-static void *vfork_in_jail(void *unused)
+static void *vfork_here(void *unused)
 {
     int status;
-    jail_here();
     /* volatile: the child shares this stack. */
     volatile int outcome = -1;
     pid_t child = vfork();
     if (child == 0) {
-        int fd = inroot_open(INROOT_JAIL, "f", INROOT_NO_RETRY);
+        int fd = inroot_open(root, "f", INROOT_NO_RETRY | INROOT_EXACT);
         outcome = fd;
         _exit(fd >= 0 ? 0 : 1);
     }
     sure(child, "vfork");
     sure(waitpid(child, &status, 0), "waitpid");
     gives_fd(outcome, "f after vfork");
-    int fd = inroot_open(INROOT_JAIL, "f", 0);
-    gives_fd(fd, "f in the parent after vfork");
+    gives_fd(inroot_open(root, "f", INROOT_EXACT), "f in the parent after vfork");
     return unused;
 }
 
 /* ---- a table of descriptors of its own, and a main thread that has ended */
-
-static int outside;
 
 /* The numbers that come next are those of the directory `a` in the others' table. */
 static void *with_own_table(void *turn)
@@ -92,9 +78,9 @@ static void *with_own_table(void *turn)
     *now = 1;
     while (*now == 1)
         sched_yield();
-    int fd = inroot_open(root, "f", INROOT_NO_RETRY);
+    int fd = inroot_open(root, "f", INROOT_NO_RETRY | INROOT_EXACT);
     gives_object(fd, root, "f", "f with a table of its own");
-    int dir = inroot_open(root, "a/b/..", INROOT_NO_RETRY);
+    int dir = inroot_open(root, "a/b/..", INROOT_NO_RETRY | INROOT_EXACT);
     gives_fd(dir, "a/b/.. with a table of its own");
     return NULL;
 }
@@ -124,7 +110,7 @@ static void *lied_to(void *turn)
         sched_yield();
     /* What the number of the root stands for in this table is outside, and what is found there has left it. */
     sure(dup3(outside, root, O_CLOEXEC), "dup3");
-    int fd = inroot_open(root, "f", INROOT_NO_RETRY);
+    int fd = inroot_open(root, "f", INROOT_NO_RETRY | INROOT_EXACT);
     gives_object(fd, outside, "f", "f below the thread's own root");
     return NULL;
 }
@@ -142,42 +128,13 @@ static void own_root(void)
     pthread_join(thread, NULL);
 }
 
-/* A private table, then a first call in the others, then a jail. */
-static void *late_jail(void *turn)
-{
-    atomic_int *now = turn;
-    sure(unshare(CLONE_FILES), "unshare");
-    *now = 1;
-    while (*now == 1)
-        sched_yield();
-    jail_here();
-    int fd = inroot_open(INROOT_JAIL, "f", INROOT_NO_RETRY);
-    gives_fd(fd, "f in a jail with a table of its own");
-    inroot_jail_done();
-    return NULL;
-}
-
-static void late(void)
-{
-    pthread_t thread;
-    static atomic_int turn;
-    pthread_create(&thread, NULL, late_jail, &turn);
-    while (turn == 0)
-        sched_yield();
-    int fd = inroot_open(root, "f", 0);
-    gives_fd(fd, "f");
-    turn = 2;
-    pthread_join(thread, NULL);
-}
-
 static void *outlive(void *leader)
 {
     pthread_join(*(pthread_t *)leader, NULL);
-    int fd = inroot_open(root, "f", INROOT_NO_RETRY), dir = inroot_open(root, "a/b", INROOT_NO_RETRY);
+    int fd = inroot_open(root, "f", INROOT_NO_RETRY | INROOT_EXACT), dir = inroot_open(root, "a/b", INROOT_NO_RETRY | INROOT_EXACT);
     gives_fd(fd, "f after the main thread has ended");
     gives_fd(dir, "a/b after the main thread has ended");
-    fflush(stdout);
-    _exit(wrong);
+    end_part();
 }
 
 static void main_ends(void)
@@ -197,114 +154,11 @@ static void closed_behind(void)
     for (int at = root + 1; at < 64; at++)
         close(at);
     fill("a");
-    fd = inroot_open(root, "f", INROOT_NO_RETRY);
+    fd = inroot_open(root, "f", INROOT_NO_RETRY | INROOT_EXACT);
     gives_fd(fd, "f after all else was closed");
     int before = open_descriptors();
-    close(inroot_open(root, "f", INROOT_NO_RETRY));
+    close(inroot_open(root, "f", INROOT_NO_RETRY | INROOT_EXACT));
     gives(open_descriptors(), before, "open descriptors after all else was closed");
-}
-
-/* ---- a jail that fails, and the current directory */
-
-static void is_at(const char *wanted, const char *when)
-{
-    char path[PATH_MAX];
-    gives_text(getcwd(path, sizeof path) != NULL ? path : "no directory", wanted, "the current directory %s", when);
-}
-
-static void *change_directory(void *unused)
-{
-    sure(chdir("/usr"), "/usr");
-    return unused;
-}
-
-/* As nobody: nothing is changed, so that the current directory is still shared with other threads. */
-static void no_right(void)
-{
-    pthread_t thread;
-    sure(chdir("/"), "/");
-    if (setresuid(65534, 65534, 65534) != 0)
-        exit(1);
-    gives(inroot_jail(root), -EPERM, "a jail without the right");
-    is_at("/", "after a jail that failed");
-    pthread_create(&thread, NULL, change_directory, NULL);
-    pthread_join(thread, NULL);
-    is_at("/usr", "that a failed jail leaves shared");
-    gives(inroot_open(INROOT_JAIL, "f", 0), -EBADF, "a jail that failed");
-}
-
-static void bad_jails(void)
-{
-    int file = sure(openat(root, "f", O_PATH | O_CLOEXEC), "f");
-    sure(chdir("/usr"), "/usr");
-    gives(inroot_jail(file), -ENOTDIR, "a jail in a file");
-    gives(inroot_jail(999), -EBADF, "a jail in what isn't open");
-    gives(inroot_jail_with(file, INROOT_TRUST_PROC), -ENOTDIR, "a jail that trusts in a file");
-    gives(inroot_jail_with(999, INROOT_TRUST_PROC), -EBADF, "a jail that trusts in what isn't open");
-    for (unsigned flag = 1; flag != 0; flag <<= 1)
-        if (flag != INROOT_TRUST_PROC)
-            gives(inroot_jail_with(999, (int)(flag | INROOT_TRUST_PROC)), -EINVAL, "a flag that is none: %x", flag);
-    gives(inroot_open(root, "f", INROOT_TRUST_PROC), -EINVAL, "a flag of a jail");
-    is_at("/usr", "after jails that failed");
-    close(file);
-    jail_here();
-    gives(inroot_jail(root), -EBUSY, "a second jail");
-    gives(inroot_jail_with(999, INROOT_TRUST_PROC), -EBUSY, "a second jail that trusts");
-    gives(inroot_jail_with(root, INROOT_BENEATH), -EINVAL, "a second jail by a flag that is none");
-    static const char *const paths[] = {"a/b", "a/b/..", "f", "none", "a/../a/b/f"};
-    for (size_t at = 0; at < sizeof paths / sizeof *paths; at++) {
-        int fd = inroot_open(INROOT_JAIL, paths[at], 0);
-        is_at("/", paths[at]);
-        if (fd >= 0)
-            close(fd);
-    }
-    inroot_jail_done();
-    gives(inroot_open(INROOT_JAIL, "f", 0), -EBADF, "a jail after its end");
-    is_at("/", "after the end of a jail");
-}
-
-/* A thread that a jailed one made shares its current directory, and changes it without end: so often until now. */
-static atomic_int wanderings;
-
-static void *wander(void *unused)
-{
-    int there = sure(openat(base, "out", O_PATH | O_DIRECTORY | O_CLOEXEC), "out");
-    while (!stop) {
-        sure(fchdir(there), "fchdir");
-        wanderings++;
-    }
-    return unused;
-}
-
-static void wander_by(int flags)
-{
-    pthread_t thread;
-    int raced = 0;
-    stop = false;
-    errno = -inroot_jail_with(root, flags);
-    sure(-errno, "inroot_jail_with");
-    pthread_create(&thread, NULL, wander, NULL);
-    wanderings = 0;
-    /* Beside other work the other thread may wait long for its turn. */
-    for (int at = 0; at < 20000 || (wanderings < 20000 && at < 10000000); at++) {
-        int fd = inroot_open(INROOT_JAIL, "a/b/..", INROOT_NO_RETRY);
-        raced += fd < 0;
-        if (fd >= 0)
-            close(fd);
-    }
-    stop = true;
-    pthread_join(thread, NULL);
-    gives(raced, 0, "calls that another thread's current directory answered");
-}
-
-static void wanderer(void)
-{
-    wander_by(0);
-}
-
-static void trusting_wanderer(void)
-{
-    wander_by(INROOT_TRUST_PROC);
 }
 
 /* ---- cancelled, ended, interrupted */
@@ -320,25 +174,21 @@ static void close_calmly(int fd)
 }
 
 /* Ends only when it is cancelled. */
-static void *never_ends(void *jailed)
+static void *never_ends(void *with)
 {
-    int at = root;
-    if (jailed != NULL) {
-        jail_here();
-        at = INROOT_JAIL;
-    }
+    const int flags = with != NULL ? INROOT_EXACT : 0;
     for (;; pthread_testcancel()) {
-        close_calmly(inroot_open(at, "a/b/../b/../b/../../a/b", 0));
-        close_calmly(inroot_mkdir_all(at, "n/e/w", 0755, 0));
-        inroot_remove_all(at, "n", 0);
+        close_calmly(inroot_open(root, "a/b/../b/../b/../../a/b", flags));
+        close_calmly(inroot_mkdir_all(root, "n/e/w", 0755, flags));
+        inroot_remove_all(root, "n", flags);
     }
     return NULL;
 }
 
 static void cancelled(void)
 {
+    open_proc();
     int before = open_descriptors();
-    close(inroot_open(root, "f", 0));
     for (int at = 0; at < 400; at++) {
         pthread_t thread;
         pthread_create(&thread, NULL, never_ends, at % 2 ? &base : NULL);
@@ -346,24 +196,25 @@ static void cancelled(void)
         pthread_cancel(thread);
         pthread_join(thread, NULL);
     }
-    int left = open_descriptors() - before - 1;
-    gives_most(left, 0, "descriptors left of threads that were cancelled");
+    /* What the C library loads to end a thread may stay open. */
+    gives_most(open_descriptors() - before, 1, "descriptors left of threads that were cancelled");
 }
 
-static void *end_in_jail(void *unused)
+/* A thread with a table of its own asks a /proc of its own. */
+static void *end_here(void *unused)
 {
-    jail_here();
-    close(inroot_open(INROOT_JAIL, "f", 0));
+    sure(unshare(CLONE_FILES), "unshare");
+    close(inroot_open(root, "f", INROOT_EXACT));
     return unused;
 }
 
 static void ended(void)
 {
-    close(inroot_open(root, "f", 0));
+    close(inroot_open(root, "f", INROOT_EXACT));
     int before = open_descriptors();
     for (int at = 0; at < 100; at++) {
         pthread_t thread;
-        pthread_create(&thread, NULL, end_in_jail, NULL);
+        pthread_create(&thread, NULL, end_here, NULL);
         pthread_join(thread, NULL);
     }
     int left = open_descriptors() - before;
@@ -386,17 +237,18 @@ static void storm(void)
     int before = open_descriptors(), failed = 0;
     sure(setitimer(ITIMER_REAL, &often, NULL), "setitimer");
     for (int at = 0; at < 20000; at++) {
-        int fd = inroot_open(root, "a/b/../b", INROOT_NO_RETRY);
+        const int flags = at % 2 ? INROOT_EXACT : 0;
+        int fd = inroot_open(root, "a/b/../b", INROOT_NO_RETRY | flags);
         failed += fd < 0;
         if (fd >= 0)
             close(fd);
-        if (at % 10 != 0)
+        if (at % 10 > 1)
             continue;
-        fd = inroot_mkdir_all(root, "s/t/u", 0755, 0);
+        fd = inroot_mkdir_all(root, "s/t/u", 0755, flags);
         failed += fd < 0;
         if (fd >= 0)
             close(fd);
-        failed += inroot_remove_all(root, "s", 0) != 3;
+        failed += inroot_remove_all(root, "s", flags) != 3;
     }
     sure(setitimer(ITIMER_REAL, &never, NULL), "setitimer");
     gives(failed, 0, "calls that failed under %d signals", alarms);
@@ -413,12 +265,12 @@ static void in_thread(void *(*what)(void *))
 
 static void forks(void)
 {
-    in_thread(fork_in_jail);
+    in_thread(fork_here);
 }
 
 static void vforks(void)
 {
-    in_thread(vfork_in_jail);
+    in_thread(vfork_here);
 }
 
 int main(int count, char **words)
@@ -426,15 +278,10 @@ int main(int count, char **words)
     static const struct {
         const char *name;
         void (*run)(void);
-        bool needs_jail;
     } parts[] = {
-        {"fork", forks, true}, {"vfork", vforks, true}, {"own table", own_table, false}, {"own root", own_root, false},
-        {"late jail", late, true}, {"main thread ended", main_ends, false}, {"closed behind", closed_behind, false},
-        {"bad jails", bad_jails, true}, {"shared current directory", wanderer, true}, {"the same that trusts", trusting_wanderer, true},
-        {"cancelled", cancelled, true},
-        {"ended", ended, true}, {"signals", storm, false},
+        {"fork", forks}, {"vfork", vforks}, {"own table", own_table}, {"own root", own_root}, {"main thread ended", main_ends},
+        {"closed behind", closed_behind}, {"cancelled", cancelled}, {"ended", ended}, {"signals", storm},
     };
-    int skipped = 0;
     if (count != 2)
         return 2;
     base = sure(open(words[1], O_PATH | O_DIRECTORY | O_CLOEXEC), words[1]);
@@ -445,19 +292,12 @@ int main(int count, char **words)
     root = sure(openat(base, "root", O_PATH | O_DIRECTORY | O_CLOEXEC), "root");
     sure(mknodat(root, "f", S_IFREG | 0600, 0), "f");
     sure(mknodat(base, "out/f", S_IFREG | 0600, 0), "f");
-    bool may = may_jail(root);
     for (size_t at = 0; at < sizeof parts / sizeof *parts; at++) {
         int before = wrong;
-        if (parts[at].needs_jail && !may) {
-            skipped++;
-            continue;
-        }
         apart(parts[at].run);
         if (wrong != before)
             printf("threads: %s\n", parts[at].name);
     }
-    if (geteuid() == 0)
-        apart(no_right);
-    printf("threads: %d not as they are to be, %d parts left out\n", wrong, skipped);
+    printf("threads: %d not as they are to be\n", wrong);
     return wrong != 0;
 }

@@ -147,7 +147,6 @@ static void deeper(void)
     gives(why.error, EIO, "the error that is told of it");
     gives_text(why.step, "RemoveDir", "the step that is told of it");
     gives_text(why.name, "d", "the name that is told of it");
-    gives_text(why.rest, "", "the rest that is told of it");
     refusal = 0;
     remove_it("more directories, each in the one before", count);
 }
