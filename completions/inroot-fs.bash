@@ -17,11 +17,11 @@ _inroot_fs_options() {
 }
 
 # The names below ROOT that begin with the word. They are asked of inroot-fs itself, so that no link leads out of it. Each is
-# quoted: who names files there would else choose what the shell runs. A word that was typed in quotes isn't completed.
+# quoted: who names files there would else choose what the shell runs.
 _inroot_fs_paths() {
     local root=$1 word=$2 above='' name
-    [[ ${word//\\?/} != *[\'\"]* ]] || return
-    word=${word//\\\\/$'\1'} word=${word//\\/} word=${word//$'\1'/\\}
+    # What comes behind one of these signs is a word of its own to readline.
+    [[ $word != *[:=@]* ]] || return
     case $word in
     */*) above=${word%/*}/ ;;
     esac
@@ -34,20 +34,25 @@ _inroot_fs_paths() {
 }
 
 _inroot_fs() {
-    local word=${COMP_WORDS[COMP_CWORD]} root
-    case $COMP_CWORD in
+    local word=${COMP_WORDS[COMP_CWORD]} words at
+    # COMP_WORDS has quotes and backslashes, and is divided at a colon, too. A word that was typed in quotes isn't completed.
+    [[ ${word//\\?/} != *[\'\"]* ]] || return
+    mapfile -d '' -t words < <(xargs printf '%s\0' <<<"${COMP_LINE:0:COMP_POINT}x" 2>/dev/null)
+    at=$((${#words[@]} - 1))
+    [ "$at" -gt 0 ] || return
+    word=${words[at]%x}
+    case $at in
     1)
-        compopt -o filenames
-        mapfile -t COMPREPLY < <(compgen -d -- "$word"; compgen -W '--help --version' -- "$word")
+        compopt -o plusdirs -o filenames
+        mapfile -t COMPREPLY < <(compgen -W '--help --version' -- "$word")
         ;;
     2) mapfile -t COMPREPLY < <(compgen -W 'resolve realpath cat ls readlink stat write mkdir mknod chmod chown rm rmdir mv ln' -- "$word") ;;
     *)
         if [[ $word == -* ]]; then
-            mapfile -t COMPREPLY < <(compgen -W "$(_inroot_fs_options "${COMP_WORDS[2]}")" -- "$word")
+            mapfile -t COMPREPLY < <(compgen -W "$(_inroot_fs_options "${words[2]}")" -- "$word")
         else
-            root=${COMP_WORDS[1]/#\~\//$HOME/}
             compopt -o nospace
-            mapfile -t COMPREPLY < <(_inroot_fs_paths "$root" "$word")
+            mapfile -t COMPREPLY < <(_inroot_fs_paths "${words[1]/#\~\//$HOME/}" "$word")
         fi
         ;;
     esac

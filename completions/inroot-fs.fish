@@ -1,47 +1,52 @@
 # Completion of inroot-fs(1) for fish.
 
+# The words before the one at the cursor. Each ends with a NUL, here and below, since a name may have a newline.
 function __inroot_fs_words
-    count (commandline -opc)
+    printf '%sx' (commandline -pc | string collect) | read -zlat words
+    set -e words[-1]
+    printf '%s\0' $words | string split0
 end
 
-function __inroot_fs_at_command
-    test (__inroot_fs_words) -eq 2
+function __inroot_fs_at
+    test (count (__inroot_fs_words)) -eq $argv
 end
 
 function __inroot_fs_in
-    set -l words (commandline -opc)
+    set -l words (__inroot_fs_words)
     test (count $words) -ge 3; and contains -- $words[3] $argv
 end
 
-# The names below ROOT. They are asked of inroot-fs itself, so that no link of ROOT leads out of it.
+# The names below ROOT. They are asked of inroot-fs itself, so that no link of ROOT leads out of it. Names that would be an option
+# or a home directory come behind `./` alone. One with a tab is left out: fish takes the rest of it for a description.
 function __inroot_fs_paths
-    set -l words (commandline -opc)
-    set -l above (string match -r '^.*/' -- (commandline -ct))
+    set -l words (__inroot_fs_words)
+    set -l above (string unescape -- (commandline -ct) | string match -r '(?s)^.*/' | string collect)
     set -l asked $above .
-    inroot-fs $words[2] ls --zero -- $asked[1] 2>/dev/null | while read -lz name
-        echo "$above$name"
-    end
+    for name in (inroot-fs $words[2] ls --zero -- $asked[1] 2>/dev/null | string split0)
+        set name "$above$name"
+        string match -qr '^[-~]|\t' -- $name; or printf '%s\0' $name
+    end | string split0
 end
 
 complete -c inroot-fs -f
-complete -c inroot-fs -n 'test (__inroot_fs_words) -eq 1' -a '(__fish_complete_directories)'
-complete -c inroot-fs -n 'test (__inroot_fs_words) -eq 1' -s h -l help -d 'Print help'
-complete -c inroot-fs -n 'test (__inroot_fs_words) -eq 1' -s V -l version -d 'Print the version'
-complete -c inroot-fs -n __inroot_fs_at_command -a resolve -d 'Tell what a path means'
-complete -c inroot-fs -n __inroot_fs_at_command -a realpath -d 'Print where a path leads'
-complete -c inroot-fs -n __inroot_fs_at_command -a cat -d 'Print files'
-complete -c inroot-fs -n __inroot_fs_at_command -a ls -d 'Print the names in a directory'
-complete -c inroot-fs -n __inroot_fs_at_command -a readlink -d 'Print the text of a link'
-complete -c inroot-fs -n __inroot_fs_at_command -a stat -d 'Print kind, mode, owner, size and times'
-complete -c inroot-fs -n __inroot_fs_at_command -a write -d 'Write standard input to a file'
-complete -c inroot-fs -n __inroot_fs_at_command -a mkdir -d 'Make a directory'
-complete -c inroot-fs -n __inroot_fs_at_command -a mknod -d 'Make a FIFO, a socket or a device'
-complete -c inroot-fs -n __inroot_fs_at_command -a chmod -d 'Change a mode'
-complete -c inroot-fs -n __inroot_fs_at_command -a chown -d 'Change an owner'
-complete -c inroot-fs -n __inroot_fs_at_command -a rm -d 'Remove an entry'
-complete -c inroot-fs -n __inroot_fs_at_command -a rmdir -d 'Remove an empty directory'
-complete -c inroot-fs -n __inroot_fs_at_command -a mv -d 'Rename an entry'
-complete -c inroot-fs -n __inroot_fs_at_command -a ln -d 'Make a link'
+complete -c inroot-fs -n '__inroot_fs_at 1' -F
+complete -c inroot-fs -n '__inroot_fs_at 1' -s h -l help -d 'Print help'
+complete -c inroot-fs -n '__inroot_fs_at 1' -s V -l version -d 'Print the version'
+complete -c inroot-fs -n '__inroot_fs_at 2' -a resolve -d 'Tell what a path means'
+complete -c inroot-fs -n '__inroot_fs_at 2' -a realpath -d 'Print where a path leads'
+complete -c inroot-fs -n '__inroot_fs_at 2' -a cat -d 'Print files'
+complete -c inroot-fs -n '__inroot_fs_at 2' -a ls -d 'Print the names in a directory'
+complete -c inroot-fs -n '__inroot_fs_at 2' -a readlink -d 'Print the text of a link'
+complete -c inroot-fs -n '__inroot_fs_at 2' -a stat -d 'Print kind, mode, owner, size and times'
+complete -c inroot-fs -n '__inroot_fs_at 2' -a write -d 'Write standard input to a file'
+complete -c inroot-fs -n '__inroot_fs_at 2' -a mkdir -d 'Make a directory'
+complete -c inroot-fs -n '__inroot_fs_at 2' -a mknod -d 'Make a FIFO, a socket or a device'
+complete -c inroot-fs -n '__inroot_fs_at 2' -a chmod -d 'Change a mode'
+complete -c inroot-fs -n '__inroot_fs_at 2' -a chown -d 'Change an owner'
+complete -c inroot-fs -n '__inroot_fs_at 2' -a rm -d 'Remove an entry'
+complete -c inroot-fs -n '__inroot_fs_at 2' -a rmdir -d 'Remove an empty directory'
+complete -c inroot-fs -n '__inroot_fs_at 2' -a mv -d 'Rename an entry'
+complete -c inroot-fs -n '__inroot_fs_at 2' -a ln -d 'Make a link'
 set -l all resolve realpath cat ls readlink stat write mkdir mknod chmod chown rm rmdir mv ln
 complete -c inroot-fs -n "__inroot_fs_in $all" -a '(__inroot_fs_paths)'
 complete -c inroot-fs -n "__inroot_fs_in $all" -s b -l beneath -d 'Refuse what leads out of ROOT'

@@ -1,6 +1,11 @@
 # Completion of inroot(1) for bash.
 _inroot() {
     local word=${COMP_WORDS[COMP_CWORD]} words=
+    # A script comes by a redirection. Nothing else is a file's name.
+    if [ "${COMP_WORDS[COMP_CWORD - 1]}" = '<' ]; then
+        compopt -o default
+        return
+    fi
     if [ "$COMP_CWORD" -eq 1 ]; then
         words='walk replay draw run explore help --help --version'
     else
@@ -14,5 +19,4 @@ _inroot() {
     fi
     mapfile -t COMPREPLY < <(compgen -W "$words" -- "$word")
 }
-# A script is given by a redirection, whose file the shell completes.
-complete -o default -F _inroot inroot
+complete -F _inroot inroot

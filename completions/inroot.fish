@@ -1,11 +1,12 @@
 # Completion of inroot(1) for fish.
+complete -c inroot -f
 set -l commands walk replay draw run explore help
-complete -c inroot -n "not __fish_seen_subcommand_from $commands" -f -a walk -d 'Resolve a path over a script'
-complete -c inroot -n "not __fish_seen_subcommand_from $commands" -f -a replay -d 'Play a script, and print each event'
-complete -c inroot -n "not __fish_seen_subcommand_from $commands" -f -a draw -d 'Play a script, and draw it'
-complete -c inroot -n "not __fish_seen_subcommand_from $commands" -f -a run -d 'Let threads make the calls'
-complete -c inroot -n "not __fish_seen_subcommand_from $commands" -f -a explore -d 'Play a script by every schedule'
-complete -c inroot -n "not __fish_seen_subcommand_from $commands" -f -a help -d 'Print help'
+complete -c inroot -n "not __fish_seen_subcommand_from $commands" -a walk -d 'Resolve a path over a script'
+complete -c inroot -n "not __fish_seen_subcommand_from $commands" -a replay -d 'Play a script, and print each event'
+complete -c inroot -n "not __fish_seen_subcommand_from $commands" -a draw -d 'Play a script, and draw it'
+complete -c inroot -n "not __fish_seen_subcommand_from $commands" -a run -d 'Let threads make the calls'
+complete -c inroot -n "not __fish_seen_subcommand_from $commands" -a explore -d 'Play a script by every schedule'
+complete -c inroot -n "not __fish_seen_subcommand_from $commands" -a help -d 'Print help'
 complete -c inroot -s h -l help -d 'Print help'
 complete -c inroot -n "not __fish_seen_subcommand_from $commands" -s V -l version -d 'Print the version'
 complete -c inroot -n '__fish_seen_subcommand_from walk' -l beneath -d 'Refuse what leads out of the root'

@@ -7,6 +7,8 @@
 // Where the kernel has no openat2(2), nothing is promised if the root itself, or a directory above it, is renamed
 // meanwhile.
 //
+// A file's name is for messages. It lies below the root's, but os.Chmod and its like follow links there out of the root.
+//
 // The library is found by pkg-config; with the tag inroot_static its archive is linked. An error is an *os.PathError
 // (or *os.LinkError of two paths) with a syscall.Errno.
 package inroot
@@ -81,13 +83,22 @@ func onPaths(op string, root Root, first, path string, call func(root C.int, fir
 	return err
 }
 
+// named gives a file that has the descriptor. Its name is below the root's, whatever ".." path has. It has none if the
+// root has none.
+func named(fd C.int, root, path string) *os.File {
+	if root == "" {
+		return os.NewFile(uintptr(fd), "")
+	}
+	return os.NewFile(uintptr(fd), filepath.Join(root, filepath.Join("/", path)))
+}
+
 // opened makes a call that gives a descriptor, and gives a file that has it.
 func opened(op string, root Root, path string, call func(root C.int, path *C.char) C.int) (*os.File, error) {
 	fd, err := onPath(op, root, path, func(root C.int, path *C.char) C.long { return C.long(call(root, path)) })
 	if err != nil {
 		return nil, err
 	}
-	return os.NewFile(uintptr(fd), filepath.Join(root.Name(), path)), nil
+	return named(C.int(fd), root.Name(), path), nil
 }
 
 // done makes a call that gives nothing.

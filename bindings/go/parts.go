@@ -175,5 +175,5 @@ func openedOf(op string, root Root, first, path string, call func(root C.int, fi
 	if err != nil {
 		return nil, err
 	}
-	return os.NewFile(uintptr(fd), path), nil
+	return named(fd, root.Name(), path), nil
 }

@@ -8,7 +8,6 @@ import (
 	"io/fs"
 	"math"
 	"os"
-	"path/filepath"
 	"runtime"
 	"syscall"
 )
@@ -39,7 +38,7 @@ func (e *WalkEntry) Open() (*os.File, error) {
 	if fd < 0 {
 		return nil, &os.PathError{Op: "openat", Path: e.Path, Err: syscall.Errno(-fd)}
 	}
-	return os.NewFile(uintptr(fd), filepath.Join(e.root, e.Path)), nil
+	return named(fd, e.root, e.Path), nil
 }
 
 // kinds has what Go calls the kinds of files.

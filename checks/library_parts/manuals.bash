@@ -87,34 +87,7 @@ for option in $("$fs" --help | grep -o -- '--[a-z-]*' | sort -u); do
         grep -qF -- "-l $name" completions/inroot-fs.fish
     verdict $? "$option is missing in the man page or a completion of inroot-fs"
 done
-has 'completions for bash' bash -n completions/*.bash
-# What bash completes: the commands, and names below the root that no link leads out of.
-completed() {
-    PATH=$prefix/bin:$PATH bash -c 'source completions/inroot-fs.bash; compopt() { :; }
-        COMP_WORDS=("$@") COMP_CWORD=$(($# - 1)); _inroot_fs; printf "%s\n" "${COMPREPLY[@]}"' - inroot-fs "$@" |
-        LC_ALL=C sort | xargs -d '\n'
-}
-[ "$(completed "$box" r)" = 'readlink realpath resolve rm rmdir' ] && [ "$(completed "$box" cat in/)" = 'in/f in/new' ] &&
-    [ "$(completed "$box" cat abs/)" = '' ] && [ "$(completed "$box" rm --r)" = --recursive ]
-verdict $? "bash completes: $(completed "$box" r), $(completed "$box" cat in/), $(completed "$box" cat abs/)"
-# A name that the shell would run comes quoted, and one that is an option's comes as a path.
-touch "$box/q\$(run)\\" "$box/--q"
-[ "$(completed "$box" cat q)" = 'q\$\(run\)\\' ] && [ "$(completed "$box" cat 'q\$\(run\)\\')" = 'q\$\(run\)\\' ] &&
-    [ "$(completed "$box" cat 'q$(r')" = 'q\$\(run\)\\' ] && [ "$(completed "$box" cat "'q")" = '' ] &&
-    [[ " $(completed "$box" cat '') " == *' ./--q '* ]]
-verdict $? "bash completes names with signs of the shell's: $(completed "$box" cat q), $(completed "$box" cat '')"
-rm "$box/q\$(run)\\" "$box/--q"
-lacks zsh 'completions for zsh' ||
-    has 'completions for zsh' zsh -n completions/_inroot completions/_inroot-fs
-lacks fish 'completions for fish' ||
-    has 'completions for fish' fish -n completions/inroot.fish completions/inroot-fs.fish
-if command -v fish >/dev/null; then
-    # What fish completes of the first line, with a comma after each.
-    fished() {
-        PATH=$prefix/bin:$PATH HOME=$work fish -c "source completions/inroot-fs.fish; complete -C 'inroot-fs $*'" |
-            cut -f 1 | LC_ALL=C sort | tr '\n' ,
-    }
-    [ "$(fished "$box" r)" = readlink,realpath,resolve,rm,rmdir, ] && [ "$(fished "$box" ls ab)" = abs, ] &&
-        [ "$(fished "$box" cat in/f)" = in/f, ] && [ "$(fished "$box" cat abs/)" = '' ]
-    verdict $? "fish completes: $(fished "$box" r) $(fished "$box" ls ab) $(fished "$box" cat in/f)"
-fi
+for shell in bash zsh fish; do
+    lacks "$shell" "completions for $shell" || lacks python3 "completions for $shell" ||
+        has "completions for $shell" python3 checks/library_parts/tab.py "$shell" "$prefix"
+done

@@ -37,9 +37,9 @@ def refused():
         refuses(f"walk, {by_walk}: {script}", by_walk, "walk", ".", given=script + "\n")
         refuses(f"replay, {by_replay}: {script}", by_replay, "replay", given=script + "\n")
         refuses(f"draw, {by_replay}: {script}", by_replay, "draw", given=script + "\n")
-    for value in [*rows("json")[0], "[" * 126 + "]" * 126]:
+    for value in [*rows("json")[0], "[" * 63 + "]" * 63]:
         refuses(f"JSON: {value[:40]}", "", "walk", ".", given=holds(value))
-    for value in [*rows("no json")[0], "[" * 127 + "]" * 127, "[" * 9999]:
+    for value in [*rows("no json")[0], "[" * 64 + "]" * 64, "[" * 9999]:
         refuses(f"no JSON: {value[:40]}", "not json", "replay", given=holds(value))
     one = holds("1")
     refuses("a byte order mark", "not json", "walk", ".", given="\ufeff" + one)

@@ -61,7 +61,7 @@ def takes_little(most, name, wanted, script, path):
 
 def walks():
     most = Most("walk")
-    for unit in ("0", '""', "[]", "[0]", "[[0]]", '{"":0}', 100 * '{"":' + "0" + 100 * "}"):
+    for unit in ("0", '""', "[]", "[0]", "[[0]]", '{"":0}', 62 * '{"":' + "0" + 62 * "}"):
         takes_little(most, f"a list of {unit[:12]}", "opened dir 1 /", filled(unit), ".")
     tree = with_entries(*(f'["dir","/c{it * "/a"}"]' for it in range(1, 1001)))
     takes_little(most, "a deep tree", f"opened dir 401 {400 * '/a'}", tree, 1000 * "a/" + 600 * "../")

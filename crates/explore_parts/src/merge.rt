@@ -7,6 +7,7 @@ ghost use Rattle.explore_parts.specs.Merging.{Asks, Adds, LinesSay, lines_in, Is
 use crate::part_read::{PartFault, part, properties, question};
 use crate::seal::{SealFault, check_seal};
 use outcome_text::{MergeFault, Part, Property, merge};
+use scripts::is_too_deep;
 use serde_json::Value;
 use std::alloc::Global;
 use std::io::{ErrorKind, Read, Write};
@@ -61,10 +62,13 @@ fn unread(place: usize, fault: PartFault) -> MergeFault {
     }
 }
 
-// The value of a line of JSON.
+// The value of a line of JSON, whose lists and objects stand in one another as in a script at most.
 fn value_of(alloc: Global, place: usize, line: &[u8]) -> Result<Value, MergeFault>
     ensures { IfOk result (λ value. read line.now ≡ Some (view value)) }
 {
+    if is_too_deep(line) {
+        return Err(MergeFault::NotAPart(place));
+    }
     match Value::from_slice(alloc, line) {
         Ok(value) => Ok(value),
         Err(error) if error.is_memory() => Err(MergeFault::NoMemory),

@@ -7,9 +7,10 @@ use Rattle.tree_model.specs.Entries.{with_some}
 use Rattle.scripts.specs.declared.fault.RunFault.{RunFault}
 use Rattle.scripts.specs.declared.fault.ScriptFault.{ScriptFault}
 use Rattle.scripts.specs.declared.fault.RunFault.TheVariants.{Script, ReadFailed, WriteFailed, NoMemory, BookFull}
-use Rattle.scripts.specs.declared.fault.ScriptFault.TheVariants.{TooLong, NotJson}
+use Rattle.scripts.specs.declared.fault.ScriptFault.TheVariants.{TooLong, TooDeep, NotJson}
 use Rattle.scripts.specs.Fault.{SOMEWHERE}
 use Rattle.scripts.specs.Limits.{MOST_BYTES}
+use Rattle.scripts.specs.Nesting.{is_too_deep}
 
 -- the fault is one of reading: there is more to read than a script may have, or a read or a growth was refused
 abbrev pub IsReadFault : Option (List ℕ) → RunFault → Type 0
@@ -23,6 +24,7 @@ IsReadFault known BookFull = ⊥
 abbrev pub json_of : List ℕ → Option Data
 json_of bytes = if is_utf8 bytes then read bytes else None
 
--- the data of a script, or that it is no JSON text
+-- the data of a script, or that it is too deep or no JSON text
 abbrev pub data_of : List ℕ → Result Data ScriptFault
-data_of bytes = with_some (json_of bytes) (Err (NotJson SOMEWHERE)) (λ d. Ok d)
+data_of bytes =
+    if is_too_deep bytes then Err TooDeep else with_some (json_of bytes) (Err (NotJson SOMEWHERE)) (λ d. Ok d)

@@ -9,6 +9,7 @@ pub mod Input
 pub mod Keys
 pub mod Labels
 pub mod Limits
+pub mod Nesting
 pub mod Plans
 pub mod Scenario
 pub mod Schedule

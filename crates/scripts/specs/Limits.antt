@@ -4,6 +4,10 @@ use Rattle.std.specs.Prelude.{ℕ}
 abbrev pub MOST_BYTES : ℕ
 MOST_BYTES = 1048576
 
+-- lists and objects that stand in one another
+abbrev pub MOST_LEVELS : ℕ
+MOST_LEVELS = 64
+
 abbrev pub MOST_LINES : ℕ
 MOST_LINES = 1000000
 

@@ -5,6 +5,7 @@ use crate::calls::CALLS_MAX;
 use crate::fault::{Cause, JsonFault, Loose, RunFault, ScriptFault};
 use crate::input::SCRIPT_MAX;
 use crate::keys::Keys;
+use crate::nesting::LEVELS_MAX;
 use crate::scenario::LINES_MAX;
 use crate::schedule::TURNS_MAX;
 use crate::tree::ENTRIES_MAX;
@@ -137,6 +138,10 @@ impl Display for Detail {
     fn fmt<W: fmt::Write>(&self, f: &mut Formatter<W>) -> fmt::Result {
         match self.fault {
             ScriptFault::TooLong => write!(f, "a script has at most {SCRIPT_MAX} bytes"),
+            ScriptFault::TooDeep => write!(
+                f,
+                "at most {LEVELS_MAX} lists and objects stand in one another"
+            ),
             ScriptFault::NotJson(fault) => write!(f, "{fault}"),
             ScriptFault::NotObject => f.write_str("a script is a JSON object"),
             ScriptFault::Version => f.write_str("\"version\" is 1 or 2"),

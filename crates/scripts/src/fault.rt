@@ -52,6 +52,9 @@ pub enum ScriptFault {
     /// More bytes than a script may have.
     #[error("too long")]
     TooLong,
+    /// More lists and objects in one another than there may be.
+    #[error("not json")]
+    TooDeep,
     /// No JSON text (RFC 8259), or no UTF-8.
     #[error("not json")]
     NotJson(JsonFault),

@@ -6,6 +6,7 @@ ghost use Rattle.scripts.specs.Input.{IsReadFault, data_of};
 ghost use Rattle.scripts.specs.Limits.{MOST_BYTES};
 
 use crate::fault::{JsonFault, RunFault, ScriptFault};
+use crate::nesting::is_too_deep;
 use serde_json::Value;
 use std::alloc::Global;
 use std::io::{ErrorKind, Read};
@@ -42,11 +43,15 @@ pub fn read_script<R: Read>(alloc: Global, reader: &mut R) -> Result<Vec<u8>, Ru
     Err(RunFault::ReadFailed)
 }
 
-/// The value of a JSON text. Errors: `Script(NotJson)` where the bytes are none, or no UTF-8; `NoMemory`.
+/// The value of a JSON text. Errors, in this order: `Script(TooDeep)`; `Script(NotJson)` where the bytes are none, or
+/// no UTF-8; `NoMemory`.
 pub fn value_of(alloc: Global, bytes: &[u8]) -> Result<Value, RunFault>
     ensures ok { IfOk result (λ value. data_of bytes.now ≡ Ok (view value)) }
     ensures err { IfErr result (IsFaultOf (data_of bytes.now)) }
 {
+    if is_too_deep(bytes) {
+        return Err(RunFault::Script(ScriptFault::TooDeep));
+    }
     match Value::from_slice(alloc, bytes) {
         Ok(value) => Ok(value),
         Err(error) => {

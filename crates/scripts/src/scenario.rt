@@ -177,7 +177,7 @@ pub fn read_as<R: Read>(
 }
 
 /// Reads a script to its end, and what it says, with this order of turns. Errors, in this order: those of
-/// `read_script`; `Script(NotJson)`; those of `scenario_of`.
+/// `read_script`; `Script(TooDeep)`, `Script(NotJson)`; those of `scenario_of`.
 pub fn read_scenario<R: Read>(
     alloc: Global,
     reader: &mut R,

@@ -148,8 +148,8 @@ pub fn first_loose(script: &Value) -> Option<Loose>
 }
 
 /// Reads a script to its end, strictly, and gives its bytes to be read again. Errors, in this order: those of
-/// `read_script`; `Script(NotJson)`; `Script(Loose)` with what `first_loose` finds; `NoMemory`. So a key that is
-/// misspelled is told as that, and not as one that is missing.
+/// `read_script`; `Script(TooDeep)`, `Script(NotJson)`; `Script(Loose)` with what `first_loose` finds; `NoMemory`. So a
+/// key that is misspelled is told as that, and not as one that is missing.
 pub fn read_strictly<R: Read>(alloc: Global, reader: &mut R) -> Result<Vec<u8>, RunFault>
     ensures ok { IfOk result (λ script. IfSome (R.remaining reader.old) (λ input. strictly input ≡ Ok script.items)) }
     ensures err { IfErr result (λ fault.

@@ -15,7 +15,7 @@ use Rattle.tree_model.proofs.StepLaws.{nodes_are_left, others_handles_stay}
 use Rattle.step_resolver.proofs.Underway.StepOutcomes.{with_handle-is_more, Close-is_less, slice_get-other}
 use Rattle.sessions.specs.declared.open.OpenCause.TheVariants.{TooManySessions}
 use Rattle.sessions.specs.declared.open.TheConstants.{SESSIONS_MAX}
-use Rattle.sessions.specs.Open.{granted, after_grant, book_cause, cause_after, opening_cause, first_sessions, IsAsItWas, IsOpened}
+use Rattle.sessions.specs.Open.{granted, after_grant, book_cause, cause_after, opening_cause, first_sessions, IsAsItWas, TakesBack, IsOpened}
 use Rattle.sessions.specs.Service.{ServiceView}
 use Rattle.sessions.specs.Session.{SessionView, begun}
 
@@ -268,6 +268,34 @@ module _ (s t : State) (i a h : ℕ) (names : List (List ℕ)) (others roots : L
   back_on u after back after_is =
       grant_taken_back s t u after i h names here.0 here.1 back
       (subst (λ z. after ≡ (outcome u z (Close h)).after) same after_is)
+
+-- ---- all taken back, the last one first
+
+pub none_taken_back : (old : State) → TakesBack [] old old
+none_taken_back old s tag i [] e none = subst (λ (u : State). IsAsItWas s u) (cc (e)) (as_it_is s)
+none_taken_back old s tag i (names ∷ roots) e none = cc (none)
+
+pub all_taken_back : (old mid after : State) (first : SessionView) (others : List SessionView)
+    → TakesBack others old mid → after ≡ (outcome mid first.owner.actor (Close first.root)).after
+    → TakesBack (first ∷ others) old after
+all_taken_back old mid after first others rest is s tag i [] e all = cc (all)
+all_taken_back old mid after first others rest is s tag i (names ∷ roots) e all = on (grants s i names) refl e
+  where
+    on : (found : Result State Errno) → grants s i names ≡ found
+        → after_grant (λ t. granted t (suc i) roots) i found ≡ Ok old → IsAsItWas s after
+    on (Err error) g k = cc (k)
+    on (Ok t) g k =
+        let more = grants_so s t i names g in
+        let longer : length t.handles ≡ suc (length s.handles) = omega (
+          arith,
+          ap (λ (u : State). length u.handles) more.is_more,
+          length_push s.handles (Some (record { actor = i; node = more.node })),
+        ) in
+        let head : first ≡ begun (record { tag = tag; actor = i }) (length s.handles) = cc (all) in
+        let tail : others ≡ first_sessions tag (suc i) (suc (length s.handles)) roots = cc (all) in
+        grant_taken_back s t mid after i (length s.handles) names g refl
+        (rest t tag (suc i) roots k (tail ∙ ap (λ n. first_sessions tag (suc i) n roots) (sym longer)))
+        (is ∙ ap (λ (v : SessionView). (outcome mid v.owner.actor (Close v.root)).after) head)
 
 not_less : (a b : ℕ) (q : Bool) → nat_lt a b ≡ q → b ≤ a → q ≡ false
 not_less a b true e le = let less = ltb-true a b e in absurd (omega (arith, less, le))

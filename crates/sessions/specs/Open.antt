@@ -55,13 +55,18 @@ opening_cause s roots lines =
 abbrev pub IsAsItWas : State → State → Type 0
 IsAsItWas s t = (t.nodes ≡ s.nodes) × ((a h : ℕ) → held t a h ≡ held s a h)
 
--- ---- what is opened
-
 -- sessions counted from i, whose roots' handles count from h
 abbrev pub first_sessions : ℕ → ℕ → ℕ → List (List (List ℕ)) → List SessionView
 first_sessions tag i h [] = []
 first_sessions tag i h (names ∷ roots) =
     begun (record { tag = tag; actor = i }) h ∷ first_sessions tag (suc i) (suc h) roots
+
+-- the tree is as it was before these sessions' roots were granted, one after another
+abbrev pub TakesBack : List SessionView → State → State → Type 0
+TakesBack sessions old new = (s : State) (tag i : ℕ) (roots : List (List (List ℕ))) → granted s i roots ≡ Ok old
+    → sessions ≡ first_sessions tag i (length s.handles) roots → IsAsItWas s new
+
+-- ---- what is opened
 
 -- the session of a number is new, and its handle is open on the directory at these names from the top
 pub record HasRoot (s opening : State) (tag i : ℕ) (names : List (List ℕ))

@@ -1,10 +1,10 @@
 //! Opening a service: a handle for each root, and a book.
-ghost use Rattle.std.specs.Prelude.{◌≡◌, ◌≤◌, ◌+◌, ◌++◌, ◌⊎◌, [], ◌∷◌, None, Some, Ok, OnOk, IfOk, IfErr, IfSome, IfNone, length};
+ghost use Rattle.std.specs.Prelude.{◌≡◌, ◌≤◌, ◌+◌, ◌++◌, ◌⊎◌, [], ◌∷◌, None, Some, Ok, Err, OnOk, OnErr, IfOk, IfErr, IfSome, IfNone, length};
 ghost use Rattle.tree_model.specs.Steps.{outcome};
 ghost use Rattle.tree_model.specs.declared.step.StepOf.TheVariants.{Close as CloseStep};
 ghost use Rattle.race_core.specs.Book.{opened_book};
 ghost use Rattle.sessions.specs.Session.{begun};
-ghost use Rattle.sessions.specs.Open.{root_cause, refused_book, granted, book_cause, cause_after, opening_cause, first_sessions, IsAsItWas, IsOpened};
+ghost use Rattle.sessions.specs.Open.{root_cause, refused_book, granted, book_cause, cause_after, opening_cause, first_sessions, IsAsItWas, TakesBack, IsOpened};
 
 use crate::service::Service;
 use crate::session::Session;
@@ -108,19 +108,53 @@ fn open_book<T: Tree>(
     }
 }
 
-// Takes a handle back that was granted, from a tree that comes back.
-fn take_back<T: Tree>(
-    alloc: Global,
-    refusal: OpenRefusal<T>,
-    actor: Actor,
-    handle: HandleNo,
-) -> OpenRefusal<T>
-    ensures cause { result.cause ≡ refusal.cause }
-    ensures tree { T.state result.tree ≡ (outcome (T.state refusal.tree) actor (CloseStep handle)).after }
+// Closes a handle that was granted.
+fn take_back<T: Tree>(alloc: Global, tree: &mut T, actor: Actor, handle: HandleNo)
+    ensures { T.state tree.new ≡ (outcome (T.state tree.old) actor (CloseStep handle)).after }
 {
-    let OpenRefusal { cause, mut tree } = refusal;
     let _ = tree.step(alloc, actor, &StepOf::Close(handle));
-    OpenRefusal { cause, tree }
+}
+
+// The first session, and the others.
+fn first_session(sessions: &[Session]) -> Option<(&Session, &[Session])>
+    ensures some { IfSome result (λ found. sessions.now ≡ found.0.now ∷ found.1.now) }
+    ensures none { IfNone result (sessions.now ≡ []) }
+{
+    sessions.split_first()
+}
+
+// Takes back what was granted to these sessions, the last one's first.
+fn take_back_all<T: Tree>(alloc: Global, tree: &mut T, sessions: &[Session])
+    ensures { TakesBack sessions.now (T.state tree.old) (T.state tree.new) }
+{
+    let Some((first, others)) = first_session(sessions) else {
+        return;
+    };
+    take_back_all(alloc, tree, others);
+    take_back(alloc, tree, first.owner.actor, first.root);
+}
+
+// The same as `open_book`, and where it fails, what was granted to the sessions is taken back.
+fn open_book_of<T: Tree>(
+    alloc: Global,
+    tree: T,
+    sessions: &[Session],
+    lines: u32,
+) -> Result<(Book<T>, Snapshot), OpenRefusal<T>>
+    ensures opened { IfOk result (λ opened. (opened.1 ≡ T.state tree) × (book_cause (T.state tree) lines ≡ None)) }
+    ensures book { IfOk result (λ opened. opened.0 ≡ opened_book opened.1 lines) }
+    ensures cause { IfErr result (λ refused.
+        (book_cause (T.state tree) lines ≡ Some refused.cause) ⊎ (refused.cause ≡ OpenCause.NoMemory)) }
+    ensures tree { IfErr result (λ refused. TakesBack sessions.now (T.state tree) (T.state refused.tree)) }
+{
+    match open_book(alloc, tree, lines) {
+        Ok(opened) => Ok(opened),
+        Err(refusal) => {
+            let OpenRefusal { cause, mut tree } = refusal;
+            take_back_all(alloc, &mut tree, sessions);
+            Err(OpenRefusal { cause, tree })
+        }
+    }
 }
 
 // The first root, and the others.
@@ -131,48 +165,42 @@ fn first_root(roots: &[Names]) -> Option<(&Names, &[Names])>
     roots.split_first()
 }
 
-// Grants the roots from that place on, each to the actor of its place, and opens the book. Where it fails, what was
-// granted here is taken back.
-fn open_from<T: Tree>(
+// Grants the roots from that place on, each to the actor of its place. Where it fails, what was granted here is taken
+// back. All happens on one tree: a tree in each frame would take much stack.
+fn grant_from<T: Tree>(
     alloc: Global,
-    tree: T,
+    tree: &mut T,
     roots: &[Names],
     tag: u64,
     place: usize,
-    lines: u32,
     sessions: &mut Vec<Session>,
-) -> Result<(Book<T>, Snapshot), OpenRefusal<T>>
+) -> Result<(), OpenCause>
     requires { place + length roots.now ≤ 64 }
-    ensures opened { IfOk result (λ opened. (granted (T.state tree) place roots.now ≡ Ok opened.1)
-        × (book_cause opened.1 lines ≡ None)) }
-    ensures book { IfOk result (λ opened. opened.0 ≡ opened_book opened.1 lines) }
-    ensures sessions { IfOk result (λ opened. sessions.new.items
-        ≡ sessions.old.items ++ first_sessions tag place (length (T.state tree).handles) roots.now) }
-    ensures cause { IfErr result (λ refused.
-        (cause_after (granted (T.state tree) place roots.now) lines ≡ Some refused.cause)
-        ⊎ (refused.cause ≡ OpenCause.NoMemory)) }
-    ensures tree { IfErr result (λ refused. IsAsItWas (T.state tree) (T.state refused.tree)) }
+    ensures granted { OnOk result (granted (T.state tree.old) place roots.now ≡ Ok (T.state tree.new)) }
+    ensures sessions { OnOk result (sessions.new.items
+        ≡ sessions.old.items ++ first_sessions tag place (length (T.state tree.old).handles) roots.now) }
+    ensures cause { IfErr result (λ cause.
+        (granted (T.state tree.old) place roots.now ≡ Err cause) ⊎ (cause ≡ OpenCause.NoMemory)) }
+    ensures tree { OnErr result (IsAsItWas (T.state tree.old) (T.state tree.new)) }
 {
     let Some((names, others)) = first_root(roots) else {
-        return open_book(alloc, tree, lines);
+        return Ok(());
     };
-    let mut tree = tree;
     let actor = Actor::new(place as u32);
     let handle = match tree.grant(alloc, actor, names) {
         Ok(handle) => handle,
-        Err(error) => {
-            let cause = OpenCause::of_root(place, error);
-            return Err(OpenRefusal { cause, tree });
-        }
+        Err(error) => return Err(OpenCause::of_root(place, error)),
     };
-    if add_session(alloc, &tree, sessions, Owner { tag, actor }, handle).is_err() {
-        let cause = OpenCause::NoMemory;
-        let refusal = OpenRefusal { cause, tree };
-        return Err(take_back(alloc, refusal, actor, handle));
+    if add_session(alloc, tree, sessions, Owner { tag, actor }, handle).is_err() {
+        take_back(alloc, tree, actor, handle);
+        return Err(OpenCause::NoMemory);
     }
-    match open_from(alloc, tree, others, tag, place + 1, lines, sessions) {
-        Ok(opened) => Ok(opened),
-        Err(refusal) => Err(take_back(alloc, refusal, actor, handle)),
+    match grant_from(alloc, tree, others, tag, place + 1, sessions) {
+        Ok(()) => Ok(()),
+        Err(cause) => {
+            take_back(alloc, tree, actor, handle);
+            Err(cause)
+        }
     }
 }
 
@@ -203,8 +231,11 @@ impl<T: Tree> Service<T> {
             let cause = OpenCause::TooManySessions;
             return Err(OpenRefusal { cause, tree });
         }
-        let mut sessions = Vec::new(alloc);
-        let (book, opening) = open_from(alloc, tree, roots, tag, 0, lines, &mut sessions)?;
+        let (mut tree, mut sessions) = (tree, Vec::new(alloc));
+        if let Err(cause) = grant_from(alloc, &mut tree, roots, tag, 0, &mut sessions) {
+            return Err(OpenRefusal { cause, tree });
+        }
+        let (book, opening) = open_book_of(alloc, tree, &sessions, lines)?;
         let service = Service {
             book: Mutex::new(SharedBook::new(book)),
             tag,
