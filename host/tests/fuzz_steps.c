@@ -18,7 +18,7 @@ enum { OVERLAYFS = 0x794c7630, PROC = 0x9fa0, SECURITYFS = 0x73636673, AAFS = 0x
 /* What was seen of a step. */
 struct seen {
     bool is_open, reads, changed, is_gone, is_magic, is_kept;
-    bool asks_magic;               /* whether it is a magic link */
+    bool asks_magic;               /* whether the link is a magic one */
     uint32_t why;                  /* the last error that isn't passed over */
     uint8_t kind;
     uint64_t exchanges, costs;
@@ -33,9 +33,6 @@ static struct inroot_step_facts some_facts(struct input *in)
     facts.mode = (uint8_t)(last / 2 % 3);
     facts.directory = more & 1;
     facts.mount = more & 2;
-    facts.is_last = last & 32;
-    facts.takes_link = last & 64;
-    facts.follows = more & 64;
     facts.link = more & 128;
     facts.second_name = last & 128;
     return facts;
@@ -106,12 +103,6 @@ static bool holds_magic(uint64_t file_system)
     return file_system == PROC || file_system == SECURITYFS || file_system == AAFS;
 }
 
-/* A link that is followed may be no magic one, and one that the caller wants may. */
-static bool bars_magic(const struct inroot_step_facts *facts)
-{
-    return !(facts->is_last && facts->takes_link && !facts->follows);
-}
-
 /* openat2(2) with RESOLVE_NO_MAGICLINKS: by these alone the kernel has looked where the link leads. */
 static void follows(uint32_t error, struct seen *seen)
 {
@@ -137,7 +128,7 @@ static void others(const struct inroot_step_facts *facts, uint8_t next, const st
             seen->kind = answer->kind;
         break;
     case INROOT_CALL_MAY_HOLD_MAGIC: case INROOT_CALL_MAGIC:
-        MUST(seen->is_open && bars_magic(facts) && seen->kind == INROOT_KIND_LINK);
+        MUST(facts->what == INROOT_STEP_READLINK && !seen->is_kept);
         seen->asks_magic = true;
         if (next == INROOT_CALL_MAY_HOLD_MAGIC)
             seen->is_magic = error != 0 || holds_magic(answer->number);
@@ -145,13 +136,14 @@ static void others(const struct inroot_step_facts *facts, uint8_t next, const st
             follows(error, seen);
         break;
     case INROOT_CALL_NO_FOLLOW:
-        MUST(facts->what == INROOT_STEP_READLINK && (!facts->is_last || facts->follows));
+        MUST(facts->what == INROOT_STEP_READLINK && !seen->asks_magic);
         seen->is_kept = error != 0 || answer->number & NOSYMFOLLOW;
         seen->why = error == EINTR ? 0 : error != 0 ? error : seen->is_kept ? ELOOP : 0;
         seen->costs += error == EINTR;
         break;
     case INROOT_CALL_READ_LINK:
-        MUST(facts->what == INROOT_STEP_READLINK && !seen->is_kept);
+        MUST(facts->what == INROOT_STEP_READLINK && !seen->is_kept && !seen->is_magic);
+        MUST(seen->asks_magic);
         seen->costs += error == EINTR;
         seen->why = error == EINTR ? 0 : error == ENOENT ? EINVAL : error;
         break;
@@ -185,7 +177,6 @@ static void must_end(const struct inroot_step_facts *facts, const struct inroot_
     case INROOT_ENDS_OPENED:
         MUST(seen->why == 0 && !seen->is_gone && !seen->is_magic);
         MUST(now->kind == seen->kind && now->kind != 0);
-        MUST(now->kind != INROOT_KIND_LINK || !bars_magic(facts) || seen->asks_magic);
         break;
     case INROOT_ENDS_TEXT: case INROOT_ENDS_DONE:
         MUST(seen->why == 0 && !seen->is_gone && !seen->is_kept);
