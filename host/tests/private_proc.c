@@ -62,7 +62,7 @@ static bool is_made_rightly(long number, const long *with)
     enum { CLOSES = 1, NOTHING_RUNS = 2 | 4 | 8 };
     switch (number) {
     /* With no name it is none of the library. */
-    case FSOPEN: return with[0] == -1 || with[1] & CLOSES;
+    case FSOPEN: return (int)with[0] == -1 || with[1] & CLOSES;
     case FSMOUNT: return with[1] & CLOSES && with[2] == NOTHING_RUNS;
     case OPEN_TREE: return with[2] & O_CLOEXEC;
     default: return true;
