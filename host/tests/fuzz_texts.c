@@ -194,18 +194,22 @@ static struct inroot_outcome answer(struct answers *from, uint32_t number, unsig
     return outcome;
 }
 
-/* The path that the link's text makes, by plain C: its length. */
+/* The path that the link's text makes, in the link's place or behind the directories' path, by plain C: its length. */
 static size_t led(const struct inroot_making *was, const unsigned char *path, const unsigned char *text, size_t length,
                   unsigned char *to)
 {
-    size_t at = was->length;
+    size_t at = was->length, front = was->above;
     if (was->next == INROOT_MAKING_READ_LINK) {
-        at = was->cut < was->above ? was->cut : was->above;
+        at = front = was->cut < was->above ? was->cut : was->above;
         at += name_length(path + at, was->above - at);
         while (at < was->above && path[at] == '/')
             at++;
     }
-    memcpy(to, text, length);
+    if (length > 0 && text[0] == '/')
+        front = 0;
+    memcpy(to, path, front);
+    memcpy(to + front, text, length);
+    length += front;
     if (at == was->length)
         return length;
     to[length] = '/';
@@ -213,39 +217,16 @@ static size_t led(const struct inroot_making *was, const unsigned char *path, co
     return length + 1 + was->length - at;
 }
 
-/* How often it is among what is closed. */
-static int times_closed(const struct inroot_making *now, uint32_t held)
-{
-    return (now->closes_base == held) + (now->closes_from == held) + (now->closes_given == held);
-}
-
-static bool is_named(const struct inroot_making *now, uint32_t held)
-{
-    return held == now->base || held == now->from || held == now->gives;
-}
-
-/* What was open, or was given, is closed once or stays open, and nothing else is closed. */
-static void must_close(const struct inroot_making *was, const struct inroot_making *now, uint32_t number)
-{
-    const uint32_t open[] = {was->base, was->from, number};
-    for (int at = 0; at < 3; at++)
-        MUST(open[at] == 0 || times_closed(now, open[at]) == (is_named(now, open[at]) ? 0 : 1));
-    MUST(now->closes_base == 0 || now->closes_base == was->base);
-    MUST(now->closes_from == 0 || now->closes_from == was->from);
-    MUST(now->closes_given == 0 || now->closes_given == number);
-}
-
-/* What is due is within the path, and names just what was open or has just been given. */
+/* What is due is within the path. What was given just now is the reply or is closed, and nothing else. */
 static void must_go_on(const struct inroot_making *was, const struct inroot_making *now, uint32_t number)
 {
     MUST(now->next >= INROOT_MAKING_FIND && now->next <= INROOT_MAKING_FAILS && now->links <= MOST_LINKS);
-    MUST(now->length <= PATH + 1 && now->above <= now->length && now->start + now->size <= now->length);
-    MUST(now->base == 0 || now->base == was->base || now->base == was->from);
-    MUST(now->from == 0 || now->from == was->from || now->from == was->base || now->from == number);
+    MUST(now->length <= PATH + 1 && now->above <= now->length && now->size <= now->length);
     MUST(now->gives == 0 || (now->gives == number && now->next == INROOT_MAKING_ENDS));
+    MUST(now->closes == (now->gives == number ? 0 : number));
     MUST((now->next == INROOT_MAKING_FAILS) == (now->error != 0));
     if (now->next >= INROOT_MAKING_ENDS)
-        MUST(now->base == 0 && now->from == 0 && now->length == was->length);
+        MUST(now->length == was->length);
     if (!now->follows)
         MUST(now->next != INROOT_MAKING_PARTIAL && now->next != INROOT_MAKING_READ_LINK && now->links == 0);
     MUST(now->file ? now->next != INROOT_MAKING_MAKE : now->next == INROOT_MAKING_MAKE || now->next == INROOT_MAKING_PARTIAL ||
@@ -268,7 +249,6 @@ static void makings(size_t asked, const uint8_t *bytes, size_t length)
         memcpy(before, room, PATH);
         inroot_making_next(&now, &outcome, text, text_length, room, PATH);
         must_go_on(&was, &now, outcome.descriptor);
-        must_close(&was, &now, outcome.descriptor);
         if (now.links > was.links)
             MUST(led(&was, before, text, text_length, wanted) == now.length && memcmp(room, wanted, now.length) == 0);
         else
