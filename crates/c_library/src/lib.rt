@@ -21,7 +21,7 @@ ghost use Rattle.open_or_make.specs.Course.{exchange, IsAt};
 ghost use Rattle.open_or_make.specs.History.{asked_of, is_call, Asked as Wanted, Exchange};
 ghost use Rattle.open_or_make.specs.Requests.{request_of};
 ghost use Rattle.make_through_links.specs.History.{asked_of as making_asked, is_call as is_making_call, Asked as MakingAsked, Exchange as MakingExchange};
-ghost use Rattle.make_through_links.specs.Closing.{closing};
+ghost use Rattle.make_through_links.specs.Closing.{closed};
 ghost use Rattle.make_through_links.specs.Making.{exchange as making_exchange, IsAt as IsMakingAt, IsWithin};
 ghost use Rattle.system_calls.specs.Objects.{is_node, is_same_object, kind_of};
 ghost use Rattle.system_calls.specs.Opening.{opening_of, reopen_flags};
@@ -269,7 +269,7 @@ pub extern "C" fn inroot_making_next(
     ensures goes { (asked : MakingAsked) (history : List MakingExchange) → IsMakingAt asked history making.old room.old
         → is_making_call making.old.next ≡ true
         → IsMakingAt asked (making_exchange making.old room.old outcome.now text.now ∷ history) making.new room.new }
-    ensures closes { making.new ≡ closing making.old outcome.now.descriptor making.new }
+    ensures closes { making.new.closes ≡ closed outcome.now.descriptor making.new.gives }
     ensures within { IsWithin making.new (length room.new) }
     ensures ends { is_making_call making.new.next ≡ false
         → (room.new ≡ room.old) × (making.new.length ≡ making.old.length) }
