@@ -88,11 +88,11 @@ bool inroot_misses_at_once(const struct inroot_asked *asked, const unsigned char
 
 /*
  * Whether one system call may walk PATH as a whole in the place of a call's steps, through links and `..`: openat2(2) with
- * RESOLVE_IN_ROOT, or with RESOLVE_BENEATH where that is asked for. It is true of a resolve that may follow links, of a text of 1 to
- * 4,095 bytes in which no part has more than 255; but not of a path that leads out by its first byte. It takes no memory, changes
+ * RESOLVE_IN_ROOT, or with RESOLVE_BENEATH; and with RESOLVE_NO_SYMLINKS where NO_LINKS. It is true of a text of 1 to 4,095 bytes
+ * without NUL in which no part has more than 255; but not of a path that leads out by its first byte. It takes no memory, changes
  * nothing, and needs no call under way. docs/HOST-WHY.md has the argument.
  */
-bool inroot_follows_at_once(const struct inroot_asked *asked, const unsigned char *path, size_t path_length);
+bool inroot_follows_at_once(bool beneath, bool no_links, const unsigned char *path, size_t path_length);
 
 /* Where a path's last name stands in it, of so many bytes; or the error's number, and zeros. */
 struct inroot_parted {

@@ -428,32 +428,27 @@ static void missing_names(void)
 /* ---- what the kernel may walk as a whole */
 
 struct walking {
-    bool wanted;
-    uint8_t op;
-    bool beneath, no_links;
+    bool wanted, beneath, no_links;
     const char *path;
     size_t path_length;
 };
 
 static const struct walking walkings[] = {
-    {true, 1, false, false, TEXT_OF("a/b/f")}, {true, 2, false, false, TEXT_OF("a/b/f")}, {true, 1, false, false, TEXT_OF("/a")},
-    {true, 1, true, false, TEXT_OF("a/../b/.")}, {false, 1, true, false, TEXT_OF("/a")}, {false, 2, true, false, TEXT_OF("//a")},
-    {true, 2, true, false, TEXT_OF("a//")}, {true, 1, false, false, TEXT_OF("..")}, {true, 1, false, false, TEXT_OF("/")},
-    {true, 2, false, false, TEXT_OF("\xff/\x01")}, {false, 1, false, true, TEXT_OF("a/b/f")}, {false, 2, true, true, TEXT_OF("a")},
-    {false, 0, false, false, TEXT_OF("a")}, {false, 3, false, false, TEXT_OF("a")}, {false, 4, false, false, TEXT_OF("a")},
-    {false, 10, false, false, TEXT_OF("a")}, {false, 11, false, false, TEXT_OF("a")}, {false, 255, false, false, TEXT_OF("a")},
-    {false, 1, false, false, TEXT_OF("")}, {false, 1, false, false, TEXT_OF("a\0b")}, {false, 1, false, false, TEXT_OF("\0")},
+    {true, false, false, TEXT_OF("a/b/f")}, {true, false, false, TEXT_OF("/a")}, {true, true, false, TEXT_OF("a/../b/.")},
+    {false, true, false, TEXT_OF("/a")}, {false, true, false, TEXT_OF("//a")}, {true, true, false, TEXT_OF("a//")},
+    {true, false, false, TEXT_OF("..")}, {true, false, false, TEXT_OF("/")}, {true, false, false, TEXT_OF("\xff/\x01")},
+    {true, false, true, TEXT_OF("a/b/f")}, {true, true, true, TEXT_OF("a")}, {false, true, true, TEXT_OF("/a")},
+    {false, false, false, TEXT_OF("")}, {false, false, false, TEXT_OF("a\0b")}, {false, false, false, TEXT_OF("\0")},
 };
 
 static void walks(const struct walking *with)
 {
-    const struct inroot_asked asked = {.root = ROOT, .op = with->op, .beneath = with->beneath, .no_links = with->no_links};
     rows++;
-    if (inroot_follows_at_once(&asked, (const unsigned char *)with->path, with->path_length) == with->wanted)
+    if (inroot_follows_at_once(with->beneath, with->no_links, (const unsigned char *)with->path, with->path_length) == with->wanted)
         return;
     wrong++;
-    printf("not so: operation %u, beneath %u, no links %u, %.20s of %zu bytes: walked at once is to be %u\n", with->op, with->beneath,
-           with->no_links, with->path, with->path_length, with->wanted);
+    printf("not so: beneath %u, no links %u, %.20s of %zu bytes: walked at once is to be %u\n", with->beneath, with->no_links,
+           with->path, with->path_length, with->wanted);
 }
 
 /* A path of so many bytes, whose parts have so many each, but for a shorter last one. */
@@ -463,7 +458,7 @@ static void walks_long(size_t length, size_t part, bool wanted)
     memset(path, 'n', sizeof path);
     for (size_t at = part; at < length; at += part + 1)
         path[at] = '/';
-    const struct walking with = {.wanted = wanted, .op = INROOT_ASK_RESOLVE, .path = path, .path_length = length};
+    const struct walking with = {.wanted = wanted, .path = path, .path_length = length};
     walks(&with);
 }
 

@@ -190,8 +190,8 @@ static bool has_short_parts(const unsigned char *path, size_t length)
 static void walked(const struct inroot_asked *asked, const unsigned char *path, size_t length)
 {
     bool is_path = length >= 1 && length < PATH_MAX && memchr(path, 0, length) == NULL && has_short_parts(path, length);
-    bool may = resolves(asked) && is_path && !asked->no_links && !(asked->beneath && path[0] == '/');
-    MUST(inroot_follows_at_once(asked, path, length) == may);
+    bool may = is_path && !(asked->beneath && path[0] == '/');
+    MUST(inroot_follows_at_once(asked->beneath, asked->no_links, path, length) == may);
 }
 
 int LLVMFuzzerTestOneInput(const uint8_t *data, size_t size)
