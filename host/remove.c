@@ -9,7 +9,7 @@
 #include <string.h>
 #include <unistd.h>
 
-/* Where a proved call came to its last handle: an entry in this directory, from which another call goes on. */
+/* Where a proved call went no deeper: an entry in this directory, from which another call goes on. */
 struct place {
     int dir;
     char name[NAME_MAX + 1];
@@ -30,7 +30,7 @@ static void call(struct removing *r, int root, const struct inroot_request *aske
         .removed = r->d.removed,
         .error = result < 0 ? (uint32_t)-result : 0,
         .unmade = (uint32_t)r->d.unmade,
-        .deeper = r->d.too_deep,
+        .deeper = r->d.deepest >= 0,
     };
 }
 
