@@ -31,7 +31,6 @@ static struct inroot_making making;
 static struct inroot_opening opening;
 static struct inroot_course course;
 static struct inroot_last_step last;
-static struct inroot_slot slots[2];
 static struct inroot_jailing jailing;
 static struct inroot_jailing_facts jail_facts;
 static struct inroot_whereabouts where;
@@ -132,10 +131,6 @@ static void open_no_kind(void) { answer_opened(0, 0); }
 static void open_by_an_error(void) { answer_opened(INROOT_KIND_DIR, ENOENT); }
 static void open_a_directory(void) { answer_opened(INROOT_KIND_DIR, 0); }
 
-static void let_go_of_what_is_closed(void) { slots[1].fd = INT_MAX; inroot_let_go(slots, 2, 0, 0); }
-static void let_go(void) { inroot_let_go(slots, 2, 0, 0); }
-static void let_go_oddly(void) { memset(&slots[1].is_above, 2, 1); let_go(); }
-
 static void begin_jail(void) { inroot_jailing_begin(&jail_facts, &jailing); }
 static void go_on_with_it(void) { inroot_jailing_next(&jailing, &jail_facts, &(struct inroot_jailing_answer){.yes = true}); }
 static void jail(void) { begin_jail(); while (jailing.next < INROOT_JAILING_JAILS) go_on_with_it(); }
@@ -208,9 +203,6 @@ static const struct {
     {"an object of no kind", open_no_kind, true},
     {"an object, and an error", open_by_an_error, true},
     {"an object", open_a_directory, false},
-    {"a slot whose descriptor isn't open", let_go_of_what_is_closed, true},
-    {"slots", let_go, false},
-    {"a bool that is none, in a second slot", let_go_oddly, true},
     {"a jail", jail, false},
     {"a jail that isn't left alone", change_a_jail, true},
     {"flags that aren't those of its beginning", change_its_flags, true},
