@@ -206,6 +206,37 @@ static void too_long_name(void)
     gives(removed, 1, "the same without it");
 }
 
+/* ---- more than one directory in each */
+
+/* So many directories, each in the one before, and in each beside it two more that are as deep. */
+static long make_bush(int levels)
+{
+    long count = 1;
+    int dir = make_in(root, "t");
+    for (int level = 0; level < levels; level++) {
+        for (const char *name = "d\0e\0f\0"; *name != 0; name += 2) {
+            int below = make_in(dir, name);
+            count++;
+            for (int deeper = 0; *name != 'd' && deeper < levels; deeper++, count++) {
+                int next = make_in(below, "d");
+                close(below);
+                below = next;
+            }
+            close(below);
+        }
+        int next = sure(openat(dir, "d", O_PATH | O_DIRECTORY | O_CLOEXEC), "d");
+        close(dir);
+        dir = next;
+    }
+    close(dir);
+    return count;
+}
+
+static void bush(void)
+{
+    remove_it("three directories in each of 50, two of them as deep", make_bush(50));
+}
+
 /* ---- a directory that is moved */
 
 static int out;
@@ -259,7 +290,7 @@ static void moved(void)
 
 int main(int count, char **words)
 {
-    static void (*const parts[])(void) = {deep, deeper, many, many_and_deep, long_names, too_long_name, moved};
+    static void (*const parts[])(void) = {deep, deeper, bush, many, many_and_deep, long_names, too_long_name, moved};
     if (count != 3)
         return 2;
     base = sure(open(words[1], O_PATH | O_DIRECTORY | O_CLOEXEC), words[1]);
