@@ -13,7 +13,7 @@ _inroot_fs_options() {
     mv) own='--no-replace --exchange' ;;
     ln) own='--symbolic' ;;
     esac
-    echo "--beneath --no-links --no-xdev --help $own"
+    echo "--beneath --no-links --no-xdev --exact --help $own"
 }
 
 # The names below ROOT that begin with the word. They are asked of inroot-fs itself, so that no link leads out of it. Each is

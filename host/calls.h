@@ -88,11 +88,11 @@ bool inroot_misses_at_once(const struct inroot_asked *asked, const unsigned char
 
 /*
  * Whether one system call may walk PATH as a whole in the place of a call's steps, through links and `..`: openat2(2) with
- * RESOLVE_IN_ROOT, or with RESOLVE_BENEATH where that is asked for. It is true of a resolve that may follow links, of a text of 1 to
- * 4,095 bytes in which no part has more than 255; but not of a path that leads out by its first byte. It takes no memory, changes
+ * RESOLVE_IN_ROOT, or with RESOLVE_BENEATH; and with RESOLVE_NO_SYMLINKS where NO_LINKS. It is true of a text of 1 to 4,095 bytes
+ * without NUL in which no part has more than 255; but not of a path that leads out by its first byte. It takes no memory, changes
  * nothing, and needs no call under way. docs/HOST-WHY.md has the argument.
  */
-bool inroot_follows_at_once(const struct inroot_asked *asked, const unsigned char *path, size_t path_length);
+bool inroot_follows_at_once(bool beneath, bool no_links, const unsigned char *path, size_t path_length);
 
 /* Where a path's last name stands in it, of so many bytes; or the error's number, and zeros. */
 struct inroot_parted {
@@ -418,10 +418,10 @@ void inroot_course_next(struct inroot_course *course, uint32_t error, const unsi
 /* ---- which call comes next, as all missing parts of a path are made, through links. These take no memory. */
 
 /*
- * The calls: what is at the path is found, a file if one is wanted; the path's last name is taken apart; the directories of a part
- * of the path are made, those above a file or all, and the last one is opened; as much of such a part as is there is opened; a link
- * on the way to what is missing is read; a file is made; a link at the file's name is read. If it ENDS, the reply is what the last
- * call gave. If it FAILS, the reply is an error of its own.
+ * The calls, each on a part of the path, from the root: what is there is found, a file if one is wanted; the last name is taken apart;
+ * the directories are made, those above a file or all, and the last one is opened; it is seen how much of them is there; a link on the
+ * way to what is missing is read; a file is made; a link at the file's name is read. If it ENDS, the reply is what the last call gave.
+ * If it FAILS, the reply is an error of its own.
  */
 enum inroot_making_next {
     INROOT_MAKING_FIND = 1, INROOT_MAKING_SPLIT, INROOT_MAKING_MAKE_ABOVE, INROOT_MAKING_MAKE, INROOT_MAKING_PARTIAL,
@@ -429,21 +429,19 @@ enum inroot_making_next {
 };
 
 /*
- * How far it has come. A driver reads what comes next, after a PAUSE of so many nanoseconds; what of the room it is about, SIZE
- * bytes from START on, an empty part of MAKE_ABOVE or PARTIAL being `.`; and FROM, the directory at which that begins: its
- * descriptor's number and one, or 0 for the root. A driver closes each of CLOSES_BASE, CLOSES_FROM and CLOSES_GIVEN, which are such
- * numbers, too, but for 0. If it ends, GIVES is the descriptor that is the reply, in the same way, or 0 where the last call's error
- * is. If it fails, the bytes are what the error is about, with its step (INROOT_STEP_..), or 0. A driver leaves all of it alone
- * between two turns.
+ * How far it has come. A driver reads what comes next, after a PAUSE of so many nanoseconds, on the room's first SIZE bytes, which are
+ * `.` of MAKE_ABOVE or PARTIAL if they are none. A driver closes CLOSES, the number and one of what the last call gave, but for 0. If
+ * it ends, GIVES is the descriptor that is the reply, in the same way, or 0 where the last call's error is. If it fails, the bytes are
+ * what the error is about, with its step (INROOT_STEP_..), or 0. A driver leaves all of it alone between two turns.
  */
 struct inroot_making {
-    size_t length, above, cut, start, size;
-    uint32_t base, from, gives, closes_base, closes_from, closes_given, error, pause, links, between;
+    size_t length, above, cut, size;
+    uint32_t gives, closes, error, pause, links, between;
     uint8_t next, step;
     bool file, follows, may_retry;
 };
 
-/* What a call gave: an error, or 0; a descriptor, its number and one, or 0; where a part of the path begins; a directory. */
+/* What a call gave: an error, or 0; a descriptor, its number and one, or 0; how much of the path comes before; a directory. */
 struct inroot_outcome {
     size_t rest;
     uint32_t error, descriptor;

@@ -120,7 +120,7 @@ struct inroot_driver {
     char deepest_name[NAME_MAX + 1]; /* the entry there; of a tree that is removed, the one that was opened last */
     char step_name[NAME_MAX + 1];  /* what `step` was about */
     char link_name[NAME_MAX + 1];
-    char passed[3072];             /* longer ones aren't known, which costs time alone */
+    char passed[INROOT_TEXT_MAX];
     struct inroot_slot few[INROOT_FEW];
 };
 
@@ -167,6 +167,8 @@ int inroot_handles_take(struct inroot_driver *d, uint64_t handle);
 /* Keeps by which name, of so many bytes and a NUL, the walk has come from a directory to what was OPENED. */
 void inroot_passed_name(struct inroot_driver *d, uint64_t dir, const char *name, size_t length,
                         const struct inroot_result *opened);
+/* The same of a directory whose place was found: the names, a slash before each, or a slash alone. */
+void inroot_passed_place(struct inroot_driver *d, uint64_t dir, const char *place, size_t length);
 /* The names that lead from the root to a handle, a slash before each, with a NUL; or NULL where nobody knows. */
 const char *inroot_passed_names(struct inroot_driver *d, uint64_t handle, size_t *length);
 

@@ -41,6 +41,7 @@ static const char help[] =
     "  -b, --beneath        refuse what would lead out of ROOT (RESOLVE_BENEATH)\n"
     "  -L, --no-links       refuse every symbolic link on the way (RESOLVE_NO_SYMLINKS)\n"
     "  -D, --no-xdev        refuse what is mounted below ROOT (RESOLVE_NO_XDEV)\n"
+    "  -e, --exact          walk by single steps, and ask at which names the object stands\n"
     "\n"
     "Options of some:\n"
     "  -P, --nofollow       resolve, realpath, stat, chown: of a link at the end, take the link itself\n"
@@ -66,7 +67,7 @@ static const char help[] =
 
 static const struct option long_options[] = {
     {"beneath", no_argument, NULL, 'b'},      {"no-links", no_argument, NULL, 'L'},
-    {"no-xdev", no_argument, NULL, 'D'},
+    {"no-xdev", no_argument, NULL, 'D'},      {"exact", no_argument, NULL, 'e'},
     {"nofollow", no_argument, NULL, 'P'},     {"zero", no_argument, NULL, 'z'},
     {"mode", required_argument, NULL, 'm'},   {"append", no_argument, NULL, 'a'},
     {"exclusive", no_argument, NULL, 'x'},    {"parents", no_argument, NULL, 'p'},
@@ -139,9 +140,9 @@ enum fs_status fs_refused(const struct fs_call *call, const char *path, int erro
     fprintf(stderr, "inroot-fs: %s '", call->command);
     tell_text(path);
     fprintf(stderr, "': %s: %s", error_name(error), strerror(error));
-    /* Which name of a longer path it was. */
-    bool tells_more = inroot_last_error(&why) == 0 && why.error == error && why.name[0] != '\0' && why.rest[0] != '\0';
-    if (tells_more && strcmp(why.name, path) != 0) {
+    /* Which name of a longer path it was. A renaming is about two. */
+    bool tells_more = inroot_last_error(&why) == 0 && why.error == error && why.name[0] != '\0';
+    if (tells_more && strcmp(why.name, path) != 0 && strcmp(why.step, "Rename") != 0) {
         fputs(", at '", stderr);
         tell_text(why.name);
         fputc('\'', stderr);
@@ -194,6 +195,7 @@ static void take_option(struct fs_call *call, int option)
     case 'b': call->flags |= INROOT_BENEATH; break;
     case 'L': call->flags |= INROOT_NO_LINKS; break;
     case 'D': call->flags |= INROOT_NO_XDEV; break;
+    case 'e': call->flags |= INROOT_EXACT; break;
     case 'P': call->flags |= INROOT_NOFOLLOW; break;
     case 'z': call->zero = true; break;
     case 'a': call->append = true; break;
@@ -228,7 +230,7 @@ static enum fs_status read_options(const struct command *command, int count, cha
 {
     int option, earlier = 0;
     opterr = 0;
-    for (optind = 1; (option = getopt_long(count, words, "+:bLDPzm:axprnXslh", long_options, NULL)) != -1;) {
+    for (optind = 1; (option = getopt_long(count, words, "+:bLDePzm:axprnXslh", long_options, NULL)) != -1;) {
         if (option == ':')
             return fs_wrong_call("no value stands after", words[optind - 1]);
         if (option == '?')
@@ -236,7 +238,7 @@ static enum fs_status read_options(const struct command *command, int count, cha
                               optopt != 0 ? (char[]){'-', (char)optopt, '\0'} : words[optind - 1]);
         if (option == 'h')
             exit((int)print_help());
-        if (strchr("bLD", option) == NULL && strchr(command->options, option) == NULL) {
+        if (strchr("bLDe", option) == NULL && strchr(command->options, option) == NULL) {
             fprintf(stderr, "inroot-fs: %s has no option -%c\ntry 'inroot-fs --help'\n", command->name, option);
             return FS_WRONG_CALL;
         }
@@ -262,7 +264,6 @@ static const struct command *find_command(const char *name)
 
 static enum fs_status run(int count, char **words)
 {
-    struct inroot_root *root;
     const struct command *command = find_command(words[2]);
     if (command == NULL)
         return fs_wrong_call("there is no command", words[2]);
@@ -275,12 +276,11 @@ static enum fs_status run(int count, char **words)
         return fs_wrong_call("an argument is missing to", command->name);
     if (given > command->most)
         return fs_wrong_call("there is an argument too many:", call.words[command->most]);
-    int error = inroot_root_open(words[1], 0, &root);
-    if (error != 0)
-        return fs_fault(&call, "the root can't be opened", -error);
-    call.root = inroot_root_fd(root);
+    call.root = open(words[1], O_PATH | O_DIRECTORY | O_CLOEXEC);
+    if (call.root < 0)
+        return fs_fault(&call, "the root can't be opened", errno);
     status = command->run(&call);
-    inroot_root_close(root);
+    close(call.root);
     return finish(status);
 }
 

@@ -75,12 +75,12 @@
  *
  * and then those of the one step on the last name, which each call lists. EINTR comes from three kinds of steps only.
  * One changes an entry, on a file system that lets signals interrupt it: nobody knows whether it was changed. One opens
- * for use, as a FIFO. One is fstat(2), on a file system that lets signals interrupt it, as one of FUSE may: the call has
- * changed nothing then, but inroot_mkdir_all() and its kin leave what they made.
+ * for use, as a FIFO. One is fstat(2), on a file system that lets signals interrupt it, as one of FUSE may: the call
+ * has changed nothing then, but inroot_mkdir_all() and its kin leave what they made.
  *
- * Under INROOT_EXACT, and behind a `..` that the steps walk, a call gives EAGAIN of a non-directory whose name ends in
- * ` (deleted)`: the kernel writes just this behind the path of a removed object. So it does of a directory of such a
- * name on overlayfs, on btrfs or in a cgroup, if that may not be read.
+ * Under INROOT_EXACT a call gives EAGAIN of a non-directory whose name ends in ` (deleted)`: the kernel writes just
+ * this behind the path of a removed object. So do all steps that go by `..` to a directory of such a name on overlayfs,
+ * on btrfs or in a cgroup, if that may not be read.
  *
  * The calls leave alone: open descriptors, signal masks and handlers, umask, root and current directory. errno may
  * change. Any number of threads may make calls, on one root or several. A thread that is cancelled (pthread_cancel(3))
@@ -123,7 +123,7 @@ enum {
 /* How often a call is tried, where others are in its way. */
 enum { INROOT_TRIES = 32 };
 
-/* How inroot_rename() treats an entry that is there; and a whiteout, by itself or with INROOT_NOREPLACE (renameat2(2)). */
+/* How inroot_rename() treats an entry that is there (renameat2(2)). A whiteout may come with INROOT_NOREPLACE. */
 enum { INROOT_PLAIN = 0, INROOT_NOREPLACE = 1, INROOT_EXCHANGE = 2, INROOT_WHITEOUT = 4 };
 
 /*

@@ -29,15 +29,12 @@ static uint64_t resolve_of(int flags)
            (flags & INROOT_NO_LINKS ? RESOLVE_NO_SYMLINKS : 0) | (flags & INROOT_NO_XDEV ? RESOLVE_NO_XDEV : 0);
 }
 
-/*
- * Whether one system call may walk the path. A walk that met no link is one that might have followed some. For a path
- * of slashes alone the kernel doesn't search the root, as the steps do.
- */
+/* For a path of slashes alone the kernel doesn't search the root, as the steps do. */
 static bool may_walk(const struct look *look)
 {
-    const struct inroot_asked asked = {.op = INROOT_ASK_RESOLVE, .beneath = look->flags & INROOT_BENEATH};
     return look->path[strspn(look->path, "/")] != 0 &&
-           inroot_follows_at_once(&asked, (const unsigned char *)look->path, look->length);
+           inroot_follows_at_once(look->flags & INROOT_BENEATH, look->flags & INROOT_NO_LINKS,
+                                  (const unsigned char *)look->path, look->length);
 }
 
 /* Of a path of names alone: whether one of them is missing, and no link's target. */

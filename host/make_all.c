@@ -1,26 +1,22 @@
 /*
- * make_all.c: makes all missing parts of a path, and gives the object at its end. Proved calls say which call comes
- * next, where its path begins, and what is closed before.
+ * make_all.c: makes all missing parts of a path, and gives the object at its end. The proved library says which call
+ * comes next, on which part of the path, and what is closed before.
  */
 #define _GNU_SOURCE
 #include "driver.h"
 
 #include <errno.h>
-#include <fcntl.h>
 #include <string.h>
 #include <unistd.h>
 
 enum { MODE_BITS = 07777 };
 
-/*
- * What is asked for, how far it has come, and the path; what the next call is about, and the same from the root; and
- * the last call's error.
- */
+/* What is asked for, how far it has come, and the path; what the next call is about; and the last call's error. */
 struct work {
     int root, flags;
     mode_t mode, above;
     struct inroot_making making;
-    char path[INROOT_TEXT_MAX + 1], part[INROOT_TEXT_MAX + 1], joined[2 * INROOT_TEXT_MAX + 2];
+    char path[INROOT_TEXT_MAX + 1], part[INROOT_TEXT_MAX + 1];
     uint32_t error;
 };
 
@@ -31,41 +27,18 @@ static struct inroot_outcome outcome_of(int result)
     };
 }
 
-/*
- * A part may begin at a directory that was found: then the names at which that stands below the root come before it.
- * Gives 0 or -errno.
- */
-static int join(struct work *w, const char *part)
-{
-    size_t before = 0;
-    if (w->making.from > 0 && part[0] != '/') {
-        ssize_t length = inroot_place(w->root, (int)w->making.from - 1, w->joined, INROOT_TEXT_MAX + 1);
-        if (length < 0)
-            return length == -EXDEV ? inroot_error_alone(EAGAIN, "NameBelow", "") : (int)length;
-        before = length > 1 ? (size_t)length : 0;
-        memmove(w->joined, w->joined + 1, before);
-    }
-    if (before > 0)
-        w->joined[before - 1] = '/';
-    strcpy(w->joined + before, part);
-    return strlen(w->joined) < INROOT_TEXT_MAX ? 0 : inroot_error_alone(ENAMETOOLONG, "", "");
-}
-
 /* ---- the calls */
 
 /* Makes a call on this part of the path. */
-static ssize_t carry_out(struct work *w, const char *part, struct inroot_request asked, char *room)
+static ssize_t carry_out(const struct work *w, const char *part, struct inroot_request asked, char *room)
 {
-    const int failed = join(w, part);
     asked.flags = w->flags;
-    asked.first = w->joined;
+    asked.first = part;
     asked.second = "";
-    if (failed)
-        return failed;
     return room == NULL ? inroot_carry_out_alone(w->root, &asked) : inroot_carry_out(w->root, &asked, room);
 }
 
-static struct inroot_outcome find(struct work *w)
+static struct inroot_outcome find(const struct work *w)
 {
     enum inroot_kind kind = INROOT_KIND_FILE;
     const struct inroot_request asked = {.op = INROOT_ASK_RESOLVE, .opened = &kind};
@@ -81,19 +54,19 @@ static struct inroot_outcome split(const struct work *w)
     return (struct inroot_outcome){.error = parted.error, .rest = parted.name};
 }
 
-static struct inroot_outcome make_directories(struct work *w, const char *path, mode_t mode)
+static struct inroot_outcome make_directories(const struct work *w, const char *path, mode_t mode)
 {
     const struct inroot_request asked = {.op = INROOT_ASK_MKDIR_ALL, .bits = mode, .directory = true};
     return outcome_of((int)carry_out(w, path, asked, NULL));
 }
 
-static struct inroot_outcome create(struct work *w)
+static struct inroot_outcome create(const struct work *w)
 {
     const struct inroot_request asked = {.op = INROOT_ASK_MKFILE, .bits = S_IFREG | w->mode, .gives = true};
     return outcome_of((int)carry_out(w, w->part, asked, NULL));
 }
 
-static struct inroot_outcome read_link(struct work *w, char *text, size_t *text_length)
+static struct inroot_outcome read_link(const struct work *w, char *text, size_t *text_length)
 {
     const struct inroot_request asked = {.op = INROOT_ASK_READLINK};
     const ssize_t length = carry_out(w, w->part, asked, text);
@@ -104,7 +77,7 @@ static struct inroot_outcome read_link(struct work *w, char *text, size_t *text_
 /* ---- as much of a part as is there: the proved library says which beginning is tried next (crates/open_partial) */
 
 /* Opens the first pieces of the text that are tried. */
-static int open_pieces(struct work *w, char *text, size_t length, const struct inroot_search *search)
+static int open_pieces(const struct work *w, char *text, size_t length, const struct inroot_search *search)
 {
     struct inroot_trial now = {0};
     inroot_search_trial(search, (const unsigned char *)text, length, true, &now);
@@ -116,7 +89,7 @@ static int open_pieces(struct work *w, char *text, size_t length, const struct i
     return fd;
 }
 
-static struct inroot_outcome open_partial(struct work *w, char *text)
+static struct inroot_outcome open_partial(const struct work *w, char *text)
 {
     const size_t length = strlen(text);
     struct inroot_search search = {0};
@@ -153,15 +126,9 @@ static struct inroot_outcome call(struct work *w, char *text, size_t *text_lengt
     }
 }
 
-static void let_go(uint32_t held)
-{
-    if (held != 0)
-        close((int)held - 1);
-}
-
 static void set_part(struct work *w)
 {
-    memcpy(w->part, w->path + w->making.start, w->making.size);
+    memcpy(w->part, w->path, w->making.size);
     w->part[w->making.size] = 0;
 }
 
@@ -173,9 +140,8 @@ static void turn(struct work *w)
     const struct inroot_outcome outcome = call(w, text, &text_length);
     inroot_making_next(&w->making, &outcome, (const unsigned char *)text, text_length, (unsigned char *)w->path,
                        INROOT_TEXT_MAX);
-    let_go(w->making.closes_base);
-    let_go(w->making.closes_from);
-    let_go(w->making.closes_given);
+    if (w->making.closes != 0)
+        close((int)w->making.closes - 1);
     w->error = outcome.error;
     set_part(w);
 }

@@ -1,7 +1,7 @@
 /*
- * passed.c: the names that a walk has passed, from the root on, as far as the driver knows them. The proved call has
- * its own, which count. The driver looks these up from the root and compares the result with the object that it holds:
- * so wrong names cost only time.
+ * passed.c: the names that a walk has passed, from the root on, as far as the driver knows them: behind `..` from the
+ * place on that was found there. The proved call has its own, which count. The driver looks these up from the root and
+ * compares the result with the object that it holds: so wrong names cost only time.
  */
 #define _GNU_SOURCE
 #include "driver.h"
@@ -43,6 +43,14 @@ void inroot_passed_name(struct inroot_driver *d, uint64_t dir, const char *name,
         d->passed_handle = passed > 0 ? opened->handle : 0;
         d->passed_length = passed;
     }
+}
+
+void inroot_passed_place(struct inroot_driver *d, uint64_t dir, const char *place, size_t length)
+{
+    const bool fits = length < sizeof d->passed;
+    d->passed_handle = fits ? dir : 0;
+    d->passed_length = fits && length > 1 ? length : 0;
+    memcpy(d->passed, place, d->passed_length);
 }
 
 const char *inroot_passed_names(struct inroot_driver *d, uint64_t handle, size_t *length)

@@ -22,9 +22,9 @@
 bool inroot_find_which(int fd, const char *name, struct inroot_which *which)
 {
     const int how = AT_EMPTY_PATH | AT_SYMLINK_NOFOLLOW | AT_NO_AUTOMOUNT | AT_STATX_DONT_SYNC;
-    const unsigned needs = STATX_TYPE | STATX_INO, mount = STATX_MNT_ID | STATX_MNT_ID_UNIQUE;
+    const unsigned mount = STATX_MNT_ID | STATX_MNT_ID_UNIQUE;
     struct statx about = {0};
-    if (statx(fd, name, how, needs | STATX_NLINK | mount, &about) != 0)
+    if (statx(fd, name, how, STATX_TYPE | STATX_INO | STATX_NLINK | mount, &about) != 0)
         return false;
     *which = (struct inroot_which){
         .object.device = makedev(about.stx_dev_major, about.stx_dev_minor),
@@ -34,10 +34,9 @@ bool inroot_find_which(int fd, const char *name, struct inroot_which *which)
         .device = makedev(about.stx_rdev_major, about.stx_rdev_minor),
         .mode = about.stx_mode,
     };
-    const bool tells = (about.stx_mask & needs) == needs && about.stx_mask & mount;
-    if (!tells)
+    if (!(about.stx_mask & mount))
         errno = ENOSYS;
-    return tells;
+    return about.stx_mask & mount;
 }
 
 /* Which objects two descriptors are of. Whether both could be asked. */

@@ -143,6 +143,16 @@ static struct inroot_result open_parent(struct inroot_driver *d, uint64_t handle
 
 /* ---- other steps */
 
+/* The walk goes on from a directory by the names that were found. */
+static struct inroot_result name_below(struct inroot_driver *d, const struct inroot_told *step, char *text,
+                                       size_t *length)
+{
+    struct inroot_result result = inroot_name_below(d, step, text, length);
+    if (result.what == INROOT_ANSWER_NAMES && inroot_handles_slot(d, step->handle)->kind == INROOT_KIND_DIR)
+        inroot_passed_place(d, step->handle, text, *length);
+    return result;
+}
+
 /* Each link that is read is one that the walk, or the driver, follows. */
 static struct inroot_result read_link(struct inroot_driver *d, uint64_t handle, int fd, char *text, size_t *length)
 {
@@ -204,7 +214,7 @@ struct inroot_result inroot_make(struct inroot_driver *d, const struct inroot_to
     case INROOT_STEP_DUP: return open_root(d, step->handle, dir);
     case INROOT_STEP_PARENT: return open_parent(d, step->handle, dir);
     case INROOT_STEP_READLINK: return read_link(d, step->handle, dir, text, length);
-    case INROOT_STEP_NAME_BELOW: return inroot_name_below(d, step, text, length);
+    case INROOT_STEP_NAME_BELOW: return name_below(d, step, text, length);
     case INROOT_STEP_LIST: return list(d, step->handle);
     default: return change_entry(d, step, dir, room);
     }

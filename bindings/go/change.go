@@ -23,7 +23,7 @@ func MkdirAll(root, unsafePath string, mode os.FileMode, flags ...Flags) error {
 }
 
 // MkdirAllHandle does the same below a directory that is open, and gives the last directory, with O_PATH.
-func MkdirAllHandle(root Root, unsafePath string, mode os.FileMode, flags ...Flags) (*os.File, error) {
+func MkdirAllHandle(root *os.File, unsafePath string, mode os.FileMode, flags ...Flags) (*os.File, error) {
 	return opened("mkdirall", root, unsafePath, func(root C.int, path *C.char) C.int {
 		return C.inroot_mkdir_all(root, path, modeOf(mode), joined(flags, 0))
 	})
@@ -41,7 +41,7 @@ func RemoveAll(root, unsafePath string, flags ...Flags) (int, error) {
 }
 
 // RemoveAllInRoot does the same below a directory that is open.
-func RemoveAllInRoot(root Root, unsafePath string, flags ...Flags) (int, error) {
+func RemoveAllInRoot(root *os.File, unsafePath string, flags ...Flags) (int, error) {
 	removed, err := onPath("removeall", root, unsafePath, func(root C.int, path *C.char) C.long {
 		return C.long(C.inroot_remove_all(root, path, joined(flags, 0)))
 	})
@@ -49,35 +49,35 @@ func RemoveAllInRoot(root Root, unsafePath string, flags ...Flags) (int, error) 
 }
 
 // MkdirInRoot makes a directory.
-func MkdirInRoot(root Root, unsafePath string, mode os.FileMode, flags ...Flags) error {
+func MkdirInRoot(root *os.File, unsafePath string, mode os.FileMode, flags ...Flags) error {
 	return done("mkdir", root, unsafePath, func(root C.int, path *C.char) C.int {
 		return C.inroot_mkdir(root, path, modeOf(mode), joined(flags, 0))
 	})
 }
 
-// MknodInRoot makes a FIFO, a socket or a device: mode has the kind as mknod(2) numbers it.
-func MknodInRoot(root Root, unsafePath string, mode uint32, device uint64, flags ...Flags) error {
+// MknodInRoot makes an empty file, a FIFO, a socket or a device: mode has the kind as mknod(2) numbers it.
+func MknodInRoot(root *os.File, unsafePath string, mode uint32, device uint64, flags ...Flags) error {
 	return done("mknod", root, unsafePath, func(root C.int, path *C.char) C.int {
 		return C.inroot_mknod(root, path, C.mode_t(mode), C.dev_t(device), joined(flags, 0))
 	})
 }
 
 // SymlinkInRoot makes a symbolic link with that text.
-func SymlinkInRoot(root Root, text, unsafePath string, flags ...Flags) error {
+func SymlinkInRoot(root *os.File, text, unsafePath string, flags ...Flags) error {
 	return onPaths("symlink", root, text, unsafePath, func(root C.int, text, path *C.char) C.int {
 		return C.inroot_symlink(root, text, path, joined(flags, 0))
 	})
 }
 
 // LinkInRoot gives what existing means a second name; of a link at its end, the link itself.
-func LinkInRoot(root Root, existing, unsafePath string, flags ...Flags) error {
+func LinkInRoot(root *os.File, existing, unsafePath string, flags ...Flags) error {
 	return onPaths("link", root, existing, unsafePath, func(root C.int, existing, path *C.char) C.int {
 		return C.inroot_link(root, existing, path, joined(flags, 0))
 	})
 }
 
 // LinkFollowedInRoot gives what existing means a second name; of a link at its end, what the link leads to.
-func LinkFollowedInRoot(root Root, existing, unsafePath string, flags ...Flags) error {
+func LinkFollowedInRoot(root *os.File, existing, unsafePath string, flags ...Flags) error {
 	return onPaths("link", root, existing, unsafePath, func(root C.int, existing, path *C.char) C.int {
 		return C.inroot_link(root, existing, path, joined(flags, C.INROOT_FOLLOW))
 	})
@@ -85,7 +85,7 @@ func LinkFollowedInRoot(root Root, existing, unsafePath string, flags ...Flags) 
 
 // LinkFileInRoot gives what file is open on, wherever that is, this name: a file that UnnamedFileInRoot has made, or
 // one that was found.
-func LinkFileInRoot(root Root, file *os.File, unsafePath string, flags ...Flags) error {
+func LinkFileInRoot(root *os.File, file *os.File, unsafePath string, flags ...Flags) error {
 	defer runtime.KeepAlive(file)
 	return done("link", root, unsafePath, func(root C.int, path *C.char) C.int {
 		return C.inroot_link_fd(root, C.int(file.Fd()), path, joined(flags, 0))
@@ -93,14 +93,14 @@ func LinkFileInRoot(root Root, file *os.File, unsafePath string, flags ...Flags)
 }
 
 // UnlinkInRoot removes a non-directory; of a link the link alone.
-func UnlinkInRoot(root Root, unsafePath string, flags ...Flags) error {
+func UnlinkInRoot(root *os.File, unsafePath string, flags ...Flags) error {
 	return done("unlink", root, unsafePath, func(root C.int, path *C.char) C.int {
 		return C.inroot_unlink(root, path, joined(flags, 0))
 	})
 }
 
 // RmdirInRoot removes an empty directory.
-func RmdirInRoot(root Root, unsafePath string, flags ...Flags) error {
+func RmdirInRoot(root *os.File, unsafePath string, flags ...Flags) error {
 	return done("rmdir", root, unsafePath, func(root C.int, path *C.char) C.int {
 		return C.inroot_rmdir(root, path, joined(flags, 0))
 	})
@@ -115,7 +115,7 @@ const (
 )
 
 // RenameInRoot renames an entry, which stays below the root.
-func RenameInRoot(root Root, from, to string, mode int, flags ...Flags) error {
+func RenameInRoot(root *os.File, from, to string, mode int, flags ...Flags) error {
 	return onPaths("rename", root, from, to, func(root C.int, from, to *C.char) C.int {
 		return C.inroot_rename(root, from, to, number(mode), joined(flags, 0))
 	})

@@ -1,11 +1,8 @@
-// Package inroot acts on paths below a directory, by single directory steps: a binding to libinroot.
+// Package inroot acts on paths below a directory: a binding to libinroot.
 //
-// Each function takes a path below a root, as openat2(2) does with RESOLVE_IN_ROOT: an absolute path and an absolute
-// link begin at the root, and ".." at the root is the root, whoever renames directories meanwhile. What is promised,
-// and the order of the errors, is that of libinroot(7). Functions are named as those of filepath-securejoin.
-//
-// Where the kernel has no openat2(2), nothing is promised if the root itself, or a directory above it, is renamed
-// meanwhile.
+// Each function takes a path below a root, an open directory, as openat2(2) does with RESOLVE_IN_ROOT: an absolute path
+// and an absolute link begin at the root, and ".." at the root is the root, whoever renames directories meanwhile. What
+// is promised, and the order of the errors, is that of libinroot(7). Functions are named as those of filepath-securejoin.
 //
 // A file's name is for messages. It lies below the root's, but os.Chmod and its like follow links there out of the root.
 //
@@ -54,23 +51,28 @@ func modeOf(mode os.FileMode) C.mode_t {
 	return bits
 }
 
-// onPath makes a call on a path below a root. The number that it gives is negative where it failed.
-func onPath(op string, root Root, path string, call func(root C.int, path *C.char) C.long) (C.long, error) {
+// onText makes a call on a path. The number that it gives is negative where it failed.
+func onText(op, path string, call func(path *C.char) C.long) (C.long, error) {
 	if strings.IndexByte(path, 0) >= 0 {
 		return 0, &os.PathError{Op: op, Path: path, Err: syscall.EINVAL}
 	}
 	text := C.CString(path)
 	defer C.free(unsafe.Pointer(text))
-	given := call(C.int(root.Fd()), text)
-	runtime.KeepAlive(root)
+	given := call(text)
 	if given < 0 {
 		return 0, &os.PathError{Op: op, Path: path, Err: syscall.Errno(-given)}
 	}
 	return given, nil
 }
 
+// onPath makes a call on a path below a root.
+func onPath(op string, root *os.File, path string, call func(root C.int, path *C.char) C.long) (C.long, error) {
+	defer runtime.KeepAlive(root)
+	return onText(op, path, func(path *C.char) C.long { return call(C.int(root.Fd()), path) })
+}
+
 // onPaths makes a call on two paths, of which the first may be a link's text.
-func onPaths(op string, root Root, first, path string, call func(root C.int, first, path *C.char) C.int) error {
+func onPaths(op string, root *os.File, first, path string, call func(root C.int, first, path *C.char) C.int) error {
 	if strings.IndexByte(first, 0) >= 0 {
 		return &os.LinkError{Op: op, Old: first, New: path, Err: syscall.EINVAL}
 	}
@@ -93,7 +95,7 @@ func named(fd C.int, root, path string) *os.File {
 }
 
 // opened makes a call that gives a descriptor, and gives a file that has it.
-func opened(op string, root Root, path string, call func(root C.int, path *C.char) C.int) (*os.File, error) {
+func opened(op string, root *os.File, path string, call func(root C.int, path *C.char) C.int) (*os.File, error) {
 	fd, err := onPath(op, root, path, func(root C.int, path *C.char) C.long { return C.long(call(root, path)) })
 	if err != nil {
 		return nil, err
@@ -102,7 +104,7 @@ func opened(op string, root Root, path string, call func(root C.int, path *C.cha
 }
 
 // done makes a call that gives nothing.
-func done(op string, root Root, path string, call func(root C.int, path *C.char) C.int) error {
+func done(op string, root *os.File, path string, call func(root C.int, path *C.char) C.int) error {
 	_, err := onPath(op, root, path, func(root C.int, path *C.char) C.long { return C.long(call(root, path)) })
 	return err
 }

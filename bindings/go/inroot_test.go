@@ -7,9 +7,8 @@ import (
 	"path/filepath"
 	"reflect"
 	"runtime"
-	"strconv"
+	"sort"
 	"strings"
-	"sync"
 	"sync/atomic"
 	"syscall"
 	"testing"
@@ -81,38 +80,6 @@ func TestInside(t *testing.T) {
 	must(t, err)
 	if !about.IsDir() {
 		t.Errorf("in is %v", about.Mode())
-	}
-}
-
-func TestKeptRoots(t *testing.T) {
-	top := t.TempDir()
-	if err := os.MkdirAll(filepath.Join(top, "a/b"), 0o755); err != nil {
-		t.Fatal(err)
-	}
-	if err := os.Symlink("a/b", filepath.Join(top, "l")); err != nil {
-		t.Fatal(err)
-	}
-	for _, flags := range []RootFlags{0, RootStays, RootStays | TrustProc, RootBelow, RootStays | TrustProc | RootBelow} {
-		root, err := OpenRoot(top, flags)
-		if err != nil {
-			t.Fatal(flags, err)
-		}
-		for _, path := range []string{"a/b", "l", "l/../b", "/"} {
-			file, err := OpenatInRoot(root, path)
-			if err != nil {
-				t.Fatal(flags, path, err)
-			}
-			file.Close()
-		}
-		if _, err := OpenatInRoot(root, "none"); !errors.Is(err, syscall.ENOENT) {
-			t.Fatal(flags, err)
-		}
-		root.Close()
-		_, err = OpenatInRoot(root, "in/f")
-		fails(t, err, syscall.EBADF)
-	}
-	if _, err := OpenRoot(top, TrustProc); !errors.Is(err, syscall.EINVAL) {
-		t.Fatal(err)
 	}
 }
 
@@ -230,7 +197,7 @@ func TestFlags(t *testing.T) {
 	fails(t, LinkInRoot(root, "in/f", "g", Beneath), syscall.EXDEV)
 	_, err = StatInRoot(root, "a", Flags(1<<20))
 	fails(t, err, syscall.EINVAL)
-	for _, flag := range []Flags{0, NoRetry, OneByOne, NoXdev, NoXdev | OneByOne} {
+	for _, flag := range []Flags{0, NoRetry, Exact, NoXdev, NoXdev | Exact} {
 		_, err = StatInRoot(root, "in/f", flag)
 		must(t, err)
 	}
@@ -238,7 +205,7 @@ func TestFlags(t *testing.T) {
 	whole, err := openRoot("/")
 	must(t, err)
 	defer whole.Close()
-	for _, flag := range []Flags{NoXdev, NoXdev | OneByOne} {
+	for _, flag := range []Flags{NoXdev, NoXdev | Exact} {
 		_, err = OpenatInRoot(whole, "proc/version", flag)
 		fails(t, err, syscall.EXDEV)
 	}
@@ -246,46 +213,18 @@ func TestFlags(t *testing.T) {
 	must(t, err)
 }
 
-// Which functions take the flag, and which refuse it.
-func TestBelow(t *testing.T) {
-	_, root := tree(t)
-	file, err := OpenatInRoot(root, "in/f", Below)
-	must(t, err)
-	defer file.Close()
-	made, err := OpenFileInRoot(root, "new", os.O_RDWR|os.O_CREATE, 0o600, Below)
-	must(t, err)
-	must(t, made.Close())
-	_, err = StatInRoot(root, "in/f", Below)
-	must(t, err)
-	_, err = LstatInRoot(root, "in", Below)
-	must(t, err)
-	parent, _, err := OpenParentInRoot(root, "in/f", Below)
-	must(t, err)
-	must(t, parent.Close())
-	must(t, LinkInRoot(root, "in/f", "second", Below))
-	must(t, LinkFollowedInRoot(root, "in/f", "third", Below))
-	fails(t, LinkFileInRoot(root, file, "fourth", Below), syscall.EINVAL)
-	_, _, err = OpenPartialInRoot(root, "in/f", Below)
-	fails(t, err, syscall.EINVAL)
-	fails(t, WalkInRoot(root, "in", 0, nil, Below), syscall.EINVAL)
-	_, err = ReadlinkInRoot(root, "in", Below)
-	fails(t, err, syscall.EINVAL)
-	_, err = RemoveAllInRoot(root, "in", Below)
-	fails(t, err, syscall.EINVAL)
-}
-
 // Numbers whose lower 32 bits would be taken.
 func TestNumbers(t *testing.T) {
-	top, root := tree(t)
+	_, root := tree(t)
 	const beyond = 1 << 32
 	file, err := OpenatInRoot(root, "in/f", NoRetry)
 	must(t, err)
 	defer file.Close()
 	_, err = OpenatInRoot(root, "in/f", beyond)
 	fails(t, err, syscall.EINVAL)
-	_, err = OpenatInRoot(root, "in/f", NoRetry, beyond|OneByOne)
+	_, err = OpenatInRoot(root, "in/f", NoRetry, beyond|Exact)
 	fails(t, err, syscall.EINVAL)
-	_, err = MkfileHandle(root, "new", 0o600, beyond)
+	_, err = MkdirHandle(root, "new", 0o700, beyond)
 	fails(t, err, syscall.EINVAL)
 	_, err = OpenFileInRoot(root, "in/f", beyond, 0)
 	fails(t, err, syscall.EINVAL)
@@ -295,12 +234,34 @@ func TestNumbers(t *testing.T) {
 	fails(t, err, syscall.EINVAL)
 	fails(t, RenameInRoot(root, "in/f", "new", beyond), syscall.EINVAL)
 	fails(t, Setxattr(file, "user.inroot", nil, beyond), syscall.EINVAL)
-	_, err = OpenRoot(filepath.Join(top, "box"), beyond)
+	_, err = ProcOpen(ProcSelf-beyond, "comm", os.O_RDONLY)
 	fails(t, err, syscall.EINVAL)
-	fails(t, WalkInRoot(root, "a", -beyond, nil), syscall.EINVAL)
-	if paths := walked(t, root, "a", beyond+1); !reflect.DeepEqual(paths, []string{"b", "b/f"}) {
-		t.Errorf("%q", paths)
+}
+
+// By single steps one that is at no certain place isn't found: the kernel writes the same behind the path of a removed one.
+func TestExact(t *testing.T) {
+	top, root := tree(t)
+	must(t, os.WriteFile(filepath.Join(top, "box/a/b/f (deleted)"), nil, 0o644))
+	_, err := StatInRoot(root, "in/f (deleted)")
+	must(t, err)
+	_, err = StatInRoot(root, "in/f (deleted)", Exact, NoRetry)
+	fails(t, err, syscall.EAGAIN)
+	file, err := OpenatInRoot(root, "in/f", Exact)
+	sameAs(t, file, err, filepath.Join(top, "box/a/b/f"))
+}
+
+func TestNamesOfADirectory(t *testing.T) {
+	_, root := tree(t)
+	names, err := ReaddirnamesInRoot(root, "/")
+	must(t, err)
+	sort.Strings(names)
+	if !reflect.DeepEqual(names, []string{"a", "abs", "in", "up"}) {
+		t.Errorf("%q", names)
 	}
+	_, err = ReaddirnamesInRoot(root, "in/f")
+	fails(t, err, syscall.ENOTDIR)
+	_, err = ReaddirnamesInRoot(root, "up")
+	fails(t, err, syscall.ENOENT)
 }
 
 func TestLinksThemselves(t *testing.T) {
@@ -326,41 +287,9 @@ func TestLastError(t *testing.T) {
 	_, err := OpenatInRoot(root, "in/none/x")
 	fails(t, err, syscall.ENOENT)
 	cause, is := LastError()
-	if wanted := (Cause{syscall.ENOENT, "Open", "none", "none/x", "/a/b"}); !is || cause != wanted {
+	if wanted := (Cause{syscall.ENOENT, "Open", "none"}); !is || cause != wanted {
 		t.Errorf("%v, and not %v", cause, wanted)
 	}
-}
-
-// Also where goroutines change threads, what is said is of one call.
-func TestLastErrorIsOfOneCall(t *testing.T) {
-	top, root := tree(t)
-	var ends atomic.Bool
-	var calls sync.WaitGroup
-	for i := 0; i < 64; i++ {
-		must(t, os.Mkdir(filepath.Join(top, "box", strconv.Itoa(i)), 0o755))
-		calls.Add(1)
-		go func(name string) {
-			defer calls.Done()
-			for n := 0; n < 500; n++ {
-				_, err := OpenatInRoot(root, name+"/"+name+"gone/x")
-				fails(t, err, syscall.ENOENT)
-				if cause, is := LastError(); is && strings.HasSuffix(cause.Name, "gone") && cause.At+"gone" != "/"+cause.Name {
-					t.Errorf("of two calls: %v", cause)
-					return
-				}
-			}
-		}(strconv.Itoa(i))
-	}
-	ended := make(chan bool)
-	go func() {
-		for !ends.Load() {
-			runtime.GC()
-		}
-		ended <- true
-	}()
-	calls.Wait()
-	ends.Store(true)
-	<-ended
 }
 
 func TestRemoving(t *testing.T) {

@@ -19,15 +19,6 @@ func first(file *os.File, _ string, err error) (*os.File, error) {
 	return file, err
 }
 
-// walkedTo opens an entry of a walk.
-func walkedTo(root *os.File) (file *os.File, err error) {
-	walked := WalkInRoot(root, outOf+"a/b", 0, func(entry *WalkEntry, _ error) error {
-		file, err = entry.Open()
-		return err
-	})
-	return file, walked
-}
-
 // givers has a call of each exported function that gives a file, by a path that leads to root's own a.
 var givers = map[string]func(root *os.File) (*os.File, error){
 	"OpenInRoot":           func(root *os.File) (*os.File, error) { return OpenInRoot(root.Name(), outOf+"a/b/f") },
@@ -43,10 +34,8 @@ var givers = map[string]func(root *os.File) (*os.File, error){
 		defer found.Close()
 		return Reopen(found, os.O_RDONLY)
 	},
-	"OpenParentInRoot":  func(root *os.File) (*os.File, error) { return first(OpenParentInRoot(root, outOf+"a/b/f")) },
-	"OpenPartialInRoot": func(root *os.File) (*os.File, error) { return first(OpenPartialInRoot(root, outOf+"a/none")) },
-	"WalkEntry.Open":    walkedTo,
-	"MkdirAllHandle":    func(root *os.File) (*os.File, error) { return MkdirAllHandle(root, outOf+"a/1", 0o755) },
+	"OpenParentInRoot": func(root *os.File) (*os.File, error) { return first(OpenParentInRoot(root, outOf+"a/b/f")) },
+	"MkdirAllHandle":   func(root *os.File) (*os.File, error) { return MkdirAllHandle(root, outOf+"a/1", 0o755) },
 	"MkdirAllFollowedHandle": func(root *os.File) (*os.File, error) {
 		return MkdirAllFollowedHandle(root, outOf+"a/2", 0o755)
 	},
@@ -54,7 +43,6 @@ var givers = map[string]func(root *os.File) (*os.File, error){
 	"MkfileAllFollowedHandle": func(root *os.File) (*os.File, error) {
 		return MkfileAllFollowedHandle(root, outOf+"a/4", 0o600, 0o755)
 	},
-	"MkfileHandle":  func(root *os.File) (*os.File, error) { return MkfileHandle(root, outOf+"a/5", 0o600) },
 	"MkdirHandle":   func(root *os.File) (*os.File, error) { return MkdirHandle(root, outOf+"a/6", 0o755) },
 	"MknodHandle":   func(root *os.File) (*os.File, error) { return MknodHandle(root, outOf+"a/7", syscall.S_IFIFO|0o600, 0) },
 	"SymlinkHandle": func(root *os.File) (*os.File, error) { return SymlinkHandle(root, "/etc/passwd", outOf+"a/8") },
@@ -99,6 +87,9 @@ func TestEachGiverOfAFileHasACall(t *testing.T) {
 				continue
 			}
 			name, gives := givesFile(function)
+			if name == "ProcOpen" {
+				continue // its files aren't below a root
+			}
 			if gives && givers[name] == nil {
 				t.Errorf("%s gives a file, and no call of it is tried", name)
 			}

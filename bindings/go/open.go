@@ -23,14 +23,14 @@ func OpenInRoot(root, unsafePath string, flags ...Flags) (*os.File, error) {
 }
 
 // OpenatInRoot does the same below a directory that is open.
-func OpenatInRoot(root Root, unsafePath string, flags ...Flags) (*os.File, error) {
+func OpenatInRoot(root *os.File, unsafePath string, flags ...Flags) (*os.File, error) {
 	return opened("openat", root, unsafePath, func(root C.int, path *C.char) C.int {
 		return C.inroot_open(root, path, joined(flags, 0))
 	})
 }
 
 // OpenatInRootNoFollow opens a link at the end of unsafePath itself.
-func OpenatInRootNoFollow(root Root, unsafePath string, flags ...Flags) (*os.File, error) {
+func OpenatInRootNoFollow(root *os.File, unsafePath string, flags ...Flags) (*os.File, error) {
 	return opened("openat", root, unsafePath, func(root C.int, path *C.char) C.int {
 		return C.inroot_open(root, path, joined(flags, C.INROOT_NOFOLLOW))
 	})
@@ -41,7 +41,7 @@ const makesFile = C.O_TMPFILE &^ C.O_DIRECTORY
 
 // OpenFileInRoot opens what unsafePath means for use, by the flags of open(2). With os.O_CREATE it makes a file that is
 // missing, and with O_TMPFILE one without a name in that directory, of that mode less the umask.
-func OpenFileInRoot(root Root, unsafePath string, flag int, mode os.FileMode, flags ...Flags) (*os.File, error) {
+func OpenFileInRoot(root *os.File, unsafePath string, flag int, mode os.FileMode, flags ...Flags) (*os.File, error) {
 	return opened("openat", root, unsafePath, func(root C.int, path *C.char) C.int {
 		bits := modeOf(mode)
 		if flag&(os.O_CREATE|makesFile) == 0 {
@@ -53,7 +53,7 @@ func OpenFileInRoot(root Root, unsafePath string, flag int, mode os.FileMode, fl
 
 // UnnamedFileInRoot makes a file without a name in the file system of that directory, to be read and written.
 // LinkFileInRoot gives it one.
-func UnnamedFileInRoot(root Root, directory string, mode os.FileMode, flags ...Flags) (*os.File, error) {
+func UnnamedFileInRoot(root *os.File, directory string, mode os.FileMode, flags ...Flags) (*os.File, error) {
 	return OpenFileInRoot(root, directory, os.O_RDWR|C.O_TMPFILE, mode, flags...)
 }
 
@@ -68,7 +68,7 @@ func Reopen(handle *os.File, flag int) (*os.File, error) {
 }
 
 // ReadlinkInRoot gives the text of the link at the end of unsafePath.
-func ReadlinkInRoot(root Root, unsafePath string, flags ...Flags) (string, error) {
+func ReadlinkInRoot(root *os.File, unsafePath string, flags ...Flags) (string, error) {
 	var text [4096]C.char
 	length, err := onPath("readlink", root, unsafePath, func(root C.int, path *C.char) C.long {
 		return C.long(C.inroot_readlink(root, path, joined(flags, 0), &text[0], C.size_t(len(text))))
@@ -79,13 +79,24 @@ func ReadlinkInRoot(root Root, unsafePath string, flags ...Flags) (string, error
 	return C.GoStringN(&text[0], C.int(length)), nil
 }
 
+// ReaddirnamesInRoot gives the names of the entries of a directory, in no order, as os.File.Readdirnames does. (Its ReadDir
+// may ask for the kind of an entry by the file's name, which leads along the host's links.)
+func ReaddirnamesInRoot(root *os.File, unsafePath string, flags ...Flags) ([]string, error) {
+	dir, err := OpenFileInRoot(root, unsafePath, os.O_RDONLY|syscall.O_DIRECTORY, 0, flags...)
+	if err != nil {
+		return nil, err
+	}
+	defer dir.Close()
+	return dir.Readdirnames(-1)
+}
+
 // StatInRoot returns the status of what stands at unsafePath.
-func StatInRoot(root Root, unsafePath string, flags ...Flags) (fs.FileInfo, error) {
+func StatInRoot(root *os.File, unsafePath string, flags ...Flags) (fs.FileInfo, error) {
 	return status(OpenatInRoot(root, unsafePath, flags...))
 }
 
 // LstatInRoot returns that of a link at the end of unsafePath itself.
-func LstatInRoot(root Root, unsafePath string, flags ...Flags) (fs.FileInfo, error) {
+func LstatInRoot(root *os.File, unsafePath string, flags ...Flags) (fs.FileInfo, error) {
 	return status(OpenatInRootNoFollow(root, unsafePath, flags...))
 }
 

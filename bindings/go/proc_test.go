@@ -3,6 +3,7 @@ package inroot
 import (
 	"os"
 	"os/exec"
+	"strconv"
 	"syscall"
 	"testing"
 )
@@ -32,4 +33,33 @@ func TestProcThatIsHandedIn(t *testing.T) {
 		t.Errorf("%q", text)
 	}
 	must(t, found.Close())
+}
+
+func TestFilesOfProc(t *testing.T) {
+	_, root := tree(t)
+	file, err := ProcOpen(ProcSelf, "comm", os.O_RDONLY)
+	must(t, err)
+	if file.Name() != "/proc/self/comm" {
+		t.Errorf("%q", file.Name())
+	}
+	own, err := os.ReadFile("/proc/self/comm")
+	must(t, err)
+	if text := textOf(t, file, nil); text != string(own) {
+		t.Errorf("%q, and not %q", text, own)
+	}
+	link := "fd/" + strconv.Itoa(int(root.Fd()))
+	for _, base := range []int{ProcSelf, os.Getpid()} {
+		text, err := ProcReadlink(base, link)
+		if err != nil || text != root.Name() {
+			t.Errorf("%q, %v, and not %q", text, err, root.Name())
+		}
+		file, err = ProcOpen(base, link, os.O_RDONLY|syscall.O_DIRECTORY)
+		sameAs(t, file, err, root.Name())
+	}
+	_, err = ProcOpen(ProcRoot, "../etc/passwd", os.O_RDONLY)
+	fails(t, err, syscall.EXDEV)
+	_, err = ProcOpen(ProcThreadSelf, "root/etc", os.O_RDONLY)
+	fails(t, err, syscall.ELOOP)
+	_, err = ProcReadlink(ProcSelf, "comm")
+	fails(t, err, syscall.EINVAL)
 }

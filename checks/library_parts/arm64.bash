@@ -61,8 +61,8 @@ arm_install() {
     has 'make install as arm64' make -s -C host CC=$arm-gcc OUT="$work/arm" PREFIX="$arm_prefix" \
         ${arm_library:+LIBRARY="$arm_library"} CFLAGS='-O2 -Wall -Wextra -Wpedantic -Wshadow -Wconversion -Werror' install
     [ "$failed" -eq "$failed_before" ] || return
-    given_here=$($arm-nm -D --defined-only "$arm_prefix/lib/libinroot.so.0" | awk '$2 == "T" { print $3 }' | LC_ALL=C sort)
-    [ "$(readelf -h "$arm_prefix/lib/libinroot.so.0" | sed -n 's/^ *Machine: *//p')" = AArch64 ] && [ "$given_here" = "$given" ]
+    given_here=$($arm-nm -D --defined-only "$arm_prefix/lib/$soname" | awk '$2 == "T" { print $3 }' | LC_ALL=C sort)
+    [ "$(readelf -h "$arm_prefix/lib/$soname" | sed -n 's/^ *Machine: *//p')" = AArch64 ] && [ "$given_here" = "$given" ]
     verdict $? "the shared library for arm64 is another one, or gives other calls: $given_here"
     make_box "$work/arm-box"
     read -ra arm_options < <(PKG_CONFIG_PATH=$arm_prefix/lib/pkgconfig pkg-config --cflags --libs inroot)

@@ -1,11 +1,10 @@
 # shellcheck shell=bash disable=SC2154
 # The tests of the bindings, and programs over them. checks/library reads this file.
 
-# Both make each call of inroot.h, but for those of jails, and two in whose place they have others: opening and fstat(2), and the
-# version's text.
+# Both make each call of inroot.h, but for two in whose place they have others: opening and fstat(2), and the version's text.
 for name in $(sed -n 's/^[a-z][a-z_ ]*[ *]\(inroot_[a-z_]*\)(.*/\1/p' host/inroot.h); do
     case $name in
-    inroot_jail* | inroot_stat | inroot_version_number) ! grep -qE "(ffi::|C\.)$name\(" bindings/rust/src/*.rs bindings/go/*.go ;;
+    inroot_stat | inroot_version_number) ! grep -qE "(ffi::|C\.)$name\(" bindings/rust/src/*.rs bindings/go/*.go ;;
     *) grep -qF "ffi::$name(" bindings/rust/src/*.rs && grep -qF "C.$name(" bindings/go/*.go ;;
     esac
     verdict $? "a binding makes no call $name, or makes one that this check leaves out"

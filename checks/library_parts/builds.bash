@@ -8,7 +8,7 @@ built_by() {
     shift
     has "$name: make" env "$@" make -s -C host OUT="$at" LIBRARY="$library" all
     [ "$("$at/inroot-fs" "$box" cat in/f 2>&1)" = inside ] &&
-        [ "$(nm -D --defined-only "$at/libinroot.so.0" | awk '$2 == "T"' | wc -l)" -eq "$(wc -l <<<"$wanted")" ]
+        [ "$(nm -D --defined-only "$at/$soname" | awk '$2 == "T"' | wc -l)" -eq "$(wc -l <<<"$wanted")" ]
     verdict $? "$name: what is built gives other calls, or the tool does not run"
 }
 
@@ -35,7 +35,7 @@ built_by hidden CFLAGS='-O1 -fvisibility=hidden'
 # Options of the environment reach the library and the tool: a guard on the stack and calls that look at sizes are asked for.
 if compiles cc -fstack-protector-strong -O1 -D_FORTIFY_SOURCE=2; then
     built_by hardened CFLAGS='-O1 -fstack-protector-strong' CPPFLAGS=-D_FORTIFY_SOURCE=2 LDFLAGS=-Wl,--no-undefined
-    for name in libinroot.so.0 inroot-fs; do
+    for name in "$soname" inroot-fs; do
         asked=$(nm -D --undefined-only "$work/by-hardened/$name")
         grep -q __stack_chk_fail <<<"$asked" && grep -q '_chk\b' <<<"$asked"
         verdict $? "options of the environment do not reach $name: $asked"
@@ -43,8 +43,8 @@ if compiles cc -fstack-protector-strong -O1 -D_FORTIFY_SOURCE=2; then
 fi
 # notes FILE: what it is marked with.
 notes() { readelf -nW "$1" | grep -E 'x86 feature|Build ID'; }
-[[ $(notes "$prefix/lib/libinroot.so.0") =~ 'Build ID: '[0-9a-f]{40} ]]
-verdict $? "the shared library has no build id: $(notes "$prefix/lib/libinroot.so.0")"
+[[ $(notes "$prefix/lib/$soname") =~ 'Build ID: '[0-9a-f]{40} ]]
+verdict $? "the shared library has no build id: $(notes "$prefix/lib/$soname")"
 # The proved calls keep to call and return; they have no marks of where jumps lead.
 if compiles cc -fcf-protection && [[ $(cc -dumpmachine) = x86_64-* ]]; then
     has 'an archive for a shadow stack' host/build "$library" "$work/marked.a" -O0 -fcf-protection

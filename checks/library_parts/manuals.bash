@@ -30,7 +30,7 @@ for page in man/*.[1357]; do
 done
 # Each flag of the header is told, and how much of the stack a call takes is told alike.
 flags_told=$(grep -o '^    INROOT_[A-Z_]* = ' host/inroot.h | sed 's/ = //')
-for name in $flags_told INROOT_NOREPLACE INROOT_EXCHANGE INROOT_JAIL; do
+for name in $flags_told INROOT_NOREPLACE INROOT_EXCHANGE; do
     grep -q "^[.]It Dv $name$\|^[.]Dv $name\b" man/*.[37]
     verdict $? "no man page tells of $name"
 done

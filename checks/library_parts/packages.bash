@@ -2,7 +2,8 @@
 # The packages of packaging/debian: built, looked at, installed below a root of their own, used, and removed.
 # checks/library reads this file.
 
-packed_names='golang-gimowheta-inroot-dev inroot libinroot-dev libinroot0 librust-inroot-dev'
+shared_name=libinroot${soname#libinroot.so.}
+packed_names="golang-gimowheta-inroot-dev inroot libinroot-dev $shared_name librust-inroot-dev"
 packages=$work/packages
 package_root=$work/package-root
 
@@ -26,10 +27,10 @@ packages_build() {
 packages_look() {
     local name built found
     found=$(lintian -I --allow-root "$packages"/*.changes 2>/dev/null | grep -E '^[EWI]: ')
-    ! grep -qvE '^(I: (inroot|libinroot0): hardening-no-fortify-functions \[usr/(bin/inroot|lib/[^]]*)\]|)$' <<<"$found"
+    ! grep -qvE '^(I: (inroot|libinroot[0-9.]*): hardening-no-fortify-functions \[usr/(bin/inroot|lib/[^]]*)\]|)$' <<<"$found"
     verdict $? "lintian: $found"
     if ! lacks hardening-check 'what hardens the packages'; then
-        for name in "libinroot0/usr/lib/*/libinroot.so.$version" inroot/usr/bin/inroot-fs; do
+        for name in "$shared_name/usr/lib/*/libinroot.so.$version" inroot/usr/bin/inroot-fs; do
             # shellcheck disable=SC2086
             built=$(hardening-check "$packages"/inroot/debian/$name)
             [ "$(grep -cE '^ (Stack protected|Fortify Source functions|Read-only relocations|Immediate binding): yes' \
@@ -70,7 +71,7 @@ packages_use() {
             PKG_CONFIG_ALLOW_SYSTEM_CFLAGS=1 go build -o "$work/package-unpack-go" .
     fi
     # shellcheck disable=SC2086
-    has 'dpkg -P' into_root -P $packed_names inroot-dbgsym libinroot0-dbgsym
+    has 'dpkg -P' into_root -P $packed_names inroot-dbgsym "$shared_name-dbgsym"
     [ -z "$(find "$package_root/usr" ! -type d 2>/dev/null)" ]
     verdict $? "what the packages leave: $(find "$package_root/usr" ! -type d 2>/dev/null)"
 }

@@ -13,9 +13,9 @@ blocks_of() {
     man/*)
         awk -v to="$2" '
             function whole(lines) {
-                return headers "#include <err.h>\n#include <string.h>\n#include <sys/mount.h>\nint main(void)\n{\n" \
-                    "struct inroot_root *box;\nint tree = -1, failed = inroot_root_open(\"/srv/box\", 0, &box);\n" \
-                    "if (failed)\nerrx(1, \"%s\", strerror(-failed));\nint root = inroot_root_fd(box);\n(void)tree;\n" \
+                return "#define _GNU_SOURCE\n" headers "#include <err.h>\n#include <fcntl.h>\n#include <sys/mount.h>\nint main(void)\n{\n" \
+                    "int tree = -1, root = open(\"/srv/box\", O_PATH | O_DIRECTORY | O_CLOEXEC);\n" \
+                    "if (root < 0)\nerr(1, \"/srv/box\");\n(void)tree;\n" \
                     lines "return 0;\n}\n"
             }
             /^[.]In / { headers = headers "#include <" $2 ">\n" }

@@ -137,6 +137,7 @@ def root_cases(shell):
     yield "inroot-fs x\\n.. ca\t", ["x\n..", "cat"] if fish else ["xn..", "cat"]
     yield "inroot-fs box resol\t out", ["box", "resolve", "out"]
     yield "inroot-fs box rm --r\t out", ["box", "rm", "--recursive", "out"]
+    yield "inroot-fs box cat --exa\t out", ["box", "cat", "--exact", "out"]
 
 
 def script_cases(_):

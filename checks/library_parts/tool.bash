@@ -36,6 +36,7 @@ expect 1 'fault EXDEV' "inroot-fs: resolve 'in/f': EXDEV: Invalid cross-device l
 expect 1 'fault ELOOP' "inroot-fs: resolve 'in/f': ELOOP: Too many levels of symbolic links, at 'in'" resolve --no-links in/f
 expect 1 'fault ENOTDIR' "inroot-fs: resolve 'a/b/f/x': ENOTDIR: Not a directory, at 'f'" resolve a/b/f/x
 expect 0 "$box/a/b/f" '' realpath in/f
+expect 0 "opened file $box/a/b/f" '' resolve --exact in/f
 expect 0 "$box/in" '' realpath --nofollow in
 expect 1 '' "inroot-fs: realpath 'none': ENOENT: No such file or directory" realpath none
 expect 0 inside '' cat in/f
@@ -106,7 +107,7 @@ for name in p s last; do
 done
 # A file is made at the end of links, by the last one's directory; a loop of links, or one under --no-links, leads to none.
 ln -s ../chain-2 "$box/a/chain-1" && ln -s a/made "$box/chain-2" && ln -s loop "$box/loop"
-expect 1 '' "inroot-fs: write 'a/chain-1': ELOOP: Too many levels of symbolic links" write -L a/chain-1 <<<lost
+expect 1 '' "inroot-fs: write 'a/chain-1': ELOOP: Too many levels of symbolic links, at 'chain-1'" write -L a/chain-1 <<<lost
 expect 0 '' '' write a/chain-1 <<<made
 expect 0 made '' cat a/made
 expect 1 '' "inroot-fs: write 'loop': ELOOP: Too many levels of symbolic links" write loop <<<lost
@@ -148,6 +149,11 @@ expect 2 '' "inroot-fs: there is an argument too many: 'b'" rm a b
 expect 2 '' "inroot-fs: a mode is octal digits, at most 7777, and not '8'" mkdir -m 8 x
 expect 2 '' "inroot-fs: no value stands after '-m'" mkdir -m
 expect 2 '' 'inroot-fs: --no-replace and --exchange exclude each other' mv -nX a b
+# By single steps one whose name ends as the kernel writes behind the path of a removed one isn't told apart from that.
+touch "$box/a/b/f (deleted)"
+expect 0 '' '' cat 'in/f (deleted)'
+expect 1 '' "inroot-fs: cat 'in/f (deleted)': EAGAIN: Resource temporarily unavailable" cat --exact 'in/f (deleted)'
+rm "$box/a/b/f (deleted)"
 touch "$box/"$'odd\n\e[2J\\name'
 expect 0 $'a\nabs\nfifo\nin\nodd\\x0a\\x1b[2J\\x5cname\nsecond' '' ls
 [ "$("$fs" "$box" ls --zero | tr '\0' '/')" = $'a/abs/fifo/in/odd\n\e[2J\\name/second/' ]

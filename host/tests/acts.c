@@ -19,49 +19,49 @@
 
 /* ---- the calls: what they give is a descriptor, a number or -errno */
 
-/* The flags that each call gets in this round; and what it takes in place of the root. */
-static int flags, at;
+/* The flags that each call gets in this round. */
+static int flags;
 
-static int open_file(void) { return inroot_open(at, "a/b/f", flags); }
-static int open_directory(void) { return inroot_open(at, "a/b/d", flags); }
-static int open_up(void) { return inroot_open(at, "a/b/d/../f", flags); }
-static int open_far_up(void) { return inroot_open(at, "a/b/d/../../../t/f", flags); }
-static int open_link(void) { return inroot_open(at, "a/b/l", flags); }
-static int open_absolute(void) { return inroot_open(at, "t/u/f", flags); }
-static int open_reading(void) { return inroot_openat(at, "a/b/f", O_RDONLY, 0, flags); }
-static int open_truncated(void) { return inroot_openat(at, "a/b/f", O_WRONLY | O_TRUNC, 0, flags); }
-static int open_nameless(void) { return inroot_openat(at, "a/b", O_RDWR | O_TMPFILE, 0600, flags); }
-static int open_or_make(void) { return inroot_openat(at, "a/b/new", O_RDWR | O_CREAT, 0600, flags); }
-static int open_there(void) { return inroot_openat(at, "a/b/f", O_RDWR | O_CREAT, 0600, flags); }
-static int open_dangling(void) { return inroot_openat(at, "a/b/n", O_RDWR | O_CREAT, 0600, flags); }
-static int make_and_open(void) { return inroot_openat(at, "a/b/new", O_RDWR | O_CREAT | O_EXCL, 0600, flags); }
-static int make_by_path(void) { return inroot_openat(at, "a/b/new", O_PATH | O_CREAT | O_EXCL, 0600, flags); }
-static int make_file(void) { return inroot_mkfile(at, "a/b/new", 0600, flags); }
-static int give_file(void) { return inroot_mkfile(at, "a/b/new", 0600, flags | INROOT_GIVE); }
-static int make_pipe(void) { return inroot_mknod(at, "a/b/new", S_IFIFO | 0600, 0, flags); }
-static int give_pipe(void) { return inroot_mknod(at, "a/b/new", S_IFIFO | 0600, 0, flags | INROOT_GIVE); }
-static int make_directory(void) { return inroot_mkdir(at, "a/b/new", 0700, flags); }
-static int give_directory(void) { return inroot_mkdir(at, "a/b/d/../new", 0700, flags | INROOT_GIVE); }
-static int make_link(void) { return inroot_symlink(at, "text", "a/b/new", flags); }
-static int give_link(void) { return inroot_symlink(at, "text", "a/b/new", flags | INROOT_GIVE); }
-static int make_name(void) { return inroot_link(at, "a/b/f", "t/new", flags); }
-static int give_name(void) { return inroot_link(at, "t/f", "a/b/new", flags | INROOT_GIVE); }
-static int remove_file(void) { return inroot_unlink(at, "a/b/f", flags); }
-static int remove_directory(void) { return inroot_rmdir(at, "a/b/d/e", flags); }
-static int rename_away(void) { return inroot_rename(at, "a/b/f", "t/new", INROOT_PLAIN, flags); }
-static int rename_over(void) { return inroot_rename(at, "t/f", "a/b/f", INROOT_PLAIN, flags); }
-static int rename_both(void) { return inroot_rename(at, "a/b/f", "t/f", INROOT_EXCHANGE, flags); }
-static int make_all(void) { return inroot_mkdir_all(at, "a/b/v/w", 0700, flags); }
-static int make_all_up(void) { return inroot_mkdir_all(at, "a/b/d/../v/w", 0700, flags); }
-static int make_through(void) { return inroot_mkdir_all(at, "a/b/n/w", 0700, flags | INROOT_FOLLOW); }
-static int make_file_all(void) { return inroot_mkfile_all(at, "a/b/v/new", 0600, 0700, flags); }
-static int make_file_through(void) { return inroot_mkfile_all(at, "a/b/n", 0600, 0700, flags | INROOT_FOLLOW); }
-static int remove_all(void) { return (int)inroot_remove_all(at, "a/b", flags); }
+static int open_file(void) { return inroot_open(root, "a/b/f", flags); }
+static int open_directory(void) { return inroot_open(root, "a/b/d", flags); }
+static int open_up(void) { return inroot_open(root, "a/b/d/../f", flags); }
+static int open_far_up(void) { return inroot_open(root, "a/b/d/../../../t/f", flags); }
+static int open_link(void) { return inroot_open(root, "a/b/l", flags); }
+static int open_absolute(void) { return inroot_open(root, "t/u/f", flags); }
+static int open_reading(void) { return inroot_openat(root, "a/b/f", O_RDONLY, 0, flags); }
+static int open_truncated(void) { return inroot_openat(root, "a/b/f", O_WRONLY | O_TRUNC, 0, flags); }
+static int open_nameless(void) { return inroot_openat(root, "a/b", O_RDWR | O_TMPFILE, 0600, flags); }
+static int open_or_make(void) { return inroot_openat(root, "a/b/new", O_RDWR | O_CREAT, 0600, flags); }
+static int open_there(void) { return inroot_openat(root, "a/b/f", O_RDWR | O_CREAT, 0600, flags); }
+static int open_dangling(void) { return inroot_openat(root, "a/b/n", O_RDWR | O_CREAT, 0600, flags); }
+static int make_and_open(void) { return inroot_openat(root, "a/b/new", O_RDWR | O_CREAT | O_EXCL, 0600, flags); }
+static int make_by_path(void) { return inroot_openat(root, "a/b/new", O_PATH | O_CREAT | O_EXCL, 0600, flags); }
+static int make_file(void) { return inroot_mknod(root, "a/b/new", S_IFREG | 0600, 0, flags); }
+static int give_file(void) { return inroot_mknod(root, "a/b/new", S_IFREG | 0600, 0, flags | INROOT_GIVE); }
+static int make_pipe(void) { return inroot_mknod(root, "a/b/new", S_IFIFO | 0600, 0, flags); }
+static int give_pipe(void) { return inroot_mknod(root, "a/b/new", S_IFIFO | 0600, 0, flags | INROOT_GIVE); }
+static int make_directory(void) { return inroot_mkdir(root, "a/b/new", 0700, flags); }
+static int give_directory(void) { return inroot_mkdir(root, "a/b/d/../new", 0700, flags | INROOT_GIVE); }
+static int make_link(void) { return inroot_symlink(root, "text", "a/b/new", flags); }
+static int give_link(void) { return inroot_symlink(root, "text", "a/b/new", flags | INROOT_GIVE); }
+static int make_name(void) { return inroot_link(root, "a/b/f", "t/new", flags); }
+static int give_name(void) { return inroot_link(root, "t/f", "a/b/new", flags | INROOT_GIVE); }
+static int remove_file(void) { return inroot_unlink(root, "a/b/f", flags); }
+static int remove_directory(void) { return inroot_rmdir(root, "a/b/d/e", flags); }
+static int rename_away(void) { return inroot_rename(root, "a/b/f", "t/new", INROOT_PLAIN, flags); }
+static int rename_over(void) { return inroot_rename(root, "t/f", "a/b/f", INROOT_PLAIN, flags); }
+static int rename_both(void) { return inroot_rename(root, "a/b/f", "t/f", INROOT_EXCHANGE, flags); }
+static int make_all(void) { return inroot_mkdir_all(root, "a/b/v/w", 0700, flags); }
+static int make_all_up(void) { return inroot_mkdir_all(root, "a/b/d/../v/w", 0700, flags); }
+static int make_through(void) { return inroot_mkdir_all(root, "a/b/n/w", 0700, flags | INROOT_FOLLOW); }
+static int make_file_all(void) { return inroot_mkfile_all(root, "a/b/v/new", 0600, 0700, flags); }
+static int make_file_through(void) { return inroot_mkfile_all(root, "a/b/n", 0600, 0700, flags | INROOT_FOLLOW); }
+static int remove_all(void) { return (int)inroot_remove_all(root, "a/b", flags); }
 
 static int status(void)
 {
     struct stat about;
-    int failed = inroot_stat(at, "a/b/f", &about, flags);
+    int failed = inroot_stat(root, "a/b/f", &about, flags);
     if (failed == 0)
         is_inside(&about, "what a status is of");
     return failed;
@@ -70,7 +70,7 @@ static int status(void)
 static int read_link(void)
 {
     char text[64];
-    ssize_t length = inroot_readlink(at, "a/b/l", flags, text, sizeof text);
+    ssize_t length = inroot_readlink(root, "a/b/l", flags, text, sizeof text);
     if (length >= 0)
         expect(memcmp(text, "../", 3) == 0, "%s: the link's text is '%.*s'", what_is_done, (int)length, text);
     return (int)length;
@@ -79,13 +79,7 @@ static int read_link(void)
 static int open_parent(void)
 {
     char last[256];
-    return inroot_open_parent(at, "a/b/new", flags, last);
-}
-
-static int open_partial(void)
-{
-    char rest[256];
-    return inroot_open_partial(at, "a/b/none/more", flags, rest, sizeof rest);
+    return inroot_open_parent(root, "a/b/new", flags, last);
 }
 
 /* Where these objects stand, at one time or another. */
@@ -103,7 +97,7 @@ static int place_of(int dir, const char *path, int how)
     char place[256];
     int fd = sure(__real_openat(dir, path, O_PATH | how | O_CLOEXEC), path);
     begin_counting();
-    int length = (int)inroot_place(at, fd, place, sizeof place);
+    int length = (int)inroot_place(root, fd, place, sizeof place);
     end_counting();
     __real_close(fd);
     if (length >= 0)
@@ -114,56 +108,11 @@ static int place_of(int dir, const char *path, int how)
 static int place_of_file(void) { return place_of(root, "a/b/f", 0); }
 static int place_of_directory(void) { return place_of(root, "a/b/d", O_DIRECTORY); }
 
-/* Each directory that the walk holds is one of inside. */
-static int walk(void)
-{
-    struct inroot_walk *walk;
-    struct inroot_walk_entry entry;
-    int entries = inroot_walk_open(at, "a", 0, flags, &walk);
-    if (entries != 0)
-        return entries;
-    for (int got; (got = inroot_walk_next(walk, &entry)) != 0; entries += got > 0) {
-        is_inside_fd(entry.directory, "a directory that a walk lists");
-        is_inside_fd(entry.opened, "a directory that a walk goes into");
-    }
-    inroot_walk_close(walk);
-    return entries;
-}
-
-/* Calls that begin at a directory below the root. */
-static int from_directory(int (*what)(void))
-{
-    int below = at, dir = sure(__real_openat(root, "a/b", O_PATH | O_DIRECTORY | O_CLOEXEC), "a/b");
-    int result = inroot_at_begin(below, dir, &at);
-    if (result == 0) {
-        begin_counting();
-        result = what();
-        end_counting();
-        inroot_at_end(at);
-    }
-    at = below;
-    __real_close(dir);
-    return result;
-}
-
-static int open_here(void) { return inroot_open(at, "f", flags); }
-static int open_there_up(void) { return inroot_open(at, "d/../../../t/f", flags); }
-static int make_here(void) { return inroot_mkdir(at, "new", 0700, flags | INROOT_GIVE); }
-static int rename_here(void) { return inroot_rename(at, "f", "d/new", INROOT_PLAIN, flags); }
-static int make_all_here(void) { return inroot_mkdir_all(at, "d/../v/w", 0700, flags); }
-static int make_file_here(void) { return inroot_mkfile_all(at, "n", 0600, 0700, flags | INROOT_FOLLOW); }
-static int open_from(void) { return from_directory(open_here); }
-static int open_up_from(void) { return from_directory(open_there_up); }
-static int make_from(void) { return from_directory(make_here); }
-static int rename_from(void) { return from_directory(rename_here); }
-static int make_all_from(void) { return from_directory(make_all_here); }
-static int make_file_from(void) { return from_directory(make_file_here); }
-
 /* What was found is changed, whatever has its name by then. */
 static int change_found(void)
 {
     const struct timespec times[2] = {{.tv_sec = 1}, {.tv_sec = 2}};
-    int fd = inroot_open(at, "a/b/f", flags);
+    int fd = inroot_open(root, "a/b/f", flags);
     int failed = fd < 0 ? fd : inroot_fchmod(fd, 0740);
     if (failed == 0)
         failed = inroot_futimens(fd, times);
@@ -213,16 +162,8 @@ static const struct row rows[] = {
     {"status", status, 0, 0},
     {"read a link", read_link, 0, 0},
     {"open a parent", open_parent, OPENS, 0},
-    {"open a part", open_partial, OPENS, 0},
     {"the place of a file", place_of_file, COUNTS_ITSELF | ON_MOUNT, 0},
     {"the place of a directory", place_of_directory, COUNTS_ITSELF | BY_D, 0},
-    {"walk", walk, BY_D | ON_MOUNT, 0},
-    {"open from a directory", open_from, OPENS | COUNTS_ITSELF, 0},
-    {"open behind .. from a directory", open_up_from, OPENS | COUNTS_ITSELF | BY_D | ON_MOUNT, 0},
-    {"make and give from a directory", make_from, GIVES | COUNTS_ITSELF | ON_MOUNT, 1},
-    {"rename from a directory", rename_from, COUNTS_ITSELF | BY_D, 1},
-    {"make all from a directory", make_all_from, OPENS | COUNTS_ITSELF | BY_D, ANY},
-    {"make a file from a directory", make_file_from, OPENS | COUNTS_ITSELF, ANY},
     {"change what was found", change_found, 0, ANY},
 };
 enum { ROWS = sizeof rows / sizeof *rows };
@@ -246,129 +187,63 @@ static void each(const char *who, int by, const struct act *acts, int count)
     printf("acts: %s: %ld tries\n", who, tries);
 }
 
+/* By the kernel's walk; by the steps behind it, where it doesn't succeed; and with INROOT_EXACT. */
+static void by_each_way(const char *where, int more, const struct act *acts, int count)
+{
+    static const struct {
+        const char *name;
+        int flags;
+        bool steps;
+    } ways[] = {{"by the kernel's walk", 0, false}, {"by steps behind it", 0, true}, {"with INROOT_EXACT", INROOT_EXACT, false}};
+    for (size_t one = 0; one < sizeof ways / sizeof *ways; one++) {
+        char who[128];
+        snprintf(who, sizeof who, "%s%s", ways[one].name, where);
+        no_kernel_walk = ways[one].steps;
+        each(who, ways[one].flags | more, acts, count);
+    }
+    no_kernel_walk = false;
+}
+
 static void by_descriptor(void)
 {
-    at = root;
-    each("by a descriptor", 0, all_acts, ALL_ACTS);
-    each("by a descriptor, one by one", INROOT_ONE_BY_ONE, all_acts, ALL_ACTS);
-    each("by a descriptor, without magic links", INROOT_NO_MAGICLINKS, all_acts, ALL_ACTS);
+    by_each_way("", 0, all_acts, ALL_ACTS);
 }
 
 static void in_chroot(void)
 {
-    if (fchdir(root) != 0 || chroot(".") != 0)
+    chroot_or_end(root);
+    by_each_way(" in a chroot", 0, all_acts, ALL_ACTS);
+}
+
+static void have_own_mounts(void)
+{
+    if (unshare(CLONE_NEWNS) != 0 || mount(NULL, "/", NULL, MS_REC | MS_PRIVATE, NULL) != 0)
         _exit(NO_RIGHT);
-    at = root;
-    each("by a descriptor in a chroot", 0, all_acts, ALL_ACTS);
-}
-
-static void where_openat2_is_missing(void)
-{
-    at = root;
-    no_openat2 = true;
-    /* Nothing is promised then where the root is renamed. */
-    each("without openat2(2)", 0, all_acts + ROOT_ACTS, ALL_ACTS - ROOT_ACTS);
-}
-
-static void by_kept_root(int how, const char *who, const struct act *acts, int count)
-{
-    struct inroot_root *kept;
-    gives(inroot_root_open(where_root, how, &kept), 0, "%s", who);
-    at = inroot_root_fd(kept);
-    each(who, 0, acts, count);
-    inroot_root_close(kept);
-}
-
-static void by_root_that_stays(void)
-{
-    by_kept_root(INROOT_ROOT_STAYS | INROOT_TRUST_PROC, "by a root that stays", all_acts, ALL_ACTS);
-}
-
-static void by_root_below(void)
-{
-    by_kept_root(INROOT_BELOW, "by a root with INROOT_BELOW", all_acts, ALL_ACTS);
-}
-
-static void in_jail(void)
-{
-    jail_or_end(root, 0);
-    at = INROOT_JAIL;
-    each("in a jail", 0, all_acts, ALL_ACTS);
-    no_openat2 = true;
-    each("in a jail, without openat2(2)", 0, all_acts, ALL_ACTS);
-}
-
-static void in_trusting_jail(void)
-{
-    jail_or_end(root, INROOT_TRUST_PROC);
-    at = INROOT_JAIL;
-    each("in a jail that trusts", 0, all_acts, ALL_ACTS);
+    open_directories();
 }
 
 static void beside_mounts(void)
 {
-    if (unshare(CLONE_NEWNS) != 0 || mount(NULL, "/", NULL, MS_REC | MS_PRIVATE, NULL) != 0)
-        _exit(NO_RIGHT);
+    have_own_mounts();
     may_mount = true;
-    open_directories();
-    at = root;
-    each("on one mount", INROOT_NO_XDEV, mount_acts, MOUNT_ACTS);
-    each("on one mount, one by one", INROOT_NO_XDEV | INROOT_ONE_BY_ONE, mount_acts, MOUNT_ACTS);
-}
-
-/* a/b is a mount. */
-static void begin_mounts(void)
-{
-    if (unshare(CLONE_NEWNS) != 0 || mount(NULL, "/", NULL, MS_REC | MS_PRIVATE, NULL) != 0)
-        _exit(NO_RIGHT);
-    open_directories();
-    begin_hand();
-    at = root;
+    by_each_way(" on one mount", INROOT_NO_XDEV, mount_acts, MOUNT_ACTS);
 }
 
 static void on_moved_mount(void)
 {
-    begin_mounts();
-    each("on a mount that is moved", 0, moved_acts, MOVED_ACTS);
-    each("on a mount that is moved, one by one", INROOT_ONE_BY_ONE, moved_acts, MOVED_ACTS);
-    by_kept_root(INROOT_ROOT_STAYS | INROOT_TRUST_PROC, "on a mount that is moved, by a root that stays", moved_acts, MOVED_ACTS);
-    by_kept_root(INROOT_BELOW, "on a mount that is moved, by a root with INROOT_BELOW", moved_acts, MOVED_ACTS);
-    if (fchdir(root) != 0 || chroot(".") != 0)
-        _exit(NO_RIGHT);
-    at = root;
-    each("on a mount that is moved, in a chroot", 0, moved_acts, MOVED_ACTS);
+    have_own_mounts();
+    begin_hand();
+    by_each_way(" on a mount that is moved", 0, moved_acts, MOVED_ACTS);
+    chroot_or_end(root);
+    by_each_way(" on a mount that is moved, in a chroot", 0, moved_acts, MOVED_ACTS);
 }
 
 static void on_moved_root(void)
 {
     is_root_moved = true;
-    begin_mounts();
-    each("on a root that is a mount and is moved", 0, moved_acts, MOVED_ACTS);
-    each("on a root that is a mount and is moved, one by one", INROOT_ONE_BY_ONE, moved_acts, MOVED_ACTS);
-}
-
-/* Nothing is promised then where a mount is taken off. */
-static void on_moved_mount_without_openat2(void)
-{
-    begin_mounts();
-    no_openat2 = true;
-    each("on a mount that is moved, without openat2(2)", 0, moved_acts, MOVES);
-}
-
-static void on_moved_mount_in_jail(void)
-{
-    begin_mounts();
-    jail_or_end(root, 0);
-    at = INROOT_JAIL;
-    each("on a mount that is moved, in a jail", 0, moved_acts, MOVED_ACTS);
-}
-
-static void on_moved_mount_in_trusting_jail(void)
-{
-    begin_mounts();
-    jail_or_end(root, INROOT_TRUST_PROC);
-    at = INROOT_JAIL;
-    each("on a mount that is moved, in a jail that trusts", 0, moved_acts, MOVED_ACTS);
+    have_own_mounts();
+    begin_hand();
+    by_each_way(" on a root that is a mount and is moved", 0, moved_acts, MOVED_ACTS);
 }
 
 /* What a call has made is known by its number alone. */
@@ -378,15 +253,15 @@ static void where_numbers_lie(void)
         {"open a file", open_file, OPENS, 0},
         {"open behind ..", open_up, OPENS, 0},
         {"open a link's target", open_link, OPENS, 0},
-        {"open from a directory", open_from, OPENS | COUNTS_ITSELF, 0},
-        {"make from a directory", make_all_from, OPENS | COUNTS_ITSELF, ANY},
-        {"walk", walk, 0, 0},
     };
-    at = root;
     lies = true;
+    lied_about = outside[0].st_dev;
     few = false;
-    for (size_t one = 0; one < sizeof found / sizeof *found; one++)
-        try_each("where numbers lie", &found[one], &brought, count_moments("where numbers lie", &found[one]));
+    for (flags = 0; flags <= INROOT_EXACT; flags += INROOT_EXACT) {
+        no_kernel_walk = flags == 0;
+        for (size_t one = 0; one < sizeof found / sizeof *found; one++)
+            try_each("where numbers lie", &found[one], &brought, count_moments("where numbers lie", &found[one]));
+    }
 }
 
 static void where_calls_fail(void)
@@ -395,13 +270,11 @@ static void where_calls_fail(void)
         EINTR, EPERM, EACCES, EIO, EMFILE, ENFILE, ENOMEM, ENOSYS, ESTALE, EAGAIN, EINVAL, ENOENT, ENOTDIR, ELOOP, EXDEV, EBADF,
         EOVERFLOW, ENAMETOOLONG, EROFS, EBUSY, EEXIST, EISDIR, ENOTEMPTY, EOPNOTSUPP, 524,
     };
-    at = root;
     for (size_t one = 0; one < sizeof faults / sizeof *faults; one++) {
         char name[64];
         snprintf(name, sizeof name, "a system call fails by %d", faults[one]);
         const struct act fault = {name, do_nothing, NULL, 0, faults[one]};
-        each("by a descriptor", 0, &fault, 1);
-        each("by a descriptor, one by one", INROOT_ONE_BY_ONE, &fault, 1);
+        by_each_way("", 0, &fault, 1);
     }
 }
 
@@ -409,27 +282,14 @@ static void where_calls_fail(void)
 static void where_none_is_left(void)
 {
     static const struct act taken = {"no descriptor is left", do_nothing, NULL, 0, 0};
-    at = root;
-    for (shortage = EMFILE; shortage >= ENFILE; shortage--) {
-        each("by a descriptor", 0, &taken, 1);
-        each("by a descriptor, one by one", INROOT_ONE_BY_ONE, &taken, 1);
-    }
-}
-
-static void where_none_is_left_in_jail(void)
-{
-    static const struct act taken = {"no descriptor is left", do_nothing, NULL, 0, 0};
-    jail_or_end(root, 0);
-    at = INROOT_JAIL;
-    shortage = EMFILE;
-    each("in a jail", 0, &taken, 1);
+    for (shortage = EMFILE; shortage >= ENFILE; shortage--)
+        by_each_way(", short of descriptors", 0, &taken, 1);
 }
 
 static void by_another_descriptor(void)
 {
-    at = root;
     breaks_promise = true;
-    each("by a number that another file gets", 0, &lost_root, 1);
+    by_each_way(" and a number that another file gets", 0, &lost_root, 1);
 }
 
 /* ---- the control */
@@ -469,7 +329,8 @@ static void be_led_out(void)
 
 static void be_led_out_by_mounts(void)
 {
-    begin_mounts();
+    have_own_mounts();
+    begin_hand();
     lead_out(moved_acts, MOVED_ACTS, "a mount that is moved");
 }
 
@@ -479,11 +340,8 @@ int main(int count, char **words)
         void (*run)(void);
         unsigned phase;
     } rounds[] = {
-        {be_led_out, 0}, {be_led_out_by_mounts, 0}, {by_descriptor, 0}, {in_chroot, 1}, {where_openat2_is_missing, 0},
-        {by_root_that_stays, 1}, {by_root_below, 2}, {in_jail, 0}, {in_trusting_jail, 2}, {beside_mounts, 0}, {on_moved_mount, 0},
-        {on_moved_root, 0}, {on_moved_mount_without_openat2, 0}, {on_moved_mount_in_jail, 1}, {on_moved_mount_in_trusting_jail, 2},
-        {where_numbers_lie, 0}, {where_calls_fail, 0}, {where_none_is_left, 0}, {where_none_is_left_in_jail, 1},
-        {by_another_descriptor, 0},
+        {be_led_out, 0}, {be_led_out_by_mounts, 0}, {by_descriptor, 0}, {in_chroot, 1}, {beside_mounts, 0}, {on_moved_mount, 0},
+        {on_moved_root, 1}, {where_numbers_lie, 0}, {where_calls_fail, 0}, {where_none_is_left, 0}, {by_another_descriptor, 0},
     };
     int skipped = 0;
     if (count < 2 || count > 3)

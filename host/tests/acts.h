@@ -265,7 +265,7 @@ static void unmount_new(void) { unmount_at("a/b/new"); }
 
 /* ---- a/b is a mount, which is moved and taken off */
 
-/* By a process of its own, since a thread in a jail comes to none of these paths. */
+/* By a process of its own, since a thread in a chroot comes to none of these paths. */
 static int hand = -1, store;
 static bool is_root_moved;     /* the mount is the root's own, and not a/b */
 static char where_store[PATH_MAX], where_moved[PATH_MAX + 8];
@@ -303,8 +303,6 @@ static void move_mount_out(void) { ask_hand(MOVE_OUT); }
 static void move_mount_back(void) { ask_hand(MOVE_BACK); }
 static void take_mount_off(void) { ask_hand(TAKE_OFF); }
 
-/* The first two are about the root's own directory. */
-enum { ROOT_ACTS = 2 };
 static const struct act all_acts[] = {
     {"the root is exchanged", exchange_root, NULL, 0, 0},
     {"the root is exchanged, and back", exchange_root, exchange_root, 1, 0},

@@ -13,6 +13,7 @@
 #include <string.h>
 #include <sys/stat.h>
 #include <sys/syscall.h>
+#include <sys/sysmacros.h>
 #include <sys/vfs.h>
 #include <time.h>
 
@@ -24,8 +25,9 @@ struct act {
     int fault;             /* that system call fails by this */
 };
 
-/* openat2(2) is missing; and the numbers of inodes and devices tell nothing. */
-static bool no_openat2, lies;
+/* Each path that the kernel is to walk it doesn't, so that the steps do; and the numbers of inodes on this device tell nothing. */
+static bool no_kernel_walk, lies;
+static dev_t lied_about;
 
 static bool counting;
 /* Which function failed, and whether a call makes it once more after a signal. */
@@ -102,27 +104,22 @@ int __wrap_fstat(int fd, struct stat *about);
 int __wrap_fstat(int fd, struct stat *about)
 {
     int failed = ask() ? -1 : __real_fstat(fd, about);
-    if (lies && counting)
+    if (lies && counting && about->st_dev == lied_about)
         about->st_ino = about->st_dev = 1;
     return failed;
 }
 
 BESIDE(int, fstatat, (int dir, const char *name, struct stat *about, int how), (dir, name, about, how))
 BESIDE(int, fstatfs, (int fd, struct statfs *about), (fd, about))
-BESIDE(int, statfs, (const char *path, struct statfs *about), (path, about))
-#ifdef STATX_INO
 int __real_statx(int dir, const char *name, int flags, unsigned what, struct statx *about);
 int __wrap_statx(int dir, const char *name, int flags, unsigned what, struct statx *about);
 int __wrap_statx(int dir, const char *name, int flags, unsigned what, struct statx *about)
 {
     int failed = ask() ? -1 : __real_statx(dir, name, flags, what, about);
-    if (lies && counting)
+    if (lies && counting && makedev(about->stx_dev_major, about->stx_dev_minor) == lied_about)
         about->stx_ino = about->stx_dev_major = about->stx_dev_minor = 1;
     return failed;
 }
-#endif
-BESIDE(int, fchdir, (int fd), (fd))
-BESIDE(int, chdir, (const char *path), (path))
 BESIDE(int, fchmodat, (int dir, const char *name, mode_t mode, int how), (dir, name, mode, how))
 BESIDE(int, fchownat, (int dir, const char *name, uid_t user, gid_t group, int how), (dir, name, user, group, how))
 BESIDE(int, utimensat, (int dir, const char *name, const struct timespec *times, int how), (dir, name, times, how))
@@ -186,13 +183,13 @@ static long my_syscall(long number, const long *with)
 {
     const struct open_how *how = number == SYS_openat2 ? (const struct open_how *)with[2] : NULL;
     if (ask_of(__func__, how == NULL ? number : number + ((long)how->resolve << 16))) {
-        repeats = number == SYS_openat2 || number == SYS_getdents64;
+        repeats = number == SYS_getdents64 || (how != NULL && how->flags & O_PATH);
         return -1;
     }
     if (number == SYS_openat2 && is_short())
         return -1;
-    if (number == SYS_openat2 && no_openat2) {
-        errno = ENOSYS;
+    if (no_kernel_walk && how != NULL && how->resolve & RESOLVE_IN_ROOT) {
+        errno = EAGAIN;
         return -1;
     }
     long result = REAL_SYSCALL(number, with);

@@ -2,10 +2,10 @@
  * depths: trees that are deeper than one of the proved calls goes, twice over, and a directory with more names than a
  * call holds. They are removed whole; where others take the deep part away meanwhile, the call doesn't follow it; and where
  * the kernel refuses to remove the deepest, nothing stays open.
- * A directory in one whose names are held gets less room for its own.
+ * A directory in one whose names are held gets less room for its own. With INROOT_NO_XDEV what is mounted far below stays.
  * To be linked with --wrap=openat and --wrap=malloc.
  *
- * usage: depths DIR. Exits 0 where that holds. 78: no right to be filtered, so that a part is left out.
+ * usage: depths DIR. Exits 0 where that holds. 78: no right to be filtered or to mount, so that a part is left out.
  */
 #define _GNU_SOURCE
 #include "filter.h"
@@ -14,7 +14,9 @@
 
 #include <errno.h>
 #include <fcntl.h>
+#include <sched.h>
 #include <string.h>
+#include <sys/mount.h>
 #include <sys/resource.h>
 #include <sys/stat.h>
 
@@ -25,6 +27,7 @@
 enum { LEVELS = 9000, NAMES = 5000, ONE_CALL = 20, SOME_CALLS = 40 };
 
 static int root, before;
+static const char *where;
 
 /* What is done as the call has come to its deepest directory. */
 static void (*act)(int deepest);
@@ -186,11 +189,47 @@ static void taken_away(void)
     gives(open_descriptors(), before, "open descriptors");
 }
 
+/* Where one proved call doesn't come to. What was opened in another mount namespace doesn't see the mount. */
+static void mounted_over(void)
+{
+    char source[64], target[64];
+    struct stat about;
+    if (unshare(CLONE_NEWNS) != 0 || mount(NULL, "/", NULL, MS_REC | MS_PRIVATE, NULL) != 0)
+        _exit(NO_RIGHT);
+    root = sure(open(where, O_PATH | O_DIRECTORY | O_CLOEXEC), where);
+    int dir = sure(__real_openat(root, "t", O_PATH | O_DIRECTORY | O_CLOEXEC), "t");
+    for (int level = 0; level < ONE_CALL + ONE_CALL / 2; level++) {
+        int below = sure(__real_openat(dir, "d", O_PATH | O_DIRECTORY | O_CLOEXEC), "d");
+        close(dir);
+        dir = below;
+    }
+    sure(mkdirat(dir, "m", 0755), "m");
+    snprintf(source, sizeof source, "/proc/self/fd/%d/kept", root);
+    snprintf(target, sizeof target, "/proc/self/fd/%d/m", dir);
+    sure(mount(source, target, NULL, MS_BIND, NULL), target);
+    for (int flags = 0; flags <= INROOT_EXACT; flags += INROOT_EXACT) {
+        gives(inroot_remove_all(root, "t", INROOT_NO_XDEV | flags), -EXDEV, "a deep tree with a mount, flags %d", flags);
+        gives(fstatat(root, "kept/f", &about, 0), 0, "what is mounted, asked for");
+    }
+    umount2(target, MNT_DETACH);
+}
+
+static int mounted(void)
+{
+    sure(mkdirat(root, "kept", 0755), "kept");
+    sure(mknodat(root, "kept/f", S_IFREG | 0600, 0), "kept/f");
+    dig(2 * ONE_CALL, LEVELS);
+    int skipped = apart(mounted_over);
+    gives_least(inroot_remove_all(root, "t", 0), 1, "a deep tree without the mount");
+    return skipped;
+}
+
 int main(int count, char **words)
 {
     if (count != 2)
         return 2;
-    root = sure(open(words[1], O_PATH | O_DIRECTORY | O_CLOEXEC), words[1]);
+    where = words[1];
+    root = sure(open(where, O_PATH | O_DIRECTORY | O_CLOEXEC), where);
     open_proc();
     before = open_descriptors();
     bounded();
@@ -198,7 +237,7 @@ int main(int count, char **words)
     large();
     taken_away();
     spared();
-    int skipped = kept_by_the_kernel();
+    const int skipped = kept_by_the_kernel() | mounted();
     printf("depths: %d not as they are to be\n", wrong);
     return wrong != 0 ? 1 : skipped;
 }

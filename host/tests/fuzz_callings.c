@@ -2,10 +2,8 @@
  * fuzz_callings: the proved library's functions that say which thing comes next in a call, from its beginning to its result, with any
  * answers. What a program is asked for can be done: it closes what is open, and closes it once. What it gives was opened last, and is
  * all that is open in the end. It comes to an end within 32 tries and 19 milliseconds of pauses. A call that has changed an entry
- * isn't begun again. The thread is home in the end, or the call fails since it isn't. A walk by steps, and the question for a place,
- * come right behind a check of the thread's own root, which found openat2(2), or no /proc, or no error. In a jail and where the root is
- * held that isn't checked. A call that has failed before only makes this check, and fails by it or as before. What a call hands out is
- * no descriptor that it shares with the caller, and each other one that it had is closed.
+ * isn't begun again. A call that has failed before does nothing of a try, and fails as before, or by its root. What a call hands out is
+ * no descriptor that it shares with the caller.
  *
  * For libFuzzer, or with fuzz_main.c for stored cases. A case is bytes: what is known of the call, and the answers.
  */
@@ -16,15 +14,14 @@
 #include <errno.h>
 #include <stdlib.h>
 
-enum { TRIES = 32, PAUSES = 18270000, EXCHANGES = 22 * TRIES + 1 };
+enum { TRIES = 32, PAUSES = 18270000, EXCHANGES = 15 * TRIES + 1 };
 
 /* What was seen of a call. Each thing is at most once open: what was found, what was made, and a /proc. */
 struct seen {
     uint64_t found, made, pauses;
-    bool has_found, has_made, owns_proc, away, changed, stepped, looked, stuck, checked, is_fine, is_alone, has_proc;
+    bool has_found, has_made, owns_proc, changed, stepped, looked;
     unsigned begun, others, exchanges;
     uint64_t opened;               /* so many descriptors were */
-    uint32_t why, check;           /* the error of the way home; that of the own root in this try, or of another /proc */
 };
 
 static uint32_t some_error(struct input *in)
@@ -40,7 +37,7 @@ static struct inroot_calling_answer some_answer(struct input *in, const struct s
         .value = 1000 + seen->opened, .length = byte(in), .error = some_error(in), .unmade = bits & 1 ? EMFILE : 0,
         .unopened = bits & 2 ? ENFILE : 0, .made = bits & 4 ? (uint32_t)(2000 + seen->opened) : 0,
         .reply = (uint8_t)(INROOT_REPLY_OPENED + byte(in) % 7), .whole = bits & 8, .stepped = bits & 16, .changed = bits & 32,
-        .moved = bits & 64, .has_proc = bits & 128, .owns_proc = byte(in) % 8 == 0,
+        .has_proc = bits & 128, .owns_proc = byte(in) % 8 == 0,
     };
 }
 
@@ -61,31 +58,11 @@ static void find(struct seen *seen, uint64_t fd)
     seen->opened++;
 }
 
-/* Whether the thread's own root is checked where it has to be: without openat2(2), by a /proc. */
-static void check_own_root(struct seen *seen, const struct inroot_calling *now, const struct inroot_calling_answer *answer)
-{
-    const bool is_last = now->next == INROOT_CALLING_OWN_ROOT, works = answer->error == 0;
-    const bool is_check = is_last || now->next == INROOT_CALLING_SECOND || now->next == INROOT_CALLING_FIND_PROC;
-    const bool is_due = now->next == INROOT_CALLING_PLACE || now->next == INROOT_CALLING_CONVERSE;
-    const bool is_spared = now->facts.held || now->facts.jailed;
-    MUST(!is_check || !is_spared);
-    MUST(!is_due || is_spared || seen->is_fine);
-    MUST(is_check || now->facts.error == 0);
-    MUST(now->next != INROOT_CALLING_FIND_PROC || seen->is_alone);
-    MUST(!is_last || seen->has_proc);
-    seen->is_alone = now->next == INROOT_CALLING_SECOND && !works;
-    seen->has_proc = now->next == INROOT_CALLING_FIND_PROC && works;
-    seen->is_fine = is_check && (now->next == INROOT_CALLING_FIND_PROC ? !works : works);
-    seen->checked |= is_last || seen->is_fine;
-    seen->check = is_last ? answer->error : seen->check;
-}
-
 /* A thing of a try. */
 static void walk(struct seen *seen, const struct inroot_calling *now, const struct inroot_calling_answer *answer)
 {
-    check_own_root(seen, now, answer);
-    bool opens = now->next == INROOT_CALLING_AT_ONCE || now->next == INROOT_CALLING_TAKE;
-    if (opens && answer->error == 0)
+    MUST(now->facts.error == 0 && (now->next == INROOT_CALLING_PLACE) == (now->facts.places && now->next != INROOT_CALLING_TAKE));
+    if (now->next == INROOT_CALLING_TAKE && answer->error == 0)
         find(seen, answer->value);
     if (now->next == INROOT_CALLING_CONVERSE && answer->made) {
         MUST(!seen->has_made);
@@ -96,7 +73,6 @@ static void walk(struct seen *seen, const struct inroot_calling *now, const stru
     seen->owns_proc |= answer->owns_proc;
     seen->changed |= answer->changed && !now->facts.finds_again;
     seen->stepped |= answer->stepped;
-    seen->away = answer->moved;
 }
 
 static void must_begin(const struct seen *seen)
@@ -107,23 +83,20 @@ static void must_begin(const struct seen *seen)
 /* Does what comes next, if that can be done. */
 static void turn(struct seen *seen, const struct inroot_calling *now, const struct inroot_calling_answer *answer)
 {
-    MUST(++seen->exchanges <= EXCHANGES && !seen->stuck == !now->stuck);
+    MUST(++seen->exchanges <= EXCHANGES);
     seen->looked = now->next == INROOT_CALLING_LOOK_AT_ROOT;
     switch (now->next) {
     case INROOT_CALLING_BEGIN:
         must_begin(seen);
-        MUST(!seen->away && ++seen->begun <= TRIES && (seen->begun == 1 || now->error == EAGAIN));
+        MUST(++seen->begun <= TRIES && (seen->begun == 1 || now->error == EAGAIN));
         MUST((seen->pauses += now->about) <= PAUSES);
         seen->others = 0;
-        seen->stepped = seen->checked = false;
-        seen->check = 0;
+        seen->stepped = false;
         break;
     case INROOT_CALLING_ANOTHER_PROC:
         must_begin(seen);
         MUST(++seen->others == 1);
         seen->stepped &= answer->error != 0;
-        seen->checked &= answer->error != 0;
-        seen->check = answer->error;
         seen->owns_proc = answer->error == 0 && answer->owns_proc;
         break;
     case INROOT_CALLING_CLOSE: close_one(seen, now->about); break;
@@ -131,13 +104,7 @@ static void turn(struct seen *seen, const struct inroot_calling *now, const stru
         MUST(seen->owns_proc);
         seen->owns_proc = false;
         break;
-    case INROOT_CALLING_GO_HOME:
-        MUST(seen->away);
-        seen->away = answer->error != 0;
-        seen->stuck = answer->error != 0;
-        seen->why = answer->error;
-        break;
-    case INROOT_CALLING_LOOK_AT_ROOT: MUST(!seen->stepped && !now->facts.jailed && now->error != 0); break;
+    case INROOT_CALLING_LOOK_AT_ROOT: MUST(!seen->stepped && now->error != 0); break;
     case INROOT_CALLING_LET_GO: case INROOT_CALLING_LOOK_AT_PROC: break;
     default: walk(seen, now, answer);
     }
@@ -145,33 +112,26 @@ static void turn(struct seen *seen, const struct inroot_calling *now, const stru
 
 static void must_end(const struct inroot_calling *now, const struct seen *seen)
 {
-    MUST(!seen->owns_proc && seen->away == seen->stuck);
+    MUST(!seen->owns_proc);
     if (now->next == INROOT_CALLING_ENDS) {
-        MUST(now->error == 0 && !seen->away && !(seen->has_found && seen->has_made));
+        MUST(now->error == 0 && now->facts.error == 0 && !(seen->has_found && seen->has_made));
         MUST(!seen->has_found || now->value == seen->found);
         MUST(!seen->has_made || now->value == seen->made);
     } else {
         MUST(now->next == INROOT_CALLING_FAILS && now->error != 0 && !seen->has_found && !seen->has_made);
-        MUST(!seen->stuck || now->error == seen->why);
-        MUST(seen->stuck || seen->stepped || now->facts.jailed || seen->looked);
-    }
-    if (now->facts.error != 0) {
-        MUST(now->next == INROOT_CALLING_FAILS && (now->facts.held || now->facts.jailed || seen->checked));
-        MUST(now->is_root || seen->stuck || now->error == (seen->check ? seen->check : now->facts.error));
+        MUST(seen->stepped || seen->looked);
+        MUST(now->facts.error == 0 || now->is_root || now->error == now->facts.error);
     }
 }
 
-/* A call hands out what a handle is on. The handle's descriptor is 1, and one that is opened anew 2. */
+/* A call hands out what a handle is on: the handle's own descriptor, or one that is opened anew. */
 static void take(unsigned what)
 {
-    const bool shared = what & 1, copied = what & 2, held = what & 4, works = what & 8;
+    const bool shared = what & 1, held = what & 2;
     struct inroot_taking taking;
-    inroot_take(shared, copied, held, &taking);
-    const int opened = taking.anew && works ? 2 : 0, given = taking.error ? 0 : taking.anew ? opened : 1;
-    MUST(given != 1 || (held && !shared && !copied));
-    MUST(opened == 0 || given == opened);
-    MUST(taking.closes == (held && !shared && given != 1));
+    inroot_take(shared, held, &taking);
     MUST(taking.error == (shared || held ? 0 : ENOMEM));
+    MUST(taking.error != 0 || taking.anew == shared);
 }
 
 int LLVMFuzzerTestOneInput(const uint8_t *data, size_t size)
@@ -179,8 +139,7 @@ int LLVMFuzzerTestOneInput(const uint8_t *data, size_t size)
     struct input in = {data, size};
     unsigned bits = byte(&in), more = byte(&in);
     const struct inroot_calling_facts facts = {
-        .error = bits & 64 && bits & 128 ? some_error(&in) : 0, .jailed = bits & 1, .from = bits & 2, .places = (bits & 12) == 12,
-        .held = (bits & 12) == 8 || (bits & 76) == 76, .gives = bits & 16, .may_retry = bits & 32,
+        .error = bits & 64 && bits & 128 ? some_error(&in) : 0, .places = (bits & 12) == 12, .gives = bits & 16, .may_retry = bits & 32,
         .finds_again = more % 4 == 0,
     };
     struct seen seen = {0};

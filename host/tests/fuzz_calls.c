@@ -1,7 +1,7 @@
 /*
  * fuzz_calls: the proved library's functions with any request, any answers and any size of room. A program that hands in
  * whatever it likes is told steps that can be made, closes each handle once, and comes to a reply with nothing left open.
- * And what is opened at once has a path of plain names, and stands at just these.
+ * And which paths the kernel may walk, and of which a missing name is the call's error, is as plain C says it.
  *
  * For libFuzzer, or with fuzz_main.c for stored cases. A case is bytes: the operation, flags, sizes, texts, and the answers.
  */
@@ -89,29 +89,6 @@ static void look_at(const struct inroot_told *told, const unsigned char *room, s
         MUST(told->second >= 1 && told->second <= NAME_MAX && room[told->first + 1 + told->second] == 0);
 }
 
-/* What comes next begins with the name that is due, if there is any, and is the beginning of what is left, but for each `.`. */
-static void look_ahead(struct inroot_kept *kept, const struct inroot_told *told, const unsigned char *room)
-{
-    enum { MOST = 600 };
-    unsigned char names[MOST], parts[MOST];
-    struct inroot_ahead_names ahead;
-    struct inroot_left left;
-    memset(names, 0, sizeof names);
-    memset(parts, 0, sizeof parts);
-    inroot_names_ahead(kept, MOST, 1, names, MOST - 1, &ahead);
-    inroot_parts_ahead(kept, 0, parts, MOST - 1, &left);
-    MUST(ahead.used <= MOST - 1 && left.used <= MOST - 1 && left.parts <= left.used);
-    MUST(ahead.used == strlen((char *)names) && left.used == strlen((char *)parts));
-    MUST(ahead.names == 0 || left.named);
-    MUST(!(ahead.up && ahead.ends) && (!ahead.dot || ahead.ends));
-    if (ahead.names > 0)
-        MUST(told->what == INROOT_STEP_OPEN && (!told->whole || (memcmp(names + 1, room, told->first) == 0 &&
-             memcmp(parts, names, told->first + 1) == 0)));
-    /* Each `.` takes room. */
-    if (ahead.ends && left.whole)
-        MUST(ahead.dot == (left.used > 1 && parts[left.used - 1] == '.' && parts[left.used - 2] == '/'));
-}
-
 static struct inroot_answered answer(struct input *in, const struct inroot_told *told, uint64_t serial)
 {
     static const uint8_t errors[] = {ENOENT, EAGAIN, ENOMEM, EBUSY, EEXIST, EXDEV, ENOTDIR, EISDIR, EINVAL, EMFILE, ENOSPC,
@@ -148,7 +125,6 @@ static void converse(struct input *in, struct inroot_kept *kept, struct inroot_t
     for (uint64_t serial = 100; told->what < INROOT_REPLY_OPENED; serial++) {
         size_t length;
         look_at(told, room, size);
-        look_ahead(kept, told, room);
         MUST(open_count < MOST_OPEN);
         struct inroot_answered given = answer(in, told, serial);
         unsigned char *bytes = text(in, &length);
@@ -175,28 +151,24 @@ static bool is_place(const unsigned char *place, size_t length)
     return true;
 }
 
-/* The path at any place; and where it stands itself, with a slash before it or not. */
-static void at_once(const struct inroot_asked *asked, uint8_t kind, const unsigned char *path, size_t length,
-                    const unsigned char *place, size_t place_length)
+static bool resolves(const struct inroot_asked *asked)
+{
+    return asked->op == INROOT_ASK_RESOLVE || asked->op == INROOT_ASK_RESOLVE_NOFOLLOW;
+}
+
+/* The path where it stands itself, with a slash before it or not; and at any place. */
+static void misses(const struct inroot_asked *asked, const unsigned char *path, size_t length, const unsigned char *place,
+                   size_t place_length)
 {
     unsigned char *own = malloc(length + 1);
     if (own == NULL)
         abort();
     own[0] = '/';
     memcpy(own + 1, path, length);
-    bool opens_it = asked->op == INROOT_ASK_RESOLVE_NOFOLLOW ||
-                    (asked->op == INROOT_ASK_RESOLVE && kind != INROOT_KIND_LINK) ||
-                    (asked->op == INROOT_ASK_MKDIR_ALL && kind == INROOT_KIND_DIR);
-    bool inside = !asked->beneath || length == 0 || path[0] != '/';
-    bool may = opens_it && inside && length >= 1 && length < PATH_MAX;
-    MUST(inroot_opens_at_once(asked, path, length, kind, own, length + 1) == (may && is_place(own, length + 1)));
-    MUST(inroot_opens_at_once(asked, path, length, kind, path, length) == (may && is_place(path, length)));
-    bool resolves = asked->op == INROOT_ASK_RESOLVE || asked->op == INROOT_ASK_RESOLVE_NOFOLLOW;
-    MUST(inroot_misses_at_once(asked, path, length, own, length + 1) ==
-         (resolves && inside && length >= 1 && length < PATH_MAX && is_place(own, length + 1)));
+    const bool may = resolves(asked) && length >= 1 && length < PATH_MAX && (!asked->beneath || path[0] != '/');
+    MUST(inroot_misses_at_once(asked, path, length, own, length + 1) == (may && is_place(own, length + 1)));
+    MUST(inroot_misses_at_once(asked, path, length, path, length) == (may && is_place(path, length)));
     if (inroot_misses_at_once(asked, path, length, place, place_length))
-        MUST(resolves && inroot_opens_at_once(asked, path, length, INROOT_KIND_DIR, place, place_length));
-    if (inroot_opens_at_once(asked, path, length, kind, place, place_length))
         MUST(may && is_place(place, place_length) && place_length - length <= 1 &&
              memcmp(place + (place_length - length), path, length) == 0);
     free(own);
@@ -217,10 +189,9 @@ static bool has_short_parts(const unsigned char *path, size_t length)
 /* The path as the kernel may walk it. */
 static void walked(const struct inroot_asked *asked, const unsigned char *path, size_t length)
 {
-    bool resolves = asked->op == INROOT_ASK_RESOLVE || asked->op == INROOT_ASK_RESOLVE_NOFOLLOW;
     bool is_path = length >= 1 && length < PATH_MAX && memchr(path, 0, length) == NULL && has_short_parts(path, length);
-    bool may = resolves && is_path && !asked->no_links && !(asked->beneath && path[0] == '/');
-    MUST(inroot_follows_at_once(asked, path, length) == may);
+    bool may = is_path && !(asked->beneath && path[0] == '/');
+    MUST(inroot_follows_at_once(asked->beneath, asked->no_links, path, length) == may);
 }
 
 int LLVMFuzzerTestOneInput(const uint8_t *data, size_t size)
@@ -238,7 +209,7 @@ int LLVMFuzzerTestOneInput(const uint8_t *data, size_t size)
     if (room == NULL)
         abort();
     open_count = 0;
-    at_once(&asked, (uint8_t)(flags / 32), first, first_length, second, second_length);
+    misses(&asked, first, first_length, second, second_length);
     walked(&asked, first, first_length);
     inroot_begin(&asked, first, first_length, second, second_length, &kept, &told, room, room_size);
     converse(&in, &kept, &told, room, room_size);

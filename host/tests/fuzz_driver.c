@@ -15,6 +15,7 @@
 #include <errno.h>
 #include <fcntl.h>
 #include <pthread.h>
+#include <sched.h>
 #include <semaphore.h>
 #include <stdarg.h>
 #include <stdbool.h>
@@ -42,9 +43,6 @@ static struct {
 } plan;
 
 static int opened_by_call;
-
-/* What the jail that trusts keeps open. It is closed once, by the call whose question there fails. */
-static int kept[2] = {-1, -1};
 
 /* ---- what others do in between */
 
@@ -95,16 +93,11 @@ static int fails(void)
 
 WRAP(int, fstat, (int fd, struct stat *about), (fd, about))
 WRAP(int, fstatfs, (int fd, struct statfs *about), (fd, about))
-WRAP(int, fchdir, (int fd), (fd))
-WRAP(int, chdir, (const char *path), (path))
-WRAP(int, unshare, (int what), (what))
 WRAP(ssize_t, readlinkat, (int dir, const char *name, char *text, size_t size), (dir, name, text, size))
 WRAP(int, mkdirat, (int dir, const char *name, mode_t mode), (dir, name, mode))
 WRAP(int, mknodat, (int dir, const char *name, mode_t mode, dev_t dev), (dir, name, mode, dev))
 WRAP(int, symlinkat, (const char *text, int dir, const char *name), (text, dir, name))
-#ifdef STATX_INO
 WRAP(int, statx, (int dir, const char *name, int flags, unsigned what, struct statx *about), (dir, name, flags, what, about))
-#endif
 WRAP(int, unlinkat, (int dir, const char *name, int flags), (dir, name, flags))
 WRAP(int, linkat, (int from, const char *old, int to, const char *new, int flags), (from, old, to, new, flags))
 
@@ -156,22 +149,12 @@ static int my_fcntl(int fd, int what, int with)
 
 INSTEAD_OF_FCNTL(my_fcntl)
 
-static bool was_kept(int fd)
-{
-    for (int one = 0; one < 2; one++)
-        if (kept[one] == fd) {
-            kept[one] = -1;
-            return true;
-        }
-    return false;
-}
-
 int __wrap_close(int fd)
 {
     int closed = __real_close(fd);
     if (plan.armed) {
         MUST(closed == 0);
-        opened_by_call -= !was_kept(fd);
+        opened_by_call--;
     }
     return closed;
 }
@@ -195,8 +178,7 @@ static long my_syscall(long number, const long *with)
         long result = REAL_SYSCALL(number, with);
         return number == SYS_openat2 ? counted((int)result) : result;
     }
-    /* Else the program would go on without openat2(2) from here on. */
-    errno = number == SYS_openat2 && error == EPERM ? EIO : error;
+    errno = error;
     return -1;
 }
 
@@ -261,7 +243,6 @@ static struct {
     unsigned op, flags, mode;
     char first[256], second[256];
     ssize_t result;
-    int root;
 } asked;
 
 static unsigned char byte(const uint8_t **at, size_t *left)
@@ -286,45 +267,21 @@ static void path(char *text, const uint8_t **at, size_t *left)
 }
 
 /* What is opened for use: of a FIFO there is none here, which could make it wait. */
-static int open_for_use(int at, unsigned how, int flags)
+static int open_for_use(unsigned how, int flags)
 {
     static const int ways[] = {O_RDONLY, O_RDWR, O_WRONLY | O_CREAT, O_RDWR | O_CREAT | O_EXCL, O_RDWR | O_CREAT | O_NOFOLLOW,
                                O_RDWR | O_TMPFILE, O_PATH | O_NOFOLLOW, O_RDONLY | O_DIRECTORY};
     int way = ways[how % 8];
     bool makes = way & O_CREAT || (way & O_TMPFILE) == O_TMPFILE;
-    return inroot_openat(at, asked.first, way | (makes ? O_NONBLOCK : 0), makes ? 0600 : 0, flags);
-}
-
-/* From the directory `a/b/c`, wherever others move it. */
-static ssize_t call_from(int at, unsigned how, int flags)
-{
-    int from, dir = __real_openat(root, "a/b/c", O_PATH | O_DIRECTORY | O_CLOEXEC);
-    ssize_t result = -ENOENT;
-    plan.armed = false;
-    if (dir >= 0 && inroot_at_begin(at, dir, &from) == 0) {
-        plan.armed = true;
-        switch (how % 5) {
-        case 0: result = inroot_open(from, asked.first, flags); break;
-        case 1: result = inroot_mkfile(from, asked.first, 0600, flags | INROOT_GIVE); break;
-        case 2: result = inroot_mkdir_all(from, asked.first, 0700, flags | INROOT_FOLLOW); break;
-        case 3: result = inroot_rename(from, asked.first, asked.second, 0, flags) == 0 ? -EEXIST : -EIO; break;
-        default: result = inroot_remove_all(from, asked.first, flags) >= 0 ? -EEXIST : -EIO;
-        }
-        plan.armed = false;
-        inroot_at_end(from);
-    }
-    if (dir >= 0)
-        __real_close(dir);
-    plan.armed = true;
-    return result;
+    return inroot_openat(root, asked.first, way | (makes ? O_NONBLOCK : 0), makes ? 0600 : 0, flags);
 }
 
 /* Where `a/b/c` stands is told, or nothing. */
-static ssize_t tell_place(int at)
+static ssize_t tell_place(void)
 {
     char place[64] = "";
     int dir = __real_openat(root, "a/b/c", O_PATH | O_DIRECTORY | O_CLOEXEC);
-    ssize_t length = dir >= 0 ? inroot_place(at, dir, place, sizeof place) : -ENOENT;
+    ssize_t length = dir >= 0 ? inroot_place(root, dir, place, sizeof place) : -ENOENT;
     MUST(length < 0 || strcmp(place, "/a/b/c") == 0 || strcmp(place, "/up/c") == 0);
     if (dir >= 0)
         __real_close(dir);
@@ -335,42 +292,38 @@ static void call(void)
 {
     char text[4096];
     struct stat about;
-    int at = asked.root;
-    unsigned flags = (asked.flags & 3) | (asked.flags & 0x80 ? INROOT_ONE_BY_ONE : 0);
+    const unsigned flags = (asked.flags & 3) | (asked.flags & 0x80 ? INROOT_EXACT : 0) | (asked.flags & 0x40 ? INROOT_NO_XDEV : 0);
     plan.armed = true;
     switch (asked.op) {
-    case 0: asked.result = inroot_open(at, asked.first, (int)(flags | (asked.flags & 4))); break;
-    case 1: asked.result = inroot_readlink(at, asked.first, (int)flags, text, sizeof text); break;
-    case 2: asked.result = inroot_mkfile(at, asked.first, 0644, (int)flags); break;
-    case 3: asked.result = inroot_mkdir(at, asked.first, 0755, (int)flags); break;
-    case 4: asked.result = inroot_symlink(at, asked.second, asked.first, (int)flags); break;
-    case 5: asked.result = inroot_unlink(at, asked.first, (int)flags); break;
-    case 6: asked.result = inroot_rmdir(at, asked.first, (int)flags); break;
-    case 7: asked.result = inroot_rename(at, asked.first, asked.second, (int)asked.mode % 3, (int)flags); break;
-    case 8: asked.result = inroot_mkdir_all(at, asked.first, 0755, (int)flags); break;
-    case 9: asked.result = inroot_remove_all(at, asked.first, (int)flags); break;
-    case 10: asked.result = open_for_use(at, asked.mode, (int)flags); break;
-    case 11: asked.result = inroot_mknod(at, asked.first, S_IFREG | 0600, 0, (int)flags); break;
-    case 12: asked.result = inroot_link(at, asked.first, asked.second, (int)(flags | (asked.flags & 4 ? INROOT_FOLLOW : 0))); break;
-    case 13: asked.result = inroot_stat(at, asked.first, &about, (int)(flags | (asked.flags & 4))); break;
-    case 14: asked.result = inroot_open_parent(at, asked.first, (int)flags, text); break;
-    case 15: asked.result = inroot_open_partial(at, asked.first, (int)(flags | (asked.flags & 4)), text, sizeof text); break;
-    case 16: asked.result = inroot_mkfile_all(at, asked.first, 0600, 0700, (int)(flags | (asked.flags & 4 ? INROOT_FOLLOW : 0))); break;
-    case 17: asked.result = inroot_mkdir_all(at, asked.first, 0700, (int)(flags | INROOT_FOLLOW)); break;
-    case 18: asked.result = inroot_mkfile(at, asked.first, 0600, (int)(flags | INROOT_GIVE)); break;
-    case 19: asked.result = inroot_link(at, asked.first, asked.second, (int)(flags | INROOT_GIVE)); break;
-    case 20: asked.result = call_from(at, asked.mode, (int)flags); break;
-    default: asked.result = tell_place(at);
+    case 0: asked.result = inroot_open(root, asked.first, (int)(flags | (asked.flags & 4))); break;
+    case 1: asked.result = inroot_readlink(root, asked.first, (int)flags, text, sizeof text); break;
+    case 2: asked.result = inroot_mknod(root, asked.first, S_IFREG | 0644, 0, (int)flags); break;
+    case 3: asked.result = inroot_mkdir(root, asked.first, 0755, (int)flags); break;
+    case 4: asked.result = inroot_symlink(root, asked.second, asked.first, (int)flags); break;
+    case 5: asked.result = inroot_unlink(root, asked.first, (int)flags); break;
+    case 6: asked.result = inroot_rmdir(root, asked.first, (int)flags); break;
+    case 7: asked.result = inroot_rename(root, asked.first, asked.second, (int)asked.mode % 3, (int)flags); break;
+    case 8: asked.result = inroot_mkdir_all(root, asked.first, 0755, (int)flags); break;
+    case 9: asked.result = inroot_remove_all(root, asked.first, (int)flags); break;
+    case 10: asked.result = open_for_use(asked.mode, (int)flags); break;
+    case 11: asked.result = inroot_mknod(root, asked.first, S_IFSOCK | 0600, 0, (int)flags); break;
+    case 12: asked.result = inroot_link(root, asked.first, asked.second, (int)(flags | (asked.flags & 4 ? INROOT_FOLLOW : 0))); break;
+    case 13: asked.result = inroot_stat(root, asked.first, &about, (int)(flags | (asked.flags & 4))); break;
+    case 14: asked.result = inroot_open_parent(root, asked.first, (int)flags, text); break;
+    case 15: asked.result = inroot_mkdir(root, asked.first, 0700, (int)(flags | INROOT_GIVE)); break;
+    case 16: asked.result = inroot_mkfile_all(root, asked.first, 0600, 0700, (int)(flags | (asked.flags & 4 ? INROOT_FOLLOW : 0))); break;
+    case 17: asked.result = inroot_mkdir_all(root, asked.first, 0700, (int)(flags | INROOT_FOLLOW)); break;
+    case 18: asked.result = inroot_mknod(root, asked.first, S_IFREG | 0600, 0, (int)(flags | INROOT_GIVE)); break;
+    case 19: asked.result = inroot_link(root, asked.first, asked.second, (int)(flags | INROOT_GIVE)); break;
+    case 20: asked.result = inroot_symlink(root, asked.second, asked.first, (int)(flags | INROOT_GIVE)); break;
+    default: asked.result = tell_place();
     }
     plan.armed = false;
 }
 
-/* A thread in a jail by these flags that makes the calls it is handed. */
-static struct jail {
-    int flags;
-    bool has_jail;
-    sem_t handed, made;
-} jails[] = {{.flags = 0}, {.flags = INROOT_TRUST_PROC}};
+/* A thread in a chroot that makes the calls it is handed, where there is a right to that. */
+static bool has_chroot;
+static sem_t handed, answered;
 
 static void await(sem_t *turn)
 {
@@ -378,39 +331,25 @@ static void await(sem_t *turn)
         ;
 }
 
-static void *in_jail(void *self)
+static void *in_chroot(void *unused)
 {
-    struct jail *me = self;
-    me->has_jail = inroot_jail_with(root, me->flags) == 0;
-    sem_post(&me->made);
-    while (me->has_jail) {
-        await(&me->handed);
+    has_chroot = unshare(CLONE_FS) == 0 && fchdir(root) == 0 && chroot(".") == 0;
+    sem_post(&answered);
+    while (has_chroot) {
+        await(&handed);
         call();
-        sem_post(&me->made);
+        sem_post(&answered);
     }
-    return NULL;
+    return unused;
 }
 
-static void begin_jail(struct jail *jail)
+static void begin_chroot(void)
 {
     pthread_t thread;
-    sem_init(&jail->handed, 0, 0);
-    sem_init(&jail->made, 0, 0);
-    MUST(pthread_create(&thread, NULL, in_jail, jail) == 0);
-    await(&jail->made);
-}
-
-/* A jail that trusts, and what it keeps. */
-static void begin_trusting_jail(struct jail *jail)
-{
-    bool before[64];
-    int count = 0;
-    for (int fd = 0; fd < 64; fd++)
-        before[fd] = fcntl(fd, F_GETFD) >= 0;
-    begin_jail(jail);
-    for (int fd = 0; fd < 64; fd++)
-        if (!before[fd] && fcntl(fd, F_GETFD) >= 0 && count < 2)
-            kept[count++] = fd;
+    sem_init(&handed, 0, 0);
+    sem_init(&answered, 0, 0);
+    MUST(pthread_create(&thread, NULL, in_chroot, NULL) == 0);
+    await(&answered);
 }
 
 /* What is outside was made or removed by nobody. */
@@ -427,8 +366,7 @@ int LLVMFuzzerTestOneInput(const uint8_t *data, size_t size)
     struct stat about;
     if (!begun) {
         begin();
-        begin_jail(&jails[0]);
-        begin_trusting_jail(&jails[1]);
+        begin_chroot();
         begun = true;
     }
     make_tree();
@@ -442,12 +380,9 @@ int LLVMFuzzerTestOneInput(const uint8_t *data, size_t size)
     plan.at = data;
     plan.left = size;
     opened_by_call = 0;
-    struct jail *jail = &jails[who >= 128];
-    /* In a jail also by the root's descriptor. */
-    asked.root = who % 2 && jail->has_jail ? INROOT_JAIL : root;
-    if (who % 4 != 0 && jail->has_jail) {
-        sem_post(&jail->handed);
-        await(&jail->made);
+    if (who % 2 != 0 && has_chroot) {
+        sem_post(&handed);
+        await(&answered);
     } else {
         call();
     }

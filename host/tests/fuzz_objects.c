@@ -1,19 +1,16 @@
 /*
- * fuzz_objects: the proved library's functions that say which system call comes next as an entry is given that was
- * made, as a place is asked for, as names are opened in one another, and as much of a path as is there; with any answers. What a program is
- * asked for can be done: what is looked at is open, and what is closed. In the end nothing is open but what is given.
- * What is given was seen to be it. An error is a system call's own, or has its reason. There are no more exchanges
- * than there may be.
+ * fuzz_objects: the proved library's functions that say which system call comes next as an entry is given that was made, as a place
+ * is asked for, and as much of a path as is there; with any answers. What a program is asked for can be done: what is looked at is
+ * open, and what is closed. In the end nothing is open but what is given. What is given was seen to be it. An error is a system call's
+ * own, or has its reason. There are no more exchanges than there may be.
  *
- * For libFuzzer, or with fuzz_main.c for stored cases. A case is bytes: which of the four, what is known, and the
- * answers.
+ * For libFuzzer, or with fuzz_main.c for stored cases. A case is bytes: which of the three, what is known, and the answers.
  */
 #define _GNU_SOURCE
 #include "../calls.h"
 #include "fuzz_input.h"
 
 #include <errno.h>
-#include <string.h>
 #include <sys/stat.h>
 
 /* Behind the last byte each system call fails. */
@@ -122,30 +119,20 @@ static void give(struct input *in)
 /* ---- a place */
 
 struct placed {
-    struct inroot_asking_facts facts;
     struct inroot_asking_answer answer;
-    bool is_open, directory, nameless, found, has_openat2, alone, led;
+    bool is_open, directory, nameless, found;
     uint32_t error;                /* for which nothing more is asked, or 0 */
     unsigned exchanges;
 };
 
-/* Others have moved what the names led to (openat2(2)). */
-static bool is_raced(uint32_t error)
-{
-    return error == ENOENT || error == ENOTDIR || error == ELOOP || error == EXDEV;
-}
-
 /* Answers what comes next, if that can be asked. Gives the error that it is for, if nothing more is asked. */
 static uint32_t answer_asking(struct input *in, const struct inroot_asking *now, struct placed *p)
 {
-    const uint32_t error = some_error(in), lost = p->directory ? 0 : p->nameless ? ENOENT : EAGAIN;
-    const unsigned bits = byte(in);
-    p->answer = (struct inroot_asking_answer){.error = error, .yes = bits & 1, .openat2 = bits & 2};
-    p->exchanges++;
-    MUST(p->is_open == (now->next > INROOT_ASKING_COPY));
+    const uint32_t error = some_error(in);
+    p->answer = (struct inroot_asking_answer){.error = error, .yes = byte(in) & 1};
+    MUST(++p->exchanges <= 5 && p->is_open == (now->next > INROOT_ASKING_COPY));
     switch (now->next) {
     case INROOT_ASKING_LOOK:
-        MUST(!p->facts.directory);
         p->directory = p->answer.yes;
         p->answer.links = byte(in) % 3;
         p->nameless = p->answer.links == 0;
@@ -154,25 +141,10 @@ static uint32_t answer_asking(struct input *in, const struct inroot_asking *now,
         p->is_open = error == 0;
         return error;
     case INROOT_ASKING_FIND:
-        p->answer.length = byte(in) % 4;
-        p->found = error == 0 && p->answer.length > 0;
-        p->has_openat2 = p->answer.openat2;
-        p->alone = (!p->has_openat2 || (p->facts.jailed && p->facts.handed && p->directory)) &&
-                   !(p->directory && p->answer.length == 1);
-        return p->found ? 0 : error == 0 || error == EAGAIN ? lost : error;
-    case INROOT_ASKING_LOOK_UP:
-        MUST(p->found && p->alone && p->has_openat2);
-        p->has_openat2 = p->answer.openat2;
-        if (error != 0 && !p->has_openat2)
-            return 0;
-        p->led = error == 0 && p->answer.yes;
-        return p->led ? 0 : error == 0 || error == EAGAIN || is_raced(error) ? lost : error;
-    case INROOT_ASKING_LEAD:
-        MUST(p->found && p->alone && !p->has_openat2);
-        p->led = error == 0;
-        return error == EAGAIN ? lost : error;
+        p->found = error == 0;
+        return error == EAGAIN && p->nameless && !p->directory ? ENOENT : error;
     case INROOT_ASKING_DEAD:
-        MUST(p->directory);
+        MUST(p->directory && !p->found);
         return p->answer.yes || p->nameless ? ENOENT : EAGAIN;
     default:
         MUST(now->next == INROOT_ASKING_CLOSE);
@@ -185,17 +157,13 @@ static void place(struct input *in)
 {
     struct placed p = {.answer.error = 0};
     struct inroot_asking now;
-    unsigned what = byte(in);
-    p.facts = (struct inroot_asking_facts){.directory = what & 1, .keeps = what & 2, .jailed = what & 4, .handed = what & 8};
-    p.directory = p.facts.directory;
-    inroot_asking_begin(&p.facts, &now);
+    inroot_asking_begin(&now);
     while (now.next < INROOT_ASKING_ENDS) {
         p.error = answer_asking(in, &now, &p);
-        inroot_asking_next(&now, &p.facts, &p.answer);
+        inroot_asking_next(&now, &p.answer);
     }
     const bool ends = now.next == INROOT_ASKING_ENDS;
-    MUST(p.exchanges <= 7 && now.error == p.error && ends == (p.error == 0));
-    MUST(p.is_open == (ends && p.facts.keeps) && (!ends || (p.found && (!p.alone || p.led))));
+    MUST(now.error == p.error && ends == (p.error == 0) && !p.is_open && (!ends || p.found));
     struct inroot_question question;
     uint32_t asked = byte(in) % 10;
     size_t length = byte(in), size = byte(in);
@@ -204,41 +172,9 @@ static void place(struct input *in)
     MUST(question.again || (question.error == 0) == (p.error == 0 && length < size));
 }
 
-/* ---- names, each opened in the one before it */
-
-enum { LONG = 200 };
-
-/* All of the text is opened, a slash before each name and none in it. */
-static void lead(struct input *in)
-{
-    unsigned char text[LONG];
-    const size_t length = byte(in) % LONG;
-    struct inroot_leading now;
-    size_t opened = 0;
-    uint32_t error = EAGAIN;
-    bool same = false;
-    for (size_t at = 0; at < length; at++)
-        text[at] = byte(in) % 3 == 0 ? '/' : 'a';
-    inroot_leading_begin(text, length, &now);
-    while (now.next < INROOT_LEADING_LEADS) {
-        const uint32_t gave = some_error(in);
-        same = byte(in) & 1;
-        if (now.next == INROOT_LEADING_OPEN) {
-            MUST(now.start == opened + 1 && now.end <= length && text[opened] == '/');
-            MUST(now.start <= now.end && memchr(text + now.start, '/', now.end - now.start) == NULL);
-            opened = gave == 0 ? now.end : opened;
-        } else {
-            MUST(now.next == INROOT_LEADING_COMPARE && opened == length);
-        }
-        error = now.next == INROOT_LEADING_COMPARE || gave == ENOENT || gave == ENOTDIR ? EAGAIN : gave;
-        inroot_leading_next(text, length, gave, same, &now);
-    }
-    MUST(now.next == INROOT_LEADING_LEADS ? same && opened == length && length > 1 : now.error == error && error != 0);
-}
-
 /* ---- as much of a path as is there */
 
-enum { NOT_TRIED = 0, THERE, MISSING };
+enum { LONG = 200, NOT_TRIED = 0, THERE, MISSING };
 
 struct path {
     unsigned char text[LONG];
@@ -324,11 +260,10 @@ static void search(struct input *in)
 int LLVMFuzzerTestOneInput(const uint8_t *data, size_t size)
 {
     struct input in = {data, size};
-    switch (byte(&in) % 4) {
+    switch (byte(&in) % 3) {
     case 0: give(&in); break;
     case 1: place(&in); break;
-    case 2: search(&in); break;
-    default: lead(&in);
+    default: search(&in);
     }
     return 0;
 }

@@ -1,10 +1,9 @@
 /*
  * fuzz_steps: the proved library's functions that say which system call comes next as one step is made, with any answers. What a
  * program is asked for can be done: what was opened is looked at and closed while it is open, and is closed, or is what the step ends
- * with. A change is one call. An error ends the step, but for those of a signal, of a descriptor that was let go, of a name that is
- * opened as what it is, and of a directory above that isn't found by the names passed: that is tried by leave alone. No removed
- * directory's `..` is believed. It comes to an end within the number of exchanges that there may be. And what is known of a step
- * was shown by the one before.
+ * with. A change is one call. An error ends the step, but for those of a signal, of a descriptor that was let go, and of a name that is
+ * opened as what it is. No magic link is followed, and no removed directory's `..` is believed. It comes to an end within the number of
+ * exchanges that there may be.
  *
  * For libFuzzer, or with fuzz_main.c for stored cases. A case is bytes: what is known of the step, and the answers.
  */
@@ -19,7 +18,7 @@ enum { OVERLAYFS = 0x794c7630, PROC = 0x9fa0, SECURITYFS = 0x73636673, AAFS = 0x
 /* What was seen of a step. */
 struct seen {
     bool is_open, reads, changed, is_gone, is_magic, is_kept;
-    bool is_other;                 /* nothing says that what is open is above */
+    bool asks_magic;               /* whether the link is a magic one */
     uint32_t why;                  /* the last error that isn't passed over */
     uint8_t kind;
     uint64_t exchanges, costs;
@@ -29,25 +28,13 @@ static struct inroot_step_facts some_facts(struct input *in)
 {
     static const uint8_t steps[] = {0, 1, 2, 3, 4, 8, 9, 10, 11, 12, 13};
     struct inroot_step_facts facts = {.what = steps[byte(in) % sizeof steps]};
-    unsigned more = byte(in), last = byte(in), above = byte(in);
+    unsigned more = byte(in), last = byte(in);
     facts.text = last % 2 ? 4096 : 1;
     facts.mode = (uint8_t)(last / 2 % 3);
     facts.directory = more & 1;
     facts.mount = more & 2;
-    facts.no_magic = more & 4;
-    facts.is_last = last & 32;
-    facts.takes_link = last & 64;
-    facts.goes_on = more & 8;
-    facts.known = (uint8_t)(more / 16 % 4);
-    facts.follows = more & 64;
     facts.link = more & 128;
     facts.second_name = last & 128;
-    facts.named = above & 1;
-    facts.single = above & 2;
-    facts.jailed = above & 4;
-    facts.clears = (above & 24) == 24;
-    facts.one_by_one = (above & 96) == 96;
-    facts.second = above & 129;
     return facts;
 }
 
@@ -77,37 +64,10 @@ static void opens(const struct inroot_step_facts *facts, uint8_t next, uint32_t 
     MUST(!seen->is_open && (!is_any || facts->what == INROOT_STEP_OPEN));
     MUST(seen->why == 0);
     seen->is_open = error == 0;
-    seen->is_other = false;
     seen->kind = is_any ? 0 : INROOT_KIND_DIR;
     seen->costs += error == EINTR;
     bool is_other = !is_any && facts->what == INROOT_STEP_OPEN && error == ENOTDIR;
     seen->why = error == EINTR || is_other ? 0 : error;
-}
-
-/* The directory above, by the names passed. */
-static void finds_above(const struct inroot_step_facts *facts, uint8_t next, uint32_t error, struct seen *seen)
-{
-    const bool is_dup = facts->what == INROOT_STEP_DUP;
-    MUST((facts->what == INROOT_STEP_PARENT || (is_dup && next == INROOT_CALL_IS_ROOT)) && seen->why == 0);
-    MUST(is_dup || (facts->named && facts->second && !facts->clears && !facts->one_by_one && !facts->mount));
-    switch (next) {
-    case INROOT_CALL_IS_ROOT:
-        MUST(!seen->is_open && (is_dup || facts->single) && facts->goes_on && seen->exchanges == 1);
-        seen->is_open = error == 0;
-        break;
-    case INROOT_CALL_LOOK_ABOVE:
-        MUST(!seen->is_open && !facts->single && !facts->jailed && seen->exchanges == 1);
-        seen->is_open = error == 0;
-        seen->is_other = true;
-        break;
-    case INROOT_CALL_COMPARE_ABOVE:
-        MUST(seen->is_open && seen->is_other);
-        seen->is_other = error != 0;
-        break;
-    default:
-        MUST(next == INROOT_CALL_CLOSE_ABOVE && seen->is_open && seen->is_other);
-        seen->is_open = false;
-    }
 }
 
 /* A directory that must be there still. */
@@ -143,12 +103,6 @@ static bool holds_magic(uint64_t file_system)
     return file_system == PROC || file_system == SECURITYFS || file_system == AAFS;
 }
 
-/* A link that is followed may be no magic one, and one that the caller wants may. */
-static bool bars_magic(const struct inroot_step_facts *facts)
-{
-    return facts->no_magic && !(facts->is_last && facts->takes_link && !facts->follows);
-}
-
 /* openat2(2) with RESOLVE_NO_MAGICLINKS: by these alone the kernel has looked where the link leads. */
 static void follows(uint32_t error, struct seen *seen)
 {
@@ -174,20 +128,22 @@ static void others(const struct inroot_step_facts *facts, uint8_t next, const st
             seen->kind = answer->kind;
         break;
     case INROOT_CALL_MAY_HOLD_MAGIC: case INROOT_CALL_MAGIC:
-        MUST(seen->is_open && bars_magic(facts) && seen->kind == INROOT_KIND_LINK);
+        MUST(facts->what == INROOT_STEP_READLINK && !seen->is_kept);
+        seen->asks_magic = true;
         if (next == INROOT_CALL_MAY_HOLD_MAGIC)
             seen->is_magic = error != 0 || holds_magic(answer->number);
         else
             follows(error, seen);
         break;
     case INROOT_CALL_NO_FOLLOW:
-        MUST(facts->what == INROOT_STEP_READLINK && (facts->known != INROOT_SHOWN_PLACED || facts->follows));
+        MUST(facts->what == INROOT_STEP_READLINK && !seen->asks_magic);
         seen->is_kept = error != 0 || answer->number & NOSYMFOLLOW;
         seen->why = error == EINTR ? 0 : error != 0 ? error : seen->is_kept ? ELOOP : 0;
         seen->costs += error == EINTR;
         break;
     case INROOT_CALL_READ_LINK:
-        MUST(facts->what == INROOT_STEP_READLINK && !seen->is_kept);
+        MUST(facts->what == INROOT_STEP_READLINK && !seen->is_kept && !seen->is_magic);
+        MUST(seen->asks_magic);
         seen->costs += error == EINTR;
         seen->why = error == EINTR ? 0 : error == ENOENT ? EINVAL : error;
         break;
@@ -207,8 +163,6 @@ static void turn(const struct inroot_step_facts *facts, uint8_t next, const stru
     seen->exchanges++;
     if (next == INROOT_CALL_OPEN_DIRECTORY || next == INROOT_CALL_OPEN_ANY)
         opens(facts, next, answer->error, seen);
-    else if (next >= INROOT_CALL_IS_ROOT && next <= INROOT_CALL_CLOSE_ABOVE)
-        finds_above(facts, next, answer->error, seen);
     else if (next >= INROOT_CALL_LINKS && next <= INROOT_CALL_CLOSE_READ)
         looks(facts, next, answer, seen);
     else
@@ -217,11 +171,11 @@ static void turn(const struct inroot_step_facts *facts, uint8_t next, const stru
 
 static void must_end(const struct inroot_step_facts *facts, const struct inroot_step *now, const struct seen *seen)
 {
-    MUST(seen->exchanges <= seen->costs + 13 && !seen->reads);
+    MUST(seen->exchanges <= seen->costs + 10 && !seen->reads);
     MUST(seen->is_open == (now->next == INROOT_ENDS_OPENED));
     switch (now->next) {
     case INROOT_ENDS_OPENED:
-        MUST(seen->why == 0 && !seen->is_gone && !seen->is_magic && !seen->is_other);
+        MUST(seen->why == 0 && !seen->is_gone && !seen->is_magic);
         MUST(now->kind == seen->kind && now->kind != 0);
         break;
     case INROOT_ENDS_TEXT: case INROOT_ENDS_DONE:
@@ -233,68 +187,6 @@ static void must_end(const struct inroot_step_facts *facts, const struct inroot_
         break;
     default:
         MUST(now->next == INROOT_ENDS_UNMADE && now->error == seen->why && now->error != 0 && !seen->is_gone);
-    }
-}
-
-/* ---- what is known of a step */
-
-enum { STEPS = 64 };
-
-struct one {
-    uint8_t what, how;
-    uint64_t handle, gave;
-};
-
-static bool is_end(const struct one *step, uint8_t what, uint8_t how)
-{
-    return step != NULL && step->what == what && step->how == how;
-}
-
-/* The last of so many steps that is no Close of another handle than these two. */
-static const struct one *last_of(const struct one *steps, size_t count, uint64_t handle, uint64_t other)
-{
-    for (const struct one *step = steps + count; step-- > steps;)
-        if (step->what != INROOT_STEP_CLOSE || step->handle == handle || step->handle == other)
-            return step;
-    return NULL;
-}
-
-static void must_be_shown(const struct one *steps, size_t count, uint8_t what, uint64_t handle, uint8_t known)
-{
-    const struct one *last = last_of(steps, count, handle, handle);
-    const struct one *read = last != NULL && last->what == INROOT_STEP_READLINK
-                                 ? last_of(steps, (size_t)(last - steps), last->handle, handle) : NULL;
-    switch (known) {
-    case INROOT_SHOWN_PLACED:
-        MUST(what == INROOT_STEP_NAME_BELOW || what == INROOT_STEP_READLINK);
-        MUST(is_end(last, INROOT_STEP_NAME_BELOW, INROOT_SHOWN_PLACED) && last->handle == handle);
-        break;
-    case INROOT_SHOWN_LINK_READ:
-        MUST(what == INROOT_STEP_READLINK && is_end(last, INROOT_STEP_OPEN, INROOT_SHOWN_LINK_READ) && last->gave == handle);
-        break;
-    case INROOT_SHOWN_FOLLOWED:
-        MUST(what == INROOT_STEP_PARENT && is_end(read, INROOT_STEP_OPEN, INROOT_SHOWN_LINK_READ));
-        MUST(read->handle == handle && read->gave == last->handle);
-        break;
-    default:
-        MUST(known == INROOT_SHOWN_NOTHING);
-    }
-}
-
-static void remember(struct input *in)
-{
-    static const uint8_t numbers[] = {INROOT_STEP_OPEN, INROOT_STEP_PARENT, INROOT_STEP_READLINK, INROOT_STEP_NAME_BELOW,
-                                      INROOT_STEP_CLOSE, INROOT_STEP_RENAME, INROOT_STEP_READLINK, INROOT_STEP_PARENT};
-    struct one steps[STEPS];
-    struct inroot_last_step last = {0};
-    for (size_t count = 0; count < STEPS && in->left > 0; count++) {
-        unsigned more = byte(in), about = byte(in);
-        steps[count] = (struct one){.what = numbers[more % sizeof numbers], .handle = about % 4 + 1, .gave = about / 4 % 4 + 1};
-        steps[count].how = more / 8 % 4;
-        uint8_t known = inroot_last_take(&last, steps[count].what, steps[count].handle);
-        must_be_shown(steps, count, steps[count].what, steps[count].handle, known);
-        if (steps[count].how != INROOT_SHOWN_NOTHING)
-            inroot_last_end(&last, steps[count].how, steps[count].gave);
     }
 }
 
@@ -316,6 +208,5 @@ int LLVMFuzzerTestOneInput(const uint8_t *data, size_t size)
     const struct inroot_step_answer none = {0};
     inroot_step_next(&facts, &none, &now);
     MUST(now.next == end.next && now.error == end.error && now.kind == end.kind);
-    remember(&in);
     return 0;
 }

@@ -1,6 +1,6 @@
 /*
- * fuzz_texts: the proved library's functions over what the kernel writes, with any bytes: records of getdents64(2), texts of
- * places and mountinfo; and which call comes next as all missing parts of a path are made, by any answers. Nothing outside of the bytes is read or
+ * fuzz_texts: the proved library's functions over what the kernel writes, with any bytes: records of getdents64(2) and texts of
+ * places; and which call comes next as all missing parts of a path are made, by any answers. Nothing outside of the bytes is read or
  * written, each call ends, and what it tells is compared with plain C.
  *
  * For libFuzzer, or with fuzz_main.c for stored cases. A case is bytes: which function; the size of the room or of the texts
@@ -107,10 +107,10 @@ static ssize_t place_of(const unsigned char *root, size_t root_length, const uns
 }
 
 /* What is told behind a question that was answered without an error, by these texts. */
-static struct inroot_place_told after(enum inroot_place_what asked, bool jailed, const unsigned char *root, size_t root_length,
+static struct inroot_place_told after(enum inroot_place_what asked, const unsigned char *root, size_t root_length,
                                      const unsigned char *text, size_t length)
 {
-    struct inroot_place_facts facts = {.jailed = jailed, .directory = true, .seen = true, .second = true};
+    const struct inroot_place_facts facts = {.directory = true, .seen = true};
     const struct inroot_place_answer answer = {.error = 0};
     struct inroot_place_told told = {.what = (uint8_t)asked};
     inroot_place_next(&facts, &answer, root, root_length, text, length, text, length, &told);
@@ -127,13 +127,24 @@ static bool ends_as_gone(const unsigned char *text, size_t length)
     return length >= size && memcmp(text + length - size, end, size) == 0;
 }
 
+/* The bytes over and over: a small case can't have long texts otherwise. */
+static unsigned char *many_of(const uint8_t *bytes, size_t size, size_t times)
+{
+    unsigned char *copy = malloc(size * times + 1);
+    if (copy == NULL)
+        abort();
+    for (size_t at = 0; at < times && size > 0; at++)
+        memcpy(copy + at * size, bytes, size);
+    return copy;
+}
+
 static void places(size_t size, const uint8_t *bytes, size_t length)
 {
-    size_t root_length = size < length ? size : length;
-    unsigned char *root = copy_of(bytes, root_length), *path = copy_of(bytes + root_length, length - root_length);
-    size_t path_length = length - root_length;
+    const size_t root_length = size < length ? size : length, times = size % 16 == 15 ? 128 : 1;
+    const size_t path_length = (length - root_length) * times;
+    unsigned char *root = copy_of(bytes, root_length), *path = many_of(bytes + root_length, length - root_length, times);
     ssize_t wanted = place_of(root, root_length, path, path_length);
-    struct inroot_place_told told = after(INROOT_PLACE_OBJECT_LINK, false, root, root_length, path, path_length);
+    struct inroot_place_told told = after(INROOT_PLACE_OBJECT_LINK, root, root_length, path, path_length);
     if (path_length > 4095)
         MUST(told.what == INROOT_PLACE_UNMADE && told.error == ENAMETOOLONG);
     MUST((wanted < 0) == (told.what == INROOT_PLACE_UNMADE));
@@ -141,7 +152,7 @@ static void places(size_t size, const uint8_t *bytes, size_t length)
     const bool is_asked = wanted >= 0 && ends_as_gone(path + wanted, path_length - (size_t)wanted);
     MUST(is_asked == (told.what == INROOT_PLACE_DEAD));
     if (is_asked)
-        told = after(INROOT_PLACE_DEAD, false, root, root_length, path, path_length);
+        told = after(INROOT_PLACE_DEAD, root, root_length, path, path_length);
     /* A link with the root's own place is never enough. */
     MUST((told.what == INROOT_PLACE_LOOK_UP) == (told.length == 1));
     if (wanted >= 0 && (size_t)wanted == path_length)
@@ -150,72 +161,9 @@ static void places(size_t size, const uint8_t *bytes, size_t length)
         MUST(told.start == (size_t)wanted && told.length == path_length - (size_t)wanted);
     /* Its own text says that it has its name still. */
     if (told.length > 1 && !is_asked)
-        MUST(after(INROOT_PLACE_LINK_AGAIN, false, root, root_length, path, path_length).length == told.length);
-    told = after(INROOT_PLACE_CWD, true, root, root_length, path, path_length);
-    /* Nor is a slash alone that getcwd(2) wrote. */
-    MUST((told.what == INROOT_PLACE_SLASH) == (path_length == sizeof "/" && memcmp(path, "/", sizeof "/") == 0));
-    if (told.what == INROOT_PLACE_SLASH)
-        told = after(INROOT_PLACE_SLASH, true, root, root_length, path, path_length);
-    MUST(told.length == 0 || (told.start == 0 && told.length == path_length - 1 && path[path_length - 1] == 0));
+        MUST(after(INROOT_PLACE_LINK_AGAIN, root, root_length, path, path_length).length == told.length);
     free(root);
     free(path);
-}
-
-/* Whether a whole line has `a` for its first word, and a slash alone for its fifth. */
-static bool has_root(const unsigned char *text, size_t length)
-{
-    size_t words = 0, begin = 0;
-    bool is_mount = false, is_root = false;
-    for (size_t at = 0; at < length; at++) {
-        if (text[at] != ' ' && text[at] != '\n')
-            continue;
-        const bool is_one = at == begin + 1;
-        if (words == 0)
-            is_mount = is_one && text[begin] == 'a';
-        if (words == 4)
-            is_root = is_one && text[begin] == '/';
-        words++;
-        if (text[at] == '\n' && words > 4 && is_mount && is_root)
-            return true;
-        words = text[at] == '\n' ? 0 : words;
-        begin = at + 1;
-    }
-    return false;
-}
-
-/* Whether a mount stands at the root directory by this mountinfo, read in two parts, or one where it has found it or the end. */
-static bool stands(const unsigned char *about, size_t known, const unsigned char *text, size_t first, size_t length)
-{
-    const struct inroot_own_look untold = {.error = ENOSYS};
-    struct inroot_own_root own;
-    inroot_own_root_begin(&untold, &own);
-    MUST(own.next == INROOT_OWN_OPEN);
-    inroot_own_root_next(about, known, 0, NULL, 0, &own);
-    size_t at = 0, end = first;
-    while (own.next == INROOT_OWN_READ) {
-        inroot_own_root_next(about, known, EINTR, NULL, 0, &own);
-        MUST(own.next == INROOT_OWN_READ);
-        inroot_own_root_next(about, known, 0, text + at, end - at, &own);
-        at = end, end = length;
-    }
-    MUST(own.next == INROOT_OWN_CLOSE);
-    inroot_own_root_next(about, known, 0, NULL, 0, &own);
-    MUST(own.next == INROOT_OWN_YES || own.next == INROOT_OWN_NO);
-    return own.next == INROOT_OWN_YES;
-}
-
-/* Mountinfo, in two parts; few bytes, so that lines come about. A text without `mnt_id:` names no mount. */
-static void mounts(size_t size, const uint8_t *bytes, size_t length)
-{
-    static const unsigned char about[] = "pos:\t0\nmnt_id:\ta\n";
-    const size_t first = size < length ? size : length;
-    unsigned char *text = copy_of(bytes, length);
-    for (size_t at = 0; at < length; at++)
-        text[at] = (unsigned char)"/ \na / a "[bytes[at] % 9];
-    MUST(stands(about, sizeof about - 1, text, length, length) == has_root(text, length));
-    MUST(stands(about, sizeof about - 1, text, first, length) == has_root(text, first > 0 ? length : 0));
-    MUST(!stands(text, length, (const unsigned char *)"a 1 1 / /\n", 10, 10));
-    free(text);
 }
 
 /* ---- which call comes next. The answers are the bytes, over and over. */
@@ -246,18 +194,22 @@ static struct inroot_outcome answer(struct answers *from, uint32_t number, unsig
     return outcome;
 }
 
-/* The path that the link's text makes, by plain C: its length. */
+/* The path that the link's text makes, in the link's place or behind the directories' path, by plain C: its length. */
 static size_t led(const struct inroot_making *was, const unsigned char *path, const unsigned char *text, size_t length,
                   unsigned char *to)
 {
-    size_t at = was->length;
+    size_t at = was->length, front = was->above;
     if (was->next == INROOT_MAKING_READ_LINK) {
-        at = was->cut < was->above ? was->cut : was->above;
+        at = front = was->cut < was->above ? was->cut : was->above;
         at += name_length(path + at, was->above - at);
         while (at < was->above && path[at] == '/')
             at++;
     }
-    memcpy(to, text, length);
+    if (length > 0 && text[0] == '/')
+        front = 0;
+    memcpy(to, path, front);
+    memcpy(to + front, text, length);
+    length += front;
     if (at == was->length)
         return length;
     to[length] = '/';
@@ -265,39 +217,16 @@ static size_t led(const struct inroot_making *was, const unsigned char *path, co
     return length + 1 + was->length - at;
 }
 
-/* How often it is among what is closed. */
-static int times_closed(const struct inroot_making *now, uint32_t held)
-{
-    return (now->closes_base == held) + (now->closes_from == held) + (now->closes_given == held);
-}
-
-static bool is_named(const struct inroot_making *now, uint32_t held)
-{
-    return held == now->base || held == now->from || held == now->gives;
-}
-
-/* What was open, or was given, is closed once or stays open, and nothing else is closed. */
-static void must_close(const struct inroot_making *was, const struct inroot_making *now, uint32_t number)
-{
-    const uint32_t open[] = {was->base, was->from, number};
-    for (int at = 0; at < 3; at++)
-        MUST(open[at] == 0 || times_closed(now, open[at]) == (is_named(now, open[at]) ? 0 : 1));
-    MUST(now->closes_base == 0 || now->closes_base == was->base);
-    MUST(now->closes_from == 0 || now->closes_from == was->from);
-    MUST(now->closes_given == 0 || now->closes_given == number);
-}
-
-/* What is due is within the path, and names just what was open or has just been given. */
+/* What is due is within the path. What was given just now is the reply or is closed, and nothing else. */
 static void must_go_on(const struct inroot_making *was, const struct inroot_making *now, uint32_t number)
 {
     MUST(now->next >= INROOT_MAKING_FIND && now->next <= INROOT_MAKING_FAILS && now->links <= MOST_LINKS);
-    MUST(now->length <= PATH + 1 && now->above <= now->length && now->start + now->size <= now->length);
-    MUST(now->base == 0 || now->base == was->base || now->base == was->from);
-    MUST(now->from == 0 || now->from == was->from || now->from == was->base || now->from == number);
+    MUST(now->length <= PATH + 1 && now->above <= now->length && now->size <= now->length);
     MUST(now->gives == 0 || (now->gives == number && now->next == INROOT_MAKING_ENDS));
+    MUST(now->closes == (now->gives == number ? 0 : number));
     MUST((now->next == INROOT_MAKING_FAILS) == (now->error != 0));
     if (now->next >= INROOT_MAKING_ENDS)
-        MUST(now->base == 0 && now->from == 0 && now->length == was->length);
+        MUST(now->length == was->length);
     if (!now->follows)
         MUST(now->next != INROOT_MAKING_PARTIAL && now->next != INROOT_MAKING_READ_LINK && now->links == 0);
     MUST(now->file ? now->next != INROOT_MAKING_MAKE : now->next == INROOT_MAKING_MAKE || now->next == INROOT_MAKING_PARTIAL ||
@@ -320,7 +249,6 @@ static void makings(size_t asked, const uint8_t *bytes, size_t length)
         memcpy(before, room, PATH);
         inroot_making_next(&now, &outcome, text, text_length, room, PATH);
         must_go_on(&was, &now, outcome.descriptor);
-        must_close(&was, &now, outcome.descriptor);
         if (now.links > was.links)
             MUST(led(&was, before, text, text_length, wanted) == now.length && memcmp(room, wanted, now.length) == 0);
         else
@@ -335,9 +263,9 @@ static void makings(size_t asked, const uint8_t *bytes, size_t length)
 
 int LLVMFuzzerTestOneInput(const uint8_t *data, size_t size)
 {
-    static void (*const all[])(size_t size, const uint8_t *bytes, size_t length) = {records, places, makings, mounts};
+    static void (*const all[])(size_t size, const uint8_t *bytes, size_t length) = {records, places, makings};
     if (size < 2)
         return 0;
-    all[data[0] % 4](data[1], data + 2, size - 2);
+    all[data[0] % 3](data[1], data + 2, size - 2);
     return 0;
 }

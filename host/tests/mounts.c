@@ -129,6 +129,40 @@ static void is_refused(int got, int wanted, const char *what)
     gives(got, wanted, "%s, flags %d", what, more_flags);
 }
 
+/* Each call on the root's own mount, by a path through another one and back. */
+static const char *const behind_names[] = {
+    "mknod", "mkdir", "symlink", "openat", "create", "link", "link to", "link_fd", "rename from", "rename to", "unlink", "rmdir", "stat",
+    "readlink", "mkdir_all", "mkfile_all", "remove_all", "open_parent",
+};
+enum { BEHIND = sizeof behind_names / sizeof *behind_names };
+
+static int behind(size_t which, int flags)
+{
+    static const char there[] = "t/m/../a/x", new[] = "t/m/../a/new";
+    struct stat about;
+    char text[256];
+    switch (which) {
+    case 0: return inroot_mknod(root, new, S_IFREG | 0600, 0, flags);
+    case 1: return inroot_mkdir(root, new, 0700, flags);
+    case 2: return inroot_symlink(root, "x", new, flags);
+    case 3: return inroot_openat(root, there, O_RDWR, 0, flags);
+    case 4: return inroot_openat(root, new, O_RDWR | O_CREAT | O_EXCL, 0600, flags);
+    case 5: return inroot_link(root, there, "t/a/new", flags);
+    case 6: return inroot_link(root, "t/a/x", new, flags);
+    case 7: return inroot_link_fd(root, base, new, flags);
+    case 8: return inroot_rename(root, there, "t/a/new", 0, flags);
+    case 9: return inroot_rename(root, "t/a/x", new, 0, flags);
+    case 10: return inroot_unlink(root, there, flags);
+    case 11: return inroot_rmdir(root, "t/m/../r", flags);
+    case 12: return inroot_stat(root, there, &about, flags);
+    case 13: return (int)inroot_readlink(root, "t/m/../../l", flags, text, sizeof text);
+    case 14: return inroot_mkdir_all(root, new, 0700, flags);
+    case 15: return inroot_mkfile_all(root, new, 0600, 0700, flags);
+    case 16: return (int)inroot_remove_all(root, there, flags);
+    default: return inroot_open_parent(root, new, flags, text);
+    }
+}
+
 static void changes(void)
 {
     struct stat about;
@@ -163,6 +197,9 @@ static void changes(void)
     is_refused(inroot_open_parent(root, "t/m/new", flags, last), -EXDEV, "the directory of what is on a mount");
     is_refused(inroot_mkfile_all(root, "t/m/in/new", 0600, 0700, flags | INROOT_FOLLOW), -EXDEV, "a file with all above");
     is_refused(inroot_mknod(root, "t/m/new", S_IFREG | 0600, 0, flags | INROOT_GIVE), -EXDEV, "a file that is given");
+    for (size_t one = 0; one < BEHIND; one++)
+        is_refused(behind(one, flags), -EXDEV, behind_names[one]);
+    expect(is_there(root, "t/a/x") && !is_there(root, "t/a/new"), "what is behind a mount was changed");
     untouched("refused");
     /* On its own mount all goes as without. */
     int made = inroot_mkdir_all(root, "t/a/y/z", 0700, flags);

@@ -30,10 +30,6 @@ static struct inroot_listing listing;
 static struct inroot_making making;
 static struct inroot_opening opening;
 static struct inroot_course course;
-static struct inroot_last_step last;
-static struct inroot_jailing jailing;
-static struct inroot_jailing_facts jail_facts;
-static struct inroot_whereabouts where;
 static struct inroot_mounting mounting;
 
 static void begin(void)
@@ -58,8 +54,6 @@ static void begin_again(void) { begin(); begin(); }
 static void begin_and_end(void) { begin(); while (told.what < INROOT_REPLY_OPENED) next(); begin(); }
 static void go_on_without_a_call(void) { next(); }
 static void change_the_call(void) { begin(); kept.at++; next(); }
-static void join_short(void) { inroot_join(text, 4, text, 4, true, room, ROOM - 1); }
-static void join(void) { inroot_join(text, 4, text, 4, true, room, ROOM); }
 static void sort_in_place(void) { inroot_sort_names(room, 3, room + 2, 4, &(struct inroot_sorted){.error = 0}); }
 static void sort_beside(void) { inroot_sort_names(room, 3, room + 3, 4, &(struct inroot_sorted){.error = 0}); }
 
@@ -99,16 +93,6 @@ static void change_facts(void)
     inroot_step_next(&facts, &answer, &step);
 }
 
-static void take_steps(void) { inroot_last_take(&last, INROOT_STEP_DUP, 1); inroot_last_take(&last, INROOT_STEP_DUP, 1); }
-static void change_the_last(void)
-{
-    inroot_last_take(&last, INROOT_STEP_DUP, 1);
-    last.handle++;
-    inroot_last_take(&last, INROOT_STEP_DUP, 1);
-}
-
-static void begin_steps_again(void) { take_steps(); memset(&last, 0, sizeof last); take_steps(); }
-
 /* A descriptor that isn't open; the error as a system call of the kernel gives it. */
 static void try(uint32_t error, uint32_t descriptor)
 {
@@ -131,15 +115,6 @@ static void open_no_kind(void) { answer_opened(0, 0); }
 static void open_by_an_error(void) { answer_opened(INROOT_KIND_DIR, ENOENT); }
 static void open_a_directory(void) { answer_opened(INROOT_KIND_DIR, 0); }
 
-static void begin_jail(void) { inroot_jailing_begin(&jail_facts, &jailing); }
-static void go_on_with_it(void) { inroot_jailing_next(&jailing, &jail_facts, &(struct inroot_jailing_answer){.yes = true}); }
-static void jail(void) { begin_jail(); while (jailing.next < INROOT_JAILING_JAILS) go_on_with_it(); }
-static void change_a_jail(void) { begin_jail(); jailing.next = INROOT_JAILING_CHANGE; go_on_with_it(); }
-static void change_its_flags(void) { begin_jail(); jail_facts.flags = INROOT_JAILING_TRUST_PROC; go_on_with_it(); }
-static void go_home(void) { inroot_where_wants(&where, INROOT_WHERE_STARTS, false); inroot_where_went(&where, 0); }
-static void forget_to_be_alone(void) { go_home(); where.alone = false; go_home(); }
-static void move_oneself(void) { go_home(); where.moved = false; inroot_where_went(&where, 0); }
-static void begin_places_again(void) { go_home(); memset(&where, 0, sizeof where); go_home(); }
 
 static void hand_in_unseen(void)
 {
@@ -178,8 +153,6 @@ static const struct {
     {"a call behind one that ended", begin_and_end, false},
     {"an answer without a call", go_on_without_a_call, true},
     {"a call that isn't left alone", change_the_call, true},
-    {"a room that is a byte too short for a path", join_short, true},
-    {"one that is not", join, false},
     {"a text that reaches into the room", sort_in_place, true},
     {"one right before it", sort_beside, false},
     {"a room of another size", list_elsewhere, true},
@@ -193,9 +166,6 @@ static const struct {
     {"a step", take_step, false},
     {"a step that isn't left alone", change_a_step, true},
     {"facts that aren't those of the beginning", change_facts, true},
-    {"two steps", take_steps, false},
-    {"a last step that isn't left alone", change_the_last, true},
-    {"steps of another call", begin_steps_again, false},
     {"a descriptor that isn't open", give_what_is_closed, true},
     {"one that is", give_what_is_open, false},
     {"a negative error", give_no_number, true},
@@ -203,13 +173,6 @@ static const struct {
     {"an object of no kind", open_no_kind, true},
     {"an object, and an error", open_by_an_error, true},
     {"an object", open_a_directory, false},
-    {"a jail", jail, false},
-    {"a jail that isn't left alone", change_a_jail, true},
-    {"flags that aren't those of its beginning", change_its_flags, true},
-    {"a place in a call", go_home, false},
-    {"a place that isn't left alone, for what is wanted next", forget_to_be_alone, true},
-    {"a place that isn't left alone", move_oneself, true},
-    {"the place of another call", begin_places_again, false},
     {"a private proc(5) that isn't left alone", hand_in_unseen, true},
 };
 

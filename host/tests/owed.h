@@ -130,14 +130,8 @@ static void leave(const void *at, size_t size)
     atomic_flag_clear(&is_held);
 }
 
-static bool is_zero(const void *at, size_t size)
-{
-    static const unsigned char zero[LEFT_SIZE];
-    return memcmp(at, zero, size) == 0;
-}
-
-/* As the library left it, or zero where it MAY_BEGIN so. */
-static void must_be_left(const char *call, const void *at, size_t size, bool may_begin)
+/* As the library left it. */
+static void must_be_left(const char *call, const void *at, size_t size)
 {
     const size_t place = place_of(at);
     if (size > LEFT_SIZE || !hold())
@@ -145,7 +139,7 @@ static void must_be_left(const char *call, const void *at, size_t size, bool may
     const bool is_known = left[place].at == at && left[place].size == size;
     const bool is_same = !is_known || memcmp(left[place].bytes, at, size) == 0;
     atomic_flag_clear(&is_held);
-    must(is_same || (may_begin && is_zero(at, size)), call, "what is left alone between two turns");
+    must(is_same, call, "what is left alone between two turns");
 }
 
 #endif

@@ -1,8 +1,8 @@
 /*
  * peers: races as other libraries have them. Directories are made beside renames and beside deletion, paths are looked up
- * beside exchanges of a directory for one outside and for a link, 2 to 128 threads make the same at once, and 16 threads,
- * half of them in jails that trust or don't, do everything. With `storm` all of it under a storm of signals, with `overlay`
- * or `bind` on such a mount.
+ * beside exchanges of a directory for one outside and for a link, 2 to 128 threads make the same at once, and 16 threads do
+ * everything: by the kernel's walk and with INROOT_EXACT, also in a chroot. With `storm` all of it under a storm of signals, with
+ * `overlay` or `bind` on such a mount.
  *
  * usage: peers DIR SECONDS RACE [storm|overlay|bind]. RACE is rename, delete, exchange, create or all. Exits 0 where nothing that
  * was always outside was found or changed, no descriptor is left, and an unchecked walk was fooled. 78: no right to do so here. 79: that
@@ -37,9 +37,9 @@ static struct stat outside[3];
 /* Who makes calls of one kind, and what came of them. */
 struct worker {
     const char *name;
-    int (*work)(int at, int flags, uint64_t *state);
-    int flags, jail_flags;
-    bool jailed, control;
+    int (*work)(int flags, uint64_t *state);
+    int flags;
+    bool in_chroot, control;
     atomic_ulong done, raced, failed, escaped;
 };
 
@@ -50,25 +50,24 @@ static bool is_outside(int fd)
 
 /* ---- what workers do: a descriptor, or -errno */
 
-static int make_all(int at, int flags, uint64_t *state)
+static int make_all(int flags, uint64_t *state)
 {
     static const char *const paths[] = {"x/d/e/f", "x/d/e/g", "x/d/../d/h"};
-    return inroot_mkdir_all(at, paths[pick(state, 3)], 0755, flags);
+    return inroot_mkdir_all(root, paths[pick(state, 3)], 0755, flags);
 }
 
 static const char *const looked_up[] = {"a/b/c/../../secret", "a/b/../secret", "a/b/c/../../..", "a/b/secret", "a/b/c/../f", "a/b/c"};
 
-static int look_up(int at, int flags, uint64_t *state)
+static int look_up(int flags, uint64_t *state)
 {
-    return inroot_open(at, looked_up[pick(state, 6)], flags);
+    return inroot_open(root, looked_up[pick(state, 6)], flags);
 }
 
 /* Each part opened in the one before, without a question. */
-static int unchecked(int at, int flags, uint64_t *state)
+static int unchecked(int flags, uint64_t *state)
 {
     char text[64], *rest = text, *part;
     int dir = fcntl(root, F_DUPFD_CLOEXEC, 0);
-    (void)at;
     (void)flags;
     snprintf(text, sizeof text, "%s", looked_up[pick(state, 6)]);
     while (dir >= 0 && (part = strsep(&rest, "/")) != NULL) {
@@ -80,30 +79,30 @@ static int unchecked(int at, int flags, uint64_t *state)
     return dir < 0 ? -errno : dir;
 }
 
-static int everything(int at, int flags, uint64_t *state)
+static int everything(int flags, uint64_t *state)
 {
     static const char *const names[] = {"x/d/n", "x/d/e/n", "a/b/n", "a/b/c/../n", "x/d/../n"};
     const char *name = names[pick(state, 5)];
     ssize_t removed;
     char text[64];
     switch (pick(state, 8)) {
-    case 0: return inroot_mkfile(at, name, 0644, flags);
-    case 1: return inroot_mkdir(at, name, 0755, flags);
-    case 2: return inroot_symlink(at, outside_path, name, flags);
-    case 3: return inroot_unlink(at, name, flags);
-    case 4: return inroot_rmdir(at, name, flags);
-    case 5: return inroot_rename(at, name, names[pick(state, 5)], (int)pick(state, 3), flags);
-    case 6: return (int)inroot_readlink(at, name, flags, text, sizeof text) < 0 ? -ENOENT : 0;
+    case 0: return inroot_mknod(root, name, S_IFREG | 0644, 0, flags);
+    case 1: return inroot_mkdir(root, name, 0755, flags);
+    case 2: return inroot_symlink(root, outside_path, name, flags);
+    case 3: return inroot_unlink(root, name, flags);
+    case 4: return inroot_rmdir(root, name, flags);
+    case 5: return inroot_rename(root, name, names[pick(state, 5)], (int)pick(state, 3), flags);
+    case 6: return (int)inroot_readlink(root, name, flags, text, sizeof text) < 0 ? -ENOENT : 0;
     default:
-        removed = inroot_remove_all(at, name, flags);
+        removed = inroot_remove_all(root, name, flags);
         return removed < 0 ? (int)removed : 0;
     }
 }
 
-static int all_kinds(int at, int flags, uint64_t *state)
+static int all_kinds(int flags, uint64_t *state)
 {
     int which = (int)pick(state, 3);
-    return which == 0 ? make_all(at, flags, state) : which == 1 ? look_up(at, flags, state) : everything(at, flags, state);
+    return which == 0 ? make_all(flags, state) : which == 1 ? look_up(flags, state) : everything(flags, state);
 }
 
 static bool gives_zero(const struct worker *me)
@@ -111,20 +110,22 @@ static bool gives_zero(const struct worker *me)
     return me->work == all_kinds;
 }
 
+/* This thread alone. */
+static void enter_chroot(void)
+{
+    sure(unshare(CLONE_FS), "unshare");
+    sure(fchdir(root), "fchdir");
+    sure(chroot("."), "chroot");
+}
+
 static void *work(void *self)
 {
     struct worker *me = self;
     uint64_t state = 88172645463325252u + (uintptr_t)self;
-    int at = root;
-    if (me->jailed) {
-        int failed = inroot_jail_with(root, me->jail_flags);
-        errno = -failed;
-        sure(failed, "inroot_jail_with");
-        at = INROOT_JAIL;
-    }
+    if (me->in_chroot)
+        enter_chroot();
     while (!stop) {
-        /* Both ways of walking, by turns. */
-        int got = me->work(at, me->flags | (pick(&state, 2) ? INROOT_ONE_BY_ONE : 0), &state);
+        int got = me->work(me->flags, &state);
         me->done += got >= 0;
         me->raced += got == -EAGAIN;
         me->failed += got < 0;
@@ -297,35 +298,33 @@ static void race(const char *name, struct worker *workers, int count, void (*abo
     printf("peers: %s: %lu moves, %d descriptors left open\n", name, (unsigned long)moves, left);
 }
 
-static void race_of_ways(const char *name, int (*what)(int, int, uint64_t *), void (*about)(uint64_t *), bool jails,
-                         unsigned seconds)
+static void race_of_ways(const char *name, int (*what)(int, uint64_t *), void (*about)(uint64_t *), bool chroots, unsigned seconds)
 {
-    struct worker workers[] = {
-        {.name = "by /proc, one try", .work = what, .flags = INROOT_NO_RETRY},
-        {.name = "by /proc", .work = what},
-        {.name = "in a jail, one try", .work = what, .flags = INROOT_NO_RETRY, .jailed = true},
-        {.name = "in a jail", .work = what, .jailed = true},
-        {.name = "in a jail that trusts", .work = what, .jailed = true, .jail_flags = INROOT_TRUST_PROC},
-        {.name = "a walk without a check", .work = unchecked, .control = true},
+    struct worker workers[6] = {
+        {.name = "the kernel's walk, one try", .work = what, .flags = INROOT_NO_RETRY},
+        {.name = "the kernel's walk", .work = what},
+        {.name = "INROOT_EXACT, one try", .work = what, .flags = INROOT_EXACT | INROOT_NO_RETRY},
+        {.name = "INROOT_EXACT", .work = what, .flags = INROOT_EXACT},
     };
-    if (!jails) {
-        workers[2] = workers[5];
-        race(name, workers, what == look_up ? 3 : 2, about, seconds);
-    } else {
-        race(name, workers, what == look_up ? 6 : 5, about, seconds);
-    }
+    int count = 4;
+    if (chroots)
+        workers[count++] = (struct worker){.name = "INROOT_EXACT in a chroot", .work = what, .flags = INROOT_EXACT, .in_chroot = true};
+    if (what == look_up)
+        workers[count++] = (struct worker){.name = "a walk without a check", .work = unchecked, .control = true};
+    race(name, workers, count, about, seconds);
 }
 
-static void race_of_all(bool jails, unsigned seconds)
+static void race_of_all(bool chroots, unsigned seconds)
 {
+    static const char *const names[] = {
+        "the kernel's walk", "INROOT_EXACT", "the kernel's walk in a chroot", "INROOT_EXACT in a chroot",
+    };
     struct worker workers[16];
     for (int at = 0; at < 16; at++) {
-        workers[at] = (struct worker){.name = "by /proc", .work = all_kinds};
-        if (at % 2 == 0 || !jails)
-            continue;
-        workers[at].jailed = true;
-        workers[at].name = at % 4 == 1 ? "in a jail" : "in a jail that trusts";
-        workers[at].jail_flags = at % 4 == 1 ? 0 : INROOT_TRUST_PROC;
+        const int kind = chroots ? at % 4 : at % 2;
+        workers[at] = (struct worker){
+            .name = names[kind], .work = all_kinds, .flags = kind % 2 ? INROOT_EXACT : 0, .in_chroot = kind >= 2,
+        };
     }
     race("16 threads", workers, 16, all_about, seconds);
 }
@@ -334,30 +333,25 @@ static void race_of_all(bool jails, unsigned seconds)
 
 struct maker {
     pthread_barrier_t *together;
-    bool jailed;
-    int dir, file;
+    bool in_chroot;
+    int flags, dir, file;
 };
 
 static void *make_same(void *self)
 {
     struct maker *me = self;
-    int at = root;
-    if (me->jailed) {
-        int failed = inroot_jail(root);
-        errno = -failed;
-        sure(failed, "inroot_jail");
-        at = INROOT_JAIL;
-    }
+    if (me->in_chroot)
+        enter_chroot();
     pthread_barrier_wait(me->together);
-    me->dir = inroot_mkdir_all(at, "same/b/c/d/e/f", 0755, 0);
-    me->file = inroot_mkfile(at, "same/file", 0644, 0);
+    me->dir = inroot_mkdir_all(root, "same/b/c/d/e/f", 0755, me->flags);
+    me->file = inroot_mknod(root, "same/file", S_IFREG | 0644, 0, me->flags);
     if (me->dir >= 0)
         close(me->dir);
     return NULL;
 }
 
 /* All find the directories made, and one has made the file. */
-static void make_together(int count, bool jails)
+static void make_together(int count, bool chroots)
 {
     pthread_barrier_t together;
     pthread_t threads[128];
@@ -365,7 +359,7 @@ static void make_together(int count, bool jails)
     int made = 0;
     pthread_barrier_init(&together, NULL, (unsigned)count);
     for (int at = 0; at < count; at++) {
-        makers[at] = (struct maker){.together = &together, .jailed = jails && at % 2};
+        makers[at] = (struct maker){.together = &together, .in_chroot = chroots && at % 2, .flags = at / 2 % 2 ? INROOT_EXACT : 0};
         pthread_create(&threads[at], NULL, make_same, &makers[at]);
     }
     for (int at = 0; at < count; at++) {
@@ -382,14 +376,14 @@ static void make_together(int count, bool jails)
 /* Each has 254 threads. */
 enum { ENOUGH_ROUNDS = 8 };
 
-static void create(bool jails, unsigned seconds)
+static void create(bool chroots, unsigned seconds)
 {
     const bool is_whole = getenv("INROOT_WHOLE_RACES") != NULL;
     const double end = seconds_now() + seconds;
     unsigned long rounds = 0;
     do {
         for (int count = 2; count <= 128; count *= 2)
-            make_together(count, jails);
+            make_together(count, chroots);
         rounds++;
     } while (seconds_now() < end && (is_whole || rounds < ENOUGH_ROUNDS));
     printf("peers: create: %lu rounds of 2 to 128 threads, %d not as they are to be\n", rounds, wrong);
@@ -445,20 +439,20 @@ int main(int count, char **words)
         mount_here(dir, strcmp(on, "overlay") == 0);
     make_dirs();
     open_proc();
-    bool jails = may_jail(root);
+    bool chroots = may_chroot(root);
     ends_early = false;
     if (strcmp(on, "storm") == 0)
         storm();
     if (strcmp(what, "rename") == 0)
-        race_of_ways("directories made beside renames", make_all, rename_about, jails, seconds);
+        race_of_ways("directories made beside renames", make_all, rename_about, chroots, seconds);
     else if (strcmp(what, "delete") == 0)
-        race_of_ways("directories made beside deletion", make_all, delete_about, jails, seconds);
+        race_of_ways("directories made beside deletion", make_all, delete_about, chroots, seconds);
     else if (strcmp(what, "exchange") == 0)
-        race_of_ways("lookups beside exchange", look_up, exchange_about, jails, seconds);
+        race_of_ways("lookups beside exchange", look_up, exchange_about, chroots, seconds);
     else if (strcmp(what, "create") == 0)
-        create(jails, seconds);
+        create(chroots, seconds);
     else if (strcmp(what, "all") == 0)
-        race_of_all(jails, seconds);
+        race_of_all(chroots, seconds);
     else
         return 2;
     return ending(has_shown);

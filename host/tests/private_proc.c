@@ -56,8 +56,22 @@ ssize_t __wrap_readlinkat(int dir, const char *name, char *text, size_t size)
     return __real_readlinkat(dir, name, text, size);
 }
 
+/* What is made stays at no execve(2), and runs no program. */
+static bool is_made_rightly(long number, const long *with)
+{
+    enum { CLOSES = 1, NOTHING_RUNS = 2 | 4 | 8 };
+    switch (number) {
+    /* With no name it is none of the library. */
+    case FSOPEN: return (int)with[0] == -1 || with[1] & CLOSES;
+    case FSMOUNT: return with[1] & CLOSES && with[2] == NOTHING_RUNS;
+    case OPEN_TREE: return with[2] & O_CLOEXEC;
+    default: return true;
+    }
+}
+
 static long my_syscall(long number, const long *with)
 {
+    expect(is_made_rightly(number, with), "system call %ld makes what stays at execve(2), or runs programs", number);
     return is_failing(number, with) ? -1 : REAL_SYSCALL(number, with);
 }
 

@@ -228,14 +228,16 @@ static bool has_called(int status, const char *who)
     return true;
 }
 
-/*
- * Meets one of so many look-ups of the directory, and each of the entry that follows, until the call has ended. Gives how
- * often it removed the entry, or -1 where nobody could make the call.
- */
-static int meet(pid_t caller, const struct object *it, unsigned each, unsigned first)
+/* Which look-ups are met: one of so many of the directory, from the first on, and each of the entry but for so many. */
+struct met {
+    unsigned each, first, passed;
+};
+
+/* Meets them until the call has ended. Gives how often it removed the entry, or -1 where nobody could make the call. */
+static int meet(pid_t caller, const struct object *it, const struct met *met)
 {
     const struct timespec pause = {.tv_nsec = 20000};
-    unsigned waited = 0;
+    unsigned waited = 0, asked = 0;
     int status, removed = 0;
     bool is_out = false;
     while (waitpid(caller, &status, WNOHANG) == 0) {
@@ -244,10 +246,10 @@ static int meet(pid_t caller, const struct object *it, unsigned each, unsigned f
             nanosleep(&pause, NULL);
             continue;
         }
-        if (waits == WAITS_FOR_DIRECTORY && waited++ % each == first) {
+        if (waits == WAITS_FOR_DIRECTORY && waited++ % met->each == met->first) {
             take_out(it);
             is_out = true;
-        } else if (waits == WAITS_FOR_ENTRY) {
+        } else if (waits == WAITS_FOR_ENTRY && asked++ >= met->passed) {
             bring_in(it);
             is_out = false;
             removed++;
@@ -305,7 +307,7 @@ static void call(const struct way *way, const struct object *it)
 }
 
 /* Gives how often the entry was removed as it was looked up. What the call gave is shared then. */
-static int try_it(const struct way *way, const struct object *it, unsigned each, unsigned first)
+static int try_it(const struct way *way, const struct object *it, const struct met *met)
 {
     fflush(stdout);
     shared->got = -EINTR;
@@ -318,7 +320,7 @@ static int try_it(const struct way *way, const struct object *it, unsigned each,
         fflush(stdout);
         _exit(wrong);
     }
-    int removed = meet(caller, it, each, first);
+    int removed = meet(caller, it, met);
     expect(!shared->is_late, "%s, %s: the kernel asks under a lock", way->name, it->name);
     return removed;
 }
@@ -335,7 +337,7 @@ static bool is_never_inside(uint64_t number)
 /* The removed object is opened, and the kernel calls it so. */
 static void opens(const struct way *way, const struct object *it)
 {
-    int removed = try_it(way, it, 1, 0);
+    int removed = try_it(way, it, &(struct met){1, 0, 0});
     skipped |= removed < 0;
     if (removed < 0)
         return;
@@ -347,21 +349,26 @@ static void opens(const struct way *way, const struct object *it)
     expect(shared->is_removed, "%s, %s: what is opened is called removed", way->name, it->name);
 }
 
-/* Nothing is opened, whichever of the call's look-ups are met. */
+/* Nothing is opened. Gives how often the entry was removed. */
+static int opens_none(const struct way *way, const struct object *it, const struct met *met)
+{
+    int removed = try_it(way, it, met);
+    skipped |= removed < 0;
+    expect(removed < 0 || shared->got == -EAGAIN || shared->got == -ENOENT, "%s, %s, met at %u of %u, %u: it gives %d, number %lu",
+           way->name, it->name, met->first, met->each, met->passed, shared->got, (unsigned long)shared->number);
+    return removed;
+}
+
+/* Whichever of the call's look-ups are met. A step that opens a file tries first whether that is a directory. */
 static void opens_nothing(const struct way *way, const struct object *it)
 {
     int all = 0;
-    for (unsigned each = 1; each <= 3; each++)
-        for (unsigned first = 0; first < each; first++) {
-            int removed = try_it(way, it, each, first);
-            skipped |= removed < 0;
-            if (removed < 0)
-                return;
-            all += removed;
-            expect(shared->got == -EAGAIN || shared->got == -ENOENT, "%s, %s, met at %u of %u: it gives %d, number %lu",
-                   way->name, it->name, first, each, shared->got, (unsigned long)shared->number);
-        }
-    gives_least(all, 1, "%s, %s: how often it was removed", way->name, it->name);
+    for (unsigned passed = 0; passed <= 1; passed++)
+        for (unsigned each = 1; each <= 3; each++)
+            for (unsigned first = 0; first < each && !skipped; first++)
+                all += opens_none(way, it, &(struct met){each, first, passed});
+    if (!skipped)
+        gives_least(all, 1, "%s, %s: how often it was removed", way->name, it->name);
 }
 
 static const struct object plain[] = {

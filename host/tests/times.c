@@ -1,15 +1,13 @@
 /*
- * times: how long calls take beside others. One resolution: by openat2(2); by a plain walk of single openat(2) calls that
- * asks the same questions; by a join of the path as text, part by part, that is then opened, and that no race may meet; and
- * by inroot_open(), in a jail that trusts its descriptor of /proc, in another and by /proc, with runs of names and name by
- * name. Four directories of a path made: by mkdirat(2) from the root, by the calls of mkdir(1) with -p, and by
- * inroot_mkdir_all(). And many files in a directory removed, by rm(1) and by inroot_remove_all().
+ * times: how long calls take beside others. One resolution: by openat2(2); by a plain walk of single openat(2) calls that asks the
+ * same questions; by a join of the path as text, part by part, that is then opened, and that no race may meet; and by inroot_open(),
+ * by the kernel's walk and with INROOT_EXACT. Four directories of a path made: by mkdirat(2) from the root, by the calls of mkdir(1)
+ * with -p, and by inroot_mkdir_all(). And many files in a directory removed, by rm(1) and by inroot_remove_all().
  *
- * The ways take turns batch by batch, on one processor, so that what the machine does beside weighs on all of them, and the
- * least of many batches counts. Each jail has a thread of its own. All threads but one wait while that one works, since in
- * a process of several each use of a descriptor costs more.
+ * The ways take turns batch by batch, on one processor, so that what the machine does beside weighs on all of them, and the least of
+ * many batches counts.
  *
- * usage: times DIR [FILES]. Prints a line for each. 77: no openat2(2) here. 78: no right to change a root.
+ * usage: times DIR [FILES]. Prints a line for each. 77: no openat2(2) here.
  */
 #define _GNU_SOURCE
 #include "../openat2.h"
@@ -18,9 +16,7 @@
 #include <errno.h>
 #include <fcntl.h>
 #include <limits.h>
-#include <pthread.h>
 #include <sched.h>
-#include <semaphore.h>
 #include <spawn.h>
 #include <string.h>
 #include <sys/stat.h>
@@ -96,24 +92,14 @@ static int by_join(const char *path)
     return open(joined, O_PATH | O_CLOEXEC);
 }
 
-static int by_proc(const char *path)
+static int here(const char *path)
 {
     return inroot_open(root, path, 0);
 }
 
-static int by_jail(const char *path)
+static int exactly(const char *path)
 {
-    return inroot_open(INROOT_JAIL, path, 0);
-}
-
-static int by_proc_singly(const char *path)
-{
-    return inroot_open(root, path, INROOT_ONE_BY_ONE);
-}
-
-static int by_jail_singly(const char *path)
-{
-    return inroot_open(INROOT_JAIL, path, INROOT_ONE_BY_ONE);
+    return inroot_open(root, path, INROOT_EXACT);
 }
 
 /* ---- four directories made: a descriptor */
@@ -150,14 +136,14 @@ static int make_as_mkdir(const char *path)
     return at;
 }
 
-static int make_by_proc(const char *path)
+static int make_here(const char *path)
 {
     return inroot_mkdir_all(root, path, 0755, 0);
 }
 
-static int make_by_jail(const char *path)
+static int make_exactly(const char *path)
 {
-    return inroot_mkdir_all(INROOT_JAIL, path, 0755, 0);
+    return inroot_mkdir_all(root, path, 0755, INROOT_EXACT);
 }
 
 static void remove_made(const char *path)
@@ -201,82 +187,26 @@ static double microseconds(const struct task *task)
     return taken / BATCH;
 }
 
-/* What is handed to the thread in a jail, a task or none for its end, and what it hands back. */
-struct jail {
-    int flags;
-    pthread_t thread;
-    sem_t asked, answered;
-    const struct task *task;
-    double taken;
-};
-
-static struct jail jail, trusting = {.flags = INROOT_TRUST_PROC};
-
-static void await(sem_t *turn)
-{
-    while (sem_wait(turn) != 0)
-        ;
-}
-
-static void *stay_in_jail(void *self)
-{
-    struct jail *me = self;
-    errno = -inroot_jail_with(root, me->flags);
-    sure(-errno, "inroot_jail_with");
-    sem_post(&me->answered);
-    for (await(&me->asked); me->task != NULL; await(&me->asked)) {
-        me->taken = microseconds(me->task);
-        sem_post(&me->answered);
-    }
-    inroot_jail_done();
-    return NULL;
-}
-
-static void begin_jail(struct jail *one)
-{
-    sem_init(&one->asked, 0, 0);
-    sem_init(&one->answered, 0, 0);
-    pthread_create(&one->thread, NULL, stay_in_jail, one);
-    await(&one->answered);
-}
-
-static void end_jail(struct jail *one)
-{
-    one->task = NULL;
-    sem_post(&one->asked);
-    pthread_join(one->thread, NULL);
-}
-
-static double microseconds_in_jail(struct jail *one, const struct task *task)
-{
-    one->task = task;
-    sem_post(&one->asked);
-    await(&one->answered);
-    return one->taken;
-}
-
-/* How it is gone, and in which jail, if in any. */
-struct way {
+struct how {
     const char *name;
     int (*go)(const char *path);
-    struct jail *jail;
 };
 
 enum { MOST_WAYS = 8 };
 
-static void time_ways(const char *what, const char *path, const struct way *ways, int count, void (*undo)(const char *))
+static void time_ways(const char *what, const char *path, const struct how *ways, int count, void (*undo)(const char *))
 {
     double least[MOST_WAYS];
     for (int batch = 0; batch < BATCHES; batch++)
-        for (int way = 0; way < count; way++) {
-            const struct task task = {.path = path, .go = ways[way].go, .undo = undo};
-            double taken = ways[way].jail != NULL ? microseconds_in_jail(ways[way].jail, &task) : microseconds(&task);
-            if (batch == 0 || taken < least[way])
-                least[way] = taken;
+        for (int one = 0; one < count; one++) {
+            const struct task task = {.path = path, .go = ways[one].go, .undo = undo};
+            const double taken = microseconds(&task);
+            if (batch == 0 || taken < least[one])
+                least[one] = taken;
         }
     printf("times: %s:", what);
-    for (int way = 0; way < count; way++)
-        printf("%s %s %.2f", way == 0 ? "" : ",", ways[way].name, least[way]);
+    for (int one = 0; one < count; one++)
+        printf("%s %s %.2f", one == 0 ? "" : ",", ways[one].name, least[one]);
     puts(" us");
 }
 
@@ -329,7 +259,7 @@ static void time_removals(long files)
         taken = removed_here("many", files);
         here = turn == 0 || taken < here ? taken : here;
     }
-    printf("times: %ld files removed: rm -rf %.3f s, by /proc %.3f s (%.2f times)\n", files, by_rm / 1e6, here / 1e6,
+    printf("times: %ld files removed: rm -rf %.3f s, inroot_remove_all %.3f s (%.2f times)\n", files, by_rm / 1e6, here / 1e6,
            here / by_rm);
 }
 
@@ -347,30 +277,15 @@ static void stay_on_one_processor(void)
 
 static void time_all(const char *deep, long files)
 {
-    static const struct way found[] = {
-        {"openat2", by_kernel, NULL},
-        {"a plain walk", plainly, NULL},
-        {"a join of text", by_join, NULL},
-        {"in a jail that trusts", by_jail, &trusting},
-        {"in a jail", by_jail, &jail},
-        {"by /proc", by_proc, NULL},
-        {"name by name in a jail", by_jail_singly, &jail},
-        {"name by name by /proc", by_proc_singly, NULL},
+    static const struct how found[] = {
+        {"openat2", by_kernel}, {"the kernel's walk", here}, {"with INROOT_EXACT", exactly}, {"a plain walk", plainly},
+        {"a join of text", by_join},
     };
-    /* Ways that follow links. */
-    static const struct way followed[] = {
-        {"openat2", by_kernel, NULL},
-        {"in a jail that trusts", by_jail, &trusting},
-        {"in a jail", by_jail, &jail},
-        {"by /proc", by_proc, NULL},
-        {"name by name in a jail", by_jail_singly, &jail},
-        {"name by name by /proc", by_proc_singly, NULL},
-    };
-    static const struct way made[] = {
-        {"mkdirat(2) from the root", make_by_paths, NULL},
-        {"as mkdir -p", make_as_mkdir, NULL},
-        {"in a jail", make_by_jail, &jail},
-        {"by /proc", make_by_proc, NULL},
+    /* The first three follow links. */
+    enum { FOLLOWED = 3 };
+    static const struct how made[] = {
+        {"mkdirat(2) from the root", make_by_paths}, {"as mkdir -p", make_as_mkdir}, {"the kernel's walk", make_here},
+        {"with INROOT_EXACT", make_exactly},
     };
     const char *const paths[][2] = {
         {"f", "f"}, {"a/b", "a/b"}, {"a/b/f", "a/b/f"}, {"four b/..", "a/b/../b/../b/../b/.."}, {"32 directories", deep},
@@ -381,7 +296,7 @@ static void time_all(const char *deep, long files)
     for (size_t at = 0; at < sizeof paths / sizeof *paths; at++)
         time_ways(paths[at][0], paths[at][1], found, sizeof found / sizeof *found, NULL);
     for (size_t at = 0; at < sizeof linked / sizeof *linked; at++)
-        time_ways(linked[at][0], linked[at][1], followed, sizeof followed / sizeof *followed, NULL);
+        time_ways(linked[at][0], linked[at][1], found, FOLLOWED, NULL);
     time_ways("four directories made", "n/e/w/s", made, sizeof made / sizeof *made, remove_made);
     time_removals(files);
 }
@@ -394,8 +309,6 @@ int main(int count, char **words)
     root = sure(open(where, O_PATH | O_DIRECTORY | O_CLOEXEC), where);
     if (by_kernel(".") < 0 && errno == ENOSYS)
         return NO_OPENAT2;
-    if (!may_jail(root))
-        return NO_RIGHT;
     sure(mkdirat(root, "a", 0755), "a");
     sure(mkdirat(root, "a/b", 0755), "a/b");
     sure(mknodat(root, "a/b/f", S_IFREG | 0600, 0), "a/b/f");
@@ -408,10 +321,6 @@ int main(int count, char **words)
     }
     sure(symlinkat("../a/b", root, "d/l"), "d/l");
     stay_on_one_processor();
-    begin_jail(&jail);
-    begin_jail(&trusting);
     time_all(deep, count == 3 ? atol(words[2]) : FILES);
-    end_jail(&jail);
-    end_jail(&trusting);
     return wrong != 0;
 }

@@ -1,7 +1,7 @@
 /*
  * ways: both ways of walking, by the kernel first and with INROOT_EXACT, beside one another on random trees that stand
  * still but for the calls themselves: each call gives the same, what it opened has the same path, and then the
- * trees are the same.
+ * trees are the same. And paths with long names, with many links and of many bytes, by both and by openat2(2) itself.
  *
  * usage: ways DIR CASES. Exits 0 where that holds. 77: no openat2(2) here. To be linked with --wrap=syscall.
  */
@@ -189,6 +189,109 @@ static void make_calls(struct side *me)
     }
 }
 
+/* ---- paths that are known, beside openat2(2) itself */
+
+enum { LINKS = 41 };
+static int fixed;
+
+/* A chain: its first link leads to a target, and each other one to the one before it. */
+static void make_chain(char name, const char *target)
+{
+    char one[8], before[8];
+    for (int link = 1; link <= LINKS; link++) {
+        snprintf(one, sizeof one, "%c%d", name, link);
+        snprintf(before, sizeof before, "%c%d", name, link - 1);
+        sure(symlinkat(link == 1 ? target : before, fixed, one), one);
+    }
+}
+
+static void make_fixed(void)
+{
+    static const char *const links[][2] = {
+        {"a/b", "l"}, {"/a/b/f", "abs"}, {"../b/f", "a/b/up"}, {"../../../../g", "a/b/out"}, {"g", "file"}, {"a/b/", "slash"},
+        {"g/", "fslash"}, {".", "dot"}, {"/", "top"}, {"..", "above"}, {"none", "dangling"}, {"loop", "loop"}, {"two", "one"},
+        {"one", "two"}, {"a/./b/../b//f", "long"}, {"../abs", "a/abs"}, {"/l/up", "far"}, {"up", "a/b/next"},
+    };
+    sure(mkdirat(base, "fixed", 0755), "fixed");
+    fixed = sure(openat(base, "fixed", O_PATH | O_DIRECTORY | O_CLOEXEC), "fixed");
+    sure(mkdirat(fixed, "a", 0755), "a");
+    sure(mkdirat(fixed, "a/b", 0755), "a/b");
+    sure(mknodat(fixed, "g", S_IFREG | 0600, 0), "g");
+    sure(mknodat(fixed, "a/b/f", S_IFREG | 0600, 0), "f");
+    for (size_t one = 0; one < sizeof links / sizeof *links; one++)
+        sure(symlinkat(links[one][0], fixed, links[one][1]), links[one][1]);
+    make_chain('c', "g");
+    make_chain('e', "a");
+}
+
+static int by_kernel(const char *path, int flags)
+{
+    const struct open_how how = {
+        .flags = O_PATH | O_CLOEXEC | (flags & INROOT_NOFOLLOW ? O_NOFOLLOW : 0),
+        .resolve = (flags & INROOT_BENEATH ? RESOLVE_BENEATH : RESOLVE_IN_ROOT) | RESOLVE_NO_MAGICLINKS |
+                   (flags & INROOT_NO_LINKS ? RESOLVE_NO_SYMLINKS : 0) | (flags & INROOT_NO_XDEV ? RESOLVE_NO_XDEV : 0),
+    };
+    long fd;
+    int turns = 0;
+    /* A rename anywhere on the machine may refuse `..`; and the kernel may begin anew for it, and count links twice. */
+    do
+        fd = __real_syscall(SYS_openat2, fixed, path, &how, sizeof how);
+    while (fd < 0 && (errno == EAGAIN || (errno == ELOOP && ++turns < 20)));
+    return fd < 0 ? -errno : (int)fd;
+}
+
+static void agrees(const char *path, int flags)
+{
+    const int kernel = by_kernel(path, flags);
+    for (int way = 0; way <= INROOT_EXACT; way += INROOT_EXACT) {
+        const int got = inroot_open(fixed, path, flags | way);
+        expect(is_same_object(got, kernel), "%.40s, flags %d: got %d, and by openat2(2) %d", path, flags | way, got, kernel);
+        if (got >= 0)
+            close(got);
+    }
+    if (kernel >= 0)
+        close(kernel);
+}
+
+static const char *const paths[] = {
+    "", "/", "///", "g", "/g", "a/b", "a/b/", "a/b/.", "a/b/f", "a/b/f/", "a/b/f/.", "a/b/f/..", "a/b/..", "a/b/../b/f", "a/../../g", ".",
+    "..", "../g", "./g", "a//b///f", "none", "none/..", "a/none/x", "l", "l/", "l/.", "l/f", "l/..", "l/../b/f", "l/up", "l/out", "l/next",
+    "abs", "abs/", "abs/.", "abs/x", "a/abs", "a/b/up", "a/b/out", "a/b/next", "file", "file/", "file/.", "file/..", "slash", "slash/f",
+    "fslash", "dot", "dot/g", "dot/dot/dot/g", "top", "top/g", "above", "above/g", "a/b/../../above/g", "dangling", "dangling/",
+    "dangling/x", "loop", "loop/x", "one", "two/x", "long", "long/", "far", "/far", "//far", "/../far", "c1", "c40", "c41", "c41/x",
+    "e40/b/f", "e41/b", "e20/../e20", "e20/../e21", "e20/../c20", "e20/../c21",
+};
+
+/* A path of so many bytes to `file`, which is a link; and the same of a directory's name. */
+static void long_paths(void)
+{
+    static const size_t lengths[] = {4094, 4095, 4096, 5000};
+    static const char *const forms[] = {"%.*s", "%.*s/x", "a/%.*s", "l/%.*s/..", "none/%.*s"};
+    char path[6000], name[300];
+    for (int one = 0; one < 4; one++) {
+        memset(path, '/', lengths[one]);
+        memcpy(path + lengths[one] - 4, "file", 5);
+        agrees(path, 0);
+    }
+    memset(name, 'n', sizeof name);
+    for (int length = 254; length < 258; length++)
+        for (size_t form = 0; form < sizeof forms / sizeof *forms; form++) {
+            snprintf(path, sizeof path, forms[form], length, name);
+            agrees(path, 0);
+        }
+}
+
+static void known_paths(void)
+{
+    static const int flags[] = {0, INROOT_NOFOLLOW, INROOT_NO_XDEV, INROOT_BENEATH, INROOT_NO_LINKS, INROOT_NO_LINKS | INROOT_NOFOLLOW};
+    make_fixed();
+    for (size_t one = 0; one < sizeof paths / sizeof *paths; one++)
+        for (size_t with = 0; with < sizeof flags / sizeof *flags; with++)
+            agrees(paths[one], flags[with]);
+    long_paths();
+    close(fixed);
+}
+
 /* A side on a tree of its own, made and asked by the same random numbers. */
 static void run(struct side *side, const char *name, uint64_t seed)
 {
@@ -229,6 +332,7 @@ int main(int count, char **words)
         changed += sides[0].changed;
     }
     free(outcomes);
+    known_paths();
     int left = open_descriptors() - before;
     printf(
         "ways: %d cases on %d trees, %lu opened, %lu changed something, %lu of %lu paths walked by the kernel, %lu differ, "

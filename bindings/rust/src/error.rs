@@ -7,7 +7,7 @@ use std::mem::MaybeUninit;
 use std::os::raw::{c_char, c_int};
 use std::os::unix::ffi::{OsStrExt, OsStringExt};
 use std::os::unix::io::{FromRawFd, OwnedFd};
-use std::path::Path;
+use std::path::{Path, PathBuf};
 
 /// Why a call failed, for whoever wants to print it.
 #[derive(Clone, Debug, PartialEq, Eq)]
@@ -18,10 +18,6 @@ pub struct Cause {
     pub step: String,
     /// The name that the step was about, or empty.
     pub name: OsString,
-    /// What was left of the path then, where links were replaced by their texts.
-    pub rest: OsString,
-    /// Where the walk had come to: the names below the root that it went by, with a slash before each; or empty.
-    pub at: OsString,
 }
 
 /// Why the thread's last call failed, where one has. After a call that succeeded it says nothing of that call.
@@ -37,8 +33,6 @@ pub fn last_error() -> Option<Cause> {
             error: told.error,
             step: CStr::from_ptr(told.step).to_string_lossy().into_owned(),
             name: text_of(told.name.as_ptr()),
-            rest: text_of(told.rest.as_ptr()),
-            at: text_of(told.at),
         })
     }
 }
@@ -58,6 +52,14 @@ pub(crate) fn c_path(path: &Path) -> io::Result<CString> {
 /// What a call gave that gives a number.
 pub(crate) fn count_of(result: isize) -> io::Result<usize> {
     usize::try_from(result).map_err(|_| io::Error::from_raw_os_error(-result as i32))
+}
+
+/// The text that a call writes into a room, whose size it takes; it gives the length.
+pub(crate) fn text_from(call: impl FnOnce(*mut c_char, usize) -> isize) -> io::Result<PathBuf> {
+    let mut text = vec![0u8; 4096];
+    let given = call(text.as_mut_ptr().cast(), text.len());
+    text.truncate(count_of(given)?);
+    Ok(PathBuf::from(OsString::from_vec(text)))
 }
 
 /// What a call gave that gives nothing.

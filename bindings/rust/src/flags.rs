@@ -88,35 +88,13 @@ impl ResolverFlags {
     pub const NO_SYMLINKS: ResolverFlags = ResolverFlags(2);
     /// Refuses to leave the mount that the root is on, by a bind mount as well, with EXDEV.
     pub const NO_XDEV: ResolverFlags = ResolverFlags(128);
-    /// Refuses the kernel's links that lead to an object and not along their text (RESOLVE_NO_MAGICLINKS), with ELOOP.
-    pub const NO_MAGICLINKS: ResolverFlags = ResolverFlags(512);
     /// Makes one try, where others are in the way.
     pub const NO_RETRY: ResolverFlags = ResolverFlags(8);
-    /// Looks up each name by a system call of its own, and not several by one openat2(2).
-    pub const ONE_BY_ONE: ResolverFlags = ResolverFlags(32);
-    /// Leaves the path, with its links, and the last check to one openat2(2): what is found stood below the root then, at
-    /// which names is not said. Where that fails the steps are made. Walks, `resolve_partial`, and calls that change an entry
-    /// or read a link refuse the flag, with EINVAL, but for a second name of what a path means; of a whole root there is
-    /// [`RootFlags::BELOW`].
-    pub const BELOW: ResolverFlags = ResolverFlags(4096);
+    /// Walks by single steps, and asks at the end at which names the object stands, all at one moment.
+    pub const EXACT: ResolverFlags = ResolverFlags(16384);
 }
 
 joined!(ResolverFlags);
-
-/// What the library keeps of a root, and leaves out: inroot_root_open(3).
-#[derive(Clone, Copy, Debug, PartialEq, Eq, Default)]
-pub struct RootFlags(i32);
-
-impl RootFlags {
-    /// The root's path is read once. The program promises that nobody renames the root or a directory above it.
-    pub const STAYS: RootFlags = RootFlags(8192);
-    /// With it: the directory of the program's descriptors in /proc is kept.
-    pub const TRUST_PROC: RootFlags = RootFlags(64);
-    /// Each call that finds an object leaves its path and the last check to openat2(2).
-    pub const BELOW: RootFlags = RootFlags(4096);
-}
-
-joined!(RootFlags);
 
 /// How a rename treats an entry that is there already.
 #[derive(Clone, Copy, Debug, PartialEq, Eq, Default)]

@@ -1,4 +1,4 @@
-//! Paths below a directory, resolved by single directory steps: a binding to libinroot.
+//! Paths below a directory, of which nothing leads out: a binding to libinroot.
 //!
 //! A [`Root`] is a directory. Each call takes a path below it, as openat2(2) does with `RESOLVE_IN_ROOT`: an absolute
 //! path and an absolute link begin at the root, and `..` at the root is the root, whoever renames directories
@@ -20,8 +20,7 @@
 //! # }
 //! ```
 //!
-//! Types and functions are named as those of libpathrs. Where the kernel has no openat2(2), nothing is promised if the
-//! root itself, or a directory above it, is renamed meanwhile.
+//! Types and functions are named as those of libpathrs.
 
 #[cfg(not(all(
     target_os = "linux",
@@ -36,32 +35,17 @@ mod error;
 mod ffi;
 mod flags;
 mod handle;
+mod names;
 mod parts;
+mod proc;
 mod root;
-mod walk;
 
 pub use attributes::XattrMode;
 pub use error::{last_error, Cause};
-pub use flags::{OpenFlags, RenameFlags, ResolverFlags, RootFlags};
+pub use flags::{OpenFlags, RenameFlags, ResolverFlags};
 pub use handle::Handle;
+pub use proc::{proc_open, proc_readlink, use_private_proc, use_proc, ProcfsBase};
 pub use root::{InodeType, Root};
-pub use walk::{Walk, WalkEntry};
-
-use std::os::unix::io::{AsFd, AsRawFd};
-
-/// Has the calls ask the proc(5) of which this is the topmost directory, in place of /proc: inroot_use_proc(3). Before the
-/// first other call; the descriptor may be closed afterwards.
-pub fn use_proc(proc: impl AsFd) -> std::io::Result<()> {
-    // SAFETY: it takes a number alone.
-    error::done(unsafe { ffi::inroot_use_proc(proc.as_fd().as_raw_fd()) })
-}
-
-/// Has the calls ask a proc(5) that is mounted nowhere, in place of /proc: inroot_use_private_proc(3). Before the first
-/// other call.
-pub fn use_private_proc() -> std::io::Result<()> {
-    // SAFETY: it takes nothing.
-    error::done(unsafe { ffi::inroot_use_private_proc() })
-}
 
 /// The version of the library that is linked.
 pub fn version() -> String {

@@ -1,22 +1,18 @@
 //! A directory, and the calls below it.
 
-use crate::error::{c_path, count_of, done, opened};
-use crate::parts::Begin;
-use crate::{ffi, Handle, OpenFlags, RenameFlags, ResolverFlags, RootFlags};
-use std::ffi::OsString;
+use crate::error::{c_path, count_of, done, opened, text_from};
+use crate::{ffi, Handle, OpenFlags, RenameFlags, ResolverFlags};
 use std::fs::{File, Metadata, OpenOptions, Permissions};
 use std::io;
 use std::os::raw::c_int;
-use std::os::unix::ffi::OsStringExt;
 use std::os::unix::fs::{OpenOptionsExt, PermissionsExt};
 use std::os::unix::io::{AsFd, AsRawFd, BorrowedFd, OwnedFd};
 use std::path::{Path, PathBuf};
-use std::ptr::{null_mut, NonNull};
-use std::sync::Arc;
 
 const S_IFIFO: u32 = 0o010000;
 const S_IFCHR: u32 = 0o020000;
 const S_IFBLK: u32 = 0o060000;
+const S_IFREG: u32 = 0o100000;
 const S_IFSOCK: u32 = 0o140000;
 const INROOT_NOFOLLOW: c_int = 4;
 pub(crate) const INROOT_FOLLOW: c_int = 16;
@@ -43,32 +39,10 @@ pub enum InodeType {
     BlockDevice(Permissions, u64),
 }
 
-/// A root that the library keeps: its descriptor, and what it has read of it.
-#[derive(Debug)]
-pub(crate) struct KeptRoot(NonNull<ffi::Kept>);
-
-// SAFETY: any thread may make calls on such a root, and the library writes to it as it is opened and closed alone.
-unsafe impl Send for KeptRoot {}
-unsafe impl Sync for KeptRoot {}
-
-impl Drop for KeptRoot {
-    fn drop(&mut self) {
-        // SAFETY: it was opened, and no call on it goes on.
-        unsafe { ffi::inroot_root_close(self.0.as_ptr()) }
-    }
-}
-
-#[derive(Debug)]
-pub(crate) enum Held {
-    Own(OwnedFd),
-    Kept(Arc<KeptRoot>),
-}
-
 /// A directory below which paths are resolved. Any number of threads may make calls on it.
 #[derive(Debug)]
 pub struct Root {
-    pub(crate) begin: Option<Begin>,
-    pub(crate) held: Held,
+    fd: OwnedFd,
     pub(crate) flags: ResolverFlags,
 }
 
@@ -81,20 +55,9 @@ impl Root {
         Ok(Root::from_fd(file))
     }
 
-    /// The same, of which the library keeps something: inroot_root_open(3) has what each flag promises, and what the
-    /// program promises in return.
-    pub fn open_kept(path: impl AsRef<Path>, flags: RootFlags) -> io::Result<Root> {
-        let path = c_path(path.as_ref())?;
-        let mut kept = null_mut();
-        // SAFETY: the path ends with a NUL, and the library writes a root, or a null pointer after an error.
-        done(unsafe { ffi::inroot_root_open(path.as_ptr(), flags.bits(), &mut kept) })?;
-        let kept = NonNull::new(kept).ok_or(io::ErrorKind::Other)?;
-        Ok(Root { begin: None, held: Held::Kept(Arc::new(KeptRoot(kept))), flags: ResolverFlags::default() })
-    }
-
     /// The root that this descriptor is open on. Calls give ENOTDIR if it isn't a directory.
     pub fn from_fd(fd: impl Into<OwnedFd>) -> Root {
-        Root { begin: None, held: Held::Own(fd.into()), flags: ResolverFlags::default() }
+        Root { fd: fd.into(), flags: ResolverFlags::default() }
     }
 
     /// The same root, whose calls are restricted so.
@@ -103,31 +66,13 @@ impl Root {
         self
     }
 
-    /// The same root by a descriptor of its own. What the library keeps of this one it doesn't keep of that.
+    /// The same root by a descriptor of its own.
     pub fn try_clone(&self) -> io::Result<Root> {
-        let root = Root { begin: None, held: Held::Own(self.as_fd().try_clone_to_owned()?), flags: self.flags };
-        match &self.begin {
-            Some(begin) => root.begin_at(begin.dir.try_clone()?),
-            None => Ok(root),
-        }
+        Ok(Root { fd: self.fd.try_clone()?, flags: self.flags })
     }
 
-    /// The root's own descriptor.
-    pub(crate) fn root_fd(&self) -> c_int {
-        match &self.held {
-            Held::Own(fd) => fd.as_raw_fd(),
-            // SAFETY: the root is open.
-            Held::Kept(kept) => unsafe { ffi::inroot_root_fd(kept.0.as_ptr()) },
-        }
-    }
-
-    /// What the calls take in the root's place.
     pub(crate) fn number(&self) -> c_int {
-        self.begin.as_ref().map_or_else(|| self.root_fd(), |begin| begin.number)
-    }
-
-    pub(crate) fn flags(&self) -> ResolverFlags {
-        self.flags
+        self.fd.as_raw_fd()
     }
 
     /// Finds what the path means. A link at its end is followed.
@@ -186,7 +131,7 @@ impl Root {
         let to = to.as_ptr();
         // SAFETY: as above, of both paths.
         Ok(match what {
-            InodeType::File(mode) => unsafe { ffi::inroot_mkfile(root, to, mode_of(mode), flags) },
+            InodeType::File(mode) => unsafe { ffi::inroot_mknod(root, to, S_IFREG | mode_of(mode), 0, flags) },
             InodeType::Directory(mode) => unsafe { ffi::inroot_mkdir(root, to, mode_of(mode), flags) },
             InodeType::Symlink(text) => {
                 let text = c_path(text)?;
@@ -263,12 +208,9 @@ impl Root {
     /// The text of the link at the end of the path.
     pub fn readlink(&self, path: impl AsRef<Path>) -> io::Result<PathBuf> {
         let path = c_path(path.as_ref())?;
-        let mut text = vec![0u8; 4096];
-        let (room, size) = (text.as_mut_ptr().cast(), text.len());
+        let (root, flags) = (self.number(), self.flags.bits());
         // SAFETY: as above, and it writes at most the size of the room.
-        let given = unsafe { ffi::inroot_readlink(self.number(), path.as_ptr(), self.flags.bits(), room, size) };
-        text.truncate(count_of(given)?);
-        Ok(PathBuf::from(OsString::from_vec(text)))
+        text_from(|room, size| unsafe { ffi::inroot_readlink(root, path.as_ptr(), flags, room, size) })
     }
 
     /// What fstat(2) says of the object that the path means.
@@ -284,8 +226,7 @@ impl Root {
 
 impl AsFd for Root {
     fn as_fd(&self) -> BorrowedFd<'_> {
-        // SAFETY: the descriptor stays open for as long as this root is there.
-        unsafe { BorrowedFd::borrow_raw(self.root_fd()) }
+        self.fd.as_fd()
     }
 }
 

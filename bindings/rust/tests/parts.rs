@@ -1,6 +1,6 @@
-//! Directories at which paths begin, parents, parts and places, and what is missing of a path.
+//! Parents and places, and what is missing of a path.
 
-use inroot::{last_error, InodeType, OpenFlags, RenameFlags, ResolverFlags, Root, RootFlags};
+use inroot::{InodeType, OpenFlags, ResolverFlags, Root};
 use std::fs::{self, Permissions};
 use std::io;
 use std::os::unix::fs::{symlink, FileTypeExt, MetadataExt, PermissionsExt};
@@ -53,47 +53,6 @@ impl Drop for Tree {
 }
 
 #[test]
-fn paths_begin_at_a_directory() {
-    let tree = Tree::new("at");
-    let root = tree.root();
-    let at = root.at(root.resolve("in").unwrap()).unwrap();
-    assert_eq!(at.metadata("f").unwrap().ino(), tree.inode("a/b/f"));
-    assert_eq!(at.metadata("..").unwrap().ino(), tree.inode("a"));
-    assert_eq!(at.metadata("../../../..").unwrap().ino(), tree.inode("."));
-    assert_eq!(at.metadata("/a").unwrap().ino(), tree.inode("a"));
-    at.create("d", &InodeType::Directory(mode(0o755))).unwrap();
-    at.rename("f", "d/g", RenameFlags::empty()).unwrap();
-    fs::rename(tree.0.join("box/a/b"), tree.0.join("box/moved")).unwrap();
-    assert_eq!(at.metadata("d/g").unwrap().ino(), tree.inode("moved/d/g"));
-    let again = at.try_clone().unwrap();
-    drop(at);
-    assert_eq!(again.remove_all("d").unwrap(), 2);
-    fs::remove_dir(tree.0.join("box/moved")).unwrap();
-    fails(again.resolve("."), ENOENT);
-    let file = root.create_file("file", OpenFlags::O_WRONLY, &mode(0o600)).unwrap();
-    fails(root.at(file), ENOTDIR);
-}
-
-/// Without openat2(2) the flag changes nothing.
-#[test]
-fn what_is_kept_of_a_root_counts_from_a_directory() {
-    let tree = Tree::new("kept");
-    fs::write(tree.0.join("box/a/b/f (deleted)"), "").unwrap();
-    let plain = tree.root().with_resolver_flags(ResolverFlags::BELOW).resolve("in/f (deleted)").map(|_| ());
-    for flags in [RootFlags::default(), RootFlags::BELOW] {
-        let kept = Root::open_kept(tree.0.join("box"), flags).unwrap();
-        let at = kept.at(kept.resolve("in").unwrap()).unwrap();
-        let again = at.at(at.resolve(".").unwrap()).unwrap();
-        drop((kept, at));
-        let found = again.with_resolver_flags(ResolverFlags::NO_RETRY).resolve("f (deleted)");
-        match (flags == RootFlags::BELOW, &plain) {
-            (true, Ok(())) => assert_eq!(found.unwrap().metadata().unwrap().ino(), tree.inode("a/b/f (deleted)")),
-            _ => fails(found, EAGAIN),
-        }
-    }
-}
-
-#[test]
 fn a_path_is_taken_apart() {
     let tree = Tree::new("parts");
     let root = tree.root();
@@ -101,15 +60,10 @@ fn a_path_is_taken_apart() {
     assert_eq!((dir.metadata().unwrap().ino(), last.to_str()), (tree.inode("a/b"), Some("none")));
     fails(root.resolve_parent("in/.."), EINVAL);
     fails(root.resolve_parent("in/x/"), ENOTDIR);
-    let (dir, rest) = root.resolve_partial("in/none/x").unwrap();
-    assert_eq!((dir.metadata().unwrap().ino(), rest.as_path()), (tree.inode("a/b"), Path::new("none/x")));
-    let (file, rest) = root.resolve_partial("in/f").unwrap();
-    assert_eq!((file.metadata().unwrap().ino(), rest.as_path()), (tree.inode("a/b/f"), Path::new("")));
+    let file = root.resolve("in/f").unwrap();
     assert_eq!(root.place(&file).unwrap(), Path::new("/a/b/f"));
     assert_eq!(root.place(&root).unwrap(), Path::new("/"));
     fails(root.place(fs::File::open(tree.0.join("outside")).unwrap()), EXDEV);
-    fails(root.resolve("in/none/x"), ENOENT);
-    assert_eq!(last_error().unwrap().at, "/a/b");
 }
 
 #[test]
@@ -149,9 +103,21 @@ fn what_was_made_is_given() {
     assert_eq!(given.metadata().unwrap().ino(), tree.inode("a/b/path"));
 }
 
+/// By single steps one that is at no certain place isn't found: the kernel writes the same behind that of a removed one.
+#[test]
+fn exact_calls_ask_for_a_place() {
+    let tree = Tree::new("exact");
+    fs::write(tree.0.join("box/a/b/f (deleted)"), "").unwrap();
+    let found = tree.root().resolve("in/f (deleted)").unwrap();
+    assert_eq!(found.metadata().unwrap().ino(), tree.inode("a/b/f (deleted)"));
+    let exact = tree.root().with_resolver_flags(ResolverFlags::EXACT | ResolverFlags::NO_RETRY);
+    fails(exact.resolve("in/f (deleted)"), EAGAIN);
+    assert_eq!(exact.resolve("in/f").unwrap().metadata().unwrap().ino(), tree.inode("a/b/f"));
+}
+
 #[test]
 fn magic_links_are_refused() {
-    let root = Root::open("/").unwrap().with_resolver_flags(ResolverFlags::NO_MAGICLINKS);
+    let root = Root::open("/").unwrap();
     fails(root.resolve("proc/self/cwd"), ELOOP);
     root.resolve("proc/self/comm").unwrap();
 }

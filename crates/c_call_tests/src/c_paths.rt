@@ -2,55 +2,52 @@
 //! name stands, and which errors refuse a step.
 ghost use Rattle.std.specs.Prelude.{◌<◌, ◌≤◌};
 
-use c_protocol::{Asked, Parted, follows_at_once, misses_at_once, split};
+use c_protocol::{Asked, Parted, misses_at_once, split};
+use kernel_walks::follows_at_once;
+use path_text::Flags;
 use std::test::Fail;
 use step_calls::is_refusal;
 
 // An operation below the root with handle 3.
-fn asked(op: u8, beneath: bool, no_links: bool) -> Asked {
+fn asked(op: u8, beneath: bool) -> Asked {
     Asked {
         root: 3,
         op,
         mode: 0,
         beneath,
-        no_links,
+        no_links: false,
     }
 }
 
-/// An operation's number, RESOLVE_BENEATH, RESOLVE_NO_SYMLINKS and a path, and whether openat2(2) may walk that whole.
-const FOLLOWED: [(u8, bool, bool, &str, bool); 18] = [
-    (1, false, false, "a/b", true),
-    (1, false, false, "a/../../l/.", true),
-    (1, false, false, "/a//b/", true),
-    (2, false, false, "l", true),
-    (1, true, false, "a/l", true),
-    (2, true, false, "..", true),
-    // A slash at the beginning leads out.
-    (1, true, false, "/a", false),
-    (2, true, false, "/", false),
+/// RESOLVE_BENEATH, RESOLVE_NO_SYMLINKS and a path, and whether openat2(2) may walk that whole.
+const FOLLOWED: [(bool, bool, &str, bool); 13] = [
+    (false, false, "a/b", true),
+    (false, false, "a/../../l/.", true),
+    (false, false, "/a//b/", true),
+    (false, false, "l", true),
+    (true, false, "a/l", true),
+    (true, false, "..", true),
     // No link may be followed.
-    (1, false, true, "a", false),
-    (2, true, true, "a", false),
-    // Other operations: a link that is read, a file that is made, directories that are, and numbers of none.
-    (3, false, false, "l", false),
-    (4, false, false, "a", false),
-    (10, false, false, "a/b", false),
-    (0, false, false, "a", false),
-    (255, false, false, "a", false),
+    (false, true, "a/l", true),
+    (true, true, "a", true),
+    // A slash at the beginning leads out.
+    (true, false, "/a", false),
+    (true, false, "/", false),
     // Texts that are no path.
-    (1, false, false, "", false),
-    (1, false, false, "a\0b", false),
-    (2, true, true, "", false),
+    (false, false, "", false),
+    (false, false, "a\0b", false),
+    (true, true, "", false),
 ];
+
+fn flags(beneath: bool, no_links: bool) -> Flags {
+    Flags { beneath, no_links }
+}
 
 #[test]
 fn links_are_followed_at_once(rt: HostRuntime) -> Result<(), Fail> {
-    for (op, beneath, no_links, path, wanted) in &FOLLOWED {
-        let asked = asked(*op, *beneath, *no_links);
-        assert!(rt;
-            follows_at_once(&asked, path.as_bytes()) == *wanted,
-            "{path}"
-        );
+    for (beneath, no_links, path, wanted) in &FOLLOWED {
+        let followed = follows_at_once(flags(*beneath, *no_links), path.as_bytes());
+        assert!(rt; followed == *wanted, "{path}");
     }
     Ok(())
 }
@@ -61,7 +58,7 @@ fn is_part_followed(bytes: usize) -> bool
 {
     let mut path = [b'a'; 300];
     path[bytes] = b'/';
-    follows_at_once(&asked(1, false, false), path.as_slice())
+    follows_at_once(flags(false, false), path.as_slice())
 }
 
 // Whether a path of so many slashes is walked whole.
@@ -69,7 +66,7 @@ fn is_path_followed(bytes: usize) -> bool
     requires { bytes ≤ 4096 }
 {
     let path = [b'/'; 4096];
-    follows_at_once(&asked(1, false, false), &path[..bytes])
+    follows_at_once(flags(false, false), &path[..bytes])
 }
 
 // NAME_MAX and PATH_MAX of limits.h, the second of which counts a NUL.
@@ -103,11 +100,11 @@ const MISSED: [(u8, &str, &str, bool); 13] = [
 #[test]
 fn names_are_missed_at_once(rt: HostRuntime) -> Result<(), Fail> {
     for (op, path, place, wanted) in &MISSED {
-        let missed = misses_at_once(&asked(*op, false, false), path.as_bytes(), place.as_bytes());
+        let missed = misses_at_once(&asked(*op, false), path.as_bytes(), place.as_bytes());
         assert!(rt; missed == *wanted, "{path}");
     }
     // A slash at the beginning leads out of the root.
-    assert!(rt; !misses_at_once(&asked(1, true, false), b"/a/f", b"/a/f"));
+    assert!(rt; !misses_at_once(&asked(1, true), b"/a/f", b"/a/f"));
     Ok(())
 }
 

@@ -37,11 +37,17 @@ fn laws_of_calls_from_c() {
     c_protocol::conversations_are_calls();
     c_protocol::conversations_tell();
     c_protocol::steps_told_whole_are_one();
-    c_protocol::opens_at_once_tell();
     c_protocol::fails_at_once_tell();
     c_protocol::conversations_close();
     c_protocol::unmade_steps_end_calls();
-    c_protocol::seen_below_tell();
-    c_protocol::links_seen_below_tell();
     c_protocol::steps_are_refused_so();
+}
+
+#[test]
+fn laws_of_walks_by_the_kernel() {
+    kernel_walks::kernel_walks_tell();
+    kernel_walks::resolves_seen_below();
+    kernel_walks::entries_are_changed_behind_walks();
+    kernel_walks::directories_are_looked_up();
+    kernel_walks::renames_are_looked_up();
 }

@@ -1,5 +1,5 @@
-//! The functions by which a C program makes calls: a static library of the exports of `c_protocol`, `step_calls`,
-//! `place_protocol`, `open_or_make`, `make_through_links`, `remove_by_calls`, `list_directory`, `call_course`,
+//! The functions by which a C program makes calls: a static library of the exports of `c_protocol`, `kernel_walks`,
+//! `step_calls`, `place_protocol`, `open_or_make`, `make_through_links`, `remove_by_calls`, `list_directory`, `call_course`,
 //! `ask_place`, `give_entry`, `find_proc`, `private_proc`, `open_partial`, `kernel_text` and
 //! `system_calls`.
 //!
@@ -10,9 +10,9 @@
 ghost use Rattle.std.specs.Prelude.{◌≡◌, ◌≤◌, ◌∷◌, [], ℕ, List, true, false, length, take, IfSome, IsSome};
 ghost use Rattle.root_ops.specs.declared.call.CallTurn.{CallTurn};
 ghost use Rattle.c_protocol.specs.AtOnce.{misses_at_once};
-ghost use Rattle.c_protocol.specs.FollowedAtOnce.{follows_at_once};
 ghost use Rattle.c_protocol.specs.Split.{IsParted};
 ghost use Rattle.c_protocol.specs.Turns.{call_of, IsBegun, IsNext, IsTold};
+ghost use Rattle.kernel_walks.specs.Followed.{follows_at_once};
 ghost use Rattle.place_protocol.specs.Held.{before_questions, behind_look_up};
 ghost use Rattle.place_protocol.specs.Told.{begun, next_told, question_of};
 ghost use Rattle.place_protocol.specs.Texts.{texts_of};
@@ -21,7 +21,7 @@ ghost use Rattle.open_or_make.specs.Course.{exchange, IsAt};
 ghost use Rattle.open_or_make.specs.History.{asked_of, is_call, Asked as Wanted, Exchange};
 ghost use Rattle.open_or_make.specs.Requests.{request_of};
 ghost use Rattle.make_through_links.specs.History.{asked_of as making_asked, is_call as is_making_call, Asked as MakingAsked, Exchange as MakingExchange};
-ghost use Rattle.make_through_links.specs.Closing.{closing};
+ghost use Rattle.make_through_links.specs.Closing.{closed};
 ghost use Rattle.make_through_links.specs.Making.{exchange as making_exchange, IsAt as IsMakingAt, IsWithin};
 ghost use Rattle.system_calls.specs.Objects.{is_node, is_same_object, kind_of};
 ghost use Rattle.system_calls.specs.Opening.{opening_of, reopen_flags};
@@ -38,6 +38,7 @@ mod steps;
 use c_protocol::{Answered, Asked, Kept, Parted, Told};
 use make_through_links::{Making, Outcome};
 use open_or_make::{Course, Request};
+use path_text::Flags;
 use place_protocol::{Answer, Facts, Held};
 use std::alloc::Global;
 use system_calls::{MachineFlags, Object, Opening, Use};
@@ -85,12 +86,13 @@ pub extern "C" fn inroot_misses_at_once(asked: &Asked, path: &[u8], place: &[u8]
     c_protocol::misses_at_once(asked, path, place)
 }
 
-/// Whether one system call may walk a call's path as a whole, through links: `c_protocol::follows_at_once`.
+/// Whether one system call may walk a path as a whole, through links: `kernel_walks::follows_at_once`. `beneath` is
+/// RESOLVE_BENEATH, `no_links` RESOLVE_NO_SYMLINKS.
 #[unsafe(no_mangle)]
-pub extern "C" fn inroot_follows_at_once(asked: &Asked, path: &[u8]) -> bool
-    ensures { result ≡ follows_at_once asked.now path.now }
+pub extern "C" fn inroot_follows_at_once(beneath: bool, no_links: bool, path: &[u8]) -> bool
+    ensures { result ≡ follows_at_once (record { beneath = beneath; no_links = no_links }) path.now }
 {
-    c_protocol::follows_at_once(asked, path)
+    kernel_walks::follows_at_once(Flags { beneath, no_links }, path)
 }
 
 /// Where the last name of a path stands in it, or why it has none: `c_protocol::split`.
@@ -267,7 +269,7 @@ pub extern "C" fn inroot_making_next(
     ensures goes { (asked : MakingAsked) (history : List MakingExchange) → IsMakingAt asked history making.old room.old
         → is_making_call making.old.next ≡ true
         → IsMakingAt asked (making_exchange making.old room.old outcome.now text.now ∷ history) making.new room.new }
-    ensures closes { making.new ≡ closing making.old outcome.now.descriptor making.new }
+    ensures closes { making.new.closes ≡ closed outcome.now.descriptor making.new.gives }
     ensures within { IsWithin making.new (length room.new) }
     ensures ends { is_making_call making.new.next ≡ false
         → (room.new ≡ room.old) × (making.new.length ≡ making.old.length) }

@@ -1,49 +1,44 @@
--- A resolve whose names are passed at once is led, line by line, to its reply.
-use Rattle.std.proofs.Common.{◌≡◌, ℕ, Bool, true, false, not, ◌==◌, ◌&&◌, ◌||◌, nat_lt, length, get_or, List, [], ◌∷◌, ◌++◌, map, reverse, cond, refl, sym, ap, ◌∙◌, subst}
+-- A resolve one of whose names is missing is led, line by line, to its fault.
+use Rattle.std.proofs.Common.{◌≡◌, ℕ, Bool, true, false, not, ◌==◌, ◌&&◌, ◌||◌, nat_lt, length, get_or, List, [], ◌∷◌, ◌++◌, map, cond, refl, sym, ap, ◌∙◌, subst}
 use Rattle.std.specs.Prelude.{if◌then◌else◌, is_none, Option, Some, None}
 use Rattle.std.specs.List.{list_all, onto_first}
 use Rattle.std.proofs.lemmas.Bool.{eqb-true, not-true}
-use Rattle.std.proofs.lemmas.List.{append_assoc, append-nil, reverse-append, reverse-reverse}
 use Rattle.std.proofs.lemmas.List.Sums.{AllPass-from_list_all}
 use Rattle.std.proofs.lemmas.Option.{same_Some}
 use Rattle.std.specs.Cmp.Lexicographic.{bytes_decides}
 use Rattle.path_text.specs.declared.errno.Errno.{Errno}
-use Rattle.path_text.specs.declared.errno.Errno.TheVariants.{Invalid, NotDir, TooLong, CrossRoot, Raced, NotFound}
+use Rattle.path_text.specs.declared.errno.Errno.TheVariants.{Invalid, NotDir, TooLong, CrossRoot, NotFound}
 use Rattle.path_text.specs.declared.name.TheConstants.{SLASH, NAME_MAX}
 use Rattle.path_text.specs.declared.part.Part.TheVariants as part
 use Rattle.path_text.specs.Name.{same_bytes, is_component, name_fault, is_name}
-use Rattle.path_text.specs.Names.{same_names}
 use Rattle.path_text.specs.Print.{after_slashes, printed, names_read}
 use Rattle.path_text.specs.Text.{between_slashes, parts_of, text_fault, reading_of, begins_with_slash}
 use Rattle.path_text.specs.Reading.{Reading}
 use Rattle.path_text.proofs.PrintLemmas.{printed_read}
 use Rattle.path_text.proofs.TextLemmas.{and_true}
-use Rattle.handles.proofs.SameNames.{same_where_equal}
 use Rattle.tree_model.specs.declared.answer.Answer.{Answer}
-use Rattle.tree_model.specs.declared.answer.Answer.TheVariants.{Opened, Names, Done, Refused}
+use Rattle.tree_model.specs.declared.answer.Answer.TheVariants.{Opened, Done, Refused}
 use Rattle.tree_model.specs.StepWith.{StepWith}
 use Rattle.tree_model.specs.declared.step.Kind.{Kind}
-use Rattle.tree_model.specs.declared.step.Kind.TheVariants.{Dir, File, Link}
-use Rattle.tree_model.specs.declared.step.StepOf.TheVariants.{Open, NameBelow, Close}
+use Rattle.tree_model.specs.declared.step.Kind.TheVariants.{Dir}
+use Rattle.tree_model.specs.declared.step.StepOf.TheVariants.{Open, Close}
 use Rattle.walk_plan.specs.declared.goal.Goal.{Goal}
-use Rattle.walk_plan.specs.declared.goal.Goal.TheVariants.{Follow, NoFollow, Deepest}
+use Rattle.walk_plan.specs.declared.goal.Goal.TheVariants.{Follow, NoFollow}
 use Rattle.walk_plan.specs.Plan.{follows, leads_out}
 use Rattle.step_resolver.specs.Asked.{AskedPart, Named, asked, is_deepest}
 use Rattle.step_resolver.specs.Meaning.{LINKS_MAX, is_too_long}
-use Rattle.step_resolver.specs.Order.{Way, Handle, Position, root_itself, holds, names_of, handles_of, handle_at, is_dir_position, is_dir_kind, is_followed, Line, answered, todo, opening, at_end, on_own}
+use Rattle.step_resolver.specs.Order.{Way, Handle, Position, root_itself, holds, names_of, handles_of, handle_at, is_dir_position, is_followed, Line, answered, todo, opening, at_end, on_own}
 use Rattle.step_resolver.specs.Order as walk
 use Rattle.step_resolver.specs.View.{way_from}
 use Rattle.root_ops.specs.declared.aim.Aim.TheVariants.{Opens}
 use Rattle.root_ops.specs.declared.below.Below.{Below}
 use Rattle.root_ops.specs.declared.op.Op.{Op}
-use Rattle.root_ops.specs.declared.op.Op.TheVariants.{Resolve, ResolveNoFollow, MkdirAll}
+use Rattle.root_ops.specs.declared.op.Op.TheVariants.{Resolve, ResolveNoFollow}
 use Rattle.root_ops.specs.EachCall.{EachCallTells}
-use Rattle.root_ops.specs.Order.{CallTurn, ends, fault, opened, walked, on_path, unless_fault, makes, starts, LeadsTo}
-use Rattle.bulk_ops.specs.MakeAllOrder as make
-use Rattle.root_ops.specs.View.{reply_view}
+use Rattle.root_ops.specs.Order.{CallTurn, ends, fault, walked, on_path, unless_fault, makes, starts, LeadsTo}
 use Rattle.root_ops.specs.declared.reply.Reply.TheVariants as replies
-use Rattle.c_protocol.specs.AtOnce.{Passed, opens_kind, opens, closes, lines_from, lines_at_once, names_passed, opened_at_once, has_names, spells_place, OpensAtOnceTell, lines_missing, lines_missing_from, names_to, FailsAtOnceTell}
-use Rattle.c_protocol.specs.Numbers.{op_of, kind_of, below_asked}
+use Rattle.c_protocol.specs.AtOnce.{Passed, opens, closes, has_names, spells_place, lines_missing, lines_missing_from, names_to, FailsAtOnceTell}
+use Rattle.c_protocol.specs.Numbers.{op_of, below_asked}
 use Rattle.c_protocol.specs.Outright.{call_in}
 use Rattle.c_protocol.specs.declared.numbers.Asked.{Asked}
 
@@ -109,30 +104,11 @@ short name h = short_if (is_component name) (nat_lt NAME_MAX (length name)) h
 
 -- ---- from name to name
 
-asked_more : (f : Bool) (n : List ℕ) (ps : List Passed) (last : Passed)
-    → asked f (part.Named n ∷ map part.Named (names_passed ps last)) ≡ Named true n ∷ asked f
-    (map part.Named (names_passed ps last))
-asked_more f n [] last = refl
-asked_more f n (p ∷ ps) last = refl
-
 asked_to : (f : Bool) (n : List ℕ) (ps : List Passed) (name : List ℕ) (rest : List (List ℕ))
     → asked f (part.Named n ∷ map part.Named (names_to ps name rest)) ≡ Named true n ∷ asked f
     (map part.Named (names_to ps name rest))
 asked_to f n [] name rest = refl
 asked_to f n (p ∷ ps) name rest = refl
-
--- the names passed, the innermost first
-abbrev pub onto : List Passed → Passed → List (List ℕ) → List (List ℕ)
-onto [] last names = last.name ∷ names
-onto (p ∷ ps) last names = onto ps last (p.name ∷ names)
-
-pub onto_is : (ps : List Passed) (last : Passed) (names : List (List ℕ))
-    → onto ps last names ≡ reverse (names_passed ps last) ++ names
-onto_is [] last names = refl
-onto_is (p ∷ ps) last names =
-    let rest = names_passed ps last in
-    onto_is ps last (p.name ∷ names)
-    ∙ sym (ap (λ ns. ns ++ names) (reverse-append (p.name ∷ []) rest) ∙ append_assoc (reverse rest) (p.name ∷ []) names)
 
 abbrev pub handle : Passed → Kind → Handle
 handle p kind = record { number = p.number; node = p.node; kind = kind }
@@ -188,39 +164,6 @@ module _
       (lift (if t then walk.follows_link way pos (handle p kind) (todo [] own b) else walk.enters way true pos p.name
       (handle p kind) (todo [] own b)))
       (closes (handles_of pos) ++ lines) end) (sym stays) (entered pos p.name (handle p kind) own lines end led)))
-
-  -- it stands where it was opened
-  ended : (h : Handle) (names told : List (List ℕ)) → same_names told (reverse names) ≡ true
-      → LeadsTo below (lift (walk.more (walk.ending h names [])))
-      (answered (NameBelow below.root.handle h.number) (Names told) ∷ []) (lift (walk.found h names))
-  ended h names told same =
-      goes_on (walk.ending h names []) (NameBelow below.root.handle h.number) (Names told) []
-      (lift (walk.found h names)) refl
-      (ap (λ t. lift (if t then walk.found h names else walk.gives_up (h.number ∷ []) Raced)) same)
-
-  pub passed_on : (ps : List Passed) (last : Passed) (kind : Kind) (told : List (List ℕ)) (pos : Position)
-      → is_dir_position pos ≡ true
-      → list_all is_name (names_passed ps last) ≡ true → is_followed (follows goal) kind ≡ false
-      → same_names told (reverse (onto ps last (names_of pos))) ≡ true
-      → LeadsTo below (lift (on_own way pos (asked (follows goal) (map part.Named (names_passed ps last))) b))
-      (lines_from below.root.handle (handle_at way pos) (handles_of pos) ps last kind told)
-      (lift (walk.found (handle last kind) (onto ps last (names_of pos))))
-  passed_on [] last kind told pos dir valid stays same =
-      let ask : List Line = answered (NameBelow below.root.handle last.number) (Names told) ∷ [] in
-      let names = last.name ∷ names_of pos in
-      opened_on pos (follows goal) last kind [] ask (lift (walk.found (handle last kind) names)) dir
-      (and_true (is_name last.name) true valid).0 stays
-      (ended (handle last kind) names told same)
-  passed_on (p ∷ ps) last kind told pos dir valid stays same =
-      let own = asked (follows goal) (map part.Named (names_passed ps last)) in
-      let each = and_true (is_name p.name) (list_all is_name (names_passed ps last)) valid in
-      let new = holds (handle p Dir) (p.name ∷ names_of pos) in
-      let end = lift (walk.found (handle last kind) (onto ps last (p.name ∷ names_of pos))) in
-      let rest = lines_from below.root.handle p.number (p.number ∷ []) ps last kind told in
-      subst (λ (ps : List AskedPart). LeadsTo below (lift (on_own way pos ps b))
-      (opens (handle_at way pos) p Dir ∷ (closes (handles_of pos) ++ rest)) end)
-      (sym (asked_more (follows goal) p.name ps last))
-      (opened_on pos true p Dir own rest end dir each.0 refl (passed_on ps last kind told new refl each.1 stays same))
 
   -- what is held is closed, and the walk fails
   gave_up : (pos : Position) → LeadsTo below (lift (walk.gives_up (handles_of pos) NotFound)) (closes (handles_of pos))
@@ -298,82 +241,7 @@ parts_named path place names h spells =
     parts_either path h.text h.first (same_bytes path whole) refl either ∙ ap parts_of (sym as_printed)
     ∙ ap (λ (r : Reading). r.parts) read
 
--- ---- which walk it is
-
--- the operation is a walk to this goal, which follows no link at the end of such a path, and ends with it
-record IsWalk (below : Below) (op : Op) (path : List ℕ) (kind : Kind) : Type 0 where
-  goal : Goal
-  lift : walk.Turn → CallTurn
-  begins : starts below true op ≡ unless_fault (text_fault path)
-      (lift (walk.begins (way_from below.root goal below.flags) (reading_of path)))
-  goes_on : (w : walk.Walking) (step : StepWith ℕ) (answer : Answer) (lines : List Line) (end : CallTurn)
-      → step ≡ walk.due (way_from below.root goal below.flags) w
-      → LeadsTo below (lift (walk.take (way_from below.root goal below.flags) true w answer)) lines end
-      → LeadsTo below (lift (walk.more w)) (answered step answer ∷ lines) end
-  stays : is_followed (follows goal) kind ≡ false
-  found : (h : Handle) (names : List (List ℕ)) → h.kind ≡ kind → lift (walk.found h names) ≡ ends (opened h names)
-
-resolves : (below : Below) (goal : Goal) (op : Op) (path : List ℕ) (kind : Kind)
-    → starts below true op ≡ on_path below (Opens goal) path → is_followed (follows goal) kind ≡ false
-    → IsWalk below op path kind
-resolves below goal op path kind begins stays = record {
-  goal = goal;
-  lift = walked below true (Opens goal);
-  begins = begins;
-  goes_on = λ w step answer lines end e led. (e, led);
-  stays = stays;
-  found = λ h names e. refl;
-}
-
-makes_all : (below : Below) (op : Op) (path : List ℕ) (kind : Kind) → op ≡ MkdirAll path → is_dir_kind kind ≡ true
-    → IsWalk below op path kind
-makes_all below op path kind is dir = record {
-  goal = Deepest;
-  lift = λ turn. makes (make.after_walk true turn);
-  begins = ap (starts below true) is;
-  goes_on = λ w step answer lines end e led. (e, led);
-  stays = no_link kind dir;
-  found = λ h names e. ap (λ t. makes (if t then make.made h names else make.gives_up (h.number ∷ []) NotDir))
-      (ap is_dir_kind e ∙ dir);
-}
-  where
-    no_link : (kind : Kind) → is_dir_kind kind ≡ true → is_followed true kind ≡ false
-    no_link Dir h = refl
-    no_link File h = refl
-    no_link Link h = cc (h)
-
-pub first_or : (b : Bool) → (b || false) ≡ true → b ≡ true
-first_or true h = refl
-first_or false h = cc (h)
-
-module _ (asked_for : Asked) (path second : List ℕ) (op : Op) (kind : Kind) where
-  -- the same of another number
-  abbrev op_by : ℕ → Option Op
-  op_by n = op_of (record asked_for { op = n }) path second
-
-  by_number : (two one ten : Bool) → (asked_for.op == 2) ≡ two → (asked_for.op == 1) ≡ one → (asked_for.op == 10) ≡ ten
-      → op_by asked_for.op ≡ Some op
-      → opens_kind asked_for.op kind ≡ true
-      → (two || ((one && not (is_followed true kind)) || (ten && is_dir_kind kind))) ≡ true
-      → IsWalk (below_asked asked_for) op path kind
-  by_number true one ten e f g named h k =
-      let is : Some (ResolveNoFollow path) ≡ Some op =
-      subst (λ n. op_by n ≡ Some op) (eqb-true asked_for.op 2 e) named in
-      resolves (below_asked asked_for) NoFollow op path kind
-      (ap (starts (below_asked asked_for) true) (sym (same_Some (ResolveNoFollow path) op is))) refl
-  by_number false true ten e f g named h k =
-      let is : Some (Resolve path) ≡ Some op = subst (λ n. op_by n ≡ Some op) (eqb-true asked_for.op 1 f) named in
-      let plain : (not (is_followed true kind) || false) ≡ true =
-      subst (λ n. opens_kind n kind ≡ true) (eqb-true asked_for.op 1 f) h in
-      resolves (below_asked asked_for) Follow op path kind
-      (ap (starts (below_asked asked_for) true) (sym (same_Some (Resolve path) op is)))
-      (not-true (is_followed true kind) (first_or (not (is_followed true kind)) plain))
-  by_number false false true e f g named h k =
-      let is : Some (MkdirAll path) ≡ Some op = subst (λ n. op_by n ≡ Some op) (eqb-true asked_for.op 10 g) named in
-      makes_all (below_asked asked_for) op path kind (sym (same_Some (MkdirAll path) op is)) k
-  by_number false false false e f g named h k = cc (k)
-
--- ---- to the reply
+-- ---- to the fault
 
 begins_so : (below : Below) (goal : Goal) (lift : walk.Turn → CallTurn) (path : List ℕ) (names : List (List ℕ))
     → text_fault path ≡ None
@@ -388,59 +256,9 @@ begins_so below goal lift path names whole inside parts =
     (asked (follows goal) (parts_of path)) LINKS_MAX)) inside
     ∙ ap (λ ps. lift (on_own way root_itself (asked (follows goal) ps) LINKS_MAX)) parts
 
-module _ (asked_for : Asked) (path second place : List ℕ) (kind : ℕ) (op : Op) (ps : List Passed) (last : Passed) where
-  abbrev of : Kind
-  of = kind_of kind
-
-  abbrev names : List (List ℕ)
-  names = names_passed ps last
-
-  abbrev below : Below
-  below = below_asked asked_for
-
-  leads : IsWalk below op path of → leads_out (begins_with_slash path) below.flags ≡ false → text_fault path ≡ None
-      → IsPlace place names
-      → spells_place path place ≡ true
-      → LeadsTo below (starts below true op) (lines_at_once asked_for.root ps last of)
-      (ends (reply_view (opened_at_once ps last of)))
-  leads is inside whole place_is spells =
-      let way = way_from below.root is.goal below.flags in
-      let turned : onto ps last [] ≡ reverse names = onto_is ps last [] ∙ append-nil (reverse names) in
-      let same : same_names names (reverse (onto ps last [])) ≡ true =
-      ap (λ ns. same_names names (reverse ns)) turned ∙ ap (same_names names) (reverse-reverse names)
-      ∙ same_where_equal names names refl in
-      let begins = is.begins
-      ∙ begins_so below is.goal is.lift path names whole inside (parts_named path place names place_is spells) in
-      let first = is.lift (on_own way root_itself (asked (follows is.goal) (map part.Named names)) LINKS_MAX) in
-      let end = ap (λ ns. is.lift (walk.found (handle last of) ns)) turned
-      ∙ is.found (handle last of) (reverse names) refl in
-      subst (λ turn. LeadsTo below turn (lines_at_once asked_for.root ps last of)
-      (ends (reply_view (opened_at_once ps last of)))) (sym begins)
-      (subst (LeadsTo below first (lines_at_once asked_for.root ps last of)) end
-      (passed_on below is.goal is.lift is.goes_on LINKS_MAX ps last of names root_itself refl place_is.valid is.stays
-      same))
-
-pub tells : EachCallTells → OpensAtOnceTell
-tells each asked_for path second place kind op ps last named at_once read =
-    let below = below_asked asked_for in
-    let kinds = and_true (opens_kind asked_for.op (kind_of kind)) _ at_once in
-    let inside = and_true (not (leads_out (begins_with_slash path) below.flags)) _ kinds.1 in
-    let whole = and_true (is_none (text_fault path)) _ inside.1 in
-    let spells = and_true (has_names (names_read place)) (spells_place path place) whole.1 in
-    let is = by_number asked_for path second op (kind_of kind) (asked_for.op == 2) (asked_for.op == 1)
-    (asked_for.op == 10) refl refl refl named kinds.0 kinds.0 in
-    let led = leads asked_for path second place kind op ps last is
-    (not-true (leads_out (begins_with_slash path) below.flags) inside.0)
-    (no_fault (text_fault path) whole.0) (placed place (names_passed ps last) spells.0 read) spells.1 in
-    record {
-      leads = led;
-      tells = λ opening before window node is.
-          each (call_in asked_for op true
-          (lines_at_once asked_for.root ps last (kind_of kind)) opening before window node)
-          (opened_at_once ps last (kind_of kind)) is led;
-    }
-
--- ---- to the fault
+-- the operation of another number
+abbrev op_by : Asked → List ℕ → List ℕ → ℕ → Option Op
+op_by asked_for path second n = op_of (record asked_for { op = n }) path second
 
 -- the operation is a walk to the path's end
 record IsResolve (below : Below) (op : Op) (path : List ℕ) : Type 0 where
@@ -448,23 +266,23 @@ record IsResolve (below : Below) (op : Op) (path : List ℕ) : Type 0 where
   begins : starts below true op ≡ on_path below (Opens goal) path
   shallow : is_deepest goal ≡ false
 
-resolve_of : (asked_for : Asked) (path second : List ℕ) (op : Op) (two one : Bool)
-    → (asked_for.op == 2) ≡ two → (asked_for.op == 1) ≡ one → op_of asked_for path second ≡ Some op
-    → (two || one) ≡ true → IsResolve (below_asked asked_for) op path
-resolve_of asked_for path second op true one e f named h =
-    let is : Some (ResolveNoFollow path) ≡ Some op =
-    subst (λ n. op_by asked_for path second op Dir n ≡ Some op) (eqb-true asked_for.op 2 e) named in
-    record {
-      goal = NoFollow;
-      begins = ap (starts (below_asked asked_for) true) (sym (same_Some (ResolveNoFollow path) op is));
-      shallow = refl;
-    }
-resolve_of asked_for path second op false true e f named h =
+resolve_of : (asked_for : Asked) (path second : List ℕ) (op : Op) (one two : Bool)
+    → (asked_for.op == 1) ≡ one → (asked_for.op == 2) ≡ two → op_of asked_for path second ≡ Some op
+    → (one || two) ≡ true → IsResolve (below_asked asked_for) op path
+resolve_of asked_for path second op true two e f named h =
     let is : Some (Resolve path) ≡ Some op =
-    subst (λ n. op_by asked_for path second op Dir n ≡ Some op) (eqb-true asked_for.op 1 f) named in
+    subst (λ n. op_by asked_for path second n ≡ Some op) (eqb-true asked_for.op 1 e) named in
     record {
       goal = Follow;
       begins = ap (starts (below_asked asked_for) true) (sym (same_Some (Resolve path) op is));
+      shallow = refl;
+    }
+resolve_of asked_for path second op false true e f named h =
+    let is : Some (ResolveNoFollow path) ≡ Some op =
+    subst (λ n. op_by asked_for path second n ≡ Some op) (eqb-true asked_for.op 2 f) named in
+    record {
+      goal = NoFollow;
+      begins = ap (starts (below_asked asked_for) true) (sym (same_Some (ResolveNoFollow path) op is));
       shallow = refl;
     }
 resolve_of asked_for path second op false false e f named h = cc (h)
@@ -473,12 +291,11 @@ pub misses : EachCallTells → FailsAtOnceTell
 misses each asked_for path second place op ps name rest named at_once read =
     let below = below_asked asked_for in
     let names = names_to ps name rest in
-    let both = and_true ((asked_for.op == 2) || (asked_for.op == 1)) _ at_once in
-    let kinds = and_true (opens_kind asked_for.op Dir) _ both.1 in
-    let inside = and_true (not (leads_out (begins_with_slash path) below.flags)) _ kinds.1 in
+    let resolves = and_true ((asked_for.op == 1) || (asked_for.op == 2)) _ at_once in
+    let inside = and_true (not (leads_out (begins_with_slash path) below.flags)) _ resolves.1 in
     let whole = and_true (is_none (text_fault path)) _ inside.1 in
     let spells = and_true (has_names (names_read place)) (spells_place path place) whole.1 in
-    let is = resolve_of asked_for path second op (asked_for.op == 2) (asked_for.op == 1) refl refl named both.0 in
+    let is = resolve_of asked_for path second op (asked_for.op == 1) (asked_for.op == 2) refl refl named resolves.0 in
     let lift = walked below true (Opens is.goal) in
     let place_is = placed place names spells.0 read in
     let begins = is.begins

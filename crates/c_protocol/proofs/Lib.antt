@@ -10,7 +10,5 @@ mod FitPieces
 mod SplitLemmas
 mod GivingUp
 mod OwnExchanges
-mod SeenBelow
-mod FollowedAtOnce
 mod Refusing
 mod ToldWhole

@@ -1,19 +1,19 @@
--- A call that opens by names alone, all of which are passed at once: as by one openat2(2) with RESOLVE_NO_SYMLINKS,
--- and then one question where the object stands. What it replies is known then without its single turns.
+-- A call by names alone, one of which is missing as they are looked up at once: as by one openat2(2) with
+-- RESOLVE_NO_SYMLINKS. What it replies is known then without its single turns.
 use Rattle.std.specs.Prelude.{◌≡◌, ℕ, List, [], ◌∷◌, ◌++◌, ◌==◌, ◌&&◌, ◌||◌, Bool, true, false, not, map, is_none, codes, length, nat_lt, Option, Some, None}
 use Rattle.path_text.specs.declared.errno.Errno.TheVariants.{NotFound}
 use Rattle.path_text.specs.Name.{same_bytes}
 use Rattle.path_text.specs.declared.name.TheConstants.{NAME_MAX}
 use Rattle.path_text.specs.Print.{names_read}
 use Rattle.path_text.specs.Text.{text_fault, begins_with_slash}
-use Rattle.tree_model.specs.declared.answer.Answer.TheVariants.{Opened, Names, Done, Refused}
+use Rattle.tree_model.specs.declared.answer.Answer.TheVariants.{Opened, Done, Refused}
 use Rattle.tree_model.specs.declared.answer.Event.{Event}
 use Rattle.tree_model.specs.declared.step.Kind.{Kind}
 use Rattle.tree_model.specs.declared.step.Kind.TheVariants.{Dir}
-use Rattle.tree_model.specs.declared.step.StepOf.TheVariants.{Open, NameBelow, Close}
+use Rattle.tree_model.specs.declared.step.StepOf.TheVariants.{Open, Close}
 use Rattle.tree_model.specs.State.{State}
 use Rattle.walk_plan.specs.Plan.{leads_out}
-use Rattle.step_resolver.specs.Order.{Line, answered, is_dir_kind, is_followed}
+use Rattle.step_resolver.specs.Order.{Line, answered}
 use Rattle.root_ops.specs.declared.op.Op.{Op}
 use Rattle.root_ops.specs.declared.reply.Reply.{Reply}
 use Rattle.root_ops.specs.declared.reply.Reply.TheVariants as replies
@@ -21,17 +21,11 @@ use Rattle.root_ops.specs.CallHistory.{IsCallInHistory}
 use Rattle.root_ops.specs.EachCall.{CallTells}
 use Rattle.root_ops.specs.Order.{starts, ends, LeadsTo}
 use Rattle.root_ops.specs.View.{reply_view}
-use Rattle.c_protocol.specs.Numbers.{op_of, below_asked, owner_asked, kind_of}
+use Rattle.c_protocol.specs.Numbers.{op_of, below_asked}
 use Rattle.c_protocol.specs.Outright.{call_in}
 use Rattle.c_protocol.specs.declared.numbers.Asked.{Asked}
 
 -- ---- which calls these are
-
--- A resolve that follows no link at its end, or one to what is no link; or a call that makes all directories, where
--- the last one is there.
-abbrev pub opens_kind : ℕ → Kind → Bool
-opens_kind op kind =
-    (op == 2) || (((op == 1) && not (is_followed true kind)) || ((op == 10) && is_dir_kind kind))
 
 -- a name, where it has no slash and no NUL (POSIX.1, Filename)
 abbrev pub fits_piece : List ℕ → Bool
@@ -49,17 +43,13 @@ abbrev pub spells_place : List ℕ → List ℕ → Bool
 spells_place path [] = false
 spells_place path (b ∷ names) = same_bytes path (b ∷ names) || same_bytes path names
 
--- The path is the names of the place, and nothing else; it isn't refused for its slash at the beginning
--- (RESOLVE_BENEATH).
-abbrev pub opens_at_once : Asked → List ℕ → ℕ → List ℕ → Bool
-opens_at_once asked path kind place =
-    opens_kind asked.op (kind_of kind)
+-- A resolve whose path is the names of the place, and nothing else. It isn't refused for its slash at the beginning
+-- (RESOLVE_BENEATH). The calls that make directories go on where a name is missing.
+abbrev pub misses_at_once : Asked → List ℕ → List ℕ → Bool
+misses_at_once asked path place =
+    ((asked.op == 1) || (asked.op == 2))
     && (not (leads_out (begins_with_slash path) (below_asked asked).flags)
     && (is_none (text_fault path) && (has_names (names_read place) && spells_place path place)))
-
--- A resolve by such a path. The calls that make directories go on where a name is missing.
-abbrev pub misses_at_once : Asked → List ℕ → List ℕ → Bool
-misses_at_once asked path place = ((asked.op == 2) || (asked.op == 1)) && opens_at_once asked path 1 place
 
 -- ---- the lines of such a call
 
@@ -76,32 +66,8 @@ abbrev pub closes : List ℕ → List Line
 closes [] = []
 closes (h ∷ hs) = answered (Close h) Done ∷ closes hs
 
--- Each name is opened in the directory that the one before it opened, which is closed then, but for the root. At the
--- end it is asked where the last one stands.
-abbrev pub lines_from : ℕ → ℕ → List ℕ → List Passed → Passed → Kind → List (List ℕ) → List Line
-lines_from root dir held [] last kind names =
-    opens dir last kind ∷ (closes held ++ answered (NameBelow root last.number) (Names names) ∷ [])
-lines_from root dir held (p ∷ ps) last kind names =
-    opens dir p Dir ∷ (closes held ++ lines_from root p.number (p.number ∷ []) ps last kind names)
-
-abbrev pub names_passed : List Passed → Passed → List (List ℕ)
-names_passed ps last = map (λ p. p.name) ps ++ last.name ∷ []
-
-abbrev pub lines_at_once : ℕ → List Passed → Passed → Kind → List Line
-lines_at_once root ps last kind = lines_from root root [] ps last kind (names_passed ps last)
-
--- the last one was opened, and stood there
-abbrev pub opened_at_once : List Passed → Passed → Kind → Reply
-opened_at_once ps last kind =
-    replies.Opened (record {
-      owner = owner_asked;
-      handle = last.number;
-      node = last.node;
-      kind = kind;
-      names = names_passed ps last;
-    })
-
--- Or the next name is missing in the directory that the one before it opened. What is held is closed.
+-- Each name is opened in the directory that the one before it opened, which is closed then, but for the root. The next
+-- name is missing in the directory that the last one of them opened. What is held is closed.
 abbrev pub lines_missing_from : ℕ → List ℕ → List Passed → List ℕ → List Line
 lines_missing_from dir held [] name = answered (Open dir name) (Refused NotFound) ∷ closes held
 lines_missing_from dir held (p ∷ ps) name =
@@ -123,16 +89,8 @@ pub record IsCallAtOnce (asked : Asked) (op : Op) (lines : List Line) (reply : R
       → IsCallInHistory (call_in asked op true lines opening before window node)
       → CallTells (call_in asked op true lines opening before window node) reply
 
--- So it is of each of these calls, by whatever handles: where each name was opened in the one before it, all but
--- the last as directories, and the last one of that kind stood at that place.
-abbrev pub OpensAtOnceTell : Type 0
-OpensAtOnceTell = (asked : Asked) (path second place : List ℕ) (kind : ℕ) (op : Op) (ps : List Passed) (last : Passed)
-    → op_of asked path second ≡ Some op → opens_at_once asked path kind place ≡ true
-    → names_read place ≡ Some (names_passed ps last)
-    → IsCallAtOnce asked op (lines_at_once asked.root ps last (kind_of kind)) (opened_at_once ps last (kind_of kind))
-
--- And where one of the names is missing in the directory that those before it led to, whichever names stand behind it,
--- the call fails for that (ENOENT of openat2(2)).
+-- So it is where one of the names is missing in the directory that those before it led to, by whatever handles, and
+-- whichever names stand behind it: the call fails for that (ENOENT of openat2(2)).
 abbrev pub FailsAtOnceTell : Type 0
 FailsAtOnceTell = (asked : Asked) (path second place : List ℕ) (op : Op) (ps : List Passed) (name : List ℕ)
     (rest : List (List ℕ))

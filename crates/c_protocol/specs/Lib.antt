@@ -11,6 +11,4 @@ pub mod Outright
 pub mod OwnExchanges
 pub mod Refusals
 pub mod AtOnce
-pub mod SeenBelow
-pub mod FollowedAtOnce
 pub mod Split

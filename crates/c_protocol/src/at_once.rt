@@ -1,11 +1,10 @@
-//! A call that opens by names which were passed at once.
+//! A call by names alone, one of which was missing as they were looked up at once.
 ghost use Rattle.std.specs.Prelude.{◌≡◌, ◌==◌};
 ghost use Rattle.std.specs.List.{list_all, list_any};
 ghost use Rattle.path_text.specs.Name.{NUL, is_name};
 ghost use Rattle.path_text.specs.Print.{names_read};
 ghost use Rattle.path_text.specs.Text.{between_slashes};
-ghost use Rattle.c_protocol.specs.AtOnce.{fits_piece, has_names, misses_at_once, opens_at_once, opens_kind, spells_place};
-ghost use Rattle.c_protocol.specs.Numbers.{kind_of};
+ghost use Rattle.c_protocol.specs.AtOnce.{fits_piece, has_names, misses_at_once, spells_place};
 
 use crate::numbers::Asked;
 use path_text::{NAME_MAX, Path, SLASH};
@@ -66,39 +65,19 @@ fn spells_place(path: &[u8], place: &[u8]) -> bool
     }
 }
 
-// Whether a call of this number opens what is of this kind, and follows no link there.
-fn opens_kind(op: u8, kind: u8) -> bool
-    ensures { result ≡ opens_kind op (kind_of kind) }
-{
-    op == 2 || (op == 1 && kind != 3) || (op == 10 && kind == 1)
-}
-
-/// Whether a call goes by the names of this place alone, to an object of this kind that stands there (openat2(2),
-/// RESOLVE_NO_SYMLINKS). Then its path is the place's, with the slash at its beginning or without, and by
-/// `opens_at_once_tell` it replies that it opened the object, if each name was opened in the directory before it, and
-/// the object's place was asked for last. Takes no memory.
+/// Whether a call is a resolve by the names of this place alone: its path is the place's, with the slash at its beginning
+/// or without. If one of them is missing in the directory that those before it led to, the call fails by ENOENT, by
+/// `fails_at_once_tell`, whichever of them that is (openat2(2), RESOLVE_NO_SYMLINKS). Takes no memory.
 ///
-/// `kind` is 1 of a directory, 3 of a link, any other of a file; `place` is a slash before each name. True of a
-/// resolve, but not of a link that it would follow, and of a directory that is there with all above it, where missing
-/// ones would be made. False of any other operation, of a path that is none or has another part, and of one that
-/// begins with a slash where that leads out (RESOLVE_BENEATH).
-pub fn opens_at_once(asked: &Asked, path: &[u8], kind: u8, place: &[u8]) -> bool
-    ensures { result ≡ opens_at_once asked.now path.now kind place.now }
+/// `place` is a slash before each name. False of any other operation, as of those that make directories, which go on
+/// where a name is missing; of a path that is none or has another part; and of one that begins with a slash where that
+/// leads out (RESOLVE_BENEATH).
+pub fn misses_at_once(asked: &Asked, path: &[u8], place: &[u8]) -> bool
+    ensures { result ≡ misses_at_once asked.now path.now place.now }
 {
-    opens_kind(asked.op, kind)
+    (asked.op == 1 || asked.op == 2)
         && !(asked.beneath && path.first() == Some(&SLASH))
         && Path::fault_of(path).is_none()
         && has_names(place)
         && spells_place(path, place)
-}
-
-/// Whether a call is a resolve by the names of this place alone, as `opens_at_once` says. If one of them is missing in
-/// the directory that those before it led to, the call fails by ENOENT, by `fails_at_once_tell`, whichever of them that
-/// is (openat2(2), RESOLVE_NO_SYMLINKS). Takes no memory.
-///
-/// `place` is a slash before each name. False of the calls that make directories, which go on where a name is missing.
-pub fn misses_at_once(asked: &Asked, path: &[u8], place: &[u8]) -> bool
-    ensures { result ≡ misses_at_once asked.now path.now place.now }
-{
-    (asked.op == 2 || asked.op == 1) && opens_at_once(asked, path, 1, place)
 }

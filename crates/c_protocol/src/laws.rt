@@ -1,11 +1,9 @@
 //! What a C program's call tells in a history: laws, each the contract of a function without a body.
-ghost use Rattle.c_protocol.specs.AtOnce.{FailsAtOnceTell, OpensAtOnceTell};
-ghost use Rattle.c_protocol.specs.FollowedAtOnce.{LinksSeenBelow};
+ghost use Rattle.c_protocol.specs.AtOnce.{FailsAtOnceTell};
 ghost use Rattle.c_protocol.specs.History.{ConversationsAreCalls};
 ghost use Rattle.c_protocol.specs.Outright.{ConversationsTell};
 ghost use Rattle.c_protocol.specs.OwnExchanges.{ConversationsClose, UnmadeStepsEndCalls};
 ghost use Rattle.c_protocol.specs.Refusals.{StepsAreRefusedSo};
-ghost use Rattle.c_protocol.specs.SeenBelow.{PlainSeenBelow, ResolvesSeenBelow};
 ghost use Rattle.c_protocol.specs.Turns.{StepsToldWholeAreOne};
 
 use root_ops::{calls_tell, calls_tell_by_any_numbers, each_call_tells, opened_are_closed};
@@ -45,16 +43,6 @@ pub fn steps_told_whole_are_one()
     ensures { StepsToldWholeAreOne }
 {}
 
-/// A call of which `opens_at_once` is true, by whatever handles each name was opened in the directory before it: the
-/// opens, the closes between them and the question where the last one stands are the lines of that call, which replies
-/// that it opened the last one. In each legal history in which these lines are the program's own events, it tells what
-/// `conversations_tell` says of a call.
-pub fn opens_at_once_tell()
-    ensures { OpensAtOnceTell }
-{
-    each_call_tells();
-}
-
 /// A call of which `misses_at_once` is true, by whatever handles each name was opened in the directory before it, up to
 /// one that is missing there: the opens, that refusal, and the closes between are the lines of that call. It fails by
 /// ENOENT. In each legal history in which these lines are the program's own events, it tells what `conversations_tell`
@@ -82,31 +70,6 @@ pub fn conversations_close()
 pub fn unmade_steps_end_calls()
     ensures { UnmadeStepsEndCalls }
 {}
-
-/// A resolve whose last check says that the object is below the root, and not at which names (openat2(2),
-/// RESOLVE_BENEATH): a call that is told the names which it passed, where the history has whatever names as the answer
-/// to that question. What it opens was reached by the path's parts at rising moments, and stood below the root at the
-/// last check, at which names is not said. Where others leave alone the entries that the path reads, it is what the
-/// path means. So it is of each resolve whose last line is the question, and of a path of plain names that is passed at
-/// once.
-pub fn seen_below_tell()
-    ensures resolves { ResolvesSeenBelow }
-    ensures plain { PlainSeenBelow }
-{
-    opens_at_once_tell();
-}
-
-/// A call of which `follows_at_once` is true, which one system call walks as a whole, through links and `..`
-/// (openat2(2), RESOLVE_IN_ROOT or RESOLVE_BENEATH). It is a resolve. Nobody is told its steps. So the law is about
-/// whatever lines lead it to the reply that something was opened, where the history has whatever names as the answer to
-/// the last of them, the question where that stands. What was opened was reached by the path's parts at rising moments,
-/// and stood below the root at that question, at which names is not said. Where others leave alone the entries that the
-/// path reads, it is what the path means.
-pub fn links_seen_below_tell()
-    ensures { LinksSeenBelow }
-{
-    seen_below_tell();
-}
 
 /// The step table refuses a step by no other error than those of `is_refusal`, in any tree: but for a handle that
 /// isn't open or is on no directory, for want of handles or numbers, and for EINVAL, which is a directory's that can't

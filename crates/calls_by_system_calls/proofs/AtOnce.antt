@@ -1,5 +1,5 @@
 -- What names are looked up at once by a system call is a call in a history.
-use Rattle.std.proofs.Common.{◌≡◌, ℕ, true, false, Bool, if◌then◌else◌, List, [], ◌∷◌, ◌++◌, map, Some, refl, sym, ap, ◌∙◌, subst}
+use Rattle.std.proofs.Common.{◌≡◌, ℕ, if◌then◌else◌, List, [], ◌∷◌, ◌++◌, map, Some, refl, sym, ap, ◌∙◌, subst}
 use Rattle.path_text.specs.declared.errno.Errno.TheVariants.{NotFound}
 use Rattle.tree_model.specs.declared.answer.Answer.TheVariants.{Done, Refused}
 use Rattle.tree_model.specs.declared.step.Kind.TheVariants.{Dir}

@@ -1,27 +1,27 @@
 -- The same of a resolve whose last check is the kernel's (openat2(2), RESOLVE_BENEATH): at a moment of the system call
 -- the object stood below the root, at names that the program doesn't learn.
 use Rattle.std.specs.Prelude.{◌≡◌, ℕ, List, [], ◌∷◌, ◌++◌, true}
+use Rattle.path_text.specs.Text.{reading_of}
 use Rattle.tree_model.specs.declared.answer.Event.{Event}
 use Rattle.walk_plan.specs.declared.goal.Goal.{Goal}
 use Rattle.step_resolver.specs.Order.{Line, Handle}
 use Rattle.root_ops.specs.declared.op.Op.{Op}
+use Rattle.root_ops.specs.Acts.{along}
 use Rattle.root_ops.specs.CallHistory.{IsCallInHistory}
 use Rattle.root_ops.specs.Order.{opened, starts, ends, LeadsTo}
-use Rattle.root_ops.specs.Renumbered.{Numbering, handle_by, lines_by}
+use Rattle.root_ops.specs.Renumbered.{Numbering, handle_by}
+use Rattle.kernel_walks.specs.Behind.{asks_below}
+use Rattle.kernel_walks.specs.Resolves.{IsResolve}
+use Rattle.kernel_walks.specs.SeenBelow.{SeenBelow}
 use Rattle.c_protocol.specs.Numbers.{below_asked}
-use Rattle.c_protocol.specs.SeenBelow.{asks, walk_in, IsResolve, SeenBelow}
 use Rattle.c_protocol.specs.declared.numbers.Asked.{Asked}
 use Rattle.calls_by_system_calls.specs.AtOnce.{in_history, LinesAreMade}
 use Rattle.calls_by_system_calls.specs.Linux.{Linux}
 use Rattle.calls_by_system_calls.specs.Window.{IsWindow}
 
--- the root's own number is the history's
-abbrev pub asked_by : Numbering → Asked → Asked
-asked_by f asked = record asked { root = f.handle asked.root }
-
 -- the lines, and after them the question where the object stands, with what stood at one of its moments as the answer
 abbrev pub and_asks : Asked → List Line → Handle → List (List ℕ) → List Line
-and_asks asked lines handle others = lines ++ asks asked.root handle.number others ∷ []
+and_asks asked lines handle others = lines ++ asks_below (below_asked asked) handle others ∷ []
 
 -- There is a history that begins with the tree as the call did: its window is what others did, with the lines' events
 -- among it, each at a moment of its own system calls. In it the walk has opened the object, which was reached by the
@@ -34,8 +34,7 @@ pub record LinesAreSeenBelow (x : Linux) (asked : Asked) (op : Op) (goal : Goal)
   pub window : List Event
   pub is_window : IsWindow x f 0 x.opening lines counts window
   pub is_call : IsCallInHistory (in_history x asked op lines node f window)
-  pub seen : SeenBelow (walk_in (asked_by f asked) op goal path (lines_by f lines) x.opening [] window node)
-      (handle_by f handle) names
+  pub seen : SeenBelow (along (in_history x asked op lines node f window) goal (reading_of path)) (handle_by f handle) names
 
 -- So it is of each resolve that is led by its lines and the question to the reply that the object was opened, where it is
 -- told the names that it passed. If one system call walks the path as a whole, its lines are the steps that the kernel

@@ -6,7 +6,8 @@ ghost use Rattle.calls_by_system_calls.specs.SeenBelow.{ResolvesSeenBelowBySyste
 ghost use Rattle.calls_by_system_calls.specs.WorkedChange.{MkdirIsMade};
 ghost use Rattle.calls_by_system_calls.specs.WorkedRace.{RaceIsMade};
 
-use c_protocol::{conversations_tell, fails_at_once_tell, seen_below_tell};
+use c_protocol::{conversations_tell, fails_at_once_tell};
+use kernel_walks::resolves_seen_below;
 use place_protocol::places_stood;
 
 /// A call of a C program, each of whose Opens, Parents and ReadLinks is a whole conversation of system calls by
@@ -35,13 +36,13 @@ pub fn fails_at_once_by_system_calls()
 
 /// The same of a resolve whose last check is the kernel's (openat2(2), RESOLVE_BENEATH): at a moment of that call the
 /// object stood below the root, at whatever names. In the history the walk has opened the object, which was reached by
-/// the path's parts and stood below the root at the last check (`seen_below_tell`). So it is of each resolve whose lines
-/// lead to the object. Where one system call walks a path as a whole, through links and `..`, that its steps were such
+/// the path's parts and stood below the root at the last check (`resolves_seen_below`). So it is of each resolve whose
+/// lines lead to the object. Where one system call walks a path as a whole, through links and `..`, that its steps were such
 /// lines is a premise.
 pub fn seen_below_by_system_calls()
     ensures { ResolvesSeenBelowBySystemCalls }
 {
-    seen_below_tell();
+    resolves_seen_below();
 }
 
 /// Where a conversation of `place_protocol` told a place, and its names are the answer to a NameBelow, this answer was

@@ -395,7 +395,7 @@ fn add<'a>(
 /// The commands of the program.
 pub fn command<'a>(alloc: Global) -> Result<Command<'a>, AllocError> {
     let program = Command::new(alloc, "inroot")
-        .version("0.1.0")
+        .version("0.2.0")
         .about(
             "Resolve paths below a root, replay, draw and explore races, and run calls side by side, over the tree of a script on standard input",
         )

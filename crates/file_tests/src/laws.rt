@@ -16,7 +16,7 @@ fn laws_of_files() {
 fn laws_of_missing_parts() {
     make_through_links::what_is_given_was_found_or_made();
     make_through_links::what_is_there_is_given();
-    make_through_links::files_are_made_in_the_directory_above();
+    make_through_links::files_are_made_once_their_directories_are_there();
     make_through_links::each_call_walks_its_part();
     make_through_links::links_are_followed_in_turn();
     make_through_links::no_link_is_followed_without_leave();

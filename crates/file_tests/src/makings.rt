@@ -63,8 +63,7 @@ fn partly(descriptor: u32, rest: usize) -> Outcome {
 fn after(making: Making, outcome: Outcome, text: &[u8], room: &mut [u8]) -> Making {
     let is_within = making.above <= making.length
         && making.length <= room.len()
-        && making.start <= making.length
-        && making.size <= making.length - making.start;
+        && making.size <= making.length;
     if !is_within || room.len() < ROOM {
         return making;
     }
@@ -72,29 +71,24 @@ fn after(making: Making, outcome: Outcome, text: &[u8], room: &mut [u8]) -> Maki
 }
 
 // This call comes next, on this path, in this directory.
-fn asks(making: &Making, room: &[u8], call: u8, from: u32, path: &[u8]) -> bool {
-    making.next == call && making.from == from && is_about(making, room, path)
+fn asks(making: &Making, room: &[u8], call: u8, path: &[u8]) -> bool {
+    making.next == call && is_about(making, room, path)
 }
 
 fn is_about(making: &Making, room: &[u8], path: &[u8]) -> bool {
-    making.start <= room.len()
-        && making.size <= room.len() - making.start
-        && &room[making.start..making.start + making.size] == path
+    making.size <= room.len() && &room[..making.size] == path
 }
 
-// It fails so, about this.
 fn fails(making: &Making, room: &[u8], error: u32, step: u8, path: &[u8]) -> bool {
     making.next == FAILS
         && making.error == error
         && making.step == step
-        && making.base == 0
-        && making.from == 0
         && making.gives == 0
         && is_about(making, room, path)
 }
 
 fn ends(making: &Making, gives: u32) -> bool {
-    making.next == ENDS && making.base == 0 && making.from == 0 && making.gives == gives
+    making.next == ENDS && making.gives == gives
 }
 
 // A room with this path.
@@ -109,7 +103,7 @@ fn makes_directories(rt: HostRuntime) -> Result<(), Fail> {
     let mut room = [0; ROOM];
     laid(b"a/b", &mut room);
     let making = begin(3, false, true, true);
-    assert!(rt; asks(&making, &room, MAKE, 0, b"a/b"));
+    assert!(rt; asks(&making, &room, MAKE, b"a/b"));
     assert!(rt; making.pause == 0);
     assert!(rt; ends(&after(making, opened(5), b"", &mut room), 5));
     assert!(rt; ends(&after(making, failed(EACCES), b"", &mut room), 0));
@@ -118,7 +112,6 @@ fn makes_directories(rt: HostRuntime) -> Result<(), Fail> {
             &after(making, failed(ENOENT), b"", &mut room),
             &room,
             PARTIAL,
-            0,
             b"a/b"
         )
     );
@@ -135,20 +128,19 @@ fn follows_a_link_to_a_directory(rt: HostRuntime) -> Result<(), Fail> {
     laid(b"var/run//lock/x", &mut room);
     let gone = after(begin(15, false, true, true), failed(ENOENT), b"", &mut room);
     let reads = after(gone, partly(7, 4), b"", &mut room);
-    assert!(rt; asks(&reads, &room, READ_LINK, 7, b"run"));
+    assert!(rt; asks(&reads, &room, READ_LINK, b"var/run"));
     let led = after(reads, opened(0), b"/run", &mut room);
-    assert!(rt; asks(&led, &room, MAKE, 7, b"/run/lock/x"));
-    assert!(rt; led.base == 7);
+    assert!(rt; asks(&led, &room, MAKE, b"/run/lock/x"));
     assert!(rt; led.links == 1);
     let again = after(led, failed(ENOENT), b"", &mut room);
-    assert!(rt; asks(&again, &room, PARTIAL, 7, b"/run/lock/x"));
+    assert!(rt; asks(&again, &room, PARTIAL, b"/run/lock/x"));
     let last = after(
         after(again, partly(9, 10), b"", &mut room),
         opened(0),
         b"y",
         &mut room,
     );
-    assert!(rt; asks(&last, &room, MAKE, 9, b"y"));
+    assert!(rt; asks(&last, &room, MAKE, b"/run/lock/y"));
     assert!(rt; ends(&after(last, opened(4), b"", &mut room), 4));
     Ok(())
 }
@@ -158,15 +150,15 @@ fn makes_a_file_and_what_is_above(rt: HostRuntime) -> Result<(), Fail> {
     let mut room = [0; ROOM];
     laid(b"a/x/f", &mut room);
     let making = begin(5, true, false, true);
-    assert!(rt; asks(&making, &room, FIND, 0, b"a/x/f"));
+    assert!(rt; asks(&making, &room, FIND, b"a/x/f"));
     assert!(rt; ends(&after(making, opened(6), b"", &mut room), 6));
     let splits = after(making, failed(ENOENT), b"", &mut room);
-    assert!(rt; asks(&splits, &room, SPLIT, 0, b"a/x/f"));
+    assert!(rt; asks(&splits, &room, SPLIT, b"a/x/f"));
     let above = after(splits, parted(4), b"", &mut room);
-    assert!(rt; asks(&above, &room, MAKE_ABOVE, 0, b"a/x/"));
+    assert!(rt; asks(&above, &room, MAKE_ABOVE, b"a/x/"));
     assert!(rt; ends(&after(above, failed(ENOENT), b"", &mut room), 0));
     let creates = after(above, opened(8), b"", &mut room);
-    assert!(rt; asks(&creates, &room, CREATE, 8, b"f"));
+    assert!(rt; asks(&creates, &room, CREATE, b"a/x/f"));
     assert!(rt; ends(&after(creates, opened(9), b"", &mut room), 9));
     assert!(rt; ends(&after(creates, failed(EACCES), b"", &mut room), 0));
     Ok(())
@@ -207,7 +199,7 @@ fn a_path_has_a_last_name(rt: HostRuntime) -> Result<(), Fail> {
     Ok(())
 }
 
-// The directories above the file are there, in 8, and an entry is at its name.
+// The directories above the file are there by now, and an entry is at its name.
 fn stands(making: Making, rest: usize, room: &mut [u8]) -> Making {
     let splits = after(making, failed(ENOENT), b"", room);
     let above = after(splits, parted(rest), b"", room);
@@ -220,21 +212,20 @@ fn follows_a_link_at_the_end(rt: HostRuntime) -> Result<(), Fail> {
     let mut room = [0; ROOM];
     laid(b"etc/resolv", &mut room);
     let reads = stands(begin(10, true, true, true), 4, &mut room);
-    assert!(rt; asks(&reads, &room, READ_END, 8, b"resolv"));
+    assert!(rt; asks(&reads, &room, READ_END, b"etc/resolv"));
     assert!(rt; ends(&after(reads, failed(EACCES), b"", &mut room), 0));
     let led = after(reads, opened(0), b"../run/stub", &mut room);
-    assert!(rt; asks(&led, &room, FIND, 8, b"../run/stub"));
-    assert!(rt; led.base == 8);
+    assert!(rt; asks(&led, &room, FIND, b"etc/../run/stub"));
     let splits = after(led, failed(ENOENT), b"", &mut room);
-    let above = after(splits, parted(7), b"", &mut room);
-    assert!(rt; asks(&above, &room, MAKE_ABOVE, 8, b"../run/"));
+    let above = after(splits, parted(11), b"", &mut room);
+    assert!(rt; asks(&above, &room, MAKE_ABOVE, b"etc/../run/"));
     let gone = after(above, failed(ENOENT), b"", &mut room);
-    let link = after(gone, partly(9, 3), b"", &mut room);
-    assert!(rt; asks(&link, &room, READ_LINK, 9, b"run"));
+    let link = after(gone, partly(9, 7), b"", &mut room);
+    assert!(rt; asks(&link, &room, READ_LINK, b"etc/../run"));
     let behind = after(link, opened(0), b"/r", &mut room);
-    assert!(rt; asks(&behind, &room, MAKE_ABOVE, 9, b"/r/"));
+    assert!(rt; asks(&behind, &room, MAKE_ABOVE, b"/r/"));
     let creates = after(behind, opened(10), b"", &mut room);
-    assert!(rt; asks(&creates, &room, CREATE, 10, b"stub"));
+    assert!(rt; asks(&creates, &room, CREATE, b"/r/stub"));
     Ok(())
 }
 
@@ -242,7 +233,7 @@ fn follows_a_link_at_the_end(rt: HostRuntime) -> Result<(), Fail> {
 fn a_link_is_not_followed_without_leave(rt: HostRuntime) -> Result<(), Fail> {
     let mut room = [b'l'; ROOM];
     let reads = stands(begin(1, true, false, true), 0, &mut room);
-    assert!(rt; asks(&reads, &room, READ_END, 8, b"l"));
+    assert!(rt; asks(&reads, &room, READ_END, b"l"));
     assert!(rt;
         fails(
             &after(reads, opened(0), b"x", &mut room),
@@ -309,6 +300,14 @@ fn a_path_has_4095_bytes(rt: HostRuntime) -> Result<(), Fail> {
     let longest = followed(begin(3, false, true, true), &text[..4093], &mut room);
     assert!(rt; longest.next == MAKE);
     assert!(rt; longest.length == 4095);
+    // A relative text stands behind the path of the link's directory.
+    laid(b"d/l", &mut room);
+    let gone = after(begin(3, false, true, true), failed(ENOENT), b"", &mut room);
+    let reads = after(gone, partly(3, 2), b"", &mut room);
+    assert!(rt; after(reads, opened(0), &text[..4093], &mut room).length == 4095);
+    laid(b"d/l", &mut room);
+    let end = after(reads, opened(0), &text[..4094], &mut room);
+    assert!(rt; fails(&end, &room, ENAMETOOLONG, 4, b"d/l"));
     Ok(())
 }
 
@@ -322,7 +321,6 @@ fn what_came_in_between_is_walked_again(rt: HostRuntime) -> Result<(), Fail> {
             &after(gone, partly(3, 3), b"", &mut room),
             &room,
             MAKE,
-            0,
             b"d/n"
         )
     );
@@ -332,7 +330,6 @@ fn what_came_in_between_is_walked_again(rt: HostRuntime) -> Result<(), Fail> {
             &after(reads, failed(EINVAL), b"", &mut room),
             &room,
             MAKE,
-            0,
             b"d/n"
         )
     );
@@ -347,7 +344,7 @@ fn gives_up_after_32_tries(rt: HostRuntime) -> Result<(), Fail> {
     let mut making = begin(3, true, true, true);
     for times in 1..32 {
         making = after(stands(making, 2, &mut room), failed(ENOENT), b"", &mut room);
-        assert!(rt; asks(&making, &room, FIND, 0, b"d/n"));
+        assert!(rt; asks(&making, &room, FIND, b"d/n"));
         assert!(rt; making.between == times);
         assert!(rt; making.pause == next_try(times, true, EAGAIN, false).pause);
     }
@@ -365,40 +362,16 @@ fn makes_one_try_if_told_so(rt: HostRuntime) -> Result<(), Fail> {
     Ok(())
 }
 
-// What is closed: the directory at which the path began, that at which the call began, and what the call gave.
-fn closes(making: &Making, base: u32, from: u32, given: u32) -> bool {
-    making.closes_base == base && making.closes_from == from && making.closes_given == given
-}
-
 #[test]
-fn closes_what_is_named_no_more(rt: HostRuntime) -> Result<(), Fail> {
+fn closes_what_is_not_the_reply(rt: HostRuntime) -> Result<(), Fail> {
     let mut room = [0; ROOM];
-    laid(b"a/l/f", &mut room);
-    let reads = stands(begin(5, true, true, true), 4, &mut room);
-    assert!(rt; closes(&reads, 0, 0, 0));
-    // The link's directory, 8, is where its text begins.
-    let led = after(reads, opened(0), b"x/y", &mut room);
-    assert!(rt; led.base == 8 && closes(&led, 0, 0, 0));
-    assert!(rt; closes(&after(led, opened(5), b"", &mut room), 8, 0, 0));
-    // Behind it, in 9, a file is made; 8 and 9 are closed, and the file is given.
-    let above = after(
-        after(led, failed(ENOENT), b"", &mut room),
-        parted(2),
-        b"",
-        &mut room,
-    );
-    let creates = after(above, opened(9), b"", &mut room);
-    assert!(rt; creates.base == 8 && creates.from == 9 && closes(&creates, 0, 0, 0));
-    let made = after(creates, opened(5), b"", &mut room);
-    assert!(rt; ends(&made, 5) && closes(&made, 8, 9, 0));
-    // Another link stands there: it is read in 9, and 8 isn't needed any more.
-    let further = after(
-        after(creates, failed(EEXIST), b"", &mut room),
-        opened(0),
-        b"z",
-        &mut room,
-    );
-    assert!(rt; further.base == 9 && closes(&further, 8, 0, 0));
+    laid(b"l/f", &mut room);
+    let splits = after(begin(3, true, true, true), failed(ENOENT), b"", &mut room);
+    let above = after(splits, parted(2), b"", &mut room);
+    let creates = after(above, opened(8), b"", &mut room);
+    assert!(rt; above.closes == 0 && creates.closes == 8);
+    let made = after(creates, opened(9), b"", &mut room);
+    assert!(rt; ends(&made, 9) && made.closes == 0);
     Ok(())
 }
 
@@ -410,10 +383,10 @@ fn closes_what_was_found_and_is_not_given(rt: HostRuntime) -> Result<(), Fail> {
         ..opened(6)
     };
     let end = after(begin(1, true, true, true), found, b"", &mut room);
-    assert!(rt; end.next == FAILS && closes(&end, 0, 0, 6));
+    assert!(rt; end.next == FAILS && end.closes == 6);
     // The whole path is there by now, and is walked again.
     let gone = after(begin(1, false, true, true), failed(ENOENT), b"", &mut room);
     let again = after(gone, partly(7, 1), b"", &mut room);
-    assert!(rt; again.next == MAKE && closes(&again, 0, 0, 7));
+    assert!(rt; again.next == MAKE && again.closes == 7);
     Ok(())
 }

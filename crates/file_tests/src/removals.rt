@@ -1,7 +1,5 @@
 //! Which call comes next as a tree is removed by several, by answers that calls give.
-use remove_by_calls::{
-    AT_ROOT, Answer, CLOSE, ENDS, FAILS, IN_PLACE, KEEP, Removal, begin, next,
-};
+use remove_by_calls::{AT_ROOT, Answer, CLOSE, ENDS, FAILS, IN_PLACE, KEEP, Removal, begin, next};
 use std::test::Fail;
 use system_calls::next_try;
 

@@ -7,15 +7,15 @@ ghost use Rattle.find_proc.specs.declared.finding.Facts.{Facts};
 ghost use Rattle.find_proc.specs.declared.finding.TheConstants.{FIND, TELL, OPEN, CLOSE_LOW, PROGRAMS, GIVES, FAILS};
 ghost use Rattle.find_proc.specs.declared.owning.TheConstants.{HAND_IN, AT_HAND, CALLERS, FAILS as FAILS_OWNING, PROGRAMS as PROGRAMS_OWN};
 
-/// The descriptor at hand is believed only by the last answer about it: it is on the mount that is kept, whose number is
-/// known, and of its device; and if it must be the very file, of its inode.
+/// The descriptor at hand is believed only by the last answer about it: it is on the mount that is kept, whose number
+/// is known, and of its device; and if it must be the very file, of its inode.
 pub fn what_is_at_hand_was_shown()
     ensures { (f : Facts) (history : List Exchange) → IsHistory f history → (next_after f history).next ≡ PROGRAMS
         → IsBelieved f history }
 {}
 
-/// The descriptor that is kept isn't passed over unasked. Where one at hand is looked for, /proc is opened, a new one is
-/// given, or it fails, only once an answer about the one that is kept has said that it isn't the one.
+/// The descriptor that is kept isn't passed over unasked. Where one at hand is looked for, /proc is opened, a new one
+/// is given, or it fails, only once an answer about the one that is kept has said that it isn't the one.
 pub fn no_kept_one_is_passed_over()
     ensures { (f : Facts) (history : List Exchange) → IsHistory f history → looks_at_hand f ≡ true
         → is_at_hand (next_after f history).next ≡ false → f.program.there ≡ true

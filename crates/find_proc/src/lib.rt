@@ -1,5 +1,5 @@
-//! Which system call comes next as the /proc is found that a program's calls go by, by what those before gave; and whose
-//! it is then.
+//! Which system call comes next as the /proc is found that a program's calls go by, by what those before gave; and
+//! whose it is then.
 //!
 //! A C driver makes the calls, one at a time, and hands over what a call gave. No function makes a system call or takes
 //! memory.

@@ -1,4 +1,5 @@
--- Where an object stands below a root, in what the kernel tells: the path that a link of /proc/pid/fd leads to (proc(5)).
+-- Where an object stands below a root, in what the kernel tells: the path that a link of /proc/pid/fd leads to
+-- (proc(5)).
 use Rattle.std.specs.Prelude.{ℕ, List, [], ◌∷◌, ◌==◌, Bool, not, ◌&&◌, ◌||◌, if◌then◌else◌, nat_lt, nat_eq, length, take, drop, Option, Some, None, codes}
 use Rattle.std.specs.List.{list_any, ends_with}
 use Rattle.path_text.specs.Name.{same_bytes}

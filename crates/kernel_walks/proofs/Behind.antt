@@ -1,23 +1,18 @@
 -- The lines of a change of one entry: those of a walk, one step and a Close; and the other way round.
-use Rattle.std.specs.Prelude.{◌≡◌, ℕ, List, [], ◌∷◌, ◌++◌, reverse, Bool, true, false, if◌then◌else◌, Option, Some, None, Result, Ok, Err, refl}
+use Rattle.std.specs.Prelude.{◌≡◌, ℕ, List, [], ◌∷◌, ◌++◌, Bool, true, false, Option, Result, refl}
 use Rattle.std.proofs.Common.{sym, ap, subst, ◌∙◌}
 use Rattle.path_text.specs.declared.errno.Errno.{Errno}
-use Rattle.path_text.specs.declared.errno.Errno.TheVariants.{CrossRoot, NotFound}
-use Rattle.path_text.specs.declared.part.Part.{Part}
+use Rattle.path_text.specs.declared.errno.Errno.TheVariants.{NotFound}
 use Rattle.path_text.specs.declared.path.Rule.{Rule}
 use Rattle.path_text.specs.declared.path.Rule.TheVariants.{Drop, Refuse}
 use Rattle.path_text.specs.declared.path.Split.{Split}
-use Rattle.path_text.specs.Reading.{Reading}
 use Rattle.path_text.specs.Split.{split_of}
 use Rattle.path_text.specs.Text.{text_fault, reading_of}
 use Rattle.tree_model.specs.declared.answer.Answer.TheVariants.{Names}
 use Rattle.tree_model.specs.declared.step.StepOf.TheVariants.{Close, NameBelow}
 use Rattle.tree_model.specs.StepWith.{StepWith}
 use Rattle.walk_plan.specs.declared.goal.Goal.TheVariants.{Follow}
-use Rattle.walk_plan.specs.Plan.{leads_out}
 use Rattle.step_machine.specs.Machine.{taken}
-use Rattle.step_resolver.specs.Asked.{asked, follows}
-use Rattle.step_resolver.specs.Meaning.{LINKS_MAX}
 use Rattle.step_resolver.specs.Order.{Way, Handle, Walking, Line, answered, no_room, not_made, has_room, answer_of, ending, root_itself, todo}
 use Rattle.step_resolver.specs.Order as walk
 use Rattle.step_resolver.specs.View.{way_from}
@@ -30,7 +25,7 @@ use Rattle.root_ops.specs.declared.below.Below.{Below}
 use Rattle.root_ops.specs.declared.op.Op.{Op}
 use Rattle.root_ops.specs.declared.op.Op.TheVariants.{CreateFile, CreateDir, CreateLink, RemoveFile, RemoveDir}
 use Rattle.root_ops.specs.Acts.{IsEntry}
-use Rattle.root_ops.specs.Order.{Reply, opened, fault, gives, acting, closing, walking, CallTurn, more, ends, change_step, reply_to, way_of, walked, walks, on_entry, in_directory, unless_fault, starts, calls, LeadsTo}
+use Rattle.root_ops.specs.Order.{Reply, fault, gives, acting, closing, walking, CallTurn, more, ends, change_step, reply_to, way_of, walked, walks, on_entry, in_directory, unless_fault, starts, calls, LeadsTo}
 use Rattle.root_ops.proofs.Replies.{at_its_end, no_lines}
 use Rattle.root_ops.proofs.Handles.WalkParts.{IsEnded, walk_ends}
 use Rattle.kernel_walks.specs.Behind.{IsChangeOf, IsLineOf, ActsBehind, Behind, IsBehindWalk, EntriesAreChangedBehindWalks, IsDirectoryText, asks_below, with_lines, IsChangedBehind, DirectoriesAreLookedUp}

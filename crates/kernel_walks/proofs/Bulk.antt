@@ -1,13 +1,12 @@
 -- What comes of the bulk calls: a MkdirAll of a path that is there, and a RemoveAll.
-use Rattle.std.specs.Prelude.{◌≡◌, ℕ, List, [], ◌∷◌, ◌++◌, reverse, Bool, true, false, if◌then◌else◌, Option, Some, None, Result, Ok, Err, refl}
-use Rattle.std.proofs.Common.{sym, ap, subst, ◌∙◌}
+use Rattle.std.specs.Prelude.{◌≡◌, ℕ, List, [], ◌∷◌, Bool, true, false, if◌then◌else◌, Option, Some, None, Result, Ok, Err, refl}
+use Rattle.std.proofs.Common.{sym, ap, subst}
 use Rattle.path_text.specs.declared.errno.Errno.{Errno}
 use Rattle.path_text.specs.declared.errno.Errno.TheVariants.{NotDir}
 use Rattle.path_text.specs.declared.path.Rule.TheVariants.{Drop}
 use Rattle.path_text.specs.declared.path.Split.{Split}
 use Rattle.path_text.specs.Split.{split_of}
 use Rattle.path_text.specs.Text.{text_fault, reading_of}
-use Rattle.tree_model.specs.State.{State}
 use Rattle.walk_plan.specs.declared.goal.Goal.TheVariants.{Follow, Deepest}
 use Rattle.step_machine.specs.Machine.{HasEnded}
 use Rattle.step_resolver.specs.Asked.{AskedPart}
@@ -29,18 +28,15 @@ use Rattle.root_ops.specs.Order as order
 use Rattle.root_ops.proofs.Replies.{no_lines}
 use Rattle.root_ops.proofs.Handles.AfterWalks.{tail_ends, closes_tail}
 use Rattle.root_ops.proofs.Handles.BulkHistory.{is_bulk_of}
-use Rattle.root_ops.proofs.Handles.HandlesHeld.{HandlesAre}
 use Rattle.root_ops.proofs.Acts.OwnStep.{all_leave, shut}
 use Rattle.kernel_walks.specs.SeenTo.{SeenTo, after_seen}
 use Rattle.kernel_walks.specs.Tells.{SeesWhole, MakeAllSees, Sees}
 use Rattle.kernel_walks.specs.Told.{AreTold}
-use Rattle.kernel_walks.proofs.Alone.{AllOwn}
 use Rattle.kernel_walks.proofs.Clearing.{clears_so, seen_removes_none}
 use Rattle.kernel_walks.proofs.Entries.{opened_after}
 use Rattle.kernel_walks.proofs.Outcome.{Outcome, all_told, some_seen, same_lines, told_alone, handles_stay, held_then}
 use Rattle.kernel_walks.proofs.Parts.{How, by_steps, by_kernel, Parts, parts_of, making_walk, removing_walk}
 use Rattle.kernel_walks.proofs.Past.{IsPastTurn, make_goes_down, remove_due, past_is_told}
-use Rattle.kernel_walks.proofs.SeenBelow.{asks}
 use Rattle.kernel_walks.proofs.SeenTo.{seen_by_kernel, happens_after, after_is, ends_there}
 
 module _ (c : CallInHistory) (reply : Reply) (is : IsCallInHistory c) (told : List Line) where
@@ -75,20 +71,22 @@ module _ (c : CallInHistory) (reply : Reply) (is : IsCallInHistory c) (told : Li
       found_dir : is_dir_kind handle.kind ≡ true → LeadsTo c.below (ends (opened handle names)) seen.rest (ends reply) → MakeAllSees c text reply × HandlesAfter c reply
       found_dir dir onward =
           let over = shut (after_seen seen) c.below reply seen.rest [] (opened handle names) 0 (happens_after make_part make_is handle names seen) onward in
-          subst (λ r. MakeAllSees c text r × HandlesAfter c r) over.same
-          ((whole [] (opened handle names) onward, dir),
-          opened_after c reply is Deepest (reading_of text) handle names seen (no_lines c.below (opened handle names) reply seen.rest onward))
+          subst (λ r. MakeAllSees c text r × HandlesAfter c r) over.same (
+            (whole [] (opened handle names) onward, dir),
+            opened_after c reply is Deepest (reading_of text) handle names seen (no_lines c.below (opened handle names) reply seen.rest onward),
+          )
 
       found_other : is_dir_kind handle.kind ≡ false → LeadsTo c.below (order.gives_up (handle.number ∷ []) NotDir) seen.rest (ends reply)
           → MakeAllSees c text reply × HandlesAfter c reply
       found_other other onward =
-          let over = shut (after_seen seen) c.below reply seen.rest (handle.number ∷ []) (fault NotDir) 0 (happens_after make_part make_is handle names seen) onward in
-          (subst (MakeAllSees c text) over.same (refl, (handle, (names, (whole (handle.number ∷ []) (fault NotDir) onward, other)))),
-          handles_stay c reply (end_of (after_seen seen)) (ap is_release same) (ends_there make_part make_is handle names seen)
-          (tail_ends c.below (actor_of c) (call.begin_of c) seen.rest seen.later (begin_of (after_seen seen)) (order.gives_up (handle.number ∷ []) NotDir) reply
-          (closes_tail c.below (actor_of c) (call.begin_of c) (begin_of (after_seen seen)) (handle.number ∷ []) (gives (fault NotDir)) tt
-          (held_then make_part handle names seen make_is (call.begin_of c) [] (record { others = λ k out. refl; fresh = tt })))
-          onward (after_is make_part make_is handle names seen).legal seen.own_later))
+          let over = shut (after_seen seen) c.below reply seen.rest (handle.number ∷ []) (fault NotDir) 0 (happens_after make_part make_is handle names seen) onward in (
+            subst (MakeAllSees c text) over.same (refl, (handle, (names, (whole (handle.number ∷ []) (fault NotDir) onward, other)))),
+            handles_stay c reply (end_of (after_seen seen)) (ap is_release same) (ends_there make_part make_is handle names seen)
+                (tail_ends c.below (actor_of c) (call.begin_of c) seen.rest seen.later (begin_of (after_seen seen)) (order.gives_up (handle.number ∷ []) NotDir) reply
+                (closes_tail c.below (actor_of c) (call.begin_of c) (begin_of (after_seen seen)) (handle.number ∷ []) (gives (fault NotDir)) tt
+                (held_then make_part handle names seen make_is (call.begin_of c) [] (record { others = λ k out. refl; fresh = tt })))
+                onward (after_is make_part make_is handle names seen).legal seen.own_later),
+          )
 
       by_kind : (b : Bool) → is_dir_kind handle.kind ≡ b
           → LeadsTo c.below (makes (if b then make.made handle names else make.gives_up (handle.number ∷ []) NotDir)) seen.rest (ends reply)

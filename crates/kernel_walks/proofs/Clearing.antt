@@ -1,5 +1,5 @@
 -- What a RemoveAll took away in the directory that its walk found, by induction on what it was told from there on.
-use Rattle.std.specs.Prelude.{◌≡◌, ℕ, suc, ◌≤◌, ◌⊎◌, List, [], ◌∷◌, ◌++◌, Bool, true, false, Option, Some, None, refl}
+use Rattle.std.specs.Prelude.{◌≡◌, ℕ, suc, ◌≤◌, ◌⊎◌, List, [], ◌∷◌, ◌++◌, Bool, true, false, Option, refl}
 use Rattle.std.proofs.Common.{sym, ap, subst, ◌∙◌, inl, inr, not-suc-le-zero, zero-add, append_assoc, arith}
 use Rattle.std.proofs.lemmas.Bool.{false≢true}
 use Rattle.path_text.specs.declared.errno.Errno.{Errno}
@@ -14,7 +14,7 @@ use Rattle.tree_model.specs.Steps.{held}
 use Rattle.walk_plan.specs.declared.goal.Goal.TheVariants.{Follow}
 use Rattle.step_resolver.specs.Order.{Handle, Line, answered, no_room, not_made, IsWant, is_close, ending}
 use Rattle.step_resolver.specs.Order as walk
-use Rattle.step_resolver.specs.WalkHistory.{WalkInHistory, IsWalkInHistory, begin_of, timeline}
+use Rattle.step_resolver.specs.WalkHistory.{WalkInHistory, IsWalkInHistory, timeline}
 use Rattle.step_resolver.specs.Failures.{TellsWant}
 use Rattle.step_resolver.proofs.Underway.LegalHistory.{lived, AloneAt, Rests, HappensAlone, before_or_from}
 use Rattle.step_resolver.proofs.Underway.WalkInvariant.{Lived}

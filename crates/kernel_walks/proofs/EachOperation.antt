@@ -9,26 +9,24 @@ use Rattle.path_text.specs.declared.path.Split.{Split}
 use Rattle.path_text.specs.Split.{split_of}
 use Rattle.path_text.specs.Text.{text_fault, reading_of}
 use Rattle.tree_model.specs.declared.step.Mode.{Mode}
-use Rattle.tree_model.specs.declared.step.StepOf.TheVariants as steps
 use Rattle.tree_model.specs.StepWith.{StepWith}
 use Rattle.handles.specs.Objects.{StandingObject}
 use Rattle.walk_plan.specs.declared.goal.Goal.{Goal}
 use Rattle.walk_plan.specs.declared.goal.Goal.TheVariants.{Follow, NoFollow}
 use Rattle.step_resolver.specs.Order.{Line}
-use Rattle.root_ops.specs.declared.aim.Aim.TheVariants.{Opens, Reads, Changes, WalksOn}
+use Rattle.root_ops.specs.declared.aim.Aim.TheVariants.{Opens, Reads, Changes}
 use Rattle.root_ops.specs.declared.aim.Change.{Change}
 use Rattle.root_ops.specs.declared.aim.Change.TheVariants as changes
 use Rattle.root_ops.specs.declared.aim.Wanted.TheVariants as wants
 use Rattle.root_ops.specs.declared.op.Op.{Op}
 use Rattle.root_ops.specs.declared.op.Op.TheVariants.{Resolve, ResolveNoFollow, ReadLink, CreateFile, CreateDir, CreateLink, RemoveFile, RemoveDir, Rename, MkdirAll, RemoveAll, Single, Release}
-use Rattle.root_ops.specs.declared.reply.Reply.{Reply as Told}
 use Rattle.root_ops.specs.CallHistory.{CallInHistory, IsCallInHistory, actor_of, IsPath}
 use Rattle.root_ops.specs.Copies.{is_release}
 use Rattle.root_ops.specs.EachCall.{CallTells, EachCallTells}
-use Rattle.root_ops.specs.Order.{Reply, fault, acting, kept, releasing, CallTurn, more, ends, walks, on_path, on_entry, in_directory, from_entry, between, renaming_of, unless_fault, lacks, same_owner, is_single, starts, LeadsTo}
+use Rattle.root_ops.specs.Order.{Reply, fault, acting, kept, releasing, CallTurn, more, ends, walks, on_path, on_entry, in_directory, from_entry, between, unless_fault, lacks, same_owner, is_single, starts, LeadsTo}
 use Rattle.root_ops.specs.View.{reply_view}
 use Rattle.kernel_walks.specs.Tells.{ResolveSees, LinkSees, EntrySees, Sees, TellsAsSeen, KernelWalksTell}
-use Rattle.kernel_walks.specs.Told.{AreTold, RepliesAsTold}
+use Rattle.kernel_walks.specs.Told.{AreTold}
 use Rattle.kernel_walks.proofs.Alone.{own_events_alone}
 use Rattle.kernel_walks.proofs.Bulk.{makes_from, clears_from}
 use Rattle.kernel_walks.proofs.Entries.{change_sees, change_stays, link_sees, link_stays, resolve_sees, resolve_opens, one_walk}
@@ -80,9 +78,10 @@ module _ (c : CallInHistory) (reply : Reply) (is : IsCallInHistory c) (told : Li
         by_split fine (Err error) cuts = past_from (ends (fault error)) tt
         by_split fine (Ok split) cuts =
             one_walk c reply is (Changes change split.name) split.dir (λ room handle names. tt)
-            (λ handle names seen onward.
-            (sees_so (into (change_sees c reply is rule change text split (fine, cuts) handle names seen onward)),
-            change_stays c reply is rule change text split (fine, cuts) handle names seen onward not_released)) told
+            (λ handle names seen onward. (
+              sees_so (into (change_sees c reply is rule change text split (fine, cuts) handle names seen onward)),
+              change_stays c reply is rule change text split (fine, cuts) handle names seen onward not_released,
+            )) told
 
   module _ (old new : List ℕ) (mode : Mode) (same : c.op ≡ Rename old new mode) where
     rename_from : From (unless_fault (text_fault old) (from_entry c.below mode new (split_of (reading_of old) Drop)))

@@ -1,7 +1,6 @@
 -- What comes of a call with one walk: a resolve, a reading of a link, or a change of one entry.
-use Rattle.std.specs.Prelude.{◌≡◌, ℕ, ◌≤◌, List, [], ◌∷◌, ◌++◌, reverse, length, Bool, true, false, Some, None, refl}
-use Rattle.std.proofs.Common.{sym, ap, subst, ◌∙◌, inl, inr, arith}
-use Rattle.path_text.specs.declared.errno.Errno.{Errno}
+use Rattle.std.specs.Prelude.{◌≡◌, ℕ, List, [], ◌∷◌, Bool, true, false, refl}
+use Rattle.std.proofs.Common.{sym, ap, subst, ◌∙◌, arith}
 use Rattle.path_text.specs.declared.path.Rule.{Rule}
 use Rattle.path_text.specs.declared.path.Split.{Split}
 use Rattle.path_text.specs.Reading.{Reading}
@@ -10,14 +9,12 @@ use Rattle.tree_model.specs.State.{State}
 use Rattle.tree_model.specs.StepWith.{StepWith}
 use Rattle.tree_model.specs.declared.step.StepOf.TheVariants as steps
 use Rattle.tree_model.specs.Steps.{held}
-use Rattle.tree_model.specs.History.{IsLegal}
 use Rattle.tree_model.proofs.StepLaws.{others_handles_stay}
 use Rattle.walk_plan.specs.declared.goal.Goal.{Goal}
-use Rattle.step_resolver.specs.Asked.{AskedPart}
 use Rattle.step_machine.specs.Machine.{HasEnded}
 use Rattle.step_resolver.specs.Order.{Handle, Line, ending, events_of}
 use Rattle.step_resolver.specs.Order as walk
-use Rattle.step_resolver.specs.WalkHistory.{WalkInHistory, IsWalkInHistory, begin_of, end_of, own_events}
+use Rattle.step_resolver.specs.WalkHistory.{WalkInHistory, IsWalkInHistory, begin_of, end_of}
 use Rattle.step_resolver.proofs.Underway.LegalHistory.{nothing_more}
 use Rattle.step_resolver.proofs.Underway.StepOutcomes.{IsMore}
 use Rattle.root_ops.specs.declared.aim.Aim.{Aim}
@@ -25,26 +22,23 @@ use Rattle.root_ops.specs.declared.aim.Aim.TheVariants.{Opens, Reads, Changes}
 use Rattle.root_ops.specs.declared.aim.Change.{Change}
 use Rattle.root_ops.specs.declared.aim.Wanted.{Wanted}
 use Rattle.root_ops.specs.declared.aim.Wanted.TheVariants as wants
-use Rattle.root_ops.specs.declared.op.Op.{Op}
 use Rattle.root_ops.specs.Acts.{along, IsEntry}
 use Rattle.root_ops.specs.CallHistory.{CallInHistory, IsCallInHistory, actor_of, IsPath, HandlesAfter}
 use Rattle.root_ops.specs.CallHistory as call
 use Rattle.root_ops.specs.Copies.{is_release}
-use Rattle.root_ops.specs.Order.{Reply, opened, link_text, done, count, stepped, kept, fault, gives, acting, CallTurn, more, ends, held_by, goal_of, way_of, walking, walked, walks, change_step, LeadsTo}
+use Rattle.root_ops.specs.Order.{Reply, opened, link_text, done, count, stepped, kept, fault, gives, acting, more, ends, held_by, goal_of, way_of, walking, walked, walks, change_step, LeadsTo}
 use Rattle.root_ops.proofs.FirstSteps.{lines_few}
 use Rattle.root_ops.proofs.Replies.{at_its_end, no_lines}
-use Rattle.root_ops.proofs.Handles.AfterWalks.{TailEnds, tail_ends}
+use Rattle.root_ops.proofs.Handles.AfterWalks.{tail_ends}
 use Rattle.root_ops.proofs.Handles.BulkHistory.{is_bulk_of}
 use Rattle.root_ops.proofs.Handles.HandlesHeld.{HandlesAre, LeavesHandles, change_leaves, read_leaves}
 use Rattle.root_ops.proofs.Acts.OwnStep.{ChangeEnds, change_ends, ReadEnds, read_ends, acted}
 use Rattle.kernel_walks.specs.SeenTo.{SeenTo, after_seen}
 use Rattle.kernel_walks.specs.Tells.{ResolveSees, SeesDirectory, EntrySees, SeesLink, LinkSees, Sees}
 use Rattle.kernel_walks.specs.Told.{AreTold}
-use Rattle.kernel_walks.proofs.Alone.{AllOwn}
 use Rattle.kernel_walks.proofs.Outcome.{Outcome, all_told, some_seen, same_lines, told_alone, handles_stay, opened_one, held_then}
 use Rattle.kernel_walks.proofs.Parts.{How, by_steps, by_kernel, Parts, parts_of, aimed_walk}
 use Rattle.kernel_walks.proofs.Past.{IsPastTurn, closes_past, past_is_told}
-use Rattle.kernel_walks.proofs.SeenBelow.{asks}
 use Rattle.kernel_walks.proofs.SeenTo.{seen_by_kernel, happens_after, is_held, after_is, ends_there}
 
 module _ (c : CallInHistory) (reply : Reply) (is : IsCallInHistory c) where

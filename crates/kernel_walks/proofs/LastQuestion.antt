@@ -2,7 +2,7 @@
 use Rattle.std.proofs.Common.{◌≡◌, ℕ, Bool, true, false, List, [], ◌∷◌, ◌++◌, reverse, refl, sym, ap, ◌∙◌, subst}
 use Rattle.std.specs.Prelude.{Option, Some, None}
 use Rattle.path_text.specs.declared.errno.Errno.{Errno}
-use Rattle.path_text.specs.Text.{text_fault, reading_of}
+use Rattle.path_text.specs.Text.{reading_of}
 use Rattle.tree_model.specs.declared.answer.Answer.{Answer}
 use Rattle.tree_model.specs.declared.answer.Answer.TheVariants.{Names, Refused}
 use Rattle.tree_model.specs.StepWith.{StepWith}
@@ -14,7 +14,7 @@ use Rattle.root_ops.specs.declared.aim.Aim.TheVariants.{Opens}
 use Rattle.root_ops.specs.declared.below.Below.{Below}
 use Rattle.root_ops.specs.Order.{ends, opened, walked, unless_fault}
 use Rattle.root_ops.specs.Order as calls
-use Rattle.kernel_walks.proofs.AtQuestion.{not_found, begins_not_found, AtQuestion, found_asks}
+use Rattle.kernel_walks.proofs.AtQuestion.{not_found, begins_not_found, found_asks}
 use Rattle.kernel_walks.proofs.SeenBelow.{IsQuestion}
 
 -- the question where the object stands, with these names

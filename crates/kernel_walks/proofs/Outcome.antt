@@ -1,36 +1,29 @@
 -- What comes of a call: it was told all that the history has, or the kernel saw an object of its walks.
-use Rattle.std.specs.Prelude.{◌≡◌, ℕ, List, [], ◌∷◌, ◌++◌, reverse, Bool, true, false, Some, None, Option, refl}
+use Rattle.std.specs.Prelude.{◌≡◌, ℕ, List, [], ◌∷◌, ◌++◌, reverse, false, refl}
 use Rattle.std.proofs.Common.{sym, ap, subst, ◌∙◌}
-use Rattle.path_text.specs.declared.errno.Errno.{Errno}
-use Rattle.path_text.specs.Reading.{Reading}
-use Rattle.tree_model.specs.declared.answer.Event.{Event}
 use Rattle.tree_model.specs.State.{State}
 use Rattle.tree_model.specs.Steps.{held}
-use Rattle.walk_plan.specs.declared.goal.Goal.{Goal}
 use Rattle.step_resolver.specs.Headline.{whole_meaning}
 use Rattle.step_resolver.specs.Meaning.{reads_of}
 use Rattle.step_resolver.specs.Order.{Handle, Line, ending}
 use Rattle.step_resolver.specs.Order as walk
-use Rattle.step_resolver.specs.View.{way_from}
 use Rattle.step_resolver.specs.WalkHistory.{WalkInHistory, IsWalkInHistory, begin_of}
 use Rattle.step_resolver.proofs.Underway.StepOutcomes.{IsMore}
 use Rattle.bulk_ops.specs.WalkFirst.{walk_part}
 use Rattle.bulk_ops.proofs.WalkParts.{parts, first_is}
-use Rattle.root_ops.specs.declared.below.Below.{Below}
 use Rattle.root_ops.specs.declared.op.Op.{Op}
 use Rattle.root_ops.specs.declared.op.Op.TheVariants.{Resolve, ResolveNoFollow, ReadLink, CreateFile, CreateDir, CreateLink, RemoveFile, RemoveDir, Rename, MkdirAll, RemoveAll, Single, Release}
-use Rattle.root_ops.specs.Acts.{along}
 use Rattle.root_ops.specs.CallHistory.{CallInHistory, IsCallInHistory, actor_of, end_of, HandlesStay, AfterDone, HandlesAfter}
 use Rattle.root_ops.specs.CallHistory as call
 use Rattle.root_ops.specs.Copies.{is_release}
-use Rattle.root_ops.specs.Order.{Reply, opened, link_text, done, count, stepped, kept, fault, CallTurn, ends, LeadsTo}
+use Rattle.root_ops.specs.Order.{Reply, opened, link_text, done, count, stepped, kept, fault}
 use Rattle.root_ops.proofs.Handles.AfterWalks.{IsPlain, TailEnds}
 use Rattle.root_ops.proofs.Handles.HandlesHeld.{HandlesAre, one_more}
 use Rattle.kernel_walks.specs.SeenTo.{SeenTo, after_seen}
 use Rattle.kernel_walks.specs.Tells.{Sees}
 use Rattle.kernel_walks.proofs.Alone.{AllOwn, own_front, left_alone}
 use Rattle.kernel_walks.proofs.SeenBelow.{asks, names_alone}
-use Rattle.kernel_walks.proofs.SeenTo.{there, after_is, ends_there}
+use Rattle.kernel_walks.proofs.SeenTo.{there}
 
 pub data Outcome (c : CallInHistory) (told : List Line) (reply : Reply) : Type 0 where
   all_told : told ≡ c.lines → Outcome c told reply

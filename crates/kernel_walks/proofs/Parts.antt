@@ -1,9 +1,8 @@
 -- A walk within a call: its lines as it was told them and as the history has them, and those that lead on from its end.
-use Rattle.std.specs.Prelude.{◌≡◌, ◌⊎◌, ℕ, List, [], ◌∷◌, ◌++◌, reverse, Bool, true, false, if◌then◌else◌, Option, Some, None, refl}
+use Rattle.std.specs.Prelude.{◌≡◌, ◌⊎◌, ℕ, List, [], ◌∷◌, ◌++◌, reverse, Bool, true, false, if◌then◌else◌, Some, refl}
 use Rattle.std.proofs.Common.{inl, inr, sym, ap, ◌∙◌, subst}
 use Rattle.path_text.specs.declared.errno.Errno.{Errno}
 use Rattle.path_text.specs.declared.errno.Errno.TheVariants.{Raced}
-use Rattle.path_text.specs.Names.{same_names}
 use Rattle.tree_model.specs.declared.answer.Answer.TheVariants.{Names}
 use Rattle.tree_model.specs.StepWith.{StepWith}
 use Rattle.tree_model.specs.declared.step.StepOf.TheVariants.{NameBelow}
@@ -16,7 +15,7 @@ use Rattle.bulk_ops.specs.MakeAllOrder as make
 use Rattle.bulk_ops.specs.RemoveAllOrder as remove
 use Rattle.root_ops.specs.declared.aim.Aim.{Aim}
 use Rattle.root_ops.specs.declared.below.Below.{Below}
-use Rattle.root_ops.specs.Order.{Doing, walking, making, removing, CallTurn, more, ends, calls, take, due, under_way, IsUnmade, walked, way_of, make_way, makes, removing_turn, LeadsTo}
+use Rattle.root_ops.specs.Order.{Doing, walking, making, removing, CallTurn, more, calls, due, under_way, IsUnmade, walked, way_of, make_way, makes, removing_turn, LeadsTo}
 use Rattle.kernel_walks.specs.Told.{passed_in, passed_by, IsTold, as_it_was, as_passed, AreTold}
 use Rattle.kernel_walks.proofs.SeenBelow.{asks}
 

@@ -1,22 +1,18 @@
 -- Once its walks are over a call asks no walk's last question, so that what it is told is what the history has.
 use Rattle.std.specs.Prelude.{◌≡◌, ℕ, zero, suc, List, [], ◌∷◌, reverse, Bool, true, false, if◌then◌else◌, Option, Some, None, refl}
-use Rattle.std.proofs.Common.{sym, ap, ◌∙◌, subst}
+use Rattle.std.proofs.Common.{ap, ◌∙◌}
 use Rattle.path_text.specs.declared.errno.Errno.{Errno}
 use Rattle.path_text.specs.declared.errno.Errno.TheVariants.{NotFound, BadHandle, Raced, NoMemory, BookFull, Busy, Exists, CrossRoot, NotDir, IsDir, Invalid, TooMany, TooLong, NotEmpty, Loop}
 use Rattle.path_text.specs.Names.{same_names}
 use Rattle.tree_model.specs.declared.answer.Answer.{Answer}
 use Rattle.tree_model.specs.declared.answer.Answer.TheVariants.{Opened, Text, Names, NotBelow, Listed, Done, Refused}
-use Rattle.tree_model.specs.declared.step.Kind.{Kind}
 use Rattle.tree_model.specs.declared.step.Kind.TheVariants as kinds
-use Rattle.tree_model.specs.StepWith.{StepWith}
-use Rattle.step_resolver.specs.Order.{Way, Handle, Line, answered, no_room, not_made, has_room, answer_of, is_dir_kind}
+use Rattle.step_resolver.specs.Order.{Way, Handle, Line, has_room, answer_of, is_dir_kind}
 use Rattle.bulk_ops.specs.MakeAllOrder as make
 use Rattle.bulk_ops.specs.RemoveAllOrder as remove
 use Rattle.root_ops.specs.declared.aim.Renaming.{Renaming}
-use Rattle.root_ops.specs.declared.aim.Wanted.{Wanted}
-use Rattle.root_ops.specs.declared.aim.Wanted.TheVariants as wants
 use Rattle.root_ops.specs.declared.below.Below.{Below}
-use Rattle.root_ops.specs.Order.{Reply, After, gives, acts, Doing, walking, acting, checking, closing, making, removing, releasing, CallTurn, more, ends, closes, gives_up, comes, checked, reply_to, take, make_way, makes, removing_turn}
+use Rattle.root_ops.specs.Order.{After, gives, acts, Doing, walking, acting, checking, closing, making, removing, releasing, CallTurn, more, ends, closes, checked, reply_to, take, make_way, makes, removing_turn}
 use Rattle.kernel_walks.specs.Told.{passed_by, IsTold, as_it_was, as_passed, AreTold}
 
 -- no walk is under way, nor will be

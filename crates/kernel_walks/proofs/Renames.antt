@@ -1,12 +1,10 @@
 -- What comes of a rename: it has two walks, of each of which the kernel may see the object.
-use Rattle.std.specs.Prelude.{◌≡◌, ◌⊎◌, ℕ, ◌≤◌, List, [], ◌∷◌, ◌++◌, reverse, length, Bool, true, false, if◌then◌else◌, Some, None, refl}
+use Rattle.std.specs.Prelude.{◌≡◌, ◌⊎◌, ℕ, List, [], ◌∷◌, ◌++◌, reverse, Bool, true, false, if◌then◌else◌, refl}
 use Rattle.std.proofs.Common.{sym, ap, subst, ◌∙◌, inl, inr, arith}
 use Rattle.std.proofs.lemmas.Bool.{false≢true}
 use Rattle.path_text.specs.declared.errno.Errno.{Errno}
-use Rattle.path_text.specs.declared.errno.Errno.TheVariants.{NoMemory}
 use Rattle.path_text.specs.declared.path.Rule.TheVariants.{Drop}
 use Rattle.path_text.specs.declared.path.Split.{Split}
-use Rattle.tree_model.specs.declared.answer.Event.{Event}
 use Rattle.tree_model.specs.declared.step.Mode.{Mode}
 use Rattle.tree_model.specs.State.{State}
 use Rattle.tree_model.specs.Steps.{held}
@@ -47,7 +45,7 @@ use Rattle.kernel_walks.specs.Told.{AreTold}
 use Rattle.kernel_walks.proofs.Alone.{AllOwn, own_back}
 use Rattle.kernel_walks.proofs.Outcome.{Outcome, all_told, some_seen, same_lines, told_alone, handles_stay, held_then}
 use Rattle.kernel_walks.proofs.Parts.{How, by_steps, by_kernel, Parts, parts_of, aimed_walk}
-use Rattle.kernel_walks.proofs.Past.{IsPastTurn, closes_past, past_is_told}
+use Rattle.kernel_walks.proofs.Past.{IsPastTurn, past_is_told}
 use Rattle.kernel_walks.proofs.SeenBelow.{asks}
 use Rattle.kernel_walks.proofs.SeenTo.{seen_by_kernel, seen_by_steps, happens_after, is_held, stays_held, one_more_held, after_is, ends_there}
 

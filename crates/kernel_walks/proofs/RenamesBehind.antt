@@ -1,5 +1,5 @@
 -- The lines of a rename behind two look-ups.
-use Rattle.std.specs.Prelude.{◌≡◌, ℕ, List, [], ◌∷◌, ◌++◌, reverse, Bool, true, false, if◌then◌else◌, Option, None, Result, Ok, refl}
+use Rattle.std.specs.Prelude.{◌≡◌, ℕ, List, [], ◌∷◌, ◌++◌, true, false, if◌then◌else◌, Option, Result, refl}
 use Rattle.std.proofs.Common.{sym, ap, subst, ◌∙◌}
 use Rattle.path_text.specs.declared.errno.Errno.{Errno}
 use Rattle.path_text.specs.declared.path.Rule.TheVariants.{Drop}
@@ -9,7 +9,6 @@ use Rattle.path_text.specs.Text.{text_fault, reading_of}
 use Rattle.tree_model.specs.declared.answer.Answer.TheVariants.{Names}
 use Rattle.tree_model.specs.declared.step.Mode.{Mode}
 use Rattle.tree_model.specs.declared.step.StepOf.TheVariants.{Close, NameBelow}
-use Rattle.tree_model.specs.StepWith.{StepWith}
 use Rattle.walk_plan.specs.declared.goal.Goal.TheVariants.{Follow}
 use Rattle.step_resolver.specs.Order.{Handle, Line, answered, no_room, not_made, answer_of, ending}
 use Rattle.step_resolver.specs.Order as walk
@@ -20,7 +19,7 @@ use Rattle.root_ops.specs.declared.aim.Wanted.TheVariants as wants
 use Rattle.root_ops.specs.declared.below.Below.{Below}
 use Rattle.root_ops.specs.declared.op.Op.TheVariants.{Rename}
 use Rattle.root_ops.specs.Acts.{IsEntry}
-use Rattle.root_ops.specs.Order.{Reply, gives, acting, checking, closing, walking, CallTurn, more, ends, way_of, walked, walked_on, walks, renames, rename_step, renaming_of, reply_to, unless_fault, from_entry, between, starts, LeadsTo}
+use Rattle.root_ops.specs.Order.{gives, acting, checking, closing, walking, CallTurn, more, ends, way_of, walked, walked_on, walks, renames, rename_step, renaming_of, reply_to, unless_fault, from_entry, between, starts, LeadsTo}
 use Rattle.kernel_walks.specs.Behind.{IsLineOf, IsDirectoryText, asks_below}
 use Rattle.kernel_walks.specs.RenamesBehind.{LookUp, LastLines, rename_lines, IsRenamedBehind, RenamesAreLookedUp}
 use Rattle.kernel_walks.specs.Told.{as_passed, AreTold}

@@ -318,9 +318,10 @@ module _ (way : Way) (shallow : is_deepest way.goal ≡ false) (handle : Handle)
   dots_lead lines t u (inr lost) leads = absurd (lost_leads t lines lost leads)
   dots_lead [] t u (inl e) leads = same_question u (sym e ∙ leads)
   dots_lead (line ∷ lines) t (more w) (inl e) leads =
-      let led = subst (λ x. LeadsTo way x (line ∷ lines) at_question) e leads in
-      (fits_too w line led.0,
-      dots_lead lines (take_answer way (has_room line) (walk_with w) (answer_of line)) (take_answer way (has_room line) w (answer_of line)) (take_dots way shallow (has_room line) w (answer_of line)) led.1)
+      let led = subst (λ x. LeadsTo way x (line ∷ lines) at_question) e leads in (
+        fits_too w line led.0,
+        dots_lead lines (take_answer way (has_room line) (walk_with w) (answer_of line)) (take_answer way (has_room line) w (answer_of line)) (take_dots way shallow (has_room line) w (answer_of line)) led.1,
+      )
   dots_lead (line ∷ lines) t (found new passed) (inl e) leads = absurd (subst (λ x. LeadsTo way x (line ∷ lines) at_question) e leads)
   dots_lead (line ∷ lines) t (partial new passed rest) (inl e) leads = absurd (subst (λ x. LeadsTo way x (line ∷ lines) at_question) e leads)
   dots_lead (line ∷ lines) t (failed error) (inl e) leads = absurd (subst (λ x. LeadsTo way x (line ∷ lines) at_question) e leads)

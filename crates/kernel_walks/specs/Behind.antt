@@ -1,6 +1,7 @@
 -- An operation on one entry makes its change behind a walk: a resolve's of the directory part, then one step on the
--- last name by the handle that it found, and its Close. Of no history. mknodat(2), mkdirat(2), symlinkat(2), unlinkat(2).
-use Rattle.std.specs.Prelude.{◌≡◌, ◌≢◌, ◌⊎◌, ℕ, List, [], ◌∷◌, ◌++◌, true, false, reverse}
+-- last name by the handle that it found, and its Close. Of no history. mknodat(2), mkdirat(2), symlinkat(2),
+-- unlinkat(2).
+use Rattle.std.specs.Prelude.{◌≡◌, ℕ, List, [], ◌∷◌, ◌++◌, true}
 use Rattle.path_text.specs.declared.errno.Errno.TheVariants.{NotFound}
 use Rattle.path_text.specs.declared.path.Rule.{Rule}
 use Rattle.path_text.specs.declared.path.Rule.TheVariants.{Drop, Refuse}
@@ -11,7 +12,6 @@ use Rattle.tree_model.specs.StepWith.{StepWith}
 use Rattle.tree_model.specs.declared.answer.Answer.TheVariants.{Names}
 use Rattle.tree_model.specs.declared.step.StepOf.TheVariants.{Close, NameBelow}
 use Rattle.walk_plan.specs.declared.goal.Goal.TheVariants.{Follow}
-use Rattle.step_resolver.specs.Footprint.{IsEnd}
 use Rattle.step_resolver.specs.Order.{Handle, Line, answered, no_room, not_made, answer_of, IsUnmade}
 use Rattle.step_resolver.specs.Order as walk
 use Rattle.step_resolver.specs.View.{way_from}
@@ -43,7 +43,8 @@ IsLineOf step (no_room made answer) = made ≡ step
 IsLineOf step (not_made error) = IsUnmade step error
 
 -- One step by this handle, on the last name, whose answer is the reply; and the handle's Close.
-pub record ActsBehind (change : Change) (dir : Handle) (name : List ℕ) (lines : List Line) (reply : Reply) : Type 0 where
+pub record ActsBehind (change : Change) (dir : Handle) (name : List ℕ) (lines : List Line)
+    (reply : Reply) : Type 0 where
   pub step : Line
   pub close : Line
   pub both : lines ≡ step ∷ close ∷ []
@@ -51,8 +52,8 @@ pub record ActsBehind (change : Change) (dir : Handle) (name : List ℕ) (lines 
   pub is_close : IsLineOf (Close dir.number) close
   pub is_reply : reply ≡ reply_to wants.Done (answer_of step)
 
--- What comes behind a walk that ends so: the change where it found the directory, and nothing where it failed. None ends
--- with a rest of its path, since it isn't after the deepest directory; then nothing would be changed either.
+-- What comes behind a walk that ends so: the change where it found the directory, and nothing where it failed. None
+-- ends with a rest of its path, since it isn't after the deepest directory; then nothing would be changed either.
 abbrev pub Behind : Change → List ℕ → walk.Turn → List Line → Reply → Type 0
 Behind change name (walk.found dir names) lines reply = ActsBehind change dir name lines reply
 Behind change name (walk.failed error) lines reply = (lines ≡ []) × (reply ≡ fault error)
@@ -60,7 +61,8 @@ Behind change name (walk.partial dir names rest) lines reply = reply ≡ fault N
 Behind change name (walk.more walk) lines reply = ⊥
 
 -- The lines are those of the walk of the directory part, the last link followed, and what comes behind it.
-pub record IsBehindWalk (below : Below) (change : Change) (split : Split) (lines : List Line) (reply : Reply) : Type 0 where
+pub record IsBehindWalk (below : Below) (change : Change) (split : Split) (lines : List Line)
+    (reply : Reply) : Type 0 where
   pub first : List Line
   pub rest : List Line
   pub whole : lines ≡ first ++ rest
@@ -108,6 +110,7 @@ abbrev pub DirectoriesAreLookedUp : Type 0
 DirectoriesAreLookedUp = (below : Below) (op : Op) (rule : Rule) (change : Change) (text path : List ℕ) (split : Split)
     (lines : List Line) (dir : Handle) (told names : List (List ℕ)) (step close : Line)
     → IsChangeOf op rule change text → IsEntry text rule split → IsDirectoryText path split
-    → LeadsTo below (starts below true (Resolve path)) (lines ++ asks_below below dir told ∷ []) (ends (opened dir names))
+    → LeadsTo below (starts below true (Resolve path)) (lines ++ asks_below below dir told ∷ [])
+    (ends (opened dir names))
     → IsLineOf (change_step change dir.number split.name) step → IsLineOf (Close dir.number) close
     → IsChangedBehind below op lines dir told step close

@@ -11,8 +11,8 @@ use Rattle.step_resolver.specs.Meaning.{is_too_long}
 abbrev pub is_short : List ℕ → Bool
 is_short piece = not (is_too_long piece)
 
--- The text is a path. It isn't refused for the slash at its beginning (RESOLVE_BENEATH), nor for the length of a name of
--- its own.
+-- The text is a path. It isn't refused for the slash at its beginning (RESOLVE_BENEATH), nor for the length of a name
+-- of its own.
 abbrev pub follows_at_once : Flags → List ℕ → Bool
 follows_at_once flags path =
     not (leads_out (begins_with_slash path) flags)

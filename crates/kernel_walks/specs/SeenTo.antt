@@ -29,7 +29,8 @@ pub record SeenTo (w : WalkInHistory) (handle : Handle) (names : List (List ℕ)
       → SeenBelow (rest_part w others onward lines) handle names
 
 -- what comes after the walk; its moments count from there
-abbrev pub after_seen : {w : WalkInHistory} {handle : Handle} {names : List (List ℕ)} → SeenTo w handle names → WalkInHistory
+abbrev pub after_seen : {w : WalkInHistory} {handle : Handle} {names : List (List ℕ)} → SeenTo w handle names
+    → WalkInHistory
 after_seen {w} seen = rest_part w seen.window seen.later seen.rest
 
 -- the walk opened one handle more than before at most

@@ -145,7 +145,8 @@ pub record SeesWhole (c : CallInHistory) (text : List ℕ) (handle : Handle) (na
 abbrev pub MakeAllSees : CallInHistory → List ℕ → Reply → Type 0
 MakeAllSees c text (opened handle names) = SeesWhole c text handle names × (is_dir_kind handle.kind ≡ true)
 MakeAllSees c text (fault error) = (error ≡ NotDir)
-    × ((handle : Handle) × ((names : List (List ℕ)) × (SeesWhole c text handle names × (is_dir_kind handle.kind ≡ false))))
+    × ((handle : Handle) × ((names : List (List ℕ))
+    × (SeesWhole c text handle names × (is_dir_kind handle.kind ≡ false))))
 MakeAllSees c text other = ⊥
 
 -- The walk to the target's directory found it. Entries were taken away there, of the target alone.

@@ -28,5 +28,7 @@ fn are_short(text: &[u8]) -> bool
 pub fn follows_at_once(flags: Flags, path: &[u8]) -> bool
     ensures { result ≡ follows_at_once flags path.now }
 {
-    !(flags.beneath && path.first() == Some(&SLASH)) && Path::fault_of(path).is_none() && are_short(path)
+    !(flags.beneath && path.first() == Some(&SLASH))
+        && Path::fault_of(path).is_none()
+        && are_short(path)
 }

@@ -2,7 +2,7 @@
 use Rattle.std.proofs.Common.{◌≡◌, ℕ, ◌+◌, ◌-◌, ◌≤◌, ◌<◌, min, Bool, true, false, if◌then◌else◌, List, [], ◌∷◌, ◌++◌, length, take, drop, refl, sym, ap, subst, ◌∙◌, arith, nat_lt, take-take, take-append-drop, length-append, length-take, length-take-le, length-drop, take_at, drop_at, append-nil, append_assoc}
 use Rattle.std.specs.Prelude.{◌==◌}
 use Rattle.std.proofs.lemmas.Bool.{cond-false, cond-true, false≢true, le-ltb, ltb-false}
-use Rattle.std.proofs.lemmas.List.{take_min}
+use Rattle.std.proofs.lemmas.List.{take_all, take_min, take-append-le}
 use Rattle.std.proofs.lemmas.List.{drop-drop, drop_min, drop-take}
 use Rattle.path_text.specs.Text.{begins_with_slash, is_empty, name_size}
 use Rattle.path_text.specs.declared.name.TheConstants.{SLASH}
@@ -12,14 +12,14 @@ use Rattle.system_calls.specs.Errors.{EAGAIN, ENAMETOOLONG, ELOOP}
 use Rattle.system_calls.specs.Tries.{is_due, pause_after, TRIES}
 use Rattle.system_calls.specs.declared.tries.NextTry.{NextTry}
 use Rattle.open_or_make.specs.History.{LINKS, STEP_READ_LINK}
-use Rattle.make_through_links.specs.History.{asks, due_met, fails, follows_link, is_call, meets, met_of, moved, stand_after, tries_again, whole, Asked, Due, Exchange, Stand, STEP_MAKE_DIR}
+use Rattle.make_through_links.specs.History.{asks, due_met, fails, follows_link, is_call, makes, meets, met_of, moved, stand_after, tries_again, whole, Asked, Due, Exchange, Stand, STEP_MAKE_DIR}
 use Rattle.make_through_links.specs.Making.{due_of, exchange, path_in, IsAt, Keeps, Tells}
 use Rattle.make_through_links.specs.Paths.{before_rest, first_name, front_of, rest_behind}
 use Rattle.make_through_links.specs.declared.making.Making.{Making}
 use Rattle.make_through_links.specs.declared.making.Outcome.{Outcome}
 use Rattle.make_through_links.specs.declared.meets.Met.{Met}
 use Rattle.make_through_links.specs.declared.meets.Met.TheVariants.{Link, LinkAtEnd, Parted, Partly}
-use Rattle.make_through_links.specs.declared.meets.TheConstants.{FAILS}
+use Rattle.make_through_links.specs.declared.meets.TheConstants.{FAILS, FIND}
 use Rattle.make_through_links.proofs.PathLemmas.{joined_before, led_whole, tail_is, take_both}
 
 -- ---- a call comes next
@@ -275,6 +275,7 @@ front_is s e making room text cut at n front size l =
     there =
         front_at room s.above s.name making.length making.above making.cut cut l.path l.above l.within l.start
         ∙ ap (λ k. take k s.above) l.cut_is
+
     by : (b : Bool) → front ≡ (if b then 0 else cut)
         → take front room ≡ (if b then [] else take s.cut s.above)
     by true is = ap (λ k. take k room) is
@@ -349,14 +350,17 @@ keeps_led asked s e making room new text cut at n front size keeps l laid =
     }
 
 -- what is laid behind the front
-pub laid_behind : (front size : ℕ) (room part text : List ℕ) → front ≤ length room → take size part ≡ text
-    → take (front + size) (take front room ++ part) ≡ take front room ++ text
-laid_behind front size room part text within is =
+pub laid_behind : (front size : ℕ) (room part post text : List ℕ) → front ≤ length room → take size part ≡ text
+    → size ≡ length text → take (front + size) (take front room ++ (part ++ post)) ≡ take front room ++ text
+laid_behind front size room part post text within is long =
     let first : length (take front room) ≡ front = length-take-le front room within in
-    take_both front size (take front room ++ part)
-    ∙ (ap (λ (l : List ℕ). l ++ take size (drop front (take front room ++ part))) (take_at (take front room) part front first)
+    let fits : size ≤ length part = omega (arith, long, ap length is, length-take size part) in
+    take_both front size (take front room ++ (part ++ post))
+    ∙ (ap (λ (l : List ℕ). l ++ take size (drop front (take front room ++ (part ++ post))))
+    (take_at (take front room) (part ++ post) front first)
     ∙ ap (λ (l : List ℕ). take front room ++ l)
-    (ap (take size) (drop_at (take front room) part front first) ∙ is))
+    (ap (take size) (drop_at (take front room) (part ++ post) front first)
+    ∙ (take-append-le size part post fits ∙ is)))
 
 -- the same of a link at the path's end
 pub end_front : (s : Stand) (making : Making) (room text : List ℕ) (front : ℕ) → take making.length room ≡ whole s
@@ -404,6 +408,79 @@ keeps_led_at_end asked s e making room new text front size keeps within fits is 
       follows = keeps.follows;
       may_retry = keeps.may_retry;
     }
+
+-- ---- what comes next behind a link
+
+rest_at_place : (room : List ℕ) (front at end : ℕ) → front ≤ at → at ≤ end → end ≤ length room
+    → drop (at - front) (take (end - front) (take (length room - front) (drop front room))) ≡ drop at (take end room)
+rest_at_place room front at end before within fits =
+    let sum : front + (end - front) ≡ end = omega (arith, before, within) in
+    let place : front + (at - front) ≡ at = omega (arith, before) in
+    ap (λ (l : List ℕ). drop (at - front) (take (end - front) l))
+    (take_all (length room - front) (drop front room) (omega (arith, length-drop front room)))
+    ∙ (ap (drop (at - front)) (sym (drop-take front (end - front) room) ∙ ap (λ n. drop front (take n room)) sum)
+    ∙ (drop-drop (at - front) front (take end room) ∙ ap (λ n. drop n (take end room)) place))
+
+abbrev size_before : ℕ → List ℕ → ℕ
+size_before rest text = if rest == 0 then length text else length text + 1 + rest
+
+pub link_next : (asked : Asked) (s : Stand) (e : Exchange) (making next : Making) (room part post text : List ℕ)
+    (cut at n front size error : ℕ) → Keeps asked s making room → Link_at s e making room text cut at n front size
+    → take (size_before (making.length - front - (at - front)) text) part
+    ≡ before_rest text (drop (at - front) (take (making.length - front) (take (length room - front) (drop front room))))
+    → error ≡ link_error (making.links + 1) size → error ≡ 0
+    → (Keeps asked (moved s e Link)
+    (record making { length = size; above = size - (making.length - making.above); links = making.links + 1 })
+    (take front room ++ (part ++ post))
+    → Tells asked (moved s e Link) (makes asked (moved s e Link) 0) next (take front room ++ (part ++ post)))
+    → Tells asked (moved s e Link) (follows_link (moved s e Link) e (makes asked (moved s e Link) 0)) next
+    (take front room ++ (part ++ post))
+link_next asked s e making next room part post text cut at n front size error keeps l laid why none goes =
+    let t = moved s e Link in
+    let less = front_within s e making room text cut at n front size l in
+    let before : front ≤ at = omega (arith, less, l.place) in
+    let inside : at ≤ making.length = omega (arith, l.place, l.less, l.start, l.within) in
+    let tail = drop at (take making.length room) in
+    let left : making.length - front - (at - front) ≡ making.length - at = omega (arith, before, inside) in
+    let part_is : take (size_before (making.length - at) text) part ≡ before_rest text tail =
+    ap (λ k. take (size_before k text) part) (sym left)
+    ∙ (laid ∙ ap (before_rest text) (rest_at_place room front at making.length before inside l.end)) in
+    let long : length tail ≡ making.length - at =
+    omega (arith, length-drop at (take making.length room), length-take-le making.length room l.end) in
+    let fits : front ≤ length room = omega (arith, before, inside, l.end) in
+    subst (λ (d : Due). Tells asked t d next (take front room ++ (part ++ post)))
+    (sym (link_goes t e (makes asked t 0) (making.links + 1) size error why (ap (λ k. k + 1) keeps.links)
+    (link_size s e making room text cut at n front size l) none))
+    (goes (keeps_led asked s e making room (take front room ++ (part ++ post)) text cut at n front size keeps l
+    (ap (λ k. take k (take front room ++ (part ++ post))) l.sized
+    ∙ laid_behind front (size_before (making.length - at) text) room part post (before_rest text tail) fits part_is
+    (sym (joined_before text tail (making.length - at) long)))))
+
+pub end_next : (asked : Asked) (s : Stand) (e : Exchange) (making next : Making) (room part post text : List ℕ)
+    (front size error : ℕ) → Keeps asked s making room → making.above ≤ making.length → making.length ≤ length room
+    → front ≡ (if begins_with_slash text then 0 else making.above) → front ≤ making.above
+    → size ≡ front + length text → e.text ≡ text → take (length text) part ≡ text
+    → error ≡ link_error (making.links + 1) size → error ≡ 0
+    → (Keeps asked (moved s e LinkAtEnd) (record making { length = size; above = size; links = making.links + 1 })
+    (take front room ++ (part ++ post))
+    → Tells asked (moved s e LinkAtEnd) (asks FIND 0 (whole (moved s e LinkAtEnd))) next
+    (take front room ++ (part ++ post)))
+    → Tells asked (moved s e LinkAtEnd)
+    (follows_link (moved s e LinkAtEnd) e (asks FIND 0 (whole (moved s e LinkAtEnd)))) next
+    (take front room ++ (part ++ post))
+end_next asked s e making next room part post text front size error keeps within end is less long said laid why none goes =
+    let t = moved s e LinkAtEnd in
+    let fits : front ≤ length room = omega (arith, less, within, end) in
+    let whole_is = end_whole s e making room text front keeps.path keeps.above within is said in
+    let size_is : size ≡ length (whole t) =
+    omega (arith, long, length-take-le front room fits, length-append (take front room) text, ap length whole_is) in
+    subst (λ (d : Due). Tells asked t d next (take front room ++ (part ++ post)))
+    (sym (link_goes t e (asks FIND 0 (whole t)) (making.links + 1) size error why (ap (λ k. k + 1) keeps.links)
+    size_is none))
+    (goes (keeps_led_at_end asked s e making room (take front room ++ (part ++ post)) text front size keeps within fits is
+    long said
+    (ap (λ k. take k (take front room ++ (part ++ post))) long
+    ∙ laid_behind front (length text) room part post text fits laid refl)))
 
 -- ---- what an outcome says
 

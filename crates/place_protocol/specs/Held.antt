@@ -40,8 +40,8 @@ NamesAreToldByTheKernelsCheck =
     × ((held : Held) → IsCheckEnough held → held.way ≡ BY_NAME
     → (before_questions held ≡ LOOK_UP) × (behind_look_up held true ≡ AT_NAMES))
 
--- The names passed are looked up before the questions only of what was opened by a name: where that look-up is all, or of
--- what is no directory.
+-- The names passed are looked up before the questions only of what was opened by a name: where that look-up is all, or
+-- of what is no directory.
 abbrev pub NamesAreLookedUpFirst : Type 0
 NamesAreLookedUpFirst =
     (held : Held) → before_questions held ≡ LOOK_UP

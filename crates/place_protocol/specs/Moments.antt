@@ -67,8 +67,8 @@ pub record TextsTell (w : World) : Type 0 where
   pub below : (place : List ℕ) → place_told (w.root 1) (w.object 1) ≡ Some place → is_top place ≡ false
       → (w.gone 1 ≡ true) ⊎ (w.stands 1 place ≡ true)
 
--- A place is told. Then at the moment of an answer the object stood there. Texts of links must tell that, but of the root
--- itself; and what the kernel had seen below the root right before may have been removed, but not before the first
+-- A place is told. Then at the moment of an answer the object stood there. Texts of links must tell that, but of the
+-- root itself; and what the kernel had seen below the root right before may have been removed, but not before the first
 -- question.
 abbrev pub PlacesStood : Type 0
 PlacesStood =

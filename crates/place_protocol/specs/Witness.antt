@@ -18,8 +18,9 @@ abbrev pub LinksTell : List ℕ → Exchange → Exchange → Type 0
 LinksTell place root object =
     Worked RootLink root × Worked ObjectLink object × (place_told root.text object.text ≡ Some place)
 
--- The second witness: a look-up of just these names from the root (openat2(2), RESOLVE_BENEATH) found the object itself:
--- device, inode and mount are the same; for the root itself, which may be mounted over itself, device and inode.
+-- The second witness: a look-up of just these names from the root (openat2(2), RESOLVE_BENEATH) found the object
+-- itself: device, inode and mount are the same; for the root itself, which may be mounted over itself, device and
+-- inode.
 abbrev pub FindsObject : List ℕ → Exchange → Type 0
 FindsObject place e =
     Worked LookUp e × (e.names ≡ place) × (is_same_object e.answer.held e.answer.found (is_top place) ≡ true)

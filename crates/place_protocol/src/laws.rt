@@ -29,8 +29,8 @@ pub fn names_lie_in_the_text()
 /// What answers of Linux say of the file system, each at its moment, is a premise (proc(5), rmdir(2)). With it: where a
 /// place is told, the object stood there at the moment of an answer. Of all but the root itself texts must tell inside
 /// from outside, and the root must not be moved between the readings of its text and of the object's. The root itself
-/// is what device and inode have shown to be it. What the kernel had seen below the root right before may also have been
-/// removed by then, but not before the first question.
+/// is what device and inode have shown to be it. What the kernel had seen below the root right before may also have
+/// been removed by then, but not before the first question.
 pub fn places_stood()
     ensures { PlacesStood }
 {}
@@ -45,7 +45,8 @@ pub fn places_were_passed()
 
 /// Where no question is asked, and the object isn't the root, the names that the walk passed are told by the kernel's
 /// check alone, which the call has asked for: openat2(2) has seen the object below the root, as the call opened it or
-/// by a look-up of these names. So it is never behind `..`. Where that check is enough, nothing more is asked behind it.
+/// by a look-up of these names. So it is never behind `..`. Where that check is enough, nothing more is asked behind
+/// it.
 pub fn names_are_told_by_the_kernels_check()
     ensures { NamesAreToldByTheKernelsCheck }
 {}

@@ -106,8 +106,8 @@ pub fn begin() -> Told
 /// of the root, of the object, and of the object's link once more. One that isn't read yet is empty.
 ///
 /// Errors: EAGAIN (11), the witnesses don't agree, so the object is being moved; ENOSYS (38) of a link that isn't in
-/// /proc; ENAMETOOLONG (36) of a text of more than 4,095 bytes; EINVAL (22) of a number that is no question's. Any other
-/// is the answer's own.
+/// /proc; ENAMETOOLONG (36) of a text of more than 4,095 bytes; EINVAL (22) of a number that is no question's. Any
+/// other is the answer's own.
 pub fn next(
     facts: &Facts,
     asked: u8,

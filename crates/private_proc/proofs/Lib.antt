@@ -1,4 +1,1 @@
-pub mod Asked
-pub mod CountLemmas
-pub mod GivenLemmas
-pub mod OpenLemmas
+pub mod HistoryLemmas

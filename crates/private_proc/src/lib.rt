@@ -9,8 +9,9 @@ mod laws;
 mod mounting;
 
 pub use laws::{
-    calls_are_few, each_descriptor_is_closed_once, new_ones_are_restricted, new_ones_are_tried_first,
-    nothing_is_made_where_one_is_kept, what_is_handed_in_is_a_proc, why_it_fails,
+    calls_are_few, each_descriptor_is_closed_once, new_ones_are_restricted,
+    new_ones_are_tried_first, nothing_is_made_where_one_is_kept, what_is_handed_in_is_a_proc,
+    why_it_fails,
 };
 pub use mounting::{
     Answer, CLOSE, CLOSE_MADE, COPY, CREATE, FAILS, GIVES, HAND_IN, LOOK, MAKE, MOUNT, Mounting,

@@ -1,4 +1,4 @@
-use Rattle.private_proc.proofs.CountLemmas.{few}
+use Rattle.private_proc.proofs.HistoryLemmas.{few}
 use Rattle.private_proc.proofs.laws.calls_are_few.Goals as goal
 
 pub returns : goal.returns

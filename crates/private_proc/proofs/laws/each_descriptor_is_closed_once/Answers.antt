@@ -1,4 +1,4 @@
-use Rattle.private_proc.proofs.OpenLemmas.{made_is, open_is}
+use Rattle.private_proc.proofs.HistoryLemmas.{made_is, open_is}
 use Rattle.private_proc.proofs.laws.each_descriptor_is_closed_once.Goals as goal
 
 pub returns-clause-made : goal.returns-clause-made

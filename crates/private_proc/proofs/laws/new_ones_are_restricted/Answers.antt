@@ -1,4 +1,4 @@
-use Rattle.private_proc.proofs.GivenLemmas.{restricted}
+use Rattle.private_proc.proofs.HistoryLemmas.{restricted}
 use Rattle.private_proc.proofs.laws.new_ones_are_restricted.Goals as goal
 
 pub returns : goal.returns

@@ -1,4 +1,4 @@
-use Rattle.private_proc.proofs.GivenLemmas.{given, handed}
+use Rattle.private_proc.proofs.HistoryLemmas.{given, handed}
 use Rattle.private_proc.proofs.laws.what_is_handed_in_is_a_proc.Goals as goal
 
 pub returns-clause-handed : goal.returns-clause-handed

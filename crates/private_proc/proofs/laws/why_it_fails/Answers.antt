@@ -1,4 +1,4 @@
-use Rattle.private_proc.proofs.OpenLemmas.{why_fails}
+use Rattle.private_proc.proofs.HistoryLemmas.{why_fails}
 use Rattle.private_proc.proofs.laws.why_it_fails.Goals as goal
 
 pub returns : goal.returns

@@ -1,0 +1,63 @@
+//! Which proc(5) the calls ask, and files in it.
+
+use crate::error::{c_path, done, opened, text_from};
+use crate::{ffi, OpenFlags};
+use std::fs::File;
+use std::io;
+use std::os::raw::c_int;
+use std::os::unix::io::{AsFd, AsRawFd};
+use std::path::{Path, PathBuf};
+
+/// Has the calls ask the proc(5) of which this is the topmost directory, in place of /proc: inroot_use_proc(3). Before the
+/// first other call; the descriptor may be closed afterwards.
+pub fn use_proc(proc: impl AsFd) -> io::Result<()> {
+    // SAFETY: it takes a number alone.
+    done(unsafe { ffi::inroot_use_proc(proc.as_fd().as_raw_fd()) })
+}
+
+/// Has the calls ask a proc(5) that is mounted nowhere, in place of /proc: inroot_use_private_proc(3). Before the first
+/// other call.
+pub fn use_private_proc() -> io::Result<()> {
+    // SAFETY: it takes nothing.
+    done(unsafe { ffi::inroot_use_private_proc() })
+}
+
+/// Where a path in the proc(5) begins.
+#[derive(Clone, Copy, Debug, PartialEq, Eq)]
+pub enum ProcfsBase {
+    /// At the topmost directory.
+    ProcRoot,
+    /// At the process that has this number there.
+    ProcPid(u32),
+    /// At this process.
+    ProcSelf,
+    /// At this thread.
+    ProcThreadSelf,
+}
+
+impl ProcfsBase {
+    fn number(self) -> c_int {
+        match self {
+            ProcfsBase::ProcRoot => -201,
+            // No process has a number that is none here; the call refuses it.
+            ProcfsBase::ProcPid(process) => c_int::try_from(process).unwrap_or(-1),
+            ProcfsBase::ProcSelf => -202,
+            ProcfsBase::ProcThreadSelf => -203,
+        }
+    }
+}
+
+/// Opens a file of the proc(5) by which the calls go, and fails where something is mounted over it or over a part of the
+/// path: inroot_proc_open(3). A link at the end is followed, but for `O_NOFOLLOW`.
+pub fn proc_open(base: ProcfsBase, path: impl AsRef<Path>, flags: OpenFlags) -> io::Result<File> {
+    let path = c_path(path.as_ref())?;
+    // SAFETY: the path ends with a NUL and stays during the call, here and below.
+    opened(unsafe { ffi::inroot_proc_open(base.number(), path.as_ptr(), flags.bits()) }).map(File::from)
+}
+
+/// The text of a link there.
+pub fn proc_readlink(base: ProcfsBase, path: impl AsRef<Path>) -> io::Result<PathBuf> {
+    let path = c_path(path.as_ref())?;
+    // SAFETY: it writes at most the size of the room.
+    text_from(|room, size| unsafe { ffi::inroot_proc_readlink(base.number(), path.as_ptr(), room, size) })
+}
