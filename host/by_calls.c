@@ -62,14 +62,13 @@ static uint32_t ask_file_system(int fd, struct inroot_step_answer *answer)
 static uint32_t ask_magic(struct inroot_driver *d, const struct inroot_work *w)
 {
     const struct open_how how = {.flags = O_PATH | O_CLOEXEC, .resolve = RESOLVE_BENEATH | RESOLVE_NO_MAGICLINKS};
-    int dir, error = d->link == w->dir ? inroot_handles_fd(d, d->link_dir, &dir) : ESTALE;
-    if (error)
-        return (uint32_t)error;
-    const int fd = inroot_openat2(dir, d->link_name, &how);
-    error = (int)inroot_errno_of(fd);
+    if (d->link != w->dir)
+        return ESTALE;
+    const int fd = inroot_openat2(inroot_handles_fd(d, d->link_dir), d->link_name, &how);
+    const uint32_t error = inroot_errno_of(fd);
     if (fd >= 0)
         close(fd);
-    return (uint32_t)error;
+    return error;
 }
 
 static uint32_t ask_mount_flags(int fd, struct inroot_step_answer *answer)
@@ -106,7 +105,7 @@ static uint32_t turn(struct inroot_driver *d, struct inroot_work *w, struct inro
     switch (w->course.next) {
     case INROOT_CALL_OPEN_DIRECTORY: return open_directory(d, w);
     case INROOT_CALL_OPEN_ANY: return open_entry(d, w, 0);
-    case INROOT_CALL_SPARE: return inroot_handles_spare(d, w->dir) ? 0 : EMFILE;
+    case INROOT_CALL_SPARE: return EMFILE;
     case INROOT_CALL_KIND: return ask_object(w->fd, answer);
     case INROOT_CALL_LINKS: return ask_object(w->looks, answer);
     case INROOT_CALL_LAYERS: return ask_file_system(w->looks, answer);

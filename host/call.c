@@ -96,7 +96,7 @@ static void begin(struct work *w)
     d->second_length = strlen(asked->second);
     d->counts = asked->op == INROOT_ASK_REMOVE_ALL;
     d->below = !(asked->flags & INROOT_EXACT);
-    d->proc = d->deepest = d->made = d->inner = INROOT_NONE;
+    d->proc = d->deepest = d->made = INROOT_NONE;
     d->slots = d->few;
 }
 

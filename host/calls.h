@@ -227,15 +227,6 @@ struct inroot_object {
 /* Whether two answers are about one object, while it is open; by the same mount, unless that doesn't count. */
 bool inroot_is_same_object(const struct inroot_object *one, const struct inroot_object *other, bool by_any_mount);
 
-/*
- * Which directory it is, where no descriptor pins it: no inode, where that can't be asked; no birth, where none is kept. To the
- * birth's SECONDS the driver adds by which handle the file system calls the directory (name_to_handle_at(2)).
- */
-struct inroot_birth {
-    uint64_t device, inode, seconds;
-    uint32_t nanoseconds;
-};
-
 /* The kind of an object by its mode (`enum inroot_kind`). */
 uint8_t inroot_kind_of(uint32_t mode);
 
@@ -804,53 +795,5 @@ void inroot_removal_begin(bool may_retry, struct inroot_removal *removal);
 
 /* Takes what the call gave. It isn't looked at where a place was kept or closed. */
 void inroot_removal_next(struct inroot_removal *removal, const struct inroot_removal_answer *answer);
-
-/* ---- directories whose descriptor is let go, while a tree is removed. These take no memory. */
-
-/* What a driver keeps for a handle of the proved call. The library reads the descriptor, and the slot above. */
-struct inroot_slot {
-    int fd, lost;                  /* the descriptor, or a mark below zero; and the error of one that could not be opened again */
-    int32_t above;                 /* while a tree is removed: the slot of the directory it was opened in, or a mark below zero */
-    uint32_t depth, listed;        /* below the first such directory; how many bytes of names the call holds for it */
-    uint8_t way, kind;
-    bool is_shared;                /* the descriptor is the caller's */
-    bool is_above;                 /* `..` of another led to it */
-    struct inroot_birth who;       /* once it was let go */
-};
-
-static const uint32_t INROOT_NO_SLOT = UINT32_MAX;
-
-/*
- * The slot to be let go, as a directory is opened below the one in the slot FROM, or INROOT_NO_SLOT. Those above FROM are counted that
- * have a descriptor and a slot above, up to the first other one. If they are more than MOST, it is the outermost of them.
- */
-uint32_t inroot_let_go(const struct inroot_slot *slots, size_t count, uint32_t from, uint32_t most);
-/* Whether one proved call, of 1,024 handles, goes no deeper than the directory in this slot. */
-bool inroot_is_deepest(const struct inroot_slot *slot);
-
-/*
- * What is found out next, of a directory that is to be opened again: `..` is opened, of the one below that was closed last; which
- * directory that is; which file system that is on. Or nothing: it is back, or lost by an error.
- */
-enum inroot_back_next {
-    INROOT_BACK_OPEN = 1, INROOT_BACK_IDENTIFY, INROOT_BACK_FILE_SYSTEM, INROOT_BACK_IS_BACK, INROOT_BACK_IS_LOST,
-};
-
-/* What was found out: which directory it is; the type of the file system; and 0 or the error of openat(2) or fstatfs(2). */
-struct inroot_back_found {
-    struct inroot_birth who;
-    uint64_t file_system;
-    uint32_t error;
-};
-
-struct inroot_back {
-    struct inroot_birth before;
-    uint32_t error;
-    uint8_t next;
-};
-
-/* CAN_BE_OPENED: there is a directory of which `..` can be opened. */
-void inroot_back_begin(const struct inroot_birth *before, bool can_be_opened, struct inroot_back *back);
-void inroot_back_next(struct inroot_back *back, const struct inroot_back_found *found);
 
 #endif

@@ -17,11 +17,11 @@
 /* A path and a NUL; what a step or a reply can lay out: two texts, or a name and a text. */
 enum { INROOT_TEXT_MAX = PATH_MAX, INROOT_ROOM = 2 * PATH_MAX + 2 * (NAME_MAX + 1) };
 
-/* How many descriptors a call that removes a tree holds at most. */
-enum { INROOT_HELD_MAX = 32 };
+/* So many levels deep goes one proved call that removes a tree: it holds a descriptor of each directory above. */
+enum { INROOT_LEVELS = 20 };
 
-/* In place of a descriptor: none; one that was let go and can be opened again. */
-enum { INROOT_NONE = -1, INROOT_AWAY = -2 };
+/* In place of a descriptor: none. */
+enum { INROOT_NONE = -1 };
 
 /* In place of a result: the kernel's walk doesn't make the call, and the steps are to. */
 enum { INROOT_STEPS = -65536 };
@@ -76,6 +76,15 @@ struct inroot_entry {
     char name[NAME_MAX + 1];
 };
 
+/* What the driver keeps for a handle of the proved call. */
+struct inroot_slot {
+    int fd;
+    int32_t next;                  /* of a free one: the next free one, or a mark below zero */
+    uint32_t depth;                /* while a tree is removed: below the directory that has the tree */
+    uint32_t listed;               /* how many bytes of names the call holds for it */
+    uint8_t way, kind;
+};
+
 /* The slots that serve a call with few handles. */
 enum { INROOT_FEW = 8 };
 
@@ -83,7 +92,6 @@ enum { INROOT_FEW = 8 };
 struct inroot_driver {
     uint64_t steps, removed;       /* the first are those that have made a system call, but for Close */
     bool counts, begun;            /* a tree is removed; and its first entry's turn has come */
-    bool too_deep;                 /* a directory was not entered for its depth */
     bool proc_is_own;              /* `proc` is closed at the call's end */
     bool changed;                  /* an entry was changed */
     bool below;                    /* the last check is the kernel's alone: not under INROOT_EXACT */
@@ -98,19 +106,18 @@ struct inroot_driver {
     size_t passed_length;
     uint64_t link, link_dir;       /* the link that was opened last, in that directory, and the same of it */
     size_t link_length;
+    uint64_t entered, above;       /* of a tree that is removed: the directory that was opened last, in that one */
     /* What follows isn't cleared as a call begins: it is set then, or where what it belongs to is. */
     const struct inroot_request *asked;
     size_t second_length;
     int proc;                      /* the /proc that was found to be one, or none yet */
     int made;                      /* what was made and opened, or none */
-    int deepest;                   /* where too_deep: the directory, and the entry in it */
+    int deepest;                   /* the directory from which another call is to go on, or none */
     struct inroot_slot *slots;
     uint32_t room;
-    int32_t free;                  /* the first slot that is free again; its `above` is the next one */
-    int inner;                     /* a directory that was closed last, and from which `..` leads to the slot above */
-    int32_t inner_above;
+    int32_t free;                  /* the first slot that is free again, or a mark below zero */
     size_t names_length;
-    char deepest_name[NAME_MAX + 1];
+    char deepest_name[NAME_MAX + 1]; /* the entry there; of a tree that is removed, the one that was opened last */
     char step_name[NAME_MAX + 1];  /* what `step` was about */
     char link_name[NAME_MAX + 1];
     char passed[INROOT_TEXT_MAX];
@@ -146,10 +153,8 @@ uint64_t inroot_handles_begin(struct inroot_driver *d, int root);
 void inroot_handles_end(struct inroot_driver *d);
 /* Makes room for more handles. Returns whether it could. */
 bool inroot_handles_grow(struct inroot_driver *d);
-/* A handle on an object that was opened by its name in DIR or otherwise; there is room. */
-uint64_t inroot_handles_put(struct inroot_driver *d, int fd, enum inroot_kind kind, enum inroot_way way, uint64_t dir);
-/* The same as inroot_handles_fd() of a handle whose descriptor was let go. */
-int inroot_handles_fd_again(struct inroot_driver *d, uint64_t handle, int *fd);
+/* A handle on what was opened; there is room. Its number counts up above its slot: none comes twice in a call. */
+uint64_t inroot_handles_put(struct inroot_driver *d, int fd, enum inroot_kind kind, enum inroot_way way);
 struct inroot_result inroot_handles_close(struct inroot_driver *d, uint64_t handle);
 /*
  * Takes the descriptor out of a handle, for the caller to keep, and notes its kind; or another one of the same
@@ -157,8 +162,6 @@ struct inroot_result inroot_handles_close(struct inroot_driver *d, uint64_t hand
  * that.
  */
 int inroot_handles_take(struct inroot_driver *d, uint64_t handle);
-/* Closes the descriptor of one directory above this one, if one can be spared. */
-bool inroot_handles_spare(struct inroot_driver *d, uint64_t handle);
 
 /* passed.c */
 /* Keeps by which name, of so many bytes and a NUL, the walk has come from a directory to what was OPENED. */
@@ -290,7 +293,7 @@ struct inroot_result inroot_list(struct inroot_driver *d, uint64_t handle);
 struct inroot_work {
     struct inroot_step_facts facts;
     struct inroot_step course;
-    uint64_t dir;                  /* whose descriptor isn't let go */
+    uint64_t dir;                  /* the handle that the step is on */
     enum inroot_way how;
     int at;                        /* the directory */
     const char *name;
@@ -323,11 +326,9 @@ static inline struct inroot_slot *inroot_handles_slot(struct inroot_driver *d, u
     return &d->slots[(uint32_t)handle];
 }
 
-/* Its descriptor, opened again where it was let go. Gives 0 or an error's number. */
-static inline int inroot_handles_fd(struct inroot_driver *d, uint64_t handle, int *fd)
+static inline int inroot_handles_fd(struct inroot_driver *d, uint64_t handle)
 {
-    *fd = inroot_handles_slot(d, handle)->fd;
-    return *fd == INROOT_AWAY ? inroot_handles_fd_again(d, handle, fd) : 0;
+    return inroot_handles_slot(d, handle)->fd;
 }
 
 /* Whether there is room for one more handle. */

@@ -392,10 +392,11 @@ int inroot_mkfile_all(int root, const char *path, mode_t mode, mode_t above, int
  * Removes the entry of PATH with all that is below it (unlinkat(2)); of a link the link alone. Gives how many entries
  * it removed, 0 where there was none. Entries removed before an error stay removed.
  *
- * It goes to any depth, holds some 40 descriptors at most, in a tree of more than 1,022 levels 16 more, fewer where
- * fewer are left, and less than 64 megabytes. It goes on as long as it removes something: whoever makes entries without
- * end can keep it from ending. If somebody moves a directory while the call is below it, that counts as a try; tries
- * are counted from the last removal on.
+ * It goes to any depth, holds some 40 descriptors at most, fewer where fewer are left, and less than 64 megabytes. A
+ * very deep tree takes it longer: 40,000 directories, each in the one before, some seconds. It goes on as long as it
+ * removes something: whoever makes entries without end can keep it from ending. If somebody moves a directory while the
+ * call is below it, the call may clear that one first, and this may count as a try; tries are counted from the last
+ * removal on.
  *
  * If something is mounted on a directory of the tree, the call empties the mount as well, and then the directory itself
  * gives EBUSY. Under INROOT_NO_XDEV it touches no mount: EXDEV as soon as it comes to such a directory. In each

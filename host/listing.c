@@ -16,7 +16,6 @@
 /* A directory that is being listed. */
 struct listing {
     struct inroot_driver *d;
-    uint64_t handle;
     int fd, dir;                   /* the handle's descriptor; and one by which the directory is read */
     struct inroot_listing course;
     unsigned char *records, *names;
@@ -59,7 +58,7 @@ static uint32_t turn(struct listing *l)
         l->dir = openat(l->fd, ".", O_RDONLY | O_DIRECTORY | O_CLOEXEC);
         return inroot_errno_of(l->dir);
     case INROOT_LISTING_SPARE:
-        return inroot_handles_spare(l->d, l->handle) ? 0 : EMFILE;
+        return EMFILE;
     case INROOT_LISTING_READ:
         return read_records(l);
     case INROOT_LISTING_CLOSE:
@@ -82,10 +81,7 @@ static void list(struct listing *l)
 
 struct inroot_result inroot_list(struct inroot_driver *d, uint64_t handle)
 {
-    struct listing l = {.d = d, .handle = handle};
-    int error = inroot_handles_fd(d, handle, &l.fd);
-    if (error)
-        return inroot_unmade(d, error);
+    struct listing l = {.d = d, .fd = inroot_handles_fd(d, handle)};
     inroot_listing_begin(d->listed, &l.course);
     l.records = malloc(l.course.records + l.course.size);
     if (l.records == NULL)

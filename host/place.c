@@ -188,12 +188,7 @@ static uint8_t come_before(const struct inroot_driver *d, int root, struct inroo
 
 struct inroot_result inroot_name_below(struct inroot_driver *d, const struct inroot_told *step, char *text, size_t *length)
 {
-    int fd, root;
-    int lost = inroot_handles_fd(d, step->handle, &fd);
-    if (lost == 0)
-        lost = inroot_handles_fd(d, step->other, &root);
-    if (lost)
-        return inroot_unmade(d, lost);
+    const int root = inroot_handles_fd(d, step->other);
     struct inroot_slot *slot = inroot_handles_slot(d, step->handle);
     const char *place = inroot_passed_names(d, step->handle, length);
     switch (come_before(d, root, slot, place)) {
@@ -260,7 +255,7 @@ static uint32_t turn(struct asking *a)
 
 ssize_t inroot_stands(struct inroot_driver *d, int root, char *room)
 {
-    struct asking a = {.d = d, .root = root, .text = room, .slot = {.way = INROOT_BY_NAME, .above = -1}};
+    struct asking a = {.d = d, .root = root, .text = room, .slot = {.way = INROOT_BY_NAME}};
     d->step = INROOT_STEP_NAME_BELOW;
     inroot_asking_begin(&a.course);
     while (a.course.next < INROOT_ASKING_ENDS) {

@@ -1,6 +1,6 @@
 /*
- * remove.c: removes an entry with all that is below it, by as many proved calls as that takes. One call makes a bounded
- * number of steps and goes to a bounded depth. The proved library says which one comes next.
+ * remove.c: removes an entry with all that is below it, by as many proved calls as that takes. One makes a bounded
+ * number of steps and goes to a bounded depth. The proved library says where the next one is made.
  */
 #define _GNU_SOURCE
 #include "driver.h"
@@ -9,11 +9,14 @@
 #include <string.h>
 #include <unistd.h>
 
-/* Where a proved call came to its last handle: an entry in this directory, from which another call goes on. */
+/* Where a proved call went no deeper: an entry in this directory, from which another call goes on. */
 struct place {
     int dir;
     char name[NAME_MAX + 1];
 };
+
+/* So often a call goes deeper by one more. Places that are farther apart let a deep tree be gone through less often. */
+enum { MOVES = 12 };
 
 /* A removal under way. */
 struct removing {
@@ -23,14 +26,39 @@ struct removing {
     struct place at[INROOT_PLACES];
 };
 
+/* Takes over where the last call came to. */
+static void keep(struct place *at, const struct inroot_driver *d)
+{
+    at->dir = d->deepest;
+    memcpy(at->name, d->deepest_name, sizeof at->name);
+}
+
+/*
+ * A call that goes deeper by some proved ones, each from where the one before came to. If the last of them is done, the
+ * end of the tree alone is gone: as if the call had come to its bound of steps.
+ */
 static void call(struct removing *r, int root, const struct inroot_request *asked, char *room)
 {
+    struct place here;
+    const struct inroot_request named = {
+        .op = INROOT_ASK_REMOVE_ALL, .flags = asked->flags, .first = here.name, .second = "",
+    };
+    unsigned moves = 0;
     ssize_t result = inroot_once(&r->d, root, asked, room);
+    uint64_t removed = r->d.removed;
+    while (r->d.deepest >= 0 && moves++ < MOVES) {
+        keep(&here, &r->d);
+        result = inroot_once(&r->d, here.dir, &named, room);
+        removed += r->d.removed;
+        close(here.dir);
+    }
+    if (moves > 0 && result >= 0)
+        result = removed > 0 ? -EBUSY : -EAGAIN;
     r->answer = (struct inroot_removal_answer){
-        .removed = r->d.removed,
+        .removed = removed,
         .error = result < 0 ? (uint32_t)-result : 0,
         .unmade = (uint32_t)r->d.unmade,
-        .deeper = r->d.too_deep,
+        .deeper = r->d.deepest >= 0,
     };
 }
 
@@ -41,13 +69,6 @@ static void call_in(struct removing *r, const struct place *at, int flags, char 
         .op = INROOT_ASK_REMOVE_ALL, .flags = flags, .first = at->name, .second = "",
     };
     call(r, at->dir, &asked, room);
-}
-
-/* Takes over where the last call came to. */
-static void keep(struct place *at, const struct inroot_driver *d)
-{
-    at->dir = d->deepest;
-    memcpy(at->name, d->deepest_name, sizeof at->name);
 }
 
 /* Does what comes next. */

@@ -22,11 +22,9 @@
 #undef STATX_TYPE
 #undef STATX_NLINK
 #undef STATX_INO
-#undef STATX_BTIME
 #define STATX_TYPE 1U
 #define STATX_NLINK 4U
 #define STATX_INO 0x100U
-#define STATX_BTIME 0x800U
 #define STATX_MNT_ID 0x1000U
 
 struct inroot_statx {

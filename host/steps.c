@@ -58,46 +58,70 @@ static struct inroot_result open_by(struct inroot_driver *d, struct inroot_work 
     if (work->course.next != INROOT_ENDS_OPENED)
         return ended(d, &work->course);
     const enum inroot_kind kind = work->course.kind;
-    return opened(inroot_handles_put(d, work->fd, kind, work->how, work->dir), kind);
+    return opened(inroot_handles_put(d, work->fd, kind, work->how), kind);
 }
 
 int inroot_open_anew(struct inroot_driver *d, uint64_t handle)
 {
-    int dir, error = inroot_handles_fd(d, handle, &dir);
-    if (error)
-        return -error;
-    struct inroot_work work = work_on(INROOT_STEP_DUP, handle, dir, ".");
+    struct inroot_work work = work_on(INROOT_STEP_DUP, handle, inroot_handles_fd(d, handle), ".");
     inroot_by_calls(d, &work);
     return work.course.next == INROOT_ENDS_OPENED ? work.fd : -(int)work.course.error;
 }
 
-/* A tree that is too deep for one proved call, which ends, is left at this entry, from which another call goes on. */
-static struct inroot_result leave_here(struct inroot_driver *d, const struct inroot_told *step, const char *name)
+/* Opens one name, as a directory at first. */
+static struct inroot_result open_one(struct inroot_driver *d, const struct inroot_told *step, int dir, const char *name)
 {
-    if (step->first >= sizeof d->deepest_name)
-        return inroot_unmade(d, ENAMETOOLONG);
-    d->deepest = inroot_open_anew(d, step->handle);
-    if (d->deepest < 0)
-        return inroot_unmade(d, -d->deepest);
-    d->too_deep = true;
-    memcpy(d->deepest_name, name, step->first + 1);
-    return inroot_unmade(d, ENOMEM);
-}
-
-/* Opens one name, as a directory at first. Keeps by which names the walk has come there. */
-static struct inroot_result open_name(struct inroot_driver *d, const struct inroot_told *step, int dir,
-                                      const char *name)
-{
-    if (d->begun && inroot_is_deepest(inroot_handles_slot(d, step->handle)))
-        return leave_here(d, step, name);
     if (!inroot_handles_reserve(d))
         return inroot_unmade(d, ENOMEM);
     struct inroot_work work = work_on(INROOT_STEP_OPEN, step->handle, dir, name);
     work.facts.directory = true;
-    struct inroot_result result = open_by(d, &work);
-    if (result.what == INROOT_ANSWER_OPENED && !d->begun)
+    return open_by(d, &work);
+}
+
+/* Keeps by which names the walk has come there. */
+static struct inroot_result open_name(struct inroot_driver *d, const struct inroot_told *step, int dir,
+                                      const char *name)
+{
+    const struct inroot_result result = open_one(d, step, dir, name);
+    if (result.what == INROOT_ANSWER_OPENED)
         inroot_passed_name(d, step->handle, name, step->first, &result);
     return result;
+}
+
+/* The call ends, and leaves the entry whose turn it is in this directory, which it hands over: another goes on from there. */
+static struct inroot_result leave(struct inroot_driver *d, struct inroot_slot *slot)
+{
+    d->deepest = slot->fd;
+    slot->fd = INROOT_NONE;
+    return inroot_unmade(d, ENOMEM);
+}
+
+/* Opens an entry of a tree that is removed, and notes which one. A tree that is too deep for the call is left there. */
+static struct inroot_result enter(struct inroot_driver *d, const struct inroot_told *step, int dir, const char *name)
+{
+    const uint32_t depth = inroot_handles_slot(d, step->handle)->depth;
+    if (step->first >= sizeof d->deepest_name)
+        return inroot_unmade(d, ENAMETOOLONG);
+    memcpy(d->deepest_name, name, step->first + 1);
+    if (depth >= INROOT_LEVELS)
+        return leave(d, inroot_handles_slot(d, step->handle));
+    const struct inroot_result result = open_one(d, step, dir, name);
+    if (result.what != INROOT_ANSWER_OPENED)
+        return result;
+    inroot_handles_slot(d, result.handle)->depth = depth + 1;
+    d->entered = result.handle;
+    d->above = step->handle;
+    return result;
+}
+
+/* If no descriptor is left to read the directory by that was just entered, the tree is as if it were too deep here. */
+static struct inroot_result list(struct inroot_driver *d, uint64_t handle)
+{
+    const struct inroot_result result = inroot_list(d, handle);
+    const bool is_crowded = d->unmade == EMFILE || d->unmade == ENFILE;
+    if (!is_crowded || d->entered != handle || inroot_handles_slot(d, d->above)->depth == 0)
+        return result;
+    return leave(d, inroot_handles_slot(d, d->above));
 }
 
 /* The root's own second handle. */
@@ -165,9 +189,8 @@ static struct inroot_result change_entry(struct inroot_driver *d, const struct i
         .asked = d->asked, .what = step->what, .dir = dir, .name = room, .other = room + step->first + 1,
         .made = INROOT_NONE,
     };
-    int error = step->what == INROOT_STEP_RENAME ? inroot_handles_fd(d, step->other, &change.other_dir) : 0;
-    if (error)
-        return inroot_unmade(d, error);
+    if (step->what == INROOT_STEP_RENAME)
+        change.other_dir = inroot_handles_fd(d, step->other);
     struct inroot_result result = changed(d, &change, inroot_change(&change));
     const bool is_removal = step->what == INROOT_STEP_REMOVE_FILE || step->what == INROOT_STEP_REMOVE_DIR;
     d->begun |= d->counts;
@@ -182,17 +205,17 @@ static struct inroot_result change_entry(struct inroot_driver *d, const struct i
 struct inroot_result inroot_make(struct inroot_driver *d, const struct inroot_told *step, const char *room, char *text,
                                  size_t *length)
 {
-    int dir, error = step->whole ? inroot_handles_fd(d, step->handle, &dir) : ENAMETOOLONG;
+    const int dir = inroot_handles_fd(d, step->handle);
     inroot_error_note(d, step, room);
-    if (error)
-        return inroot_unmade(d, error);
+    if (!step->whole)
+        return inroot_unmade(d, ENAMETOOLONG);
     switch (step->what) {
-    case INROOT_STEP_OPEN: return open_name(d, step, dir, room);
+    case INROOT_STEP_OPEN: return d->begun ? enter(d, step, dir, room) : open_name(d, step, dir, room);
     case INROOT_STEP_DUP: return open_root(d, step->handle, dir);
     case INROOT_STEP_PARENT: return open_parent(d, step->handle, dir);
     case INROOT_STEP_READLINK: return read_link(d, step->handle, dir, text, length);
     case INROOT_STEP_NAME_BELOW: return name_below(d, step, text, length);
-    case INROOT_STEP_LIST: return inroot_list(d, step->handle);
+    case INROOT_STEP_LIST: return list(d, step->handle);
     default: return change_entry(d, step, dir, room);
     }
 }

@@ -24,32 +24,11 @@
 /* Those of linux/mount.h, which older C libraries don't have. */
 enum { TREE_CLONE = 1, TREE_CLOEXEC = O_CLOEXEC, TREE_RECURSIVE = 0x8000, FROM_EMPTY_PATH = 0x4, TO_EMPTY_PATH = 0x40 };
 
-/* Opens the directory, which is made with all above it. Gives a descriptor or -errno. */
-static int make_directory(int root, const char *path)
-{
-    return inroot_mkdir_all(root, path, 0755, 0);
-}
-
-/* Opens the file, which is made, empty, with the directories above it. Gives a descriptor or -errno. */
+/* Makes the file, empty, with the directories above it, and opens what stands there then. Gives a descriptor or -errno. */
 static int make_file(int root, const char *path)
 {
-    char above[PATH_MAX];
-    const char *slash = strrchr(path, '/');
-    if (slash != NULL && slash != path) {
-        if ((size_t)(slash - path) >= sizeof above)
-            return -ENAMETOOLONG;
-        snprintf(above, sizeof above, "%.*s", (int)(slash - path), path);
-        int opened = inroot_mkdir_all(root, above, 0755, 0);
-        if (opened < 0)
-            return opened;
-        close(opened);
-    }
-    int failed = inroot_mkfile(root, path, 0644, 0);
-    if (failed < 0 && failed != -EEXIST)
-        return failed;
-    /* Whatever stands there now, stands below the root: the file, or what somebody has put in its place. */
-    int target = inroot_open(root, path, 0);
     struct stat about;
+    int target = inroot_mkfile_all(root, path, 0644, 0755, 0);
     if (target >= 0 && (fstat(target, &about) != 0 || !S_ISREG(about.st_mode))) {
         close(target);
         return -EINVAL;
@@ -61,15 +40,15 @@ static int make_file(int root, const char *path)
 static int tell_target(int target)
 {
     char link[32], place[PATH_MAX];
-    snprintf(link, sizeof link, "/proc/self/fd/%d", target);
-    ssize_t length = readlink(link, place, sizeof place);
+    snprintf(link, sizeof link, "fd/%d", target);
+    ssize_t length = inroot_proc_readlink(INROOT_PROC_SELF, link, place, sizeof place);
     if (length < 0) {
-        perror("mount-target: /proc");
+        fprintf(stderr, "mount-target: /proc: %s\n", strerror((int)-length));
         return 4;
     }
     for (ssize_t at = 0; at < length; at++)
         putchar(place[at] < ' ' || place[at] > '~' ? '?' : place[at]);
-    printf(" %s\n", link);
+    printf(" /proc/self/%s\n", link);
     return fflush(stdout) == 0 ? 0 : 4;
 }
 
@@ -87,19 +66,18 @@ static int mount_there(const char *source, int target)
 
 int main(int count, char **words)
 {
-    struct inroot_root *root;
     bool is_file = count >= 4 && strcmp(words[3], "file") == 0;
     if (count < 4 || count > 5 || (!is_file && strcmp(words[3], "dir") != 0)) {
         fputs("usage: mount-target ROOT PATH dir|file [SOURCE]\n", stderr);
         return 2;
     }
-    int failed = inroot_root_open(words[1], 0, &root);
-    if (failed < 0) {
-        fprintf(stderr, "mount-target: %s: %s\n", words[1], strerror(-failed));
+    int root = open(words[1], O_PATH | O_DIRECTORY | O_CLOEXEC);
+    if (root < 0) {
+        fprintf(stderr, "mount-target: %s: %s\n", words[1], strerror(errno));
         return 4;
     }
-    int target = is_file ? make_file(inroot_root_fd(root), words[2]) : make_directory(inroot_root_fd(root), words[2]);
-    inroot_root_close(root);
+    int target = is_file ? make_file(root, words[2]) : inroot_mkdir_all(root, words[2], 0755, 0);
+    close(root);
     if (target < 0) {
         fprintf(stderr, "mount-target: %s: %s\n", words[2], strerror(-target));
         return 1;

@@ -4,7 +4,7 @@
  * usage: unpack [-o] [-s] [-t] ROOT <ARCHIVE
  *
  *   -o   sets the owners of the entries, by their numbers
- *   -s   asks for each entry where its directory stands, so that none is made in one that was moved out before
+ *   -s   walks to each entry by its whole path, so that none is made in a directory that was moved out before
  *   -t   sets the times at which they were changed
  *
  * Each name of the archive is a path below ROOT. An entry that is there already is replaced, a link too: nothing is
@@ -37,7 +37,7 @@ struct unpacking {
     int root;
     int above;                  /* the directory of the last entry, or -1; and its path */
     char above_name[PATH_MAX];
-    int at;                     /* what calls take in the root's place, so that their paths begin there */
+    int at;                     /* where the paths of calls begin: that directory, or the root */
     bool owners, strict, times, failed;
     bool again;                 /* a directory was there already, so it may have come before */
     struct tar_reader reader;
@@ -75,7 +75,7 @@ static bool is_same(int one, int other)
  */
 static void look_again(struct unpacking *u)
 {
-    int now = inroot_openat(u->root, u->above_name, O_PATH | O_DIRECTORY, 0, INROOT_BELOW);
+    int now = inroot_openat(u->root, u->above_name, O_PATH | O_DIRECTORY, 0, 0);
     if (now < 0 || !is_same(now, u->above)) {
         tell(u->above_name, "somebody moved or removed it while entries were made in it");
         u->failed = true;
@@ -88,9 +88,7 @@ static void close_above(struct unpacking *u)
 {
     if (u->above < 0)
         return;
-    if (u->strict)
-        inroot_at_end(u->at);
-    else
+    if (!u->strict)
         look_again(u);
     close(u->above);
     u->above = -1;
@@ -109,13 +107,10 @@ static int open_above(struct unpacking *u, const char *name, const char **last)
         return 0;
     close_above(u);
     memcpy(u->above_name, above, sizeof above);
-    u->above = u->at = inroot_mkdir_all(u->root, above, 0755, 0);
-    int failed = u->above < 0 ? u->above : u->strict ? inroot_at_begin(u->root, u->above, &u->at) : 0;
-    if (failed < 0 && u->above >= 0)
-        close(u->above);
-    if (failed < 0)
-        u->above = -1;
-    return failed;
+    int made = inroot_mkdir_all(u->root, above, 0755, 0);
+    u->above = made < 0 ? -1 : made;
+    u->at = u->strict ? u->root : u->above;
+    return made < 0 ? made : 0;
 }
 
 /* Removes what is at the name, so that the entry is made anew; nothing of what is mounted there. Gives 0 or -errno. */
@@ -293,7 +288,7 @@ static int make_entry(struct unpacking *u, struct tar_entry *entry)
     int failed = open_above(u, entry->name, &last);
     bool is_name = *last != '\0' && strcmp(last, ".") != 0 && strcmp(last, "..") != 0;
     if (failed == 0)
-        failed = is_name ? make_in_place(u, entry, last) : make_directories(u, entry);
+        failed = is_name ? make_in_place(u, entry, u->strict ? entry->name : last) : make_directories(u, entry);
     /* Where the directory is gone, the next entry has it made anew. */
     if (failed == -ENOENT)
         close_above(u);
@@ -323,7 +318,7 @@ static int set_directory(struct unpacking *u, struct directory *one)
 {
     bool is_new = true;
     /* The archive may have put something else in its place: a link is not followed. */
-    int found = inroot_openat(u->root, one->name, O_PATH | O_DIRECTORY | O_NOFOLLOW, 0, INROOT_BELOW);
+    int found = inroot_openat(u->root, one->name, O_PATH | O_DIRECTORY | O_NOFOLLOW, 0, 0);
     int failed = found < 0 ? found : u->again ? look_if_new(u, one, found, &is_new) : 0;
     if (failed == 0 && is_new)
         failed = set_found(u, found, &one->status, false);
@@ -381,20 +376,18 @@ int main(int count, char **words)
     static struct unpacking u = {.above = -1};
     /* For headers and small files. What is larger is read where it is written from, without a copy. */
     static char ahead[1 << 13];
-    struct inroot_root *root;
     if (!read_options(count, words, &u)) {
         fputs("usage: unpack [-o] [-s] [-t] ROOT <ARCHIVE\n", stderr);
         return 2;
     }
     setvbuf(stdin, ahead, _IOFBF, sizeof ahead);
-    int failed = inroot_root_open(words[optind], 0, &root);
-    if (failed < 0) {
-        tell(words[optind], strerror(-failed));
+    u.root = open(words[optind], O_PATH | O_DIRECTORY | O_CLOEXEC);
+    if (u.root < 0) {
+        tell(words[optind], strerror(errno));
         return 4;
     }
-    u.root = inroot_root_fd(root);
     u.reader.file = stdin;
     int status = unpack(&u);
-    inroot_root_close(root);
+    close(u.root);
     return status;
 }

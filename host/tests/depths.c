@@ -21,10 +21,10 @@
 #include <sys/stat.h>
 
 /*
- * More levels than one proved call goes by the places that remove.c keeps, twice over; more names than listing.c holds at once;
- * and the levels of one proved call, which has 1,024 handles with those of the root and of the walk.
+ * More levels than calls go by the places and the moves of remove.c, twice over; more names than listing.c holds at once; the levels
+ * of one proved call; and more of these than moves to the first place.
  */
-enum { LEVELS = 33000, NAMES = 5000, ONE_CALL = 1022, PLACES = 16 };
+enum { LEVELS = 9000, NAMES = 5000, ONE_CALL = 20, SOME_CALLS = 40 };
 
 static int root, before;
 static const char *where;
@@ -35,8 +35,8 @@ static void (*act)(int deepest);
 static int my_openat(int dir, const char *name, int flags, mode_t mode)
 {
     int fd = __real_openat(dir, name, flags, mode);
-    /* It is opened once more there, by itself, and not to be read. */
-    if (act != NULL && fd >= 0 && flags & O_PATH && strcmp(name, ".") == 0) {
+    /* The next call begins there: it is opened by itself, and not to be read. */
+    if (act != NULL && fd >= 0 && dir != root && flags & O_PATH && strcmp(name, ".") == 0) {
         void (*now)(int) = act;
         act = NULL;
         now(fd);
@@ -87,8 +87,8 @@ static void deep(void)
     dig(LEVELS, LEVELS);
     is_removed("a deep tree", LEVELS);
     /* The proved calls that go deeper remove something before they have come to the ground. */
-    dig(LEVELS, 20000);
-    is_removed("a deep tree with files", LEVELS + LEVELS - 20000);
+    dig(LEVELS, 5000);
+    is_removed("a deep tree with files", LEVELS + LEVELS - 5000);
 }
 
 static void large(void)
@@ -140,13 +140,13 @@ static void with_few(void)
     int open_before = open_descriptors();
     sure(setrlimit(RLIMIT_NOFILE, &few), "setrlimit");
     ssize_t got = inroot_remove_all(root, "t", 0);
-    expect(got == PLACES * ONE_CALL, "a deep tree with few descriptors: %zd", got);
+    expect(got == SOME_CALLS * ONE_CALL, "a deep tree with few descriptors: %zd", got);
     expect(open_descriptors() == open_before, "it leaves descriptors open");
 }
 
 static void spared(void)
 {
-    dig(PLACES * ONE_CALL, LEVELS);
+    dig(SOME_CALLS * ONE_CALL, LEVELS);
     apart(with_few);
     expect(faccessat(root, "t", F_OK, AT_SYMLINK_NOFOLLOW) != 0, "a deep tree is left where there are few descriptors");
 }
@@ -164,9 +164,9 @@ static void refused(void)
 
 static int kept_by_the_kernel(void)
 {
-    dig(3 * ONE_CALL, LEVELS);
+    dig(SOME_CALLS * ONE_CALL, LEVELS);
     int skipped = apart(refused);
-    is_removed("a deep tree that was refused", 3 * ONE_CALL);
+    is_removed("a deep tree that was refused", SOME_CALLS * ONE_CALL);
     return skipped;
 }
 

@@ -4,7 +4,7 @@
  * that there may be, with the sum of what was removed, or with an error that a call gave. A directory is back only where it is the
  * one that was let go; and which one that is, plain C says as well.
  *
- * For libFuzzer, or with fuzz_main.c for stored cases. A case is bytes: which function, and the answers.
+ * For libFuzzer, or with fuzz_main.c for stored cases. A case is bytes: the answers, behind one that is passed over.
  */
 #define _GNU_SOURCE
 #include "../calls.h"
@@ -89,100 +89,10 @@ static void removals(struct input *in)
     MUST(removal.next == end.next && removal.error == end.error && removal.removed == end.removed);
 }
 
-/* ---- directories that come back */
-
-static struct inroot_birth some_birth(struct input *in)
-{
-    unsigned what = byte(in);
-    return (struct inroot_birth){.device = what & 1, .inode = what >> 1 & 3, .seconds = what >> 3 & 1, .nanoseconds = what >> 4 & 1};
-}
-
-static bool is_one_number(const struct inroot_birth *one, const struct inroot_birth *other)
-{
-    return one->inode != 0 && one->device == other->device && one->inode == other->inode;
-}
-
-static bool is_one_birth(const struct inroot_birth *one, const struct inroot_birth *other)
-{
-    return one->seconds == other->seconds && one->nanoseconds == other->nanoseconds;
-}
-
-static bool is_unborn(const struct inroot_birth *who)
-{
-    return who->seconds == 0 && who->nanoseconds == 0;
-}
-
-static void comebacks(struct input *in)
-{
-    static const uint32_t errors[] = {0, 0, EINTR, ENOENT, ENOTDIR, EACCES, EMFILE};
-    enum { OVERLAYFS = 0x794c7630 };
-    struct inroot_back back;
-    struct inroot_back_found found = {0}, opened = {.error = 1};
-    const struct inroot_birth before = some_birth(in);
-    bool can = byte(in) % 4 != 0;
-    inroot_back_begin(&before, can, &back);
-    while (back.next < INROOT_BACK_IS_BACK) {
-        MUST(can && back.next >= INROOT_BACK_OPEN);
-        MUST(back.next == INROOT_BACK_OPEN || opened.error == 0);
-        found.error = in->left == 0 ? EACCES : errors[byte(in) % (sizeof errors / sizeof *errors)];
-        found.who = some_birth(in);
-        found.file_system = byte(in) % 2 ? OVERLAYFS : 0xef53;
-        if (back.next == INROOT_BACK_IDENTIFY)
-            opened.who = found.who;
-        else
-            opened.error = found.error;
-        inroot_back_next(&back, &found);
-    }
-    if (back.next == INROOT_BACK_IS_BACK)
-        MUST(back.error == 0 && opened.error == 0 && is_one_number(&opened.who, &before) &&
-             (is_one_birth(&opened.who, &before) || (is_unborn(&before) && found.file_system == OVERLAYFS)));
-    else
-        MUST(back.error != 0 && back.error != ENOENT && back.error != ENOTDIR &&
-             (back.error == EAGAIN || back.error == found.error));
-}
-
-/* ---- which one is let go */
-
-static uint32_t outermost(const struct inroot_slot *slots, size_t count, uint32_t from, uint32_t most)
-{
-    uint32_t found = INROOT_NO_SLOT, held = 0;
-    int32_t at = from < count ? slots[from].above : -1;
-    while (at >= 0 && (size_t)at < count && held < count && slots[at].fd >= 0 && slots[at].above >= 0) {
-        found = (uint32_t)at;
-        held++;
-        at = slots[at].above;
-    }
-    return held > most ? found : INROOT_NO_SLOT;
-}
-
-static void slots(struct input *in)
-{
-    size_t count = byte(in) % 40;
-    struct inroot_slot *all = calloc(count + (count == 0), sizeof *all);
-    if (all == NULL)
-        abort();
-    for (size_t at = 0; at < count; at++) {
-        unsigned what = byte(in);
-        all[at].fd = what >= 240 ? -(int)(what - 239) : (int)what;
-        all[at].above = what % 8 == 7 ? (int32_t)byte(in) - 100 : (int32_t)at - 1;
-    }
-    uint32_t from = count > 0 && byte(in) % 4 ? (uint32_t)count - 1 : byte(in), most = byte(in) % 36;
-    MUST(inroot_let_go(all, count, from, most) == outermost(all, count, from, most));
-    free(all);
-}
-
 int LLVMFuzzerTestOneInput(const uint8_t *data, size_t size)
 {
     struct input in = {data, size};
-    switch (byte(&in) % 3) {
-    case 0:
-        removals(&in);
-        break;
-    case 1:
-        comebacks(&in);
-        break;
-    default:
-        slots(&in);
-    }
+    byte(&in);
+    removals(&in);
     return 0;
 }

@@ -30,7 +30,6 @@ static struct inroot_listing listing;
 static struct inroot_making making;
 static struct inroot_opening opening;
 static struct inroot_course course;
-static struct inroot_slot slots[2];
 static struct inroot_mounting mounting;
 
 static void begin(void)
@@ -116,9 +115,6 @@ static void open_no_kind(void) { answer_opened(0, 0); }
 static void open_by_an_error(void) { answer_opened(INROOT_KIND_DIR, ENOENT); }
 static void open_a_directory(void) { answer_opened(INROOT_KIND_DIR, 0); }
 
-static void let_go_of_what_is_closed(void) { slots[1].fd = INT_MAX; inroot_let_go(slots, 2, 0, 0); }
-static void let_go(void) { inroot_let_go(slots, 2, 0, 0); }
-static void let_go_oddly(void) { memset(&slots[1].is_above, 2, 1); let_go(); }
 
 static void hand_in_unseen(void)
 {
@@ -177,9 +173,6 @@ static const struct {
     {"an object of no kind", open_no_kind, true},
     {"an object, and an error", open_by_an_error, true},
     {"an object", open_a_directory, false},
-    {"a slot whose descriptor isn't open", let_go_of_what_is_closed, true},
-    {"slots", let_go, false},
-    {"a bool that is none, in a second slot", let_go_oddly, true},
     {"a private proc(5) that isn't left alone", hand_in_unseen, true},
 };
 

@@ -145,7 +145,13 @@ fn ends_so(exchange: Option<Exchange>, told: Told, text: &str) -> bool {
 #[test]
 fn calls_go_turn_by_turn(rt: HostRuntime) -> Result<(), Fail> {
     let alloc = rt.alloc();
-    assert!(rt; ends_so(resolve_file(alloc, "/a/f"), told(32, 12, 120, 0, 2), "/a/f\0"));
+    assert!(rt;
+        ends_so(
+            resolve_file(alloc, "/a/f"),
+            told(32, 12, 120, 0, 2),
+            "/a/f\0"
+        )
+    );
     assert!(rt; ends_so(resolve_moved(alloc), fault(EAGAIN), ""));
     // a number of no operation
     assert!(rt; is_told(&begun(alloc, 0, "a"), fault(EINVAL), "----"));

@@ -154,7 +154,9 @@ fn magic_links_are_not_read(rt: HostRuntime) -> Result<(), Fail> {
     assert!(rt; holder.next == MAY_HOLD_MAGIC && says(&facts, holder, EXT4).next == READ_LINK);
     let magic = says(&facts, holder, PROC);
     assert!(rt; magic.next == MAGIC && fails(&facts, magic, EINTR).next == MAGIC);
-    assert!(rt; works(&facts, magic).next == READ_LINK && fails(&facts, magic, EXDEV).next == READ_LINK);
+    assert!(rt;
+        works(&facts, magic).next == READ_LINK && fails(&facts, magic, EXDEV).next == READ_LINK
+    );
     assert!(rt; fails(&facts, magic, ENOTDIR).next == READ_LINK);
     assert!(rt; ends(fails(&facts, magic, ELOOP), UNMADE, ELOOP));
     assert!(rt; ends(fails(&facts, magic, EMFILE), UNMADE, EMFILE));

@@ -2,9 +2,7 @@
 ghost use Rattle.std.specs.Prelude.{◌≡◌};
 ghost use Rattle.call_course.specs.Turns.{after_proc, asks, ended, gains, judged, lacks, let_go, may_go_by_another, over};
 
-use crate::calling::{
-    BEGIN, CLOSE, CLOSE_PROC, Calling, ENDS, FAILS, LOOK_AT_PROC, LOOK_AT_ROOT,
-};
+use crate::calling::{BEGIN, CLOSE, CLOSE_PROC, Calling, ENDS, FAILS, LOOK_AT_PROC, LOOK_AT_ROOT};
 use system_calls::errors::{ENOSYS, ENOTDIR};
 use system_calls::next_try;
 

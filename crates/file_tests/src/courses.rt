@@ -259,10 +259,7 @@ const NOTHING: Request = Request {
 
 #[test]
 fn a_call_is_asked_for_by_the_flags(rt: HostRuntime) -> Result<(), Fail> {
-    let found = Request {
-        op: 1,
-        ..NOTHING
-    };
+    let found = Request { op: 1, ..NOTHING };
     assert!(rt; request_of(&opening(0, 0), 0, FIND) == found);
     assert!(rt; request_of(&opening(O_NOFOLLOW, 0), 0, FIND) == Request { op: 2, ..found });
     assert!(rt;

@@ -43,9 +43,6 @@ fn laws_of_removed_trees() {
     remove_by_calls::why_it_fails();
     remove_by_calls::what_is_busy_is_no_bound();
     remove_by_calls::exchanges_are_few();
-    remove_by_calls::what_is_back_is_the_same();
-    remove_by_calls::why_it_is_lost();
-    remove_by_calls::what_is_let_go_is_held();
 }
 
 #[test]

@@ -1,24 +1,13 @@
-//! Which call comes next as a tree is removed by several, by answers that calls give; which directory is let go
-//! meanwhile, and whether it is back.
-use remove_by_calls::{
-    AT_ROOT, Answer, Back, CLOSE, ENDS, FAILS, FILE_SYSTEM, Found, IDENTIFY, IN_PLACE, IS_BACK,
-    IS_LOST, KEEP, NO_SLOT, OPEN, Removal, Slot, back_begin, back_next, begin, is_deepest, let_go,
-    next,
-};
+//! Which call comes next as a tree is removed by several, by answers that calls give.
+use remove_by_calls::{AT_ROOT, Answer, CLOSE, ENDS, FAILS, IN_PLACE, KEEP, Removal, begin, next};
 use std::test::Fail;
-use system_calls::{Birth, next_try};
-
-const ENOENT: u32 = 2;
-
-const EINTR: u32 = 4;
+use system_calls::next_try;
 
 const EAGAIN: u32 = 11;
 
 const EACCES: u32 = 13;
 
 const EBUSY: u32 = 16;
-
-const ENOTDIR: u32 = 20;
 
 const ENFILE: u32 = 23;
 
@@ -217,161 +206,5 @@ fn a_count_has_63_bits(rt: HostRuntime) -> Result<(), Fail> {
     assert!(rt; ended(most, 1, 0).removed == 0x7fff_ffff_ffff_ffff);
     assert!(rt; ended(most, 2, 0).removed == 0x7fff_ffff_ffff_ffff);
     assert!(rt; ended(most, 0xffff_ffff_ffff_ffff, 0).removed == 0x7fff_ffff_ffff_ffff);
-    Ok(())
-}
-
-// ---- directories that were let go
-
-fn birth(inode: u64, seconds: u64) -> Birth {
-    Birth {
-        device: 1,
-        inode,
-        seconds,
-        nanoseconds: 4,
-    }
-}
-
-fn found(back: Back, who: Birth, file_system: u64, error: u32) -> Back {
-    back_next(
-        back,
-        &Found {
-            who,
-            file_system,
-            error,
-        },
-    )
-}
-
-fn opened(error: u32) -> Back {
-    found(back_begin(&birth(2, 3), true), birth(0, 0), 0, error)
-}
-
-fn is_lost(back: &Back, error: u32) -> bool {
-    back.next == IS_LOST && back.error == error
-}
-
-#[test]
-fn the_same_directory_is_back(rt: HostRuntime) -> Result<(), Fail> {
-    assert!(rt; back_begin(&birth(2, 3), true).next == OPEN);
-    let open = opened(0);
-    assert!(rt; open.next == IDENTIFY);
-    let back = found(open, birth(2, 3), 0, 0);
-    assert!(rt; back.next == IS_BACK);
-    assert!(rt; back.error == 0);
-    assert!(rt; found(back, birth(9, 9), 9, 9) == back);
-    assert!(rt; is_lost(&found(open, birth(5, 3), 0, 0), EAGAIN));
-    assert!(rt; is_lost(&found(open, birth(0, 3), 0, 0), EAGAIN));
-    Ok(())
-}
-
-// Of a directory that could not be copied up no birth is kept.
-#[test]
-fn on_overlayfs_a_birth_may_be_missing(rt: HostRuntime) -> Result<(), Fail> {
-    assert!(rt; is_lost(&found(opened(0), birth(2, 7), 0x794c_7630, 0), EAGAIN));
-    let unborn = Birth {
-        nanoseconds: 0,
-        ..birth(2, 0)
-    };
-    let copied = found(
-        found(back_begin(&unborn, true), birth(0, 0), 0, 0),
-        birth(2, 7),
-        0,
-        0,
-    );
-    assert!(rt; copied.next == FILE_SYSTEM);
-    assert!(rt; found(copied, birth(2, 7), 0x794c_7630, 0).next == IS_BACK);
-    assert!(rt; is_lost(&found(copied, birth(2, 7), 0x794c_7630, EACCES), EAGAIN));
-    assert!(rt; is_lost(&found(copied, birth(2, 7), 0xef53, 0), EAGAIN));
-    // A birth is known by either part.
-    let half = found(
-        found(back_begin(&birth(2, 0), true), birth(0, 0), 0, 0),
-        birth(2, 7),
-        0,
-        0,
-    );
-    assert!(rt; is_lost(&half, EAGAIN));
-    Ok(())
-}
-
-#[test]
-fn a_lost_directory_says_nothing_of_an_entry(rt: HostRuntime) -> Result<(), Fail> {
-    assert!(rt; is_lost(&back_begin(&birth(2, 3), false), EAGAIN));
-    assert!(rt; is_lost(&opened(ENOENT), EAGAIN));
-    assert!(rt; is_lost(&opened(ENOTDIR), EAGAIN));
-    assert!(rt; is_lost(&opened(EMFILE), EMFILE));
-    assert!(rt; is_lost(&opened(EACCES), EACCES));
-    assert!(rt; opened(EINTR).next == OPEN);
-    Ok(())
-}
-
-fn slot(fd: u32, above: u32) -> Slot {
-    Slot {
-        fd,
-        lost: 0,
-        above,
-        depth: 0,
-        listed: 0,
-        way: 0,
-        kind: 1,
-        is_shared: false,
-        is_above: false,
-        who: birth(0, 0),
-    }
-}
-
-// Marks of C: -1 is no slot, and -2 a descriptor that was let go.
-const NONE: u32 = 0xffff_ffff;
-
-const AWAY: u32 = 0xffff_fffe;
-
-#[test]
-fn the_outermost_of_too_many_is_let_go(rt: HostRuntime) -> Result<(), Fail> {
-    let slots = [
-        slot(3, NONE),
-        slot(4, 0),
-        slot(5, 1),
-        slot(6, 2),
-        slot(7, 3),
-        slot(0, 3),
-    ];
-    assert!(rt; let_go(&slots, 4, 2) == 1);
-    assert!(rt; let_go(&slots, 4, 3) == NO_SLOT);
-    assert!(rt; let_go(&slots, 5, 0) == 1);
-    assert!(rt; let_go(&slots, 1, 0) == NO_SLOT);
-    assert!(rt; let_go(&slots, 0, 0) == NO_SLOT);
-    assert!(rt; let_go(&slots, 6, 0) == NO_SLOT);
-    Ok(())
-}
-
-#[test]
-fn a_call_goes_1022_levels_deep(rt: HostRuntime) -> Result<(), Fail> {
-    let above = Slot {
-        depth: 1021,
-        ..slot(3, 0)
-    };
-    assert!(rt; !is_deepest(&above));
-    assert!(rt;
-        is_deepest(&Slot {
-            depth: 1022,
-            ..above
-        })
-    );
-    Ok(())
-}
-
-#[test]
-fn none_is_let_go_twice(rt: HostRuntime) -> Result<(), Fail> {
-    let slots = [
-        slot(3, NONE),
-        slot(AWAY, 0),
-        slot(5, 1),
-        slot(6, 2),
-        slot(7, 3),
-    ];
-    assert!(rt; let_go(&slots, 4, 0) == 2);
-    assert!(rt; let_go(&slots, 2, 0) == NO_SLOT);
-    let round = [slot(3, 1), slot(4, 0)];
-    assert!(rt; let_go(&round, 0, 2) == NO_SLOT);
-    assert!(rt; let_go(&round, 0, 1) == 0);
     Ok(())
 }

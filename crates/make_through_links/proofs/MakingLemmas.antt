@@ -275,6 +275,7 @@ front_is s e making room text cut at n front size l =
     there =
         front_at room s.above s.name making.length making.above making.cut cut l.path l.above l.within l.start
         ∙ ap (λ k. take k s.above) l.cut_is
+
     by : (b : Bool) → front ≡ (if b then 0 else cut)
         → take front room ≡ (if b then [] else take s.cut s.above)
     by true is = ap (λ k. take k room) is

@@ -1,6 +1,4 @@
 pub mod Answers
-pub mod Back
 pub mod History
 pub mod Promises
 pub mod Removal
-pub mod Slots

@@ -1,15 +1,10 @@
 //! What holds of every removal, as laws over its exchanges: each function's contract is one, and its body is empty.
-ghost use Rattle.std.specs.Prelude.{◌≡◌, ◌≢◌, ◌<◌, ◌≤◌, ℕ, Bool, true, false, List, ◌∷◌, length};
+ghost use Rattle.std.specs.Prelude.{◌≡◌, ◌<◌, ◌≤◌, ℕ, Bool, true, false, List, ◌∷◌, length};
 ghost use Rattle.std.specs.List.{AllByRecursion};
 ghost use Rattle.system_calls.specs.Errors.{EBUSY};
 ghost use Rattle.remove_by_calls.specs.Answers.{met_of};
-ghost use Rattle.remove_by_calls.specs.Back.{asks, back_after, loses, AreSteps, IsLostBy, IsSame, Step};
-ghost use Rattle.remove_by_calls.specs.Slots.{holds, let_go, NO_SLOT};
-ghost use Rattle.remove_by_calls.specs.declared.slots.Slot.{Slot};
 ghost use Rattle.remove_by_calls.specs.History.{is_call, ComesNext, Exchange, IsHistory};
 ghost use Rattle.remove_by_calls.specs.Promises.{most_after, CanBeDone, IsWhole, IsWhy, WentOn};
-ghost use Rattle.system_calls.specs.declared.objects.Birth.{Birth};
-ghost use Rattle.remove_by_calls.specs.declared.back.TheConstants.{IS_BACK};
 ghost use Rattle.remove_by_calls.specs.declared.answers.Answer.{Answer};
 ghost use Rattle.remove_by_calls.specs.declared.answers.Met.TheVariants.{Bound, Failed};
 ghost use Rattle.remove_by_calls.specs.declared.removal.Demand.{Demand};
@@ -49,24 +44,4 @@ pub fn what_is_busy_is_no_bound()
 pub fn exchanges_are_few()
     ensures { (may_retry : Bool) (history : List Exchange) → IsHistory may_retry history
         → length history ≤ most_after history }
-{}
-
-/// A directory that is back is the one that was let go: what `..` gave has its device and inode, and its birth, unless
-/// none was kept of it and they are on overlayfs.
-pub fn what_is_back_is_the_same()
-    ensures { (before : Birth) (can_be_opened : Bool) (history : List Step) → AreSteps before can_be_opened history
-        → back_after before can_be_opened history ≡ asks IS_BACK → IsSame before history }
-{}
-
-/// One that is lost is so by EAGAIN or by an error of openat(2), and by none that says something of an entry.
-pub fn why_it_is_lost()
-    ensures { (before : Birth) (can_be_opened : Bool) (history : List Step) (error : ℕ)
-        → AreSteps before can_be_opened history → back_after before can_be_opened history ≡ loses error
-        → IsLostBy history error }
-{}
-
-/// A directory whose descriptor is let go has one, and isn't the walk's own.
-pub fn what_is_let_go_is_held()
-    ensures { (slots : List Slot) (from most : ℕ) → let_go slots from most ≢ NO_SLOT
-        → holds slots (let_go slots from most) ≡ true }
 {}

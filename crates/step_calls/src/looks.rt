@@ -4,8 +4,8 @@ ghost use Rattle.step_calls.specs.Course.{due_of};
 ghost use Rattle.step_calls.specs.History.{after_change, after_close, after_close_read, after_follow, after_holder, after_layers, after_links, after_magic, after_open_to_read, after_read, after_read_link, gone, has_followed, has_magic, is_ordinary, keeps_links, not_ordinary, not_read, there, unasked};
 
 use crate::course::{
-    CLOSE, CLOSE_READ, Course, DONE, LAYERS, MAGIC, MAY_HOLD_MAGIC, NO_FOLLOW, OPEN_TO_READ, OPENED,
-    READ, READ_LINK, REFUSED, TEXT, UNMADE, asks, ends_by, fails, knows, waits,
+    CLOSE, CLOSE_READ, Course, DONE, LAYERS, MAGIC, MAY_HOLD_MAGIC, NO_FOLLOW, OPEN_TO_READ,
+    OPENED, READ, READ_LINK, REFUSED, TEXT, UNMADE, asks, ends_by, fails, knows, waits,
 };
 use crate::facts::{DIRECTORY, Facts, PARENT};
 use system_calls::errors::{

@@ -4,8 +4,8 @@ ghost use Rattle.step_calls.specs.Course.{due_of};
 ghost use Rattle.step_calls.specs.History.{after_any, after_directory, after_kind, after_mount, after_spare, came_to, not_opened, opened, stayed};
 
 use crate::course::{
-    CLOSE, Course, KIND, LINKS, MOUNT, OPEN_ANY, OPEN_DIRECTORY, OPENED,
-    SPARE, UNMADE, asks, ends_by, fails, knows, waits,
+    CLOSE, Course, KIND, LINKS, MOUNT, OPEN_ANY, OPEN_DIRECTORY, OPENED, SPARE, UNMADE, asks,
+    ends_by, fails, knows, waits,
 };
 use crate::facts::{DIRECTORY, Facts, OPEN, PARENT};
 use system_calls::errors::{EINTR, EMFILE, ENFILE, ENOTDIR, EXDEV};

@@ -9,12 +9,10 @@ use crate::course::{
 };
 use crate::facts::{Answer, DUP, Facts, IS_THERE, OPEN, PARENT, READ_TEXT};
 use crate::looks::{
-    after_change, after_close, after_close_read, after_follow, after_holder, after_layers, after_links,
-    after_magic, after_open_to_read, after_read, after_read_link,
+    after_change, after_close, after_close_read, after_follow, after_holder, after_layers,
+    after_links, after_magic, after_open_to_read, after_read, after_read_link,
 };
-use crate::opens::{
-    after_any, after_directory, after_kind, after_mount, after_spare,
-};
+use crate::opens::{after_any, after_directory, after_kind, after_mount, after_spare};
 
 fn first(facts: &Facts) -> Course
     ensures { due_of result ≡ first facts.now }

@@ -3,7 +3,7 @@
 // usage: unpack [-o] [-s] [-t] ROOT <ARCHIVE
 //
 //	-o   sets the owners of the entries, by their numbers
-//	-s   asks for each entry where its directory stands, so that none is made in one that was moved out before
+//	-s   walks to each entry by its whole path, so that none is made in a directory that was moved out before
 //	-t   sets the times at which they were changed
 //
 // Each name of the archive is a path below ROOT. An entry that is there already is replaced, a link too: nothing is
@@ -41,7 +41,7 @@ type unpacking struct {
 	root                  *os.File
 	above                 *os.File // the directory of the last entry, or nil; and its path
 	aboveName             string
-	at                    inroot.Root // what calls take in the root's place, so that their paths begin there
+	at                    *os.File // where the paths of calls begin: that directory, or the root
 	owners, strict, times bool
 	failed                bool
 	again                 bool // a directory was there already, so it may have come before
@@ -70,7 +70,7 @@ func (u *unpacking) fail(name string, what error) {
 func (u *unpacking) lookAgain() {
 	was, err := u.above.Stat()
 	if err == nil {
-		now, failed := inroot.StatInRoot(u.root, u.aboveName, inroot.Below)
+		now, failed := inroot.StatInRoot(u.root, u.aboveName)
 		if err = failed; err == nil && !os.SameFile(was, now) {
 			err = syscall.ESTALE
 		}
@@ -85,9 +85,7 @@ func (u *unpacking) closeAbove() {
 	if u.above == nil {
 		return
 	}
-	if at, is := u.at.(*inroot.At); is {
-		at.Close()
-	} else {
+	if !u.strict {
 		u.lookAgain()
 	}
 	u.above.Close()
@@ -112,14 +110,10 @@ func (u *unpacking) openAbove(name string) (last string, err error) {
 	if err != nil {
 		return last, err
 	}
-	u.at = opened
+	u.above, u.at = opened, opened
 	if u.strict {
-		if u.at, err = inroot.BeginAt(u.root, opened); err != nil {
-			opened.Close()
-			return last, err
-		}
+		u.at = u.root
 	}
-	u.above = opened
 	return last, nil
 }
 
@@ -287,6 +281,8 @@ func (u *unpacking) makeEntry(name string, header *tar.Header) error {
 		return err
 	case last == "" || last == "." || last == "..":
 		err = u.makeDirectories(name, header)
+	case u.strict:
+		err = u.makeInPlace(name, header)
 	default:
 		err = u.makeInPlace(last, header)
 	}
@@ -318,7 +314,7 @@ func (u *unpacking) isNew(found *os.File) (bool, error) {
 func (u *unpacking) setDirectory(one directory) error {
 	const oPath = 0x200000
 	flags := oPath | syscall.O_DIRECTORY | syscall.O_NOFOLLOW
-	found, err := inroot.OpenFileInRoot(u.root, one.name, flags, 0, inroot.Below)
+	found, err := inroot.OpenFileInRoot(u.root, one.name, flags, 0)
 	if err != nil {
 		return err
 	}
@@ -367,7 +363,7 @@ func (u *unpacking) unpack() int {
 
 func main() {
 	owners := flag.Bool("o", false, "sets the owners of the entries, by their numbers")
-	strict := flag.Bool("s", false, "asks for each entry where its directory stands")
+	strict := flag.Bool("s", false, "walks to each entry by its whole path")
 	times := flag.Bool("t", false, "sets the times at which they were changed")
 	flag.Usage = func() { fmt.Fprintln(os.Stderr, "usage: unpack [-o] [-s] [-t] ROOT <ARCHIVE") }
 	flag.Parse()
