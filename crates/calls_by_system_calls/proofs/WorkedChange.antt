@@ -140,7 +140,7 @@ says_looked_up = record {
   object_link = λ worked. absurd (cc (worked.0));
   root_link = λ worked. absurd (cc (worked.0));
   look_up = λ place found. refl;
-  looked_root = λ found. let long : 4 ≡ 1 = ap length found.1.0 in absurd (omega (arith, long));
+  looked_root = λ found. let long : 4 ≡ 1 = ap length found.1 in absurd (omega (arith, long));
 }
 
 says_again : IsAnswer place_moments of_directory 3 read_again
