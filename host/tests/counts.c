@@ -199,7 +199,7 @@ static const struct {
     {"make a/b, which is there", "a/b", make_all, 1, 11},
     {"make a/b/f with all, which is there", "a/b/f", make_file_all, 2, 14},
     {"make n/e/w with all", "n/e/w", make_file_all, 32, 44},
-    {"remove a/b/new with all, an empty directory", "a/b/new", remove_all, 10, 20},
+    {"remove a/b/new with all, an empty directory", "a/b/new", remove_all, 12, 20},
     {"tell the place of a/b", "a/b", tell_place, 11, 11},
 };
 
