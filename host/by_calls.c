@@ -57,14 +57,16 @@ static uint32_t ask_file_system(int fd, struct inroot_step_answer *answer)
 
 /*
  * Whether the link leads to an object and not along its text: only the kernel knows, and refuses to follow it by its name then. It
- * does so before it looks where the link leads. So it refuses a link beyond that one, and so would the walk that comes to it.
+ * does so before it looks where the link leads. So it refuses a link beyond that one, and so would the walk that comes to it. Where
+ * the link's directory isn't open any more, since the call is about the link itself, the kernel can't be asked.
  */
 static uint32_t ask_magic(struct inroot_driver *d, const struct inroot_work *w)
 {
     const struct open_how how = {.flags = O_PATH | O_CLOEXEC, .resolve = RESOLVE_BENEATH | RESOLVE_NO_MAGICLINKS};
-    if (d->link != w->dir)
-        return ESTALE;
-    const int fd = inroot_openat2(inroot_handles_fd(d, d->link_dir), d->link_name, &how);
+    const int dir = d->link == w->dir ? inroot_handles_fd(d, d->link_dir) : INROOT_NONE;
+    if (dir < 0)
+        return ELOOP;
+    const int fd = inroot_openat2(dir, d->link_name, &how);
     const uint32_t error = inroot_errno_of(fd);
     if (fd >= 0)
         close(fd);
@@ -105,7 +107,7 @@ static uint32_t turn(struct inroot_driver *d, struct inroot_work *w, struct inro
     switch (w->course.next) {
     case INROOT_CALL_OPEN_DIRECTORY: return open_directory(d, w);
     case INROOT_CALL_OPEN_ANY: return open_entry(d, w, 0);
-    case INROOT_CALL_SPARE: return EMFILE;
+    case INROOT_CALL_SPARE: return EMFILE; /* none is */
     case INROOT_CALL_KIND: return ask_object(w->fd, answer);
     case INROOT_CALL_LINKS: return ask_object(w->looks, answer);
     case INROOT_CALL_LAYERS: return ask_file_system(w->looks, answer);

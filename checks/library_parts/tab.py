@@ -58,7 +58,9 @@ class Terminal:
         fcntl.ioctl(self.fd, termios.TIOCSWINSZ, struct.pack("HHHH", 50, 400, 0, 0))
         self.told = b""
         self.type(source.format(TOP, program) + "\r")
-        self.wait(lambda: b"ATROOT>" in self.told)
+        # zsh reads all its completions first.
+        if not self.wait(lambda: b"ATROOT>" in self.told, 10 * SECONDS):
+            raise TimeoutError(f"{shell} doesn't start")
 
     def type(self, text):
         os.write(self.fd, text.encode())

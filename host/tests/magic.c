@@ -125,7 +125,7 @@ static void by_errors(void)
     for (refusal = 1; refusal < 134; refusal++) {
         snprintf(what, sizeof what, "error %d", refusal);
         if (!tells_of_a_text(refusal))
-            gives_no_object("proc/self/cwd", way, -refusal, what);
+            gives_no_object("proc/self/cwd", way, refusal == EPERM || refusal == ENOSYS ? -ELOOP : -refusal, what);
     }
     refusal = 0;
 }

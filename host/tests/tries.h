@@ -94,9 +94,11 @@ static bool is_expected(int error)
         /* Of a directory that would get another name. */
         return true;
     default:
-        /* If /proc lacks a descriptor's link, it is no proc(5). And whether the kernel has what the library needs may be what fails. */
+        /* If /proc lacks a descriptor's link, or statx(2) doesn't say which file it is, it is none to go by. And whether the kernel has
+           what the library needs may be what fails. */
         return breaks_promise || error == acting->fault || error == shortage ||
-               (error == ENOSYS && (acting->fault == ENOENT || (acting->fault != 0 && says("Kernel"))));
+               (error == ENOSYS && acting->fault != 0 &&
+                (acting->fault == ENOENT || says("Kernel") || strcmp(failed_call, "__wrap_statx") == 0));
     }
 }
 

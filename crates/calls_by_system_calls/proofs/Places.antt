@@ -35,7 +35,7 @@ pub asked_place_stood : PlacesStood → (x : Linux) (m calls top node : ℕ) (an
     → PlaceIsAsked x m calls top node answer → PlaceIsTold x m calls top node answer
 asked_place_stood stood x m calls top node answer within asked =
     let w = place_world x m top node asked.passed asked.root asked.object in
-    let found = stood w asked.facts asked.kept asked.exchanges asked.place asked.is_root
+    let found = stood w asked.facts asked.exchanges asked.place
     (stays_gone x m top node asked.passed asked.root asked.object within) asked.says asked.texts asked.is in
     let before : found.0 < calls = omega (arith, found.1, asked.all) in
     let s = state_at x (m + suc found.0) in

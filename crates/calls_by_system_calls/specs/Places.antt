@@ -8,7 +8,8 @@ use Rattle.tree_model.specs.declared.answer.Answer.TheVariants.{Names}
 use Rattle.tree_model.specs.State.{State, is_gone, names_below}
 use Rattle.tree_model.specs.Steps.{shows}
 use Rattle.place_protocol.specs.Conversation.{Conversation, Exchange, StandsAt}
-use Rattle.place_protocol.specs.Moments.{AreAnswers, ReadsLink, TextsTell, World}
+use Rattle.place_protocol.specs.Moments.{AreAnswers, TextsTell, World}
+use Rattle.place_protocol.specs.Texts.{is_top}
 use Rattle.place_protocol.specs.declared.questions.Facts.{Facts}
 use Rattle.calls_by_system_calls.specs.Linux.{Linux, IsLinux, state_at}
 
@@ -47,17 +48,15 @@ place_world x m top node passed root object = record {
 -- what the kernel had seen below the root right before isn't removed.
 pub record PlaceIsAsked (x : Linux) (m calls top node : ℕ) (answer : Answer) : Type 0 where
   pub facts : Facts
-  pub kept : List ℕ
   pub exchanges : List Exchange
   pub place : List ℕ
-  pub is_root : Bool
   pub passed : ℕ → List ℕ → Bool
   pub root : ℕ → List ℕ
   pub object : ℕ → List ℕ
-  pub is : Conversation facts kept exchanges (StandsAt place is_root)
+  pub is : Conversation facts exchanges (StandsAt place)
   pub all : length exchanges ≡ calls
   pub says : AreAnswers (place_world x m top node passed root object) facts 0 exchanges
-  pub texts : ReadsLink exchanges → TextsTell (place_world x m top node passed root object) facts kept
+  pub texts : is_top place ≡ false → TextsTell (place_world x m top node passed root object)
   pub seen : facts.seen ≡ true → (n : ℕ) → n < calls → is_gone (state_at x (m + suc n)).nodes node ≡ false
   pub names : List (List ℕ)
   pub reads : names_read place ≡ Some names

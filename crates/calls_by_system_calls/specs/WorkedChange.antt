@@ -14,12 +14,12 @@ use Rattle.calls_by_system_calls.specs.WorkedRace.{move, race_before, race_nodes
 abbrev pub mkdir : Change
 mkdir = record { directory = 3; second = 3; step = MakeDir 0 (codes "new") }
 
--- it is the seventh system call, and b is moved away between the sixth and this one
+-- it is the eighth system call, and b is moved away between the seventh and this one
 abbrev pub mkdir_race : Linux
 mkdir_race = record {
   opening = race_opening;
-  own = λ n. if n == 7 then Some mkdir else None;
-  others = λ n. if n == 6 then move ∷ [] else [];
+  own = λ n. if n == 8 then Some mkdir else None;
+  others = λ n. if n == 7 then move ∷ [] else [];
 }
 
 abbrev pub mkdir_lines : List Line
@@ -32,9 +32,10 @@ mkdir_lines =
     ∷ answered (Close 52) Done
     ∷ []
 
--- how many system calls each takes: the place is asked for in a jail, by fchdir(2) and getcwd(2)
+-- how many system calls each takes: of the place, readlink(2) of the root's link and of the directory's, openat2(2), and
+-- readlink(2) of the directory's link again
 abbrev pub mkdir_counts : List ℕ
-mkdir_counts = 1 ∷ 1 ∷ 1 ∷ 3 ∷ 1 ∷ 1 ∷ []
+mkdir_counts = 1 ∷ 1 ∷ 1 ∷ 4 ∷ 1 ∷ 1 ∷ []
 
 -- All that is supposed is met; and what is made is the node 11, which doesn't stand below the root.
 pub record MkdirIsMade : Type 0 where
@@ -42,5 +43,5 @@ pub record MkdirIsMade : Type 0 where
   pub made : AreMade mkdir_race race_nodes 0 race_before mkdir_lines mkdir_counts
   pub differ : AllDiffer (50 ∷ numbers_opened mkdir_lines)
   pub few : (n : ℕ) → length (state_at mkdir_race n).handles + length mkdir_lines < 281474976710656
-  pub new : child (state_at mkdir_race 7).nodes 3 (codes "new") ≡ Some 11
-  pub outside : names_below (state_at mkdir_race 7).nodes 1 11 ≡ None
+  pub new : child (state_at mkdir_race 8).nodes 3 (codes "new") ≡ Some 11
+  pub outside : names_below (state_at mkdir_race 8).nodes 1 11 ≡ None
