@@ -1,6 +1,6 @@
 //! The functions by which a C program makes calls: a static library of the exports of `c_protocol`, `kernel_walks`,
-//! `step_calls`, `place_protocol`, `open_or_make`, `make_through_links`, `remove_by_calls`, `list_directory`, `call_course`,
-//! `ask_place`, `give_entry`, `find_proc`, `private_proc`, `open_partial`, `kernel_text` and
+//! `step_calls`, `place_protocol`, `open_or_make`, `make_through_links`, `remove_by_calls`, `list_directory`,
+//! `call_course`, `ask_place`, `give_entry`, `find_proc`, `private_proc`, `open_partial`, `kernel_text` and
 //! `system_calls`.
 //!
 //! Each export is the function of that name of one of these, with its clauses. What a C program owes is said in

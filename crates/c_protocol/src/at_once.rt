@@ -65,8 +65,9 @@ fn spells_place(path: &[u8], place: &[u8]) -> bool
     }
 }
 
-/// Whether a call is a resolve by the names of this place alone: its path is the place's, with the slash at its beginning
-/// or without. If one of them is missing in the directory that those before it led to, the call fails by ENOENT, by
+/// Whether a call is a resolve by the names of this place alone: its path is the place's, with the slash at its
+/// beginning or without. If one of them is missing in the directory that those before it led to, the call fails by
+/// ENOENT, by
 /// `fails_at_once_tell`, whichever of them that is (openat2(2), RESOLVE_NO_SYMLINKS). Takes no memory.
 ///
 /// `place` is a slash before each name. False of any other operation, as of those that make directories, which go on

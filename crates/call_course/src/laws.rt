@@ -25,8 +25,8 @@ pub fn what_is_given_is_all_that_stays_open()
 {}
 
 /// What a call takes out of a handle is the handle's descriptor, which isn't the caller's own; or one that was opened
-/// anew. The handle's descriptor, unless it is the caller's own, and the one that was opened are each given, once. There
-/// is no error but ENOMEM of a descriptor that was let go, and that of the opening.
+/// anew. The handle's descriptor, unless it is the caller's own, and the one that was opened are each given, once.
+/// There is no error but ENOMEM of a descriptor that was let go, and that of the opening.
 pub fn what_is_taken_is_the_calls_own()
     ensures own { (shared held : Bool) (fd given : ℕ) (anew : Option ℕ)
         → given_by (taken shared held) fd anew ≡ Some given → IsOwn shared held fd anew given }

@@ -34,11 +34,12 @@ pub record LinesAreSeenBelow (x : Linux) (asked : Asked) (op : Op) (goal : Goal)
   pub window : List Event
   pub is_window : IsWindow x f 0 x.opening lines counts window
   pub is_call : IsCallInHistory (in_history x asked op lines node f window)
-  pub seen : SeenBelow (along (in_history x asked op lines node f window) goal (reading_of path)) (handle_by f handle) names
+  pub seen : SeenBelow (along (in_history x asked op lines node f window) goal (reading_of path)) (handle_by f handle)
+      names
 
--- So it is of each resolve that is led by its lines and the question to the reply that the object was opened, where it is
--- told the names that it passed. If one system call walks the path as a whole, its lines are the steps that the kernel
--- took, each at a moment within that call.
+-- So it is of each resolve that is led by its lines and the question to the reply that the object was opened, where it
+-- is told the names that it passed. If one system call walks the path as a whole, its lines are the steps that the
+-- kernel took, each at a moment within that call.
 abbrev pub ResolvesSeenBelowBySystemCalls : Type 0
 ResolvesSeenBelowBySystemCalls =
     (asked : Asked) (op : Op) (goal : Goal) (path : List ℕ) (lines : List Line) (handle : Handle)

@@ -32,8 +32,8 @@ mkdir_lines =
     ∷ answered (Close 52) Done
     ∷ []
 
--- how many system calls each takes: of the place, readlink(2) of the root's link and of the directory's, openat2(2), and
--- readlink(2) of the directory's link again
+-- how many system calls each takes: of the place, readlink(2) of the root's link and of the directory's, openat2(2),
+-- and readlink(2) of the directory's link again
 abbrev pub mkdir_counts : List ℕ
 mkdir_counts = 1 ∷ 1 ∷ 1 ∷ 4 ∷ 1 ∷ 1 ∷ []
 

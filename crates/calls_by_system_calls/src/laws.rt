@@ -37,8 +37,8 @@ pub fn fails_at_once_by_system_calls()
 /// The same of a resolve whose last check is the kernel's (openat2(2), RESOLVE_BENEATH): at a moment of that call the
 /// object stood below the root, at whatever names. In the history the walk has opened the object, which was reached by
 /// the path's parts and stood below the root at the last check (`resolves_seen_below`). So it is of each resolve whose
-/// lines lead to the object. Where one system call walks a path as a whole, through links and `..`, that its steps were such
-/// lines is a premise.
+/// lines lead to the object. Where one system call walks a path as a whole, through links and `..`, that its steps
+/// were such lines is a premise.
 pub fn seen_below_by_system_calls()
     ensures { ResolvesSeenBelowBySystemCalls }
 {

@@ -154,8 +154,8 @@ stand_after asked (e ∷ older) = moved (stand_after asked older) e (met_of aske
 
 -- ---- what comes next
 
--- A call, the nanoseconds before it, and its path; or no call, and a descriptor, or an error with its step and what it is
--- about.
+-- A call, the nanoseconds before it, and its path; or no call, and a descriptor, or an error with its step and what it
+-- is about.
 pub record Due : Type 0 where
   pub next : ℕ
   pub pause : ℕ

@@ -35,16 +35,17 @@ pub fn files_are_made_once_their_directories_are_there()
         × (e.path ≡ above.path ++ (stand_after asked older).name))) }
 {}
 
-/// Each call walks its part of the path: the directories' part to make them and to see how much is there; what is there of
-/// that part, and the next name, to read a link; and else all of it.
+/// Each call walks its part of the path: the directories' part to make them and to see how much is there; what is
+/// there of that part, and the next name, to read a link; and else all of it.
 pub fn each_call_walks_its_part()
     ensures { (asked : Asked) (e : Exchange) (older : List Exchange) → IsHistory asked (e ∷ older)
         → e.path ≡ part_for e.call (stand_after asked older) }
 {}
 
-/// The path is the program's own as long as no link was followed. Then it has the text of the link that was followed last
-/// in the place of that link, behind the path of its directory and before what came behind it in the path of that moment;
-/// or at the beginning, if the text begins with a slash. It has 4,095 bytes at most. At most 40 links are followed.
+/// The path is the program's own as long as no link was followed. Then it has the text of the link that was followed
+/// last in the place of that link, behind the path of its directory and before what came behind it in the path of that
+/// moment; or at the beginning, if the text begins with a slash. It has 4,095 bytes at most. At most 40 links are
+/// followed.
 pub fn links_are_followed_in_turn()
     ensures path { (asked : Asked) (e : Exchange) (older : List Exchange) → IsHistory asked (e ∷ older)
         → IsPathOf asked older (stand_after asked older) }

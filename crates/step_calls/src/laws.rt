@@ -17,9 +17,9 @@ pub fn opens_stood()
     ensures { OpensStood }
 {}
 
-/// The same of the directory above (openat(2), stat(2), rmdir(2)). Removal is for good: so the child is asked afterwards
-/// whether it is there. Where removed directories keep links (overlayfs, cgroups, btrfs) that can't be asked of one that
-/// may not be read.
+/// The same of the directory above (openat(2), stat(2), rmdir(2)). Removal is for good: so the child is asked
+/// afterwards whether it is there. Where removed directories keep links (overlayfs, cgroups, btrfs) that can't be
+/// asked of one that may not be read.
 pub fn parents_stood()
     ensures { ParentsStood }
 {}
@@ -69,9 +69,9 @@ pub fn no_error_is_passed_over()
         → AllByRecursion (NoError f) history }
 {}
 
-/// A link's text is told only if an answer says that its mount has links followed (statfs(2); mount(8), nosymfollow), and one
-/// says that the link is no magic one: its file system has none (statfs(2)), or the kernel looked where it leads
-/// (openat2(2), RESOLVE_NO_MAGICLINKS). No other error passes for such an answer.
+/// A link's text is told only if an answer says that its mount has links followed (statfs(2); mount(8), nosymfollow),
+/// and one says that the link is no magic one: its file system has none (statfs(2)), or the kernel looked where it
+/// leads (openat2(2), RESOLVE_NO_MAGICLINKS). No other error passes for such an answer.
 pub fn links_are_followed_by_leave()
     ensures { TextsAreFollowed }
 {}
