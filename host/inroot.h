@@ -4,8 +4,8 @@
  * ROOT is a descriptor of the directory (O_PATH is enough), which stays open until the call ends. PATH is a text of at
  * most 4,095 bytes, and not NULL. It is walked as openat2(2) does with RESOLVE_IN_ROOT: `..` at the root and an
  * absolute link stay inside. A call reads its texts once, as it begins. It needs Linux 5.10, with openat2(2) and with
- * numbers of mounts from statx(2). Where one of them is missing, or a filter refuses it, each call gives ENOSYS before
- * it has done anything, and inroot_last_error() names the step `Kernel`.
+ * numbers of mounts from statx(2). Where one of them is missing, or a filter refuses it, a call that needs it gives
+ * ENOSYS before it has done anything, and inroot_last_error() names the step `Kernel`.
  *
  * The kernel walks first. A call finds its object, or the directory of its entry, by one openat2(2). Then it makes the
  * one system call of a change. If the look-up doesn't succeed, for whatever reason, a proved library walks the path by
