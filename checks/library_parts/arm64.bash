@@ -136,6 +136,10 @@ arm_tests() {
         host/tests/conversations.c host/heap.c "$arm_archive"
     emulated "$emulator" arm ''
     verdict $? "host/tests/conversations.c as arm64: $(tail -n 20 "$work/printed")"
+    if [[ $lacking == *openat2* ]]; then
+        skip 'the other programs of host/tests as arm64' 'the emulator has no openat2(2)'
+        return
+    fi
     while read -r name argument; do
         arm_test "$name" "$argument"
     done < <(arm_programs)
