@@ -25,6 +25,5 @@ pub mod MakeAllQuiet
 pub mod MakeAllWorked
 pub mod MakeAllQuietWorked
 pub mod RacedCalls
-pub mod Ahead
 pub mod Renumbered
 pub mod Renamed

@@ -12,7 +12,6 @@ use std::marker::Model;
 use step_resolver::{Goal, Root, Turn, Walk, check_refusal, refusal_of};
 use tree_model::{Answer, Kind, LentStep, StepOf};
 
-mod ahead;
 mod copy;
 mod like;
 

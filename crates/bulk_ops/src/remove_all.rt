@@ -12,7 +12,6 @@ use std::mem;
 use step_resolver::{Goal, Root, Turn, Walk};
 use tree_model::{Answer, LentStep};
 
-mod ahead;
 mod clearing;
 mod copy;
 mod frame;

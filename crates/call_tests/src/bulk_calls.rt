@@ -8,7 +8,7 @@ ghost use Rattle.bulk_ops.specs.declared.turn.BulkTurn.TheVariants.{More};
 use bulk_ops::{BulkTurn, MkdirAll, RemoveAll};
 use fixtures::{answered, base_tree, names_of, root};
 use handles::Standing;
-use path_text::{Errno, Flags, NoMemory, Part, Path, Rule};
+use path_text::{Errno, Flags, NoMemory, Path, Rule};
 use std::alloc::Global;
 use step_text::Output;
 use tree_list::ListTree;
@@ -34,9 +34,6 @@ pub trait Bulk {
 
     /// Whether the calls are the same but for the numbers of their handles.
     fn is_like(&self, other: &Self) -> bool;
-
-    /// The part that the call's walk comes to behind so many others.
-    fn ahead(&self, at: usize) -> Option<Part<'_>>;
 }
 
 impl Bulk for MkdirAll {
@@ -64,10 +61,6 @@ impl Bulk for MkdirAll {
     fn is_like(&self, other: &MkdirAll) -> bool {
         MkdirAll::is_like(self, other)
     }
-
-    fn ahead(&self, at: usize) -> Option<Part<'_>> {
-        MkdirAll::ahead(self, at)
-    }
 }
 
 impl Bulk for RemoveAll {
@@ -94,10 +87,6 @@ impl Bulk for RemoveAll {
 
     fn is_like(&self, other: &RemoveAll) -> bool {
         RemoveAll::is_like(self, other)
-    }
-
-    fn ahead(&self, at: usize) -> Option<Part<'_>> {
-        RemoveAll::ahead(self, at)
     }
 }
 

@@ -3,10 +3,6 @@
 #![tactic(auto)]
 
 #[cfg(test)]
-mod ahead;
-#[cfg(test)]
-mod bulk_ahead;
-#[cfg(test)]
 mod bulk_calls;
 #[cfg(test)]
 mod bulk_rows;

@@ -1,6 +1,6 @@
 //! Which object an answer is about, of which kind it is, and what an error says.
 use std::test::Fail;
-use system_calls::{Birth, Object, is_elsewhere, is_node, is_same_object, kind_of, same_directory};
+use system_calls::{Object, is_elsewhere, is_node, is_same_object, kind_of};
 
 fn object(device: u64, inode: u64, mount: u64) -> Object {
     Object {
@@ -21,28 +21,6 @@ fn tells_objects_apart(rt: HostRuntime) -> Result<(), Fail> {
     // A kernel that tells no mount tells it of neither.
     assert!(rt; is_same_object(&object(1, 2, 0), &object(1, 2, 0), false));
     assert!(rt; !is_same_object(&object(1, 2, 0), &one, false));
-    Ok(())
-}
-
-fn birth(device: u64, inode: u64, seconds: u64, nanoseconds: u32) -> Birth {
-    Birth {
-        device,
-        inode,
-        seconds,
-        nanoseconds,
-    }
-}
-
-#[test]
-fn knows_a_directory_again(rt: HostRuntime) -> Result<(), Fail> {
-    let before = birth(1, 2, 3, 4);
-    assert!(rt; same_directory(&birth(1, 2, 3, 4), &before) == 1);
-    assert!(rt; same_directory(&birth(1, 2, 3, 5), &before) == 2);
-    assert!(rt; same_directory(&birth(1, 2, 4, 4), &before) == 2);
-    assert!(rt; same_directory(&birth(1, 3, 3, 4), &before) == 0);
-    assert!(rt; same_directory(&birth(2, 2, 3, 4), &before) == 0);
-    // What could not be asked is no directory, and not even itself.
-    assert!(rt; same_directory(&birth(0, 0, 0, 0), &birth(0, 0, 0, 0)) == 0);
     Ok(())
 }
 

@@ -10,7 +10,6 @@ pub use Rattle.handles.specs.Objects
 pub use Rattle.step_resolver.specs.Asked
 pub mod Copies
 pub mod Order
-pub mod Ahead
 pub mod View
 pub mod TurnView
 pub mod FirstView

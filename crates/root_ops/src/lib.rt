@@ -21,7 +21,6 @@
 #![tactic(auto)]
 
 mod acts_laws;
-mod ahead;
 mod aim;
 mod answers;
 mod begin;

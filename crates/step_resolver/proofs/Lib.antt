@@ -11,5 +11,3 @@ pub mod DrivenWalks
 pub mod Renumbered
 pub mod LikeWalks
 pub mod Changes
-pub mod Ahead
-pub mod PassingDirectories

@@ -8,7 +8,6 @@ use Rattle.path_text.specs.declared.part.Part.TheVariants as part
 use Rattle.handles.specs.Objects.{ReachedObject}
 use Rattle.walk_plan.specs.Plan.{PlanState, next_part, first_part, after_first, own_after_next, is_own, is_single, is_name, IsNameAnd, stayed, comes_from_own, follows_next_link}
 use Rattle.walk_plan.specs.Same.{last_part, follows_last, SameOwn, SameToCome}
-use Rattle.step_resolver.specs.Ahead.{part_of}
 use Rattle.step_resolver.specs.Asked.{AskedPart, Cur, Up, Named, ask, asked, followed, follows}
 use Rattle.step_resolver.specs.Like.{LikeHeld, LikePlaces, LikeOnward, LikeAfters}
 use Rattle.step_resolver.specs.Order.{Todo, todo}
@@ -16,7 +15,6 @@ use Rattle.step_resolver.specs.Renamed.{LikeWalks}
 use Rattle.step_resolver.specs.View.{own_to_come, todo_of, name_in, walking_of, IsAtName, MayFollow}
 use Rattle.step_resolver.specs.declared.pending.AfterClose.TheVariants.{Onward, Judges}
 use Rattle.step_resolver.specs.declared.pending.Pending.TheVariants.{Opening, Reading, Rising, Judging, Duping, Ending}
-use Rattle.step_resolver.proofs.Ahead.{parts_followed, parts_asked}
 use Rattle.step_resolver.proofs.WalkParts.{ask_own}
 
 -- what says the same as one of two that say the same says the same as the other
@@ -24,6 +22,26 @@ pub as_told : (A B C : Type 0) → A ↔ B → B ↔ C → A ↔ C
 as_told A B C ab bc = ((λ a. bc.0 (ab.0 a)), (λ c. ab.1 (bc.1 c)))
 
 -- ---- parts, by what is asked of them
+
+part_of : AskedPart → Part
+part_of Cur = part.Cur
+part_of Up = part.Up
+part_of (Named follow n) = part.Named n
+
+part_asked : (follow : Bool) (p : Part) → part_of (ask follow p) ≡ p
+part_asked follow part.Cur = refl
+part_asked follow part.Up = refl
+part_asked follow (part.Named n) = refl
+
+parts_followed : (ps : List Part) → map part_of (followed ps) ≡ ps
+parts_followed [] = refl
+parts_followed (p ∷ ps) = ap (λ q. q ∷ map part_of (followed ps)) (part_asked true p) ∙ ap (λ qs. p ∷ qs) (parts_followed ps)
+
+parts_asked : (follow : Bool) (ps : List Part) → map part_of (asked follow ps) ≡ ps
+parts_asked follow [] = refl
+parts_asked follow (p ∷ []) = ap (λ q. q ∷ []) (part_asked follow p)
+parts_asked follow (p ∷ q ∷ ps) =
+    ap (λ r. r ∷ map part_of (asked follow (q ∷ ps))) (part_asked true p) ∙ ap (λ rs. p ∷ rs) (parts_asked follow (q ∷ ps))
 
 -- a link at the very last part is followed, or that part is no name
 abbrev last_followed : List AskedPart → Bool

@@ -40,4 +40,3 @@ pub mod Driver
 pub mod Renumbered
 pub mod Renamed
 pub mod Like
-pub mod Ahead

@@ -18,7 +18,6 @@ use std::mem;
 use tree_model::{Answer, HandleNo, LentStep, StepOf};
 use walk_plan::{Goal, Plan};
 
-mod ahead;
 mod copy;
 mod like;
 

@@ -1,7 +1,6 @@
 -- Which object an answer of statx(2) or fstat(2) is about, of which kind it is (inode(7)), and what an error says.
-use Rattle.std.specs.Prelude.{ℕ, ◌*◌, ◌^◌, ◌==◌, Bool, not, ◌&&◌, ◌||◌, if◌then◌else◌, nat_lt, bit_and}
+use Rattle.std.specs.Prelude.{ℕ, ◌*◌, ◌^◌, ◌==◌, Bool, ◌&&◌, ◌||◌, if◌then◌else◌, nat_lt, bit_and}
 use Rattle.system_calls.specs.Errors.{ENOENT, EAGAIN, EACCES, EXDEV, ENOTDIR, ELOOP}
-use Rattle.system_calls.specs.declared.objects.Birth.{Birth}
 use Rattle.system_calls.specs.declared.objects.Object.{Object}
 
 -- ---- the same object
@@ -11,21 +10,6 @@ use Rattle.system_calls.specs.declared.objects.Object.{Object}
 abbrev pub is_same_object : Object → Object → Bool → Bool
 is_same_object one other by_any_mount =
     (one.device == other.device) && ((one.inode == other.inode) && (by_any_mount || (one.mount == other.mount)))
-
--- what a directory that isn't open is compared to: none where it could not be asked, as no inode has the number 0
-abbrev pub has_number : Birth → Birth → Bool
-has_number now before = not (now.inode == 0) && ((now.device == before.device) && (now.inode == before.inode))
-
-abbrev pub has_birth : Birth → Birth → Bool
-has_birth now before = (now.seconds == before.seconds) && (now.nanoseconds == before.nanoseconds)
-
--- 1: it is the directory that was there before, which no other one with its number is, since that was born later; 0: it
--- isn't. 2: it is on overlayfs, which gives a directory another birth as it copies it up, and elsewhere not.
-abbrev pub same_directory : Birth → Birth → ℕ
-same_directory now before =
-    if not (has_number now before) then 0
-    else if has_birth now before then 1
-    else 2
 
 -- ---- kinds
 

@@ -15,7 +15,7 @@ pub use laws::{
     contradictions_are_refused, kinds_are_asked_for, pauses_add_up, what_is_found_is_only_opened,
     what_is_found_is_used_so, what_is_made_is_new,
 };
-pub use objects::{Birth, Object, is_elsewhere, is_node, is_same_object, kind_of, same_directory};
+pub use objects::{Object, is_elsewhere, is_node, is_same_object, kind_of};
 pub use opening::{MachineFlags, Opening, opening_of, reopen_flags};
 pub use tries::{NextTry, next_try};
 pub use uses::{USE_FAILS, USE_GIVES, USE_MAKES, USE_REOPENS, Use, use_of};

@@ -1,6 +1,6 @@
 //! Which object an answer is about, of which kind it is, and what an error says of it.
 ghost use Rattle.std.specs.Prelude.{◌≡◌};
-ghost use Rattle.system_calls.specs.Objects.{format, has_birth, has_number, is_elsewhere, is_node, is_same_object, kind_of, same_directory};
+ghost use Rattle.system_calls.specs.Objects.{format, is_elsewhere, is_node, is_same_object, kind_of};
 
 use crate::errors::{EACCES, EAGAIN, ELOOP, ENOENT, ENOTDIR, EXDEV};
 
@@ -30,19 +30,6 @@ pub struct Object {
     pub mount: u64,
 }
 
-/// Which directory it is, also when it isn't open any more, and an inode's number may be another one's.
-#[repr(C)]
-#[derive(Clone, Copy, Debug, PartialEq, Eq)]
-pub struct Birth {
-    pub device: u64,
-    /// 0 where it could not be asked.
-    pub inode: u64,
-    /// The time of its birth (statx(2)), as 64 bits and a part; 0 and 0 where the file system keeps none. Into the
-    /// seconds a caller may mix the handle by which the file system calls the directory (name_to_handle_at(2)).
-    pub seconds: u64,
-    pub nanoseconds: u32,
-}
-
 /// Whether two answers are about the same object, by the same mount; or `by_any_mount`. Takes no memory.
 pub fn is_same_object(one: &Object, other: &Object, by_any_mount: bool) -> bool
     ensures { result ≡ is_same_object one.now other.now by_any_mount }
@@ -50,32 +37,6 @@ pub fn is_same_object(one: &Object, other: &Object, by_any_mount: bool) -> bool
     one.device == other.device
         && one.inode == other.inode
         && (by_any_mount || one.mount == other.mount)
-}
-
-fn has_number(now: &Birth, before: &Birth) -> bool
-    ensures { result ≡ has_number now.now before.now }
-{
-    now.inode != 0 && now.device == before.device && now.inode == before.inode
-}
-
-fn has_birth(now: &Birth, before: &Birth) -> bool
-    ensures { result ≡ has_birth now.now before.now }
-{
-    now.seconds == before.seconds && now.nanoseconds == before.nanoseconds
-}
-
-/// Whether a directory is the one that was there before: 1 if it is, 0 if it isn't, and 2 if it is on overlayfs alone,
-/// which gives a directory another birth as it copies it up. Takes no memory.
-pub fn same_directory(now: &Birth, before: &Birth) -> u8
-    ensures { result ≡ same_directory now.now before.now }
-{
-    if !has_number(now, before) {
-        0
-    } else if has_birth(now, before) {
-        1
-    } else {
-        2
-    }
 }
 
 fn format(mode: u32) -> u32

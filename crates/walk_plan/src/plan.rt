@@ -16,7 +16,6 @@ use path_text::{
 use std::alloc::Global;
 use std::marker::Model;
 
-mod ahead;
 mod copy;
 mod same;
 

@@ -4,7 +4,7 @@
 //! A walk is a path below handle 0 and the words of its goal and its restrictions, as `l nofollow no_links`.
 //! Its steps come each with the answer after an arrow: `=>` where the answer passes in place, `->` where it
 //! must be taken.
-use crate::words::{answer_of, are_parts, cut, goal_of, is_number, text_of};
+use crate::words::{answer_of, are_parts, cut, goal_of, is_number};
 use fixtures::{flags_of, root};
 use handles::Standing;
 use path_text::{Errno, Path};
@@ -472,74 +472,4 @@ fn wrong_holder<'a>(alloc: Global, rows: &[(&'a str, &str)]) -> &'a str {
 fn handles_that_a_walk_holds(rt: HostRuntime) {
     let wrong = wrong_holder(rt.alloc(), HELD.as_slice());
     assert!(rt; wrong.is_empty(), "{wrong}");
-}
-
-const ALONG: &str = "a/l/../f/";
-
-// A walk, its steps, and the parts that it comes to then, the name first that is due to be opened.
-const AHEAD: [(&str, &str, &str); 8] = [
-    (ALONG, "", "a l .. f ."),
-    (ALONG, "open 0 a => dir 4 11", "l .. f ."),
-    // A link's text comes in its place, once it was read and the link closed.
-    (ALONG, "open 0 a => dir 4 11, open 4 l => link 5 12", ""),
-    (
-        ALONG,
-        "open 0 a => dir 4 11, open 4 l => link 5 12, read_link 5 -> text x/y",
-        "",
-    ),
-    (
-        ALONG,
-        "open 0 a => dir 4 11, open 4 l => link 5 12, read_link 5 -> text x/y, close 5 => done",
-        "x y .. f .",
-    ),
-    // The step up is due.
-    (
-        ALONG,
-        "open 0 a => dir 4 11, open 4 l => dir 5 12, close 4 => done",
-        "f .",
-    ),
-    ("a", "open 0 a => dir 4 11", ""),
-    ("/", "", ""),
-];
-
-// Whether the walk comes to these parts, and to no more.
-fn comes_to(walk: &Walk, words: &str) -> bool {
-    let mut left = words;
-    for at in 0..99 {
-        let (word, others) = cut(left);
-        match walk.ahead(at) {
-            Some(part) => {
-                if text_of(part) != word.as_bytes() {
-                    return false;
-                }
-            }
-            None => return left.is_empty(),
-        }
-        left = others;
-    }
-    false
-}
-
-fn is_ahead(alloc: Global, path: &str, steps: &str, words: &str) -> bool {
-    let (turn, is_right) = walked(alloc, path, steps, true);
-    let is_so = match &turn {
-        Turn::More(walk) => comes_to(walk, words) && walk.ahead(usize::MAX).is_none(),
-        _ => false,
-    };
-    give_up(alloc, turn);
-    is_right && is_so
-}
-
-fn wrong_ahead<'a>(alloc: Global, rows: &[(&'a str, &'a str, &'a str)]) -> &'a str {
-    for (path, steps, words) in rows {
-        if !is_ahead(alloc, path, steps, words) {
-            return if steps.is_empty() { path } else { steps };
-        }
-    }
-    ""
-}
-
-#[test]
-fn parts_that_a_walk_comes_to(rt: HostRuntime) {
-    assert_eq!(rt; wrong_ahead(rt.alloc(), AHEAD.as_slice()), "");
 }
