@@ -1,34 +1,53 @@
 /*
- * fuzz_main: runs stored cases where there is no libFuzzer.
+ * fuzz_main: runs stored cases where there is no libFuzzer. Each line of the file is a case, in hexadecimal digits.
  *
- * usage: PROGRAM CASE..
+ * usage: PROGRAM CASES [LINE]    the case of this line alone
  */
 #include <stdint.h>
 #include <stdio.h>
 #include <stdlib.h>
+#include <string.h>
 
 int LLVMFuzzerTestOneInput(const uint8_t *data, size_t size);
 
+/* In a block of its own size, so that a step over its end is seen. */
+static int run(const char *digits, size_t size)
+{
+    uint8_t *data = malloc(size + 1);
+    if (data == NULL)
+        return 0;
+    for (size_t at = 0; at < size; at++)
+        if (sscanf(digits + 2 * at, "%2hhx", &data[at]) != 1) {
+            free(data);
+            return 0;
+        }
+    LLVMFuzzerTestOneInput(data, size);
+    free(data);
+    return 1;
+}
+
 int main(int count, char **words)
 {
-    for (int at = 1; at < count; at++) {
-        FILE *file = fopen(words[at], "rb");
-        if (file == NULL) {
-            perror(words[at]);
-            return 1;
-        }
-        /* In a block of its own size, so that a step over its end is seen. */
-        static uint8_t all[1 << 20];
-        size_t size = fread(all, 1, sizeof all, file);
-        uint8_t *data = malloc(size + 1);
-        fclose(file);
-        if (data == NULL)
-            return 1;
-        for (size_t byte = 0; byte < size; byte++)
-            data[byte] = all[byte];
-        LLVMFuzzerTestOneInput(data, size);
-        free(data);
+    static char line[1 << 20];
+    const unsigned long only = count > 2 ? strtoul(words[2], NULL, 10) : 0;
+    unsigned long read = 0, done = 0;
+    FILE *file = count > 1 ? fopen(words[1], "r") : NULL;
+    if (file == NULL) {
+        perror("fuzz_main");
+        return 2;
     }
-    printf("%d cases\n", count - 1);
-    return count < 2;
+    while (fgets(line, sizeof line, file) != NULL) {
+        const size_t length = strcspn(line, "\n");
+        read++;
+        if (only != 0 && only != read)
+            continue;
+        if (length % 2 != 0 || !run(line, length / 2)) {
+            fprintf(stderr, "fuzz_main: line %lu is no case\n", read);
+            return 2;
+        }
+        done++;
+    }
+    fclose(file);
+    printf("%lu cases\n", done);
+    return done == 0;
 }
