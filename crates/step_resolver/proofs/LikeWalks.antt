@@ -23,7 +23,7 @@ as_told A B C ab bc = ((λ a. bc.0 (ab.0 a)), (λ c. ab.1 (bc.1 c)))
 
 -- ---- parts, by what is asked of them
 
-part_of : AskedPart → Part
+abbrev part_of : AskedPart → Part
 part_of Cur = part.Cur
 part_of Up = part.Up
 part_of (Named follow n) = part.Named n
