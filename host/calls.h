@@ -131,15 +131,14 @@ struct inroot_step_facts {
 };
 
 /*
- * By O_PATH, O_NOFOLLOW and O_CLOEXEC the name is opened, or `.` of a Dup, or `..` of a Parent: with O_DIRECTORY, or without. A
- * descriptor of a directory above is let go. Of what was opened: whether it is on the root's mount; its kind. Of the directory
- * that must be there still: its links; its file system; it is opened to be read, read by getdents64(2), and closed. Of a link:
- * the flags of its mount; its file system; openat2(2) of its name with RESOLVE_NO_MAGICLINKS; its text. The one system call of a
- * change. What was opened is closed. Or the step ENDS: with what was opened; with a text; done; refused by an error of the step
- * table; or not made.
+ * By O_PATH, O_NOFOLLOW and O_CLOEXEC the name is opened, or `.` of a Dup, or `..` of a Parent: with O_DIRECTORY, or without. Of
+ * what was opened: whether it is on the root's mount; its kind. Of the directory that must be there still: its links; its file
+ * system; it is opened to be read, read by getdents64(2), and closed. Of a link: the flags of its mount; its file system;
+ * openat2(2) of its name with RESOLVE_NO_MAGICLINKS; its text. The one system call of a change. What was opened is closed. Or the
+ * step ENDS: with what was opened; with a text; done; refused by an error of the step table; or not made.
  */
 enum inroot_step_next {
-    INROOT_CALL_OPEN_DIRECTORY = 1, INROOT_CALL_OPEN_ANY, INROOT_CALL_SPARE, INROOT_CALL_MOUNT, INROOT_CALL_KIND, INROOT_CALL_LINKS,
+    INROOT_CALL_OPEN_DIRECTORY = 1, INROOT_CALL_OPEN_ANY, INROOT_CALL_MOUNT, INROOT_CALL_KIND, INROOT_CALL_LINKS,
     INROOT_CALL_LAYERS, INROOT_CALL_OPEN_TO_READ, INROOT_CALL_READ, INROOT_CALL_CLOSE_READ, INROOT_CALL_NO_FOLLOW,
     INROOT_CALL_MAY_HOLD_MAGIC, INROOT_CALL_MAGIC, INROOT_CALL_READ_LINK, INROOT_CALL_CHANGE, INROOT_CALL_CLOSE,
     INROOT_ENDS_OPENED, INROOT_ENDS_TEXT, INROOT_ENDS_DONE, INROOT_ENDS_REFUSED, INROOT_ENDS_UNMADE,
