@@ -107,7 +107,6 @@ static uint32_t turn(struct inroot_driver *d, struct inroot_work *w, struct inro
     switch (w->course.next) {
     case INROOT_CALL_OPEN_DIRECTORY: return open_directory(d, w);
     case INROOT_CALL_OPEN_ANY: return open_entry(d, w, 0);
-    case INROOT_CALL_SPARE: return EMFILE; /* none is */
     case INROOT_CALL_KIND: return ask_object(w->fd, answer);
     case INROOT_CALL_LINKS: return ask_object(w->looks, answer);
     case INROOT_CALL_LAYERS: return ask_file_system(w->looks, answer);

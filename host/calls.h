@@ -131,15 +131,14 @@ struct inroot_step_facts {
 };
 
 /*
- * By O_PATH, O_NOFOLLOW and O_CLOEXEC the name is opened, or `.` of a Dup, or `..` of a Parent: with O_DIRECTORY, or without. A
- * descriptor of a directory above is let go. Of what was opened: whether it is on the root's mount; its kind. Of the directory
- * that must be there still: its links; its file system; it is opened to be read, read by getdents64(2), and closed. Of a link:
- * the flags of its mount; its file system; openat2(2) of its name with RESOLVE_NO_MAGICLINKS; its text. The one system call of a
- * change. What was opened is closed. Or the step ENDS: with what was opened; with a text; done; refused by an error of the step
- * table; or not made.
+ * By O_PATH, O_NOFOLLOW and O_CLOEXEC the name is opened, or `.` of a Dup, or `..` of a Parent: with O_DIRECTORY, or without. Of
+ * what was opened: whether it is on the root's mount; its kind. Of the directory that must be there still: its links; its file
+ * system; it is opened to be read, read by getdents64(2), and closed. Of a link: the flags of its mount; its file system;
+ * openat2(2) of its name with RESOLVE_NO_MAGICLINKS; its text. The one system call of a change. What was opened is closed. Or the
+ * step ENDS: with what was opened; with a text; done; refused by an error of the step table; or not made.
  */
 enum inroot_step_next {
-    INROOT_CALL_OPEN_DIRECTORY = 1, INROOT_CALL_OPEN_ANY, INROOT_CALL_SPARE, INROOT_CALL_MOUNT, INROOT_CALL_KIND, INROOT_CALL_LINKS,
+    INROOT_CALL_OPEN_DIRECTORY = 1, INROOT_CALL_OPEN_ANY, INROOT_CALL_MOUNT, INROOT_CALL_KIND, INROOT_CALL_LINKS,
     INROOT_CALL_LAYERS, INROOT_CALL_OPEN_TO_READ, INROOT_CALL_READ, INROOT_CALL_CLOSE_READ, INROOT_CALL_NO_FOLLOW,
     INROOT_CALL_MAY_HOLD_MAGIC, INROOT_CALL_MAGIC, INROOT_CALL_READ_LINK, INROOT_CALL_CHANGE, INROOT_CALL_CLOSE,
     INROOT_ENDS_OPENED, INROOT_ENDS_TEXT, INROOT_ENDS_DONE, INROOT_ENDS_REFUSED, INROOT_ENDS_UNMADE,
@@ -721,13 +720,12 @@ size_t inroot_beginning(const unsigned char *text, size_t length, size_t pieces)
 /* ---- which system call comes next, as the names of a directory are read. These take no memory. */
 
 /*
- * The directory is opened: openat(2) of `.` with O_RDONLY, O_DIRECTORY and O_CLOEXEC; the descriptor of a directory
- * above is let go; records are read: getdents64(2); the directory is closed; the names are sorted. If it ENDS, they
- * were sorted. If it FAILS, there is an error.
+ * The directory is opened: openat(2) of `.` with O_RDONLY, O_DIRECTORY and O_CLOEXEC; records are read: getdents64(2);
+ * the directory is closed; the names are sorted. If it ENDS, they were sorted. If it FAILS, there is an error.
  */
 enum inroot_listing_next {
-    INROOT_LISTING_OPEN = 1, INROOT_LISTING_SPARE, INROOT_LISTING_READ, INROOT_LISTING_CLOSE, INROOT_LISTING_SORT,
-    INROOT_LISTING_ENDS, INROOT_LISTING_FAILS,
+    INROOT_LISTING_OPEN = 1, INROOT_LISTING_READ, INROOT_LISTING_CLOSE, INROOT_LISTING_SORT, INROOT_LISTING_ENDS,
+    INROOT_LISTING_FAILS,
 };
 
 /*
@@ -748,10 +746,9 @@ struct inroot_listing {
 void inroot_listing_begin(size_t held, struct inroot_listing *listing);
 
 /*
- * Takes what the last demand gave: 0, or an error; any number but 0 says that no descriptor could be let go. And the
- * records that were read, none at the directory's end. The room has SIZE bytes. The names of the records, but for `.`
- * and `..`, are laid there behind those of before, a slash before each. Errors of records: EIO of what is no record or
- * no name, ENAMETOOLONG of a name over 255 bytes.
+ * Takes what the last demand gave: 0, or an error. And the records that were read, none at the directory's end. The
+ * room has SIZE bytes. The names of the records, but for `.` and `..`, are laid there behind those of before, a slash
+ * before each. Errors of records: EIO of what is no record or no name, ENAMETOOLONG of a name over 255 bytes.
  */
 void inroot_listing_next(struct inroot_listing *listing, uint32_t error, const unsigned char *records,
                          size_t records_length, unsigned char *room, size_t size);

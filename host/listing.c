@@ -57,8 +57,6 @@ static uint32_t turn(struct listing *l)
     case INROOT_LISTING_OPEN:
         l->dir = openat(l->fd, ".", O_RDONLY | O_DIRECTORY | O_CLOEXEC);
         return inroot_errno_of(l->dir);
-    case INROOT_LISTING_SPARE:
-        return EMFILE; /* none can be let go */
     case INROOT_LISTING_READ:
         return read_records(l);
     case INROOT_LISTING_CLOSE:

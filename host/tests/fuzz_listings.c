@@ -2,8 +2,8 @@
  * fuzz_listings: the proved library's functions that say which system call comes next as a directory's names are read,
  * with any answers, and any bytes for the kernel's records. What a program is asked for can be done: the directory is
  * read and closed while it is open, and is closed in the end. It comes to an end within the number of exchanges that
- * there may be. Names come behind names, within the room. No error is lost, but for those of a signal, of a descriptor
- * that was spared and of a directory that is gone.
+ * there may be. Names come behind names, within the room. No error is lost, but for those of a signal, and of a
+ * directory that is gone.
  *
  * For libFuzzer, or with fuzz_main.c for stored cases. A case is bytes: how much is held, and the answers.
  */
@@ -83,11 +83,6 @@ static uint32_t turn(struct input *in, const struct inroot_listing *now, struct 
         seen->is_open = error == 0;
         seen->may_open = error == EINTR;
         break;
-    case INROOT_LISTING_SPARE:
-        MUST(seen->why == EMFILE || seen->why == ENFILE);
-        seen->may_open = error == 0;
-        seen->costs += error == 0 ? 2 : 0;
-        break;
     case INROOT_LISTING_READ:
         if (error == 0)
             read_some(in, now, seen);
@@ -101,9 +96,7 @@ static uint32_t turn(struct input *in, const struct inroot_listing *now, struct 
         MUST(now->next == INROOT_LISTING_SORT && seen->was_closed);
         seen->was_sorted = error == 0;
     }
-    if (now->next == INROOT_LISTING_SPARE)
-        seen->why = error == 0 ? 0 : seen->why;
-    else if (now->next != INROOT_LISTING_CLOSE)
+    if (now->next != INROOT_LISTING_CLOSE)
         seen->why = (is_call && error == EINTR) || (now->next == INROOT_LISTING_READ && error == ENOENT) ? 0 : error;
     return error;
 }

@@ -1,9 +1,8 @@
 /*
  * fuzz_steps: the proved library's functions that say which system call comes next as one step is made, with any answers. What a
  * program is asked for can be done: what was opened is looked at and closed while it is open, and is closed, or is what the step ends
- * with. A change is one call. An error ends the step, but for those of a signal, of a descriptor that was let go, and of a name that is
- * opened as what it is. No magic link is followed, and no removed directory's `..` is believed. It comes to an end within the number of
- * exchanges that there may be.
+ * with. A change is one call. An error ends the step, but for those of a signal, and of a name that is opened as what it is. No magic
+ * link is followed, and no removed directory's `..` is believed. It comes to an end within the number of exchanges that there may be.
  *
  * For libFuzzer, or with fuzz_main.c for stored cases. A case is bytes: what is known of the step, and the answers.
  */
@@ -51,11 +50,6 @@ static struct inroot_step_answer some_answer(struct input *in)
     answer.number = numbers[more % (sizeof numbers / sizeof *numbers)];
     answer.kind = (uint8_t)(more / 16 % 3 + 1);
     return answer;
-}
-
-static bool is_none_left(uint32_t error)
-{
-    return error == EMFILE || error == ENFILE;
 }
 
 static void opens(const struct inroot_step_facts *facts, uint8_t next, uint32_t error, struct seen *seen)
@@ -116,11 +110,6 @@ static void others(const struct inroot_step_facts *facts, uint8_t next, const st
 {
     const uint32_t error = answer->error;
     switch (next) {
-    case INROOT_CALL_SPARE:
-        MUST(is_none_left(seen->why) && !seen->is_open);
-        seen->why = error == 0 ? 0 : seen->why;
-        seen->costs += error == 0 ? 2 : 0;
-        break;
     case INROOT_CALL_MOUNT: case INROOT_CALL_KIND:
         MUST(seen->is_open);
         seen->why = error == 0 ? 0 : next == INROOT_CALL_MOUNT ? EXDEV : error;

@@ -3,8 +3,7 @@ use std::test::Fail;
 use step_calls::{
     Answer, CHANGE, CLOSE, CLOSE_READ, Course, DIRECTORY, DONE, DUP, Facts, IS_THERE, KIND, LAYERS,
     LINK, LINKS, MAGIC, MAY_HOLD_MAGIC, MOUNT, NO_FOLLOW, OPEN, OPEN_ANY, OPEN_DIRECTORY,
-    OPEN_TO_READ, OPENED, PARENT, READ, READ_LINK, READ_TEXT, REFUSED, SPARE, TEXT, UNMADE, begin,
-    next,
+    OPEN_TO_READ, OPENED, PARENT, READ, READ_LINK, READ_TEXT, REFUSED, TEXT, UNMADE, begin, next,
 };
 
 const ENOENT: u32 = 2;
@@ -22,6 +21,8 @@ const EXDEV: u32 = 18;
 const ENOTDIR: u32 = 20;
 
 const EINVAL: u32 = 22;
+
+const ENFILE: u32 = 23;
 
 const EMFILE: u32 = 24;
 
@@ -114,16 +115,15 @@ fn names_are_opened(rt: HostRuntime) -> Result<(), Fail> {
     Ok(())
 }
 
-// openat(2): EMFILE, until a descriptor is let go. What comes then is the same call.
+// openat(2): EMFILE, ENFILE.
 #[test]
-fn descriptors_are_spared(rt: HostRuntime) -> Result<(), Fail> {
-    let facts = step(OPEN);
-    let spare = fails(&facts, begin(&facts), EMFILE);
-    assert!(rt; spare.next == SPARE);
-    assert!(rt; works(&facts, spare).next == OPEN_ANY);
-    assert!(rt; ends(fails(&facts, spare, 1), UNMADE, EMFILE));
+fn no_descriptor_left_ends_a_step(rt: HostRuntime) -> Result<(), Fail> {
+    for what in &[OPEN, DUP, PARENT] {
+        let facts = step(*what);
+        assert!(rt; ends(fails(&facts, begin(&facts), EMFILE), UNMADE, EMFILE));
+        assert!(rt; ends(fails(&facts, begin(&facts), ENFILE), UNMADE, ENFILE));
+    }
     let root = step(DUP);
-    assert!(rt; works(&root, fails(&root, begin(&root), EMFILE)).next == OPEN_DIRECTORY);
     assert!(rt; works(&root, begin(&root)).next == OPENED);
     Ok(())
 }

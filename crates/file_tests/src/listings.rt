@@ -1,7 +1,7 @@
 //! Which system call comes next as a directory is listed, by answers that the kernel gives.
 ghost use Rattle.std.specs.Prelude.{◌≡◌, ◌≤◌, IfOk};
 
-use list_directory::{CLOSE, ENDS, FAILS, Listing, OPEN, READ, SORT, SPARE, begin, next};
+use list_directory::{CLOSE, ENDS, FAILS, Listing, OPEN, READ, SORT, begin, next};
 use std::alloc::{AllocError, Global};
 use std::test::Fail;
 
@@ -170,14 +170,9 @@ fn what_is_no_record_closes_it_and_fails(rt: HostRuntime) -> Result<(), Fail> {
 }
 
 #[test]
-fn a_descriptor_is_let_go_before_it_is_opened_again(rt: HostRuntime) -> Result<(), Fail> {
-    let refused = gives(least(), EMFILE);
-    assert!(rt; is(&refused, SPARE, EMFILE));
-    assert!(rt; is(&gives(refused, 0), OPEN, 0));
-    assert!(rt; is(&gives(refused, 1), FAILS, EMFILE));
-    let second = gives(gives(refused, 0), ENFILE);
-    assert!(rt; is(&second, SPARE, ENFILE));
-    assert!(rt; is(&gives(second, EMFILE), FAILS, ENFILE));
+fn no_descriptor_left_ends_a_listing(rt: HostRuntime) -> Result<(), Fail> {
+    assert!(rt; is(&gives(least(), EMFILE), FAILS, EMFILE));
+    assert!(rt; is(&gives(least(), ENFILE), FAILS, ENFILE));
     Ok(())
 }
 

@@ -5,39 +5,32 @@ use Rattle.std.specs.List.{AllByRecursion}
 use Rattle.std.proofs.lemmas.Bool.{eqb-true, false≢true}
 use Rattle.path_text.specs.Text.{is_empty}
 use Rattle.list_directory.specs.Parts.{part_size}
-use Rattle.list_directory.specs.History.{after_close, after_exchange, after_open, after_read, after_sort, after_spare, gave_records, is_question, next_after, used_after, Exchange, IsHistory, Next, ReadNone, ReadSome, Took}
+use Rattle.list_directory.specs.History.{after_close, after_exchange, after_open, after_read, after_sort, gave_records, is_question, next_after, used_after, Exchange, IsHistory, Next, ReadNone, ReadSome, Took}
 use Rattle.list_directory.specs.Promises.{is_no_error, is_open_after, needs_open, open_by, Gave, IsWhy, LastGave, NoError}
-use Rattle.list_directory.specs.declared.listing.TheConstants.{OPEN, SPARE, READ, CLOSE, SORT, ENDS, FAILS}
+use Rattle.list_directory.specs.declared.listing.TheConstants.{OPEN, READ, CLOSE, SORT, ENDS, FAILS}
 
 -- ---- what was asked for
 
 pub data Asked (next : ℕ) : Type 0 where
   open_it : next ≡ OPEN → Asked next
-  spare_it : next ≡ SPARE → Asked next
   read_it : next ≡ READ → Asked next
   close_it : next ≡ CLOSE → Asked next
   sort_it : next ≡ SORT → Asked next
 
-asked_in : (opens spares reads closes sorts : Bool) (next : ℕ) → (next == OPEN) ≡ opens → (next == SPARE) ≡ spares
-    → (next == READ) ≡ reads → (next == CLOSE) ≡ closes → (next == SORT) ≡ sorts
-    → (opens || (spares || (reads || (closes || sorts)))) ≡ true → Asked next
-asked_in true spares reads closes sorts next a b c d e h = open_it (eqb-true next OPEN a)
-asked_in false true reads closes sorts next a b c d e h = spare_it (eqb-true next SPARE b)
-asked_in false false true closes sorts next a b c d e h = read_it (eqb-true next READ c)
-asked_in false false false true sorts next a b c d e h = close_it (eqb-true next CLOSE d)
-asked_in false false false false true next a b c d e h = sort_it (eqb-true next SORT e)
-asked_in false false false false false next a b c d e h = absurd (false≢true h)
+asked_in : (opens reads closes sorts : Bool) (next : ℕ) → (next == OPEN) ≡ opens → (next == READ) ≡ reads
+    → (next == CLOSE) ≡ closes → (next == SORT) ≡ sorts → (opens || (reads || (closes || sorts))) ≡ true → Asked next
+asked_in true reads closes sorts next a b c d h = open_it (eqb-true next OPEN a)
+asked_in false true closes sorts next a b c d h = read_it (eqb-true next READ b)
+asked_in false false true sorts next a b c d h = close_it (eqb-true next CLOSE c)
+asked_in false false false true next a b c d h = sort_it (eqb-true next SORT d)
+asked_in false false false false next a b c d h = absurd (false≢true h)
 
 pub asked_is : (next : ℕ) → is_question next ≡ true → Asked next
 asked_is next h =
-    asked_in (next == OPEN) (next == SPARE) (next == READ) (next == CLOSE)
-    (next == SORT) next refl refl refl refl refl h
+    asked_in (next == OPEN) (next == READ) (next == CLOSE) (next == SORT) next refl refl refl refl h
 
 pub to_open : (e : Exchange) (why : ℕ) → e.asked ≡ OPEN → after_exchange e why ≡ after_open e.error
 to_open e why is = ap (λ n. after_exchange (record e { asked = n }) why) is
-
-pub to_spare : (e : Exchange) (why : ℕ) → e.asked ≡ SPARE → after_exchange e why ≡ after_spare e.error why
-to_spare e why is = ap (λ n. after_exchange (record e { asked = n }) why) is
 
 pub to_read : (e : Exchange) (why : ℕ) → e.asked ≡ READ
     → after_exchange e why ≡ after_read e.error (is_empty e.records) e.full e.fault
@@ -56,7 +49,6 @@ open_step : (e : Exchange) (why : ℕ) (was : Bool) → was ≡ needs_open e.ask
 open_step e why was is question =
     elim (asked_is e.asked question) [
       | open_it at ↦ grind (arith, at)
-      | spare_it at ↦ grind (arith, at)
       | read_it at ↦ grind (arith, at)
       | close_it at ↦ grind (arith, at)
       | sort_it at ↦ grind (arith, at)
@@ -84,7 +76,6 @@ well_step : (e : Exchange) (why : ℕ) → is_question e.asked ≡ true → (gav
 well_step e why question none well =
     elim (asked_is e.asked question) [
       | open_it at ↦ grind (arith, at)
-      | spare_it at ↦ grind (arith, at)
       | read_it at ↦ grind (arith, at)
       | close_it at ↦ grind (arith, at)
       | sort_it at ↦ grind (arith, at)
@@ -117,18 +108,6 @@ closes_by : (e : Exchange) (why : ℕ) → is_question e.asked ≡ true → (aft
 closes_by e why question closes some =
     elim (asked_is e.asked question) [
       | open_it at ↦ grind (arith, at)
-      | spare_it at ↦ grind (arith, at)
-      | read_it at ↦ grind (arith, at)
-      | close_it at ↦ grind (arith, at)
-      | sort_it at ↦ grind (arith, at)
-    ]
-
-spares_by : (e : Exchange) (why : ℕ) → is_question e.asked ≡ true → (after_exchange e why).next ≡ SPARE
-    → ((after_exchange e why).error ≢ 0) × Gave e (after_exchange e why).error
-spares_by e why question closes =
-    elim (asked_is e.asked question) [
-      | open_it at ↦ grind (arith, at)
-      | spare_it at ↦ grind (arith, at)
       | read_it at ↦ grind (arith, at)
       | close_it at ↦ grind (arith, at)
       | sort_it at ↦ grind (arith, at)
@@ -139,20 +118,13 @@ closes : (held : ℕ) (history : List Exchange) → IsHistory held history → (
 closes held [] h is some = absurd (omega (arith, is))
 closes held (e ∷ older) h is some = closes_by e (next_after older).error h.0.question is some
 
-spares : (held : ℕ) (history : List Exchange) → IsHistory held history → (next_after history).next ≡ SPARE
-    → ((next_after history).error ≢ 0) × LastGave history (next_after history).error
-spares held [] h is = absurd (omega (arith, is))
-spares held (e ∷ older) h is = spares_by e (next_after older).error h.0.question is
-
 fails_by : (e : Exchange) (older : List Exchange) (why : ℕ) → is_question e.asked ≡ true
-    → (e.asked ≡ CLOSE → why ≢ 0 → LastGave older why) → (e.asked ≡ SPARE → (why ≢ 0) × LastGave older why)
-    → (after_exchange e why).next ≡ FAILS
+    → (e.asked ≡ CLOSE → why ≢ 0 → LastGave older why) → (after_exchange e why).next ≡ FAILS
     → ((after_exchange e why).error ≢ 0) × (Gave e (after_exchange e why).error
-    ⊎ (((e.asked ≡ CLOSE) ⊎ ((e.asked ≡ SPARE) × (e.error ≢ 0))) × LastGave older (after_exchange e why).error))
-fails_by e older why question closing sparing fails =
+    ⊎ ((e.asked ≡ CLOSE) × LastGave older (after_exchange e why).error))
+fails_by e older why question closing fails =
     elim (asked_is e.asked question) [
       | open_it at ↦ grind (arith, at)
-      | spare_it at ↦ grind (arith, at)
       | read_it at ↦ grind (arith, at)
       | close_it at ↦ grind (arith, at)
       | sort_it at ↦ grind (arith, at)
@@ -163,5 +135,4 @@ pub fails : (held : ℕ) (history : List Exchange) → IsHistory held history �
 fails held [] h is = absurd (omega (arith, is))
 fails held (e ∷ older) h is =
     fails_by e older (next_after older).error h.0.question
-    (λ at some. closes held older h.1 (sym h.0.due ∙ at) some)
-    (λ at. spares held older h.1 (sym h.0.due ∙ at)) is
+    (λ at some. closes held older h.1 (sym h.0.due ∙ at) some) is

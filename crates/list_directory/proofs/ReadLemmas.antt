@@ -19,9 +19,9 @@ use Rattle.list_directory.specs.History.{after_exchange, after_read, after_recor
 use Rattle.list_directory.specs.Listing.{due_of, AnsweredBy, IsAt, Reads, Same}
 use Rattle.list_directory.specs.Promises.{cost_of, costs, is_full}
 use Rattle.list_directory.proofs.HistoryLemmas.{asked_is, to_read}
-use Rattle.list_directory.proofs.HistoryLemmas.Asked.{close_it, open_it, read_it, sort_it, spare_it}
+use Rattle.list_directory.proofs.HistoryLemmas.Asked.{close_it, open_it, read_it, sort_it}
 use Rattle.list_directory.specs.declared.listing.Listing.{Listing}
-use Rattle.list_directory.specs.declared.listing.TheConstants.{OPEN, SPARE, READ, CLOSE, SORT}
+use Rattle.list_directory.specs.declared.listing.TheConstants.{OPEN, READ, CLOSE, SORT}
 
 -- ---- the bytes of names
 
@@ -233,7 +233,7 @@ goes_reading held history listing result gave bytes room new at question is r =
 abbrev rank : ℕ → ℕ
 rank next =
     if next == OPEN then 0
-    else (if (next == SPARE) || (next == READ) then 1
+    else (if next == READ then 1
     else (if next == CLOSE then 2 else (if next == SORT then 3 else 4)))
 
 some_by : (bytes : List ℕ) → is_empty bytes ≡ false → 0 < length bytes
@@ -246,7 +246,6 @@ rank_step : (e : Exchange) (why used : ℕ) → is_question e.asked ≡ true
 rank_step e why used question some =
     elim (asked_is e.asked question) [
       | open_it at ↦ grind (arith, at)
-      | spare_it at ↦ grind (arith, at)
       | read_it at ↦ grind (arith, at)
       | close_it at ↦ grind (arith, at)
       | sort_it at ↦ grind (arith, at)

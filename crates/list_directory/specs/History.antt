@@ -2,10 +2,10 @@
 -- exchange first.
 use Rattle.std.specs.Prelude.{◌≡◌, ◌≤◌, ℕ, ◌-◌, List, [], ◌∷◌, ◌++◌, ◌==◌, Bool, true, false, ◌&&◌, ◌||◌, if◌then◌else◌, length, MatchBool}
 use Rattle.path_text.specs.Text.{is_empty}
-use Rattle.system_calls.specs.Errors.{ENOENT, EINTR, ENFILE, EMFILE}
+use Rattle.system_calls.specs.Errors.{ENOENT, EINTR}
 use Rattle.kernel_text.specs.Listing.{entries_text, ReadsTo, Stops}
 use Rattle.list_directory.specs.Parts.{part_size}
-use Rattle.list_directory.specs.declared.listing.TheConstants.{OPEN, SPARE, READ, CLOSE, SORT, ENDS, FAILS}
+use Rattle.list_directory.specs.declared.listing.TheConstants.{OPEN, READ, CLOSE, SORT, ENDS, FAILS}
 
 -- What was asked for, and 0 or the error that this gave. Of READ, the records, the names that were taken of them,
 -- whether there was no room for the next one, and 0 or the error of the record behind them.
@@ -19,7 +19,7 @@ pub record Exchange : Type 0 where
 
 abbrev pub is_question : ℕ → Bool
 is_question next =
-    (next == OPEN) || ((next == SPARE) || ((next == READ) || ((next == CLOSE) || (next == SORT))))
+    (next == OPEN) || ((next == READ) || ((next == CLOSE) || (next == SORT)))
 
 -- ---- what comes next
 
@@ -31,15 +31,10 @@ pub record Next : Type 0 where
 abbrev pub asks : ℕ → ℕ → Next
 asks next error = record { next = next; error = error }
 
--- openat(2): a signal came (EINTR), before anything was opened; or no descriptor is left
+-- openat(2): a signal came (EINTR), before anything was opened
 abbrev pub after_open : ℕ → Next
 after_open error =
-    if error == 0 then asks READ 0
-    else (if error == EINTR then asks OPEN 0
-    else (if (error == EMFILE) || (error == ENFILE) then asks SPARE error else asks FAILS error))
-
-abbrev pub after_spare : ℕ → ℕ → Next
-after_spare error why = if error == 0 then asks OPEN 0 else asks FAILS why
+    if error == 0 then asks READ 0 else (if error == EINTR then asks OPEN 0 else asks FAILS error)
 
 -- what was taken of records: no more of them, no more room, or what is no name
 abbrev pub after_records : Bool → Bool → ℕ → Next
@@ -62,9 +57,8 @@ after_sort error = if error == 0 then asks ENDS 0 else asks FAILS error
 abbrev pub after_exchange : Exchange → ℕ → Next
 after_exchange e why =
     if e.asked == OPEN then after_open e.error
-    else (if e.asked == SPARE then after_spare e.error why
     else (if e.asked == READ then after_read e.error (is_empty e.records) e.full e.fault
-    else (if e.asked == CLOSE then after_close why else after_sort e.error)))
+    else (if e.asked == CLOSE then after_close why else after_sort e.error))
 
 abbrev pub next_after : List Exchange → Next
 next_after [] = asks OPEN 0

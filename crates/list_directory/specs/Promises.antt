@@ -1,10 +1,10 @@
 -- What holds of every history.
-use Rattle.std.specs.Prelude.{◌≡◌, ◌≢◌, ℕ, ◌+◌, List, [], ◌∷◌, ◌==◌, ◌⊎◌, Bool, true, false, ◌&&◌, ◌||◌, not, if◌then◌else◌}
+use Rattle.std.specs.Prelude.{◌≡◌, ℕ, ◌+◌, List, [], ◌∷◌, ◌==◌, ◌⊎◌, Bool, true, false, ◌&&◌, ◌||◌, not, if◌then◌else◌}
 use Rattle.path_text.specs.Text.{is_empty}
-use Rattle.system_calls.specs.Errors.{ENOENT, EINTR, ENFILE, EMFILE}
+use Rattle.system_calls.specs.Errors.{ENOENT, EINTR}
 use Rattle.kernel_text.specs.Listing.{entries_text}
 use Rattle.list_directory.specs.History.{Exchange}
-use Rattle.list_directory.specs.declared.listing.TheConstants.{OPEN, SPARE, READ, CLOSE, SORT}
+use Rattle.list_directory.specs.declared.listing.TheConstants.{OPEN, READ, CLOSE, SORT}
 
 -- ---- descriptors
 
@@ -26,24 +26,19 @@ needs_open next = (next == READ) || (next == CLOSE)
 abbrev pub WasInterrupted : Exchange → Type 0
 WasInterrupted e = (e.asked ≡ OPEN) × (e.error ≡ EINTR)
 
--- no descriptor was left for it
-abbrev pub WasRefused : List Exchange → Type 0
-WasRefused [] = ⊥
-WasRefused (e ∷ older) = (e.asked ≡ OPEN) × ((e.error ≡ EMFILE) ⊎ (e.error ≡ ENFILE))
-
--- It is the first. Or a signal interrupted the last one. Or no descriptor was left for it, and then one was let go.
+-- it is the first, or a signal interrupted the last one
 abbrev pub MayOpen : List Exchange → Type 0
 MayOpen [] = Unit {0}
-MayOpen (e ∷ older) = WasInterrupted e ⊎ ((e.asked ≡ SPARE) × ((e.error ≡ 0) × WasRefused older))
+MayOpen (e ∷ older) = WasInterrupted e
 
 -- ---- errors
 
--- what isn't the listing's error: none; a signal; a descriptor that is to be spared; and a directory that is gone
+-- what isn't the listing's error: none; a signal; and a directory that is gone
 abbrev pub is_no_error : Exchange → Bool
 is_no_error e =
     (e.asked == CLOSE)
     || (((e.error == 0) && (e.fault == 0))
-    || (((e.asked == OPEN) && ((e.error == EINTR) || ((e.error == EMFILE) || (e.error == ENFILE))))
+    || (((e.asked == OPEN) && (e.error == EINTR))
     || ((e.asked == READ) && ((e.error == EINTR) || (e.error == ENOENT)))))
 
 abbrev pub NoError : Exchange → Type 0
@@ -57,12 +52,10 @@ abbrev pub LastGave : List Exchange → ℕ → Type 0
 LastGave [] error = ⊥
 LastGave (e ∷ older) error = Gave e error
 
--- the error is that of the last system call or sort; or of the one before the directory was closed, or before no
--- descriptor could be let go
+-- the error is that of the last system call or sort; or of the one before the directory was closed
 abbrev pub IsWhy : List Exchange → ℕ → Type 0
 IsWhy [] error = ⊥
-IsWhy (e ∷ older) error =
-    Gave e error ⊎ (((e.asked ≡ CLOSE) ⊎ ((e.asked ≡ SPARE) × (e.error ≢ 0))) × LastGave older error)
+IsWhy (e ∷ older) error = Gave e error ⊎ ((e.asked ≡ CLOSE) × LastGave older error)
 
 -- ---- the end
 
@@ -80,16 +73,15 @@ abbrev pub is_full : List Exchange → Bool
 is_full [] = false
 is_full (e ∷ older) = e.full
 
--- Two for each descriptor that was let go; one for each signal that interrupted openat(2) or getdents64(2), and one for
--- each time that records were read and none of them was taken as an entry's.
+-- One for each signal that interrupted openat(2) or getdents64(2), and one for each time that records were read and
+-- none of them was taken as an entry's.
 abbrev pub took_no_entry : Exchange → Bool
 took_no_entry e = not (is_empty e.records) && is_empty (entries_text e.names)
 
 abbrev pub cost_of : Exchange → ℕ
 cost_of e =
-    if e.asked == SPARE then (if e.error == 0 then 2 else 0)
-    else (if ((e.asked == OPEN) || (e.asked == READ)) && (e.error == EINTR) then 1
-    else (if (e.asked == READ) && ((e.error == 0) && took_no_entry e) then 1 else 0))
+    if ((e.asked == OPEN) || (e.asked == READ)) && (e.error == EINTR) then 1
+    else (if (e.asked == READ) && ((e.error == 0) && took_no_entry e) then 1 else 0)
 
 abbrev pub costs : List Exchange → ℕ
 costs [] = 0

@@ -47,7 +47,7 @@ pub fn no_error_is_passed_over()
 {}
 
 /// It fails by the error of the last system call, of what that read, or of the sort; or by the one for which it closed
-/// the directory, or wanted to let a descriptor go.
+/// the directory.
 pub fn why_it_fails()
     ensures { (held : ℕ) (history : List Exchange) → IsHistory held history → (next_after history).next ≡ FAILS
         → ((next_after history).error ≢ 0) × IsWhy history (next_after history).error }
@@ -60,7 +60,7 @@ pub fn each_open_is_closed_once()
         → is_open_after history ≡ needs_open (next_after history).next }
 {}
 
-/// It is opened for the first time, or after a signal, or after a descriptor was let go since none was left.
+/// It is opened for the first time, or after a signal.
 pub fn an_open_is_tried_again_for_a_reason()
     ensures { (held : ℕ) (history : List Exchange) → IsHistory held history → (next_after history).next ≡ OPEN
         → MayOpen history }
@@ -78,8 +78,8 @@ pub fn what_is_listed_was_sorted()
         → WasSorted history }
 {}
 
-/// It comes to an end, unless descriptors are let go, signals come, or records of no entry are read without end. There
-/// are two exchanges for each of the first, one for each of the others, one for each byte of names, and four, at most.
+/// It comes to an end, unless signals come, or records of no entry are read without end. There is one exchange for each
+/// of these, one for each byte of names, and four, at most.
 pub fn calls_are_few()
     ensures { (held : ℕ) (history : List Exchange) → IsHistory held history
         → length history ≤ costs history + used_after history + 4 }

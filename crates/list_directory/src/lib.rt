@@ -14,4 +14,4 @@ pub use laws::{
     no_error_is_passed_over, what_is_gone_has_no_more_names, what_is_listed_was_sorted,
     why_it_fails,
 };
-pub use listing::{CLOSE, ENDS, FAILS, Listing, OPEN, READ, SORT, SPARE, begin, next};
+pub use listing::{CLOSE, ENDS, FAILS, Listing, OPEN, READ, SORT, begin, next};

@@ -1,33 +1,30 @@
 //! How far the listing of a directory has come, and what comes next.
 ghost use Rattle.std.specs.Prelude.{◌≡◌, ◌≤◌, ℕ, List, [], ◌∷◌, true, false, length, take};
 ghost use Rattle.list_directory.specs.Parts.{part_size};
-ghost use Rattle.list_directory.specs.History.{after_close, after_open, after_sort, after_spare, is_question, Exchange};
+ghost use Rattle.list_directory.specs.History.{after_close, after_open, after_sort, is_question, Exchange};
 ghost use Rattle.list_directory.specs.Listing.{due_of, AnsweredBy, IsAt, Reads, Same};
 
 use crate::parts::{part_size, records_size};
 use kernel_text::take_names;
-use system_calls::errors::{EINTR, EMFILE, ENFILE, ENOENT};
+use system_calls::errors::{EINTR, ENOENT};
 
 /// The directory is opened: openat(2) of `.` with O_RDONLY, O_DIRECTORY and O_CLOEXEC.
 pub const OPEN: u8 = 1;
 
-/// The descriptor of a directory above is let go, if there is one.
-pub const SPARE: u8 = 2;
-
 /// Records are read: getdents64(2).
-pub const READ: u8 = 3;
+pub const READ: u8 = 2;
 
 /// The directory is closed.
-pub const CLOSE: u8 = 4;
+pub const CLOSE: u8 = 3;
 
 /// The names are sorted.
-pub const SORT: u8 = 5;
+pub const SORT: u8 = 4;
 
 /// Nothing comes: the names were sorted.
-pub const ENDS: u8 = 6;
+pub const ENDS: u8 = 5;
 
 /// Nothing comes: it failed by an error.
-pub const FAILS: u8 = 7;
+pub const FAILS: u8 = 6;
 
 /// How far a listing has come. C keeps it, beside a room for names.
 #[repr(C)]
@@ -39,9 +36,9 @@ pub struct Listing {
     pub used: usize,
     /// So many bytes of records at most are read at once.
     pub records: usize,
-    /// If it is FAILS, the number of the error (errno(3)). At SPARE and CLOSE, the one by which it fails then, or 0.
+    /// If it is FAILS, the number of the error (errno(3)). At CLOSE, the one by which it fails then, or 0.
     pub error: u32,
-    /// What comes next: OPEN, SPARE, READ, CLOSE or SORT; ENDS or FAILS.
+    /// What comes next: OPEN, READ, CLOSE or SORT; ENDS or FAILS.
     pub next: u8,
 }
 
@@ -63,21 +60,8 @@ fn after_open(listing: Listing, error: u32) -> Listing
         asks(listing, READ, 0)
     } else if error == EINTR {
         asks(listing, OPEN, 0)
-    } else if error == EMFILE || error == ENFILE {
-        asks(listing, SPARE, error)
     } else {
         asks(listing, FAILS, error)
-    }
-}
-
-fn after_spare(listing: Listing, error: u32) -> Listing
-    ensures due { due_of result ≡ after_spare error listing.error }
-    ensures same { Same listing result }
-{
-    if error == 0 {
-        asks(listing, OPEN, 0)
-    } else {
-        asks(listing, FAILS, listing.error)
     }
 }
 
@@ -159,17 +143,16 @@ pub fn begin(held: usize) -> Listing
 }
 
 /// Takes what came of the last demand, and says what comes next. The error is 0, or the system call's (errno(3)); at
-/// SPARE any other number says that no descriptor could be let go; at SORT it is that of the sort. At READ without an
-/// error, the records are what getdents64(2) wrote: their names go into the room, behind those that are there. None are
-/// the end of the directory. Else the room stays. Where nothing comes any more, nothing changes. Takes no memory.
+/// SORT it is that of the sort. At READ without an error, the records are what getdents64(2) wrote: their names go into
+/// the room, behind those that are there. None are the end of the directory. Else the room stays. Where nothing comes
+/// any more, nothing changes. Takes no memory.
 ///
 /// It opens the directory, reads until the room is full or there are no more records, closes it, and has the names
-/// sorted. EINTR (4) of openat(2) or getdents64(2) has that call made again. After EMFILE (24) or ENFILE (23) of
-/// openat(2), a descriptor is let go, and then it is opened again. ENOENT (2) of getdents64(2) says that the directory
-/// is gone: it has no more names.
+/// sorted. EINTR (4) of openat(2) or getdents64(2) has that call made again. ENOENT (2) of getdents64(2) says that the
+/// directory is gone: it has no more names.
 ///
-/// Errors: any other one of openat(2) or getdents64(2), and these two if no descriptor could be let go; EIO (5) or
-/// ENAMETOOLONG (36) of the records, as `kernel_text::take_names` has them; and that of the sort.
+/// Errors: any other one of openat(2) or getdents64(2); EIO (5) or ENAMETOOLONG (36) of the records, as
+/// `kernel_text::take_names` has them; and that of the sort.
 pub fn next(listing: Listing, error: u32, records: &[u8], room: &mut [u8]) -> Listing
     requires size { length room.old ≡ listing.size }
     requires used { listing.used ≤ listing.size }
@@ -182,7 +165,6 @@ pub fn next(listing: Listing, error: u32, records: &[u8], room: &mut [u8]) -> Li
 {
     match listing.next {
         OPEN => after_open(listing, error),
-        SPARE => after_spare(listing, error),
         READ => after_read(listing, error, records, room),
         CLOSE => after_close(listing),
         SORT => after_sort(listing, error),

@@ -18,7 +18,7 @@ use Rattle.tree_model.specs.Steps.{held, refused}
 use Rattle.tree_model.specs.Steps as tree
 use Rattle.tree_model.specs.StepWith.{StepWith}
 use Rattle.step_calls.specs.Changes.{DirectoryRemovalSays, MakeSays, MakesStood, RemovalSays, RemovalsStood, WasRefused}
-use Rattle.step_calls.specs.History.{after_exchange, asked, asks, ends_by, fails, first, next_after, Exchange, opens_directory, opens_any, spares, asks_mount, asks_kind, asks_holder, asks_magic, asks_links, asks_layers, opens_to_read, reads, closes_read, asks_follow, reads_link, changes, closes, IsHistory, Next}
+use Rattle.step_calls.specs.History.{after_exchange, asked, asks, ends_by, fails, first, next_after, Exchange, opens_directory, opens_any, asks_mount, asks_kind, asks_holder, asks_magic, asks_links, asks_layers, opens_to_read, reads, closes_read, asks_follow, reads_link, changes, closes, IsHistory, Next}
 use Rattle.step_calls.specs.Moments.{moment, table, AreAnswers, IsWorld, World}
 use Rattle.step_calls.specs.Refusals.{is_refusal, is_too_long}
 use Rattle.step_calls.specs.declared.course.TheConstants.{CHANGE, DONE, REFUSED, UNMADE}
@@ -56,7 +56,6 @@ module _ (w : World) (f : Facts) (it : StepWith ℕ) (Says : ℕ → Exchange �
       (λ d. said.refuses now error d says) (λ d. tt)))
   step said now (opens_directory error) due says was = absurd was
   step said now (opens_any error) due says was = absurd was
-  step said now (spares error) due says was = absurd was
   step said now (asks_mount error) due says was = absurd was
   step said now (asks_kind error kind) due says was = absurd was
   step said now (asks_holder error type) due says was = absurd was

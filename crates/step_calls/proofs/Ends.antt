@@ -1,10 +1,10 @@
 -- What holds of each end of a turn holds of the turn.
-use Rattle.std.proofs.Common.{◌≡◌, ℕ, true, false, if◌then◌else◌, ◌&&◌, ◌||◌}
+use Rattle.std.proofs.Common.{◌≡◌, ℕ, true, false, if◌then◌else◌, ◌&&◌}
 use Rattle.std.specs.Prelude.{◌==◌}
-use Rattle.system_calls.specs.Errors.{ENOENT, EINTR, ENFILE, EMFILE}
+use Rattle.system_calls.specs.Errors.{ENOENT, EINTR}
 use Rattle.step_calls.specs.Refusals.{is_refusal}
 use Rattle.step_calls.specs.History.{asks, came_to, ends_by, fails, gone, knows, not_opened, opened, stayed, there, unasked, waits, Next}
-use Rattle.step_calls.specs.declared.course.TheConstants.{SPARE, MOUNT, KIND, MAY_HOLD_MAGIC, LINKS, CLOSE, OPENED, DONE, REFUSED, UNMADE}
+use Rattle.step_calls.specs.declared.course.TheConstants.{MOUNT, KIND, MAY_HOLD_MAGIC, LINKS, CLOSE, OPENED, DONE, REFUSED, UNMADE}
 use Rattle.step_calls.specs.declared.facts.Facts.{Facts}
 use Rattle.step_calls.specs.declared.facts.TheConstants.{PARENT, DIRECTORY, LINK}
 use Rattle.step_calls.proofs.MomentLemmas.{if_elim}
@@ -29,13 +29,10 @@ opened_all P f k mount kind links is_open =
     if_elim P f.mount (knows MOUNT k) (stayed f k) (λ b. mount) (λ b. stayed_all P f k kind links is_open)
 
 pub unopened_all : (P : Next → Type 0) (f : Facts) (how error : ℕ) → ((error == EINTR) ≡ true → P (asks how))
-    → ((error == EINTR) ≡ false → ((error == EMFILE) || (error == ENFILE)) ≡ true → P (waits SPARE how error))
     → (is_refusal f.what f.mode f.text error ≡ true → P (fails REFUSED error)) → P (fails UNMADE error)
     → P (not_opened f how error)
-unopened_all P f how error again spare r u =
-    if_elim P (error == EINTR) (asks how) _ again
-    (λ b. if_elim P ((error == EMFILE) || (error == ENFILE)) (waits SPARE how error) (ends_by f error) (spare b)
-    (λ c. ends_all P f error r u))
+unopened_all P f how error again r u =
+    if_elim P (error == EINTR) (asks how) (ends_by f error) again (λ b. ends_all P f error r u)
 
 pub gone_all : (P : Next → Type 0) (f : Facts) → ((f.what == PARENT) ≡ true → P (waits CLOSE REFUSED ENOENT))
     → ((f.what == PARENT) ≡ false → P (fails REFUSED ENOENT)) → P (gone f)

@@ -4,8 +4,8 @@ use Rattle.std.specs.Prelude.{◌==◌}
 use Rattle.std.specs.List.{AllByRecursion}
 use Rattle.std.proofs.lemmas.Bool.{eqb-true, false≢true}
 use Rattle.system_calls.specs.Errors.{ENOENT, EINTR, EEXIST, EXDEV, ENOTDIR, ELOOP}
-use Rattle.step_calls.specs.History.{after_exchange, asked, asks, came_to, ends_by, fails, gone, has_followed, has_magic, is_ordinary, keeps_links, knows, next_after, not_ordinary, not_read, opened, stayed, there, unasked, waits, opens_directory, opens_any, spares, asks_mount, asks_kind, asks_holder, asks_magic, asks_links, asks_layers, opens_to_read, reads, closes_read, asks_follow, reads_link, changes, closes, Exchange, IsHistory, Next}
-use Rattle.step_calls.specs.Promises.{is_no_error, is_none_left, NoError}
+use Rattle.step_calls.specs.History.{after_exchange, asked, asks, came_to, ends_by, fails, gone, has_followed, has_magic, is_ordinary, keeps_links, knows, next_after, not_ordinary, not_read, opened, stayed, there, unasked, waits, opens_directory, opens_any, asks_mount, asks_kind, asks_holder, asks_magic, asks_links, asks_layers, opens_to_read, reads, closes_read, asks_follow, reads_link, changes, closes, Exchange, IsHistory, Next}
+use Rattle.step_calls.specs.Promises.{is_no_error, NoError}
 use Rattle.step_calls.specs.declared.course.TheConstants.{OPEN_DIRECTORY, OPEN_ANY, MAY_HOLD_MAGIC, MAGIC, LAYERS, OPEN_TO_READ, READ, CLOSE_READ, NO_FOLLOW, READ_LINK, CLOSE, OPENED, TEXT, REFUSED, UNMADE, DONE}
 use Rattle.step_calls.specs.declared.facts.Facts.{Facts}
 use Rattle.step_calls.specs.declared.facts.TheConstants.{OPEN, DIRECTORY}
@@ -44,30 +44,21 @@ well : (f : Facts) (e : Exchange) (due : Next) → Well f e due (after_exchange 
 well f (opens_directory error) due =
     let P = Well f (opens_directory error) due in
     let interrupted = λ (x : (error == EINTR) ≡ true).
-    second_is (error == 0) _ (first_is (error == EINTR) (is_none_left error || ((f.what == OPEN) && (error == ENOTDIR))) x) in
-    let spared = λ (x : is_none_left error ≡ true).
-    second_is (error == 0) _ (second_is (error == EINTR) _
-    (first_is (is_none_left error) ((f.what == OPEN) && (error == ENOTDIR)) x)) in
+    second_is (error == 0) _ (first_is (error == EINTR) ((f.what == OPEN) && (error == ENOTDIR)) x) in
     let other = λ (x : ((f.what == OPEN) && (error == ENOTDIR)) ≡ true).
-    second_is (error == 0) _ (second_is (error == EINTR) _ (second_is (is_none_left error) _ x)) in
+    second_is (error == 0) _ (second_is (error == EINTR) _ x) in
     if_elim P (error == 0) (opened f DIRECTORY) _
-    (λ b. let ok = first_is (error == 0) ((error == EINTR) || (is_none_left error || ((f.what == OPEN) && (error == ENOTDIR)))) b in
+    (λ b. let ok = first_is (error == 0) ((error == EINTR) || ((f.what == OPEN) && (error == ENOTDIR))) b in
     opened_all P f DIRECTORY (λ h. (ok, refl)) (λ h. (ok, refl)) (λ l h. (ok, refl)) (λ h. (ok, refl)))
     (λ b. if_elim P ((f.what == OPEN) && (error == ENOTDIR)) (asks OPEN_ANY) _ (λ d h. (other d, refl))
-    (λ d. unopened_all P f OPEN_DIRECTORY error (λ x h. (interrupted x, refl)) (λ x y h. (spared y, refl)) (λ r h. no_way h) no_way))
+    (λ d. unopened_all P f OPEN_DIRECTORY error (λ x h. (interrupted x, refl)) (λ r h. no_way h) no_way))
 well f (opens_any error) due =
     let P = Well f (opens_any error) due in
     if_elim P (error == 0) (opened f 0) _
-    (λ b. let ok = first_is (error == 0) ((error == EINTR) || is_none_left error) b in
+    (λ b. let ok = first_is (error == 0) (error == EINTR) b in
     opened_all P f 0 (λ h. (ok, refl)) (λ h. (ok, refl)) (λ l h. (ok, refl)) (λ h. (ok, refl)))
     (λ b. unopened_all P f OPEN_ANY error
-    (λ x h. (second_is (error == 0) _ (first_is (error == EINTR) (is_none_left error) x), refl))
-    (λ x y h. (second_is (error == 0) _ (second_is (error == EINTR) _ y), refl)) (λ r h. no_way h) no_way)
-well f (spares error) due =
-    let P = Well f (spares error) due in
-    if_elim P (error == 0) (asks (if due.behind == OPEN_ANY then OPEN_ANY else OPEN_DIRECTORY)) (fails UNMADE due.error)
-    (λ b. if_elim (λ (n : ℕ). P (asks n)) (due.behind == OPEN_ANY) OPEN_ANY OPEN_DIRECTORY (λ c h. (b, refl)) (λ c h. (b, refl)))
-    (λ b. no_way)
+    (λ x h. (second_is (error == 0) (error == EINTR) x, refl)) (λ r h. no_way h) no_way)
 well f (asks_mount error) due =
     let P = Well f (asks_mount error) due in
     if_elim P (error == 0) (stayed f due.kind) (waits CLOSE UNMADE EXDEV)

@@ -2,9 +2,9 @@
 use Rattle.std.proofs.Common.{◌≡◌, ◌≤◌, ◌+◌, ℕ, suc, List, [], ◌∷◌, Bool, true, if◌then◌else◌, ◌&&◌, not, length, ap, arith}
 use Rattle.std.specs.Prelude.{◌==◌}
 use Rattle.system_calls.specs.Errors.{ENOENT, EINTR, EEXIST, EXDEV, ENOTDIR, ELOOP}
-use Rattle.step_calls.specs.History.{after_exchange, asked, asks, came_to, ends_by, fails, first, gone, has_followed, has_magic, is_ordinary, keeps_links, knows, next_after, not_ordinary, not_read, opened, stayed, there, unasked, waits, opens_directory, opens_any, spares, asks_mount, asks_kind, asks_holder, asks_magic, asks_links, asks_layers, opens_to_read, reads, closes_read, asks_follow, reads_link, changes, closes, Exchange, IsHistory, Next}
+use Rattle.step_calls.specs.History.{after_exchange, asked, asks, came_to, ends_by, fails, first, gone, has_followed, has_magic, is_ordinary, keeps_links, knows, next_after, not_ordinary, not_read, opened, stayed, there, unasked, waits, opens_directory, opens_any, asks_mount, asks_kind, asks_holder, asks_magic, asks_links, asks_layers, opens_to_read, reads, closes_read, asks_follow, reads_link, changes, closes, Exchange, IsHistory, Next}
 use Rattle.step_calls.specs.Promises.{cost_of, costs}
-use Rattle.step_calls.specs.declared.course.TheConstants.{OPEN_DIRECTORY, OPEN_ANY, SPARE, MOUNT, KIND, MAY_HOLD_MAGIC, MAGIC, LINKS, LAYERS, OPEN_TO_READ, READ, CLOSE_READ, NO_FOLLOW, READ_LINK, CHANGE, CLOSE, OPENED, TEXT, REFUSED, UNMADE, DONE}
+use Rattle.step_calls.specs.declared.course.TheConstants.{OPEN_DIRECTORY, OPEN_ANY, MOUNT, KIND, MAY_HOLD_MAGIC, MAGIC, LINKS, LAYERS, OPEN_TO_READ, READ, CLOSE_READ, NO_FOLLOW, READ_LINK, CHANGE, CLOSE, OPENED, TEXT, REFUSED, UNMADE, DONE}
 use Rattle.step_calls.specs.declared.facts.Facts.{Facts}
 use Rattle.step_calls.specs.declared.facts.TheConstants.{IS_THERE, OPEN, DUP, PARENT, READ_TEXT, DIRECTORY}
 use Rattle.step_calls.proofs.Ends.{came_all, ends_all, gone_all, opened_all, stayed_all, there_all, unasked_all, unopened_all}
@@ -16,7 +16,6 @@ rank next =
     if next == OPEN_DIRECTORY then 10
     else (if next == OPEN_ANY then 9
     else (if next == MOUNT then 8
-    else (if next == SPARE then 8
     else (if next == KIND then 7
     else (if next == LINKS then 6
     else (if next == NO_FOLLOW then 5
@@ -28,7 +27,7 @@ rank next =
     else (if next == CLOSE_READ then 2
     else (if next == READ_LINK then 2
     else (if next == CHANGE then 2
-    else (if next == CLOSE then 1 else 0)))))))))))))))
+    else (if next == CLOSE then 1 else 0))))))))))))))
 
 abbrev Falls : Exchange → Next → Type 0
 Falls e n = suc (rank n.next) ≤ rank (asked e) + cost_of e
@@ -36,27 +35,18 @@ Falls e n = suc (rank n.next) ≤ rank (asked e) + cost_of e
 one : (error : ℕ) → (error == EINTR) ≡ true → ◌≡◌ {A = ℕ} (if error == EINTR then 1 else 0) 1
 one error is = ap {B = ℕ} (λ (b : Bool). if b then 1 else 0) is
 
-three : (error : ℕ) → (error == 0) ≡ true → ◌≡◌ {A = ℕ} (if error == 0 then 3 else 0) 3
-three error is = ap {B = ℕ} (λ (b : Bool). if b then 3 else 0) is
-
 falls : (f : Facts) (e : Exchange) (due : Next) → Falls e (after_exchange f e due)
 falls f (opens_directory error) due =
     let P = Falls (opens_directory error) in
     if_elim P (error == 0) (opened f DIRECTORY) _
     (λ b. opened_all P f DIRECTORY (omega arith) (omega arith) (λ l. omega arith) (omega arith))
     (λ b. if_elim P ((f.what == OPEN) && (error == ENOTDIR)) (asks OPEN_ANY) _ (λ d. omega arith)
-    (λ d. unopened_all P f OPEN_DIRECTORY error (λ x. omega (arith, one error x)) (λ x y. omega arith) (λ r. omega arith) (omega arith)))
+    (λ d. unopened_all P f OPEN_DIRECTORY error (λ x. omega (arith, one error x)) (λ r. omega arith) (omega arith)))
 falls f (opens_any error) due =
     let P = Falls (opens_any error) in
     if_elim P (error == 0) (opened f 0) _
     (λ b. opened_all P f 0 (omega arith) (omega arith) (λ l. omega arith) (omega arith))
-    (λ b. unopened_all P f OPEN_ANY error (λ x. omega (arith, one error x)) (λ x y. omega arith) (λ r. omega arith) (omega arith))
-falls f (spares error) due =
-    let P = Falls (spares error) in
-    if_elim P (error == 0) (asks (if due.behind == OPEN_ANY then OPEN_ANY else OPEN_DIRECTORY)) (fails UNMADE due.error)
-    (λ b. if_elim (λ (n : ℕ). P (asks n)) (due.behind == OPEN_ANY) OPEN_ANY OPEN_DIRECTORY
-    (λ c. omega (arith, three error b)) (λ c. omega (arith, three error b)))
-    (λ b. omega arith)
+    (λ b. unopened_all P f OPEN_ANY error (λ x. omega (arith, one error x)) (λ r. omega arith) (omega arith))
 falls f (asks_mount error) due =
     let P = Falls (asks_mount error) in
     if_elim P (error == 0) (stayed f due.kind) (waits CLOSE UNMADE EXDEV)

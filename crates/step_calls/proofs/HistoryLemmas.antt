@@ -3,9 +3,9 @@ use Rattle.std.proofs.Common.{◌≡◌, ℕ, List, [], ◌∷◌, Bool, true, f
 use Rattle.std.specs.Prelude.{◌==◌}
 use Rattle.std.proofs.lemmas.Bool.{false≢true}
 use Rattle.system_calls.specs.Errors.{ENOENT, EINTR, EEXIST, EXDEV, ENOTDIR, ELOOP}
-use Rattle.step_calls.specs.History.{after_exchange, asked, asks, came_to, ends_by, fails, first, gone, has_followed, has_magic, is_ordinary, keeps_links, knows, next_after, not_ordinary, not_read, opened, stayed, there, unasked, waits, opens_directory, opens_any, spares, asks_mount, asks_kind, asks_holder, asks_magic, asks_links, asks_layers, opens_to_read, reads, closes_read, asks_follow, reads_link, changes, closes, Exchange, IsHistory, Next}
+use Rattle.step_calls.specs.History.{after_exchange, asked, asks, came_to, ends_by, fails, first, gone, has_followed, has_magic, is_ordinary, keeps_links, knows, next_after, not_ordinary, not_read, opened, stayed, there, unasked, waits, opens_directory, opens_any, asks_mount, asks_kind, asks_holder, asks_magic, asks_links, asks_layers, opens_to_read, reads, closes_read, asks_follow, reads_link, changes, closes, Exchange, IsHistory, Next}
 use Rattle.step_calls.specs.Promises.{holds_after, holds_by, needs_opened, needs_read, reads_after, reads_by}
-use Rattle.step_calls.specs.declared.course.TheConstants.{OPEN_DIRECTORY, OPEN_ANY, READ, CLOSE_READ, NO_FOLLOW, LINKS, LAYERS, OPEN_TO_READ, READ_LINK, MAY_HOLD_MAGIC, MAGIC, CHANGE, CLOSE, OPENED, TEXT, DONE, REFUSED, UNMADE}
+use Rattle.step_calls.specs.declared.course.TheConstants.{OPEN_DIRECTORY, OPEN_ANY, MOUNT, KIND, READ, CLOSE_READ, NO_FOLLOW, LINKS, LAYERS, OPEN_TO_READ, READ_LINK, MAY_HOLD_MAGIC, MAGIC, CHANGE, CLOSE, OPENED, TEXT, DONE, REFUSED, UNMADE}
 use Rattle.step_calls.specs.declared.facts.Facts.{Facts}
 use Rattle.step_calls.specs.declared.facts.TheConstants.{IS_THERE, OPEN, DUP, PARENT, READ_TEXT, DIRECTORY}
 use Rattle.step_calls.proofs.Ends.{came_all, ends_all, gone_all, opened_all, stayed_all, there_all, unasked_all, unopened_all}
@@ -15,8 +15,8 @@ use Rattle.step_calls.proofs.MomentLemmas.{if_elim}
 
 -- what comes next is one of these, in each case
 pub record Each (P : Next → Type 0) (f : Facts) (e : Exchange) (due : Next) : Type 0 where
-  pub mount : (k : ℕ) → P (knows 4 k)
-  pub kind : P (asks 5)
+  pub mount : (k : ℕ) → P (knows MOUNT k)
+  pub kind : P (asks KIND)
   pub holder : P (asks MAY_HOLD_MAGIC)
   pub magic : P (asks MAGIC)
   pub links : P (asks LINKS)
@@ -27,7 +27,6 @@ pub record Each (P : Next → Type 0) (f : Facts) (e : Exchange) (due : Next) : 
   pub no_follow : P (asks NO_FOLLOW)
   pub read_link : P (asks READ_LINK)
   pub close : (behind error : ℕ) → P (waits CLOSE behind error)
-  pub spare : (how error : ℕ) → P (waits 3 how error)
   pub directory : P (asks OPEN_DIRECTORY)
   pub any : P (asks OPEN_ANY)
   pub is_open : (k : ℕ) → P (knows OPENED k)
@@ -41,17 +40,13 @@ each P f (opens_directory error) due c =
     if_elim P (error == 0) (opened f DIRECTORY) _
     (λ b. opened_all P f DIRECTORY (c.mount DIRECTORY) c.kind (λ l. c.links) (c.is_open DIRECTORY))
     (λ b. if_elim P ((f.what == OPEN) && (error == ENOTDIR)) (asks OPEN_ANY) _ (λ d. c.any)
-    (λ d. unopened_all P f OPEN_DIRECTORY error (λ x. c.directory) (λ x y. c.spare OPEN_DIRECTORY error)
+    (λ d. unopened_all P f OPEN_DIRECTORY error (λ x. c.directory)
     (λ r. c.refused error) (c.unmade error)))
 each P f (opens_any error) due c =
     if_elim P (error == 0) (opened f 0) _
     (λ b. opened_all P f 0 (c.mount 0) c.kind (λ l. c.links) (c.is_open 0))
-    (λ b. unopened_all P f OPEN_ANY error (λ x. c.any) (λ x y. c.spare OPEN_ANY error)
+    (λ b. unopened_all P f OPEN_ANY error (λ x. c.any)
     (λ r. c.refused error) (c.unmade error))
-each P f (spares error) due c =
-    if_elim P (error == 0) (asks (if due.behind == OPEN_ANY then OPEN_ANY else OPEN_DIRECTORY)) (fails UNMADE due.error)
-    (λ b. if_elim (λ (n : ℕ). P (asks n)) (due.behind == OPEN_ANY) OPEN_ANY OPEN_DIRECTORY (λ d. c.any) (λ d. c.directory))
-    (λ b. c.unmade due.error)
 each P f (asks_mount error) due c =
     if_elim P (error == 0) (stayed f due.kind) _
     (λ b. stayed_all P f due.kind c.kind (λ l. c.links) (c.is_open due.kind))
@@ -126,7 +121,6 @@ no_change f e due =
       no_follow = refl;
       read_link = refl;
       close = λ m n. refl;
-      spare = λ m n. refl;
       directory = refl;
       any = refl;
       is_open = λ k. refl;
@@ -191,16 +185,12 @@ holds_step f (opens_directory error) due was is =
     let p = none (f.what == PARENT) in
     if_elim P (error == 0) (opened f DIRECTORY) _ (λ b. opened_holds f (error == 0) DIRECTORY b)
     (λ b. if_elim P ((f.what == OPEN) && (error == ENOTDIR)) (asks OPEN_ANY) _ (λ c. b ∙ p)
-    (λ c. unopened_all P f OPEN_DIRECTORY error (λ x. b ∙ p) (λ x y. b ∙ p) (λ r. b ∙ p) (b ∙ p)))
+    (λ c. unopened_all P f OPEN_DIRECTORY error (λ x. b ∙ p) (λ r. b ∙ p) (b ∙ p)))
 holds_step f (opens_any error) due was is =
     let P = λ (n : Next). (error == 0) ≡ needs_opened f n.next in
     let p = none (f.what == PARENT) in
     if_elim P (error == 0) (opened f 0) _ (λ b. opened_holds f (error == 0) 0 b)
-    (λ b. unopened_all P f OPEN_ANY error (λ x. b ∙ p) (λ x y. b ∙ p) (λ r. b ∙ p) (b ∙ p))
-holds_step f (spares error) due was is =
-    let P = λ (n : Next). was ≡ needs_opened f n.next in
-    if_elim P (error == 0) (asks (if due.behind == OPEN_ANY then OPEN_ANY else OPEN_DIRECTORY)) (fails UNMADE due.error)
-    (λ b. if_elim (λ (n : ℕ). P (asks n)) (due.behind == OPEN_ANY) OPEN_ANY OPEN_DIRECTORY (λ c. is) (λ c. is)) (λ b. is)
+    (λ b. unopened_all P f OPEN_ANY error (λ x. b ∙ p) (λ r. b ∙ p) (b ∙ p))
 holds_step f (asks_mount error) due was is =
     if_elim (λ (n : Next). was ≡ needs_opened f n.next) (error == 0) (stayed f due.kind) (waits CLOSE UNMADE EXDEV)
     (λ b. stayed_holds f was due.kind is) (λ b. is)
@@ -305,15 +295,11 @@ reads_step f (opens_directory error) due was is =
     let P = λ (n : Next). was ≡ needs_read n.next in
     if_elim P (error == 0) (opened f DIRECTORY) _ (λ b. opened_all P f DIRECTORY is is (λ l. is) is)
     (λ b. if_elim P ((f.what == OPEN) && (error == ENOTDIR)) (asks OPEN_ANY) _ (λ d. is)
-    (λ d. unopened_all P f OPEN_DIRECTORY error (λ x. is) (λ x y. is) (λ r. is) is))
+    (λ d. unopened_all P f OPEN_DIRECTORY error (λ x. is) (λ r. is) is))
 reads_step f (opens_any error) due was is =
     let P = λ (n : Next). was ≡ needs_read n.next in
     if_elim P (error == 0) (opened f 0) _ (λ b. opened_all P f 0 is is (λ l. is) is)
-    (λ b. unopened_all P f OPEN_ANY error (λ x. is) (λ x y. is) (λ r. is) is)
-reads_step f (spares error) due was is =
-    let P = λ (n : Next). was ≡ needs_read n.next in
-    if_elim P (error == 0) (asks (if due.behind == OPEN_ANY then OPEN_ANY else OPEN_DIRECTORY)) (fails UNMADE due.error)
-    (λ b. if_elim (λ (n : ℕ). P (asks n)) (due.behind == OPEN_ANY) OPEN_ANY OPEN_DIRECTORY (λ c. is) (λ c. is)) (λ b. is)
+    (λ b. unopened_all P f OPEN_ANY error (λ x. is) (λ r. is) is)
 reads_step f (asks_mount error) due was is =
     let P = λ (n : Next). was ≡ needs_read n.next in
     if_elim P (error == 0) (stayed f due.kind) (waits CLOSE UNMADE EXDEV)

@@ -10,7 +10,7 @@ use Rattle.tree_model.specs.declared.inode.Object.TheVariants as object
 use Rattle.tree_model.specs.declared.step.StepOf.TheVariants.{ReadLink}
 use Rattle.tree_model.specs.State.{State, object_at}
 use Rattle.tree_model.specs.Steps.{held, outcome, reads as reads_node}
-use Rattle.step_calls.specs.History.{after_exchange, asks, asked, ends_by, fails, first, has_followed, has_magic, is_ordinary, next_after, not_ordinary, not_read, opens_directory, opens_any, spares, asks_mount, asks_kind, asks_holder, asks_magic, asks_links, asks_layers, opens_to_read, reads, closes_read, asks_follow, reads_link, changes, closes, Exchange, IsHistory, Next}
+use Rattle.step_calls.specs.History.{after_exchange, asks, asked, ends_by, fails, first, has_followed, has_magic, is_ordinary, next_after, not_ordinary, not_read, opens_directory, opens_any, asks_mount, asks_kind, asks_holder, asks_magic, asks_links, asks_layers, opens_to_read, reads, closes_read, asks_follow, reads_link, changes, closes, Exchange, IsHistory, Next}
 use Rattle.step_calls.specs.Moments.{moment, AreAnswers, IsNoLink, LinkSays, LinksWereRead, World}
 use Rattle.step_calls.specs.declared.course.TheConstants.{NO_FOLLOW, MAY_HOLD_MAGIC, MAGIC, READ_LINK, TEXT, REFUSED, UNMADE}
 use Rattle.step_calls.specs.declared.facts.Facts.{Facts}
@@ -57,7 +57,6 @@ step w f now (reads_link error) due links none says was =
     (λ d. not_text w f (suc now) (not_read error) links (none d))))
 step w f now (opens_directory error) due links none says was = absurd was
 step w f now (opens_any error) due links none says was = absurd was
-step w f now (spares error) due links none says was = absurd was
 step w f now (asks_mount error) due links none says was = absurd was
 step w f now (asks_kind error kind) due links none says was = absurd was
 step w f now (asks_links error count) due links none says was = absurd was

@@ -3,7 +3,7 @@ use Rattle.std.proofs.Common.{◌≡◌, ℕ, List, [], ◌∷◌, Bool, true, f
 use Rattle.std.specs.Prelude.{◌==◌}
 use Rattle.std.proofs.lemmas.Bool.{false≢true}
 use Rattle.system_calls.specs.Errors.{ENOENT, EINTR, EEXIST, EXDEV, ENOTDIR, ELOOP}
-use Rattle.step_calls.specs.History.{after_exchange, asked, asks, ends_by, fails, first, gone, has_followed, has_magic, is_ordinary, keeps_links, knows, next_after, not_ordinary, not_read, opened, stayed, there, unasked, waits, opens_directory, opens_any, spares, asks_mount, asks_kind, asks_holder, asks_magic, asks_links, asks_layers, opens_to_read, reads, closes_read, asks_follow, reads_link, changes, closes, Exchange, IsHistory, Next}
+use Rattle.step_calls.specs.History.{after_exchange, asked, asks, ends_by, fails, first, gone, has_followed, has_magic, is_ordinary, keeps_links, knows, next_after, not_ordinary, not_read, opened, stayed, there, unasked, waits, opens_directory, opens_any, asks_mount, asks_kind, asks_holder, asks_magic, asks_links, asks_layers, opens_to_read, reads, closes_read, asks_follow, reads_link, changes, closes, Exchange, IsHistory, Next}
 use Rattle.step_calls.specs.Leave.{has_stayed, stayed_by, MountsAreKept}
 use Rattle.step_calls.specs.Promises.{is_about_child}
 use Rattle.step_calls.specs.declared.course.TheConstants.{OPEN_DIRECTORY, OPEN_ANY, MOUNT, KIND, MAY_HOLD_MAGIC, MAGIC, LINKS, LAYERS, OPEN_TO_READ, READ, CLOSE_READ, READ_LINK, NO_FOLLOW, CHANGE, CLOSE, OPENED, TEXT, DONE, REFUSED, UNMADE}
@@ -59,16 +59,11 @@ module _ (f : Facts) (mount : f.mount ≡ true) where
       let P = Kept f false in
       if_elim P (error == 0) (opened f DIRECTORY) _ (λ b. opens DIRECTORY)
       (λ b. if_elim P ((f.what == OPEN) && (error == ENOTDIR)) (asks OPEN_ANY) _ (λ c. no)
-      (λ c. unopened_all P f OPEN_DIRECTORY error (λ x. no) (λ x y. no) (λ r. no) no))
+      (λ c. unopened_all P f OPEN_DIRECTORY error (λ x. no) (λ r. no) no))
   mount_step (opens_any error) due said was =
       let P = Kept f false in
       if_elim P (error == 0) (opened f 0) _ (λ b. opens 0)
-      (λ b. unopened_all P f OPEN_ANY error (λ x. no) (λ x y. no) (λ r. no) no)
-  mount_step (spares error) due said was =
-      let P = Kept f said in
-      if_elim P (error == 0) (asks (if due.behind == OPEN_ANY then OPEN_ANY else OPEN_DIRECTORY)) (fails UNMADE due.error)
-      (λ b. if_elim (λ (n : ℕ). P (asks n)) (due.behind == OPEN_ANY) OPEN_ANY OPEN_DIRECTORY (λ c. no) (λ c. no))
-      (λ b. no)
+      (λ b. unopened_all P f OPEN_ANY error (λ x. no) (λ r. no) no)
   mount_step (asks_mount error) due said was =
       if_elim (Kept f (error == 0)) (error == 0) (stayed f due.kind) (waits CLOSE UNMADE EXDEV) (λ b h. b) (λ b. no)
   mount_step (asks_kind error kind) due said was = λ h. was refl

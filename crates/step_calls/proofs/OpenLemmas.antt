@@ -1,19 +1,19 @@
 -- What is opened at a name was there.
-use Rattle.std.proofs.Common.{◌≡◌, ◌≢◌, ◌≤◌, ℕ, suc, List, [], ◌∷◌, Bool, true, false, if◌then◌else◌, ◌&&◌, ◌||◌, not, length, refl, sym, ap, subst, ◌∙◌, arith}
+use Rattle.std.proofs.Common.{◌≡◌, ◌≢◌, ◌≤◌, ℕ, suc, List, [], ◌∷◌, Bool, true, false, ◌&&◌, ◌||◌, not, length, refl, sym, ap, subst, ◌∙◌, arith}
 use Rattle.std.specs.Prelude.{◌==◌, nat_lt, Some, None}
 use Rattle.std.proofs.lemmas.Bool.{eqb-true, false≢true}
 use Rattle.std.proofs.lemmas.Option.{same_Some}
 use Rattle.path_text.specs.declared.errno.Errno.TheVariants.{NotFound}
-use Rattle.system_calls.specs.Errors.{ENOENT, EINTR, EXDEV, ENOTDIR, ENFILE, EMFILE}
+use Rattle.system_calls.specs.Errors.{ENOENT, EINTR, EXDEV, ENOTDIR}
 use Rattle.tree_model.specs.declared.answer.Answer.TheVariants.{Opened, Refused}
 use Rattle.tree_model.specs.declared.inode.Object.{Object}
 use Rattle.tree_model.specs.declared.inode.Object.TheVariants as object
 use Rattle.tree_model.specs.declared.step.StepOf.TheVariants.{Open}
 use Rattle.tree_model.specs.State.{State, child, is_dir, object_at}
 use Rattle.tree_model.specs.Steps.{held, is_full, kind_of, outcome}
-use Rattle.step_calls.specs.History.{after_close, after_exchange, asks, came_to, ends_by, fails, first, has_magic, is_ordinary, knows, next_after, not_opened, not_ordinary, opened, stayed, waits, opens_directory, opens_any, spares, asks_mount, asks_kind, asks_holder, asks_magic, asks_links, asks_layers, opens_to_read, reads, closes_read, asks_follow, reads_link, changes, closes, asked, Exchange, IsHistory, Next}
+use Rattle.step_calls.specs.History.{after_close, after_exchange, asks, came_to, ends_by, fails, first, has_magic, is_ordinary, knows, next_after, not_opened, not_ordinary, opened, stayed, waits, opens_directory, opens_any, asks_mount, asks_kind, asks_holder, asks_magic, asks_links, asks_layers, opens_to_read, reads, closes_read, asks_follow, reads_link, changes, closes, asked, Exchange, IsHistory, Next}
 use Rattle.step_calls.specs.Moments.{has_kind, moment, AreAnswers, HasNoEntry, IsWorld, OpenSays, OpensName, OpensStood, Stays, World}
-use Rattle.step_calls.specs.declared.course.TheConstants.{OPEN_DIRECTORY, OPEN_ANY, SPARE, MOUNT, KIND, MAY_HOLD_MAGIC, MAGIC, LINKS, CHANGE, CLOSE, OPENED, REFUSED, UNMADE}
+use Rattle.step_calls.specs.declared.course.TheConstants.{OPEN_DIRECTORY, OPEN_ANY, MOUNT, KIND, MAY_HOLD_MAGIC, MAGIC, LINKS, CHANGE, CLOSE, OPENED, REFUSED, UNMADE}
 use Rattle.step_calls.specs.declared.facts.Facts.{Facts}
 use Rattle.step_calls.specs.declared.facts.TheConstants.{OPEN, DIRECTORY}
 use Rattle.step_calls.proofs.MomentLemmas.{if_elim}
@@ -138,10 +138,8 @@ misses w f now error at_open none =
 fails_to : (w : World) (f : Facts) (now how error : ℕ) → f.what ≡ OPEN → is_plain how ≡ true
     → (error ≡ ENOENT → HasNoEntry w now) → Stood w now (not_opened f how error)
 fails_to w f now how error at_open p none =
-    if_elim (Stood w now) (error == EINTR) (asks how) _
-    (λ b. plain w now (asks how) p)
-    (λ b. if_elim (Stood w now) ((error == EMFILE) || (error == ENFILE)) (waits SPARE how error) (ends_by f error)
-    (λ b. plain w now (waits SPARE how error) refl) (λ b. misses w f now error at_open none))
+    if_elim (Stood w now) (error == EINTR) (asks how) (ends_by f error)
+    (λ b. plain w now (asks how) p) (λ b. misses w f now error at_open none)
 
 found_now : (w : World) (now : ℕ) (what : Object) → OpensName w now what → Found w now what
 found_now w now what o = record { n = now; by = omega arith; entry = o.entry; was = o.is; is = o.is }
@@ -160,11 +158,6 @@ step w f now (opens_any error) due at_open world at says was =
     (λ b. let o = says.0 (eqb-true error 0 b) in
     opens w f (suc now) 0 o.0 at_open (found_now w (suc now) o.0 o.1) (λ s. absurd (s refl)))
     (λ b. fails_to w f (suc now) OPEN_ANY error at_open refl says.1)
-step w f now (spares error) due at_open world at says was =
-    if_elim (Stood w (suc now)) (error == 0) (asks (if due.behind == OPEN_ANY then OPEN_ANY else OPEN_DIRECTORY)) _
-    (λ b. if_elim (λ (n : ℕ). Stood w (suc now) (asks n)) (due.behind == OPEN_ANY) OPEN_ANY OPEN_DIRECTORY
-    (λ c. plain w (suc now) (asks OPEN_ANY) refl) (λ c. plain w (suc now) (asks OPEN_DIRECTORY) refl))
-    (λ b. plain w (suc now) (fails UNMADE due.error) refl)
 step w f now (asks_mount error) due at_open world at says was =
     let k = was.about (ap is_about (sym at)) in
     if_elim (Stood w (suc now)) (error == 0) (stayed f due.kind) _

@@ -1,10 +1,10 @@
 -- What is opened above a directory was the directory above.
-use Rattle.std.proofs.Common.{◌≡◌, ◌≢◌, ◌≤◌, ◌⊎◌, inl, inr, ℕ, suc, List, [], ◌∷◌, Bool, true, false, if◌then◌else◌, ◌&&◌, ◌||◌, not, length, refl, sym, ap, subst, ◌∙◌, arith}
+use Rattle.std.proofs.Common.{◌≡◌, ◌≢◌, ◌≤◌, ◌⊎◌, inl, inr, ℕ, suc, List, [], ◌∷◌, Bool, true, false, if◌then◌else◌, ◌&&◌, not, length, refl, sym, ap, subst, ◌∙◌, arith}
 use Rattle.std.specs.Prelude.{◌==◌, Option, Some, None, is_some, MatchBool}
 use Rattle.std.specs.Option.{option_map}
 use Rattle.std.proofs.lemmas.Bool.{eqb-true, false≢true}
 use Rattle.path_text.specs.declared.errno.Errno.TheVariants.{NotFound}
-use Rattle.system_calls.specs.Errors.{ENOENT, EINTR, EXDEV, ENOTDIR, ENFILE, EMFILE}
+use Rattle.system_calls.specs.Errors.{ENOENT, EINTR, EXDEV, ENOTDIR}
 use Rattle.tree_model.specs.declared.answer.Answer.TheVariants.{Opened, Refused}
 use Rattle.tree_model.specs.declared.inode.Object.TheVariants as object
 use Rattle.tree_model.specs.declared.step.Kind.TheVariants as kind
@@ -12,9 +12,9 @@ use Rattle.tree_model.specs.declared.step.StepOf.TheVariants.{Parent}
 use Rattle.tree_model.specs.declared.inode.Place.{Place}
 use Rattle.tree_model.specs.State.{State, TOP, is_dir, is_gone, object_at, parent, place_at}
 use Rattle.tree_model.specs.Steps.{held, is_full, outcome}
-use Rattle.step_calls.specs.History.{after_exchange, after_spare, asks, asked, came_to, ends_by, fails, first, gone, keeps_links, knows, next_after, not_opened, opened, stayed, there, unasked, waits, opens_directory, opens_any, spares, asks_mount, asks_kind, asks_holder, asks_magic, asks_links, asks_layers, opens_to_read, reads, closes_read, asks_follow, reads_link, changes, closes, Exchange, IsHistory, Next}
+use Rattle.step_calls.specs.History.{after_exchange, asks, asked, came_to, ends_by, fails, first, gone, keeps_links, knows, next_after, not_opened, opened, stayed, there, unasked, waits, opens_directory, opens_any, asks_mount, asks_kind, asks_holder, asks_magic, asks_links, asks_layers, opens_to_read, reads, closes_read, asks_follow, reads_link, changes, closes, Exchange, IsHistory, Next}
 use Rattle.step_calls.specs.Moments.{moment, AreAnswers, CouldNotAsk, IsGone, IsThere, IsWorld, OpensAbove, ParentSays, ParentsStood, Stays, World}
-use Rattle.step_calls.specs.declared.course.TheConstants.{OPEN_DIRECTORY, SPARE, MOUNT, LINKS, LAYERS, OPEN_TO_READ, READ, CLOSE_READ, CLOSE, OPENED, REFUSED, UNMADE}
+use Rattle.step_calls.specs.declared.course.TheConstants.{OPEN_DIRECTORY, MOUNT, LINKS, LAYERS, OPEN_TO_READ, READ, CLOSE_READ, CLOSE, OPENED, REFUSED, UNMADE}
 use Rattle.step_calls.specs.declared.facts.Facts.{Facts}
 use Rattle.step_calls.specs.declared.facts.TheConstants.{OPEN, PARENT, DIRECTORY}
 use Rattle.step_calls.proofs.MomentLemmas.{and_elim, if_elim}
@@ -39,7 +39,6 @@ Led w f history now n =
 abbrev Says : World → Bool → Facts → List Exchange → ℕ → ℕ → ℕ → ℕ → ℕ → Type 0
 Says w layered f history now next behind error kind =
     MatchBool (next == OPEN_DIRECTORY) (Unit {0})
-    (MatchBool (next == SPARE) (behind ≡ OPEN_DIRECTORY)
     (MatchBool (next == MOUNT) ((kind ≡ DIRECTORY) × Above w now)
     (MatchBool (next == LINKS) (Above w now)
     (MatchBool (next == LAYERS) ((a : Above w now) × ((layered ≡ true) ⊎ IsThere w a.n))
@@ -50,7 +49,7 @@ Says w layered f history now next behind error kind =
     (MatchBool (next == CLOSE) (behind ≡ REFUSED → WasGone w now)
     (MatchBool (next == OPENED) ((a : Above w now) × Led w f history now a.n)
     (MatchBool (next == REFUSED) (WasGone w now)
-    (MatchBool (next == UNMADE) (Unit {0}) ⊥)))))))))))
+    (MatchBool (next == UNMADE) (Unit {0}) ⊥))))))))))
 
 abbrev Stood : World → Bool → Facts → List Exchange → ℕ → Next → Type 0
 Stood w layered f history now due = Says w layered f history now due.next due.behind due.error due.kind
@@ -132,11 +131,8 @@ misses w layered f history now error parents none =
 unopened : (w : World) (layered : Bool) (f : Facts) (history : List Exchange) (now error : ℕ) → f.what ≡ PARENT
     → (error ≡ ENOENT → IsGone w now) → Stood w layered f history now (not_opened f OPEN_DIRECTORY error)
 unopened w layered f history now error parents none =
-    if_elim (Stood w layered f history now) (error == EINTR) (asks OPEN_DIRECTORY) _
-    (λ b. tt)
-    (λ b. if_elim (Stood w layered f history now) ((error == EMFILE) || (error == ENFILE))
-    (waits SPARE OPEN_DIRECTORY error) (ends_by f error)
-    (λ c. refl) (λ c. misses w layered f history now error parents none))
+    if_elim (Stood w layered f history now) (error == EINTR) (asks OPEN_DIRECTORY) (ends_by f error)
+    (λ b. tt) (λ b. misses w layered f history now error parents none)
 
 not_zero : (n : ℕ) → (n == 0) ≡ false → n ≢ 0
 not_zero n is same = absurd (grind (arith, is, same))
@@ -172,11 +168,6 @@ step w layered f older now (opens_directory error) due parents world says was =
     (if (n == OPEN) && (error == ENOTDIR) then asks 2 else not_opened f OPEN_DIRECTORY error)) (sym parents)
     (unopened w layered f history (suc now) error parents says.1))
 step w layered f older now (opens_any error) due parents world says was = absurd was
-step w layered f older now (spares error) due parents world says was =
-    subst (λ (n : ℕ). Stood w layered f (spares error ∷ older) (suc now) (after_spare error (record due { behind = n })))
-    (sym was)
-    (if_elim (Stood w layered f (spares error ∷ older) (suc now)) (error == 0) (asks OPEN_DIRECTORY)
-    (fails UNMADE due.error) (λ b. tt) (λ b. tt))
 step w layered f older now (asks_mount error) due parents world says was =
     let history = asks_mount error ∷ older in
     if_elim (Stood w layered f history (suc now)) (error == 0) (stayed f due.kind) (waits CLOSE UNMADE EXDEV)

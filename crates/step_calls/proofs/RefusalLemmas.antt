@@ -1,12 +1,12 @@
 -- A step is refused by an error of its own alone.
-use Rattle.std.proofs.Common.{◌≡◌, ◌≢◌, ℕ, List, [], ◌∷◌, true, if◌then◌else◌, ◌&&◌, ◌||◌, not, refl, sym, subst, arith}
+use Rattle.std.proofs.Common.{◌≡◌, ◌≢◌, ℕ, List, [], ◌∷◌, true, if◌then◌else◌, ◌&&◌, not, refl, sym, subst, arith}
 use Rattle.std.specs.Prelude.{◌==◌, MatchBool}
 use Rattle.std.proofs.lemmas.Bool.{eqb-true}
-use Rattle.system_calls.specs.Errors.{ENOENT, EINTR, EEXIST, EXDEV, ENOTDIR, ENFILE, EMFILE, ELOOP}
-use Rattle.step_calls.specs.History.{after_exchange, asked, asks, came_to, ends_by, fails, first, gone, has_followed, has_magic, is_ordinary, keeps_links, knows, next_after, not_opened, not_ordinary, not_read, opened, stayed, there, unasked, waits, opens_directory, opens_any, spares, asks_mount, asks_kind, asks_holder, asks_magic, asks_links, asks_layers, opens_to_read, reads, closes_read, asks_follow, reads_link, changes, closes, Exchange, IsHistory, Next}
+use Rattle.system_calls.specs.Errors.{ENOENT, EINTR, EEXIST, EXDEV, ENOTDIR, ELOOP}
+use Rattle.step_calls.specs.History.{after_exchange, asked, asks, came_to, ends_by, fails, first, gone, has_followed, has_magic, is_ordinary, keeps_links, knows, next_after, not_opened, not_ordinary, not_read, opened, stayed, there, unasked, waits, opens_directory, opens_any, asks_mount, asks_kind, asks_holder, asks_magic, asks_links, asks_layers, opens_to_read, reads, closes_read, asks_follow, reads_link, changes, closes, Exchange, IsHistory, Next}
 use Rattle.step_calls.specs.Promises.{is_about_child, RefusalsAreOwn}
 use Rattle.step_calls.specs.Refusals.{is_refusal}
-use Rattle.step_calls.specs.declared.course.TheConstants.{OPEN_DIRECTORY, OPEN_ANY, SPARE, MOUNT, KIND, MAY_HOLD_MAGIC, MAGIC, LINKS, LAYERS, OPEN_TO_READ, READ, CLOSE_READ, READ_LINK, NO_FOLLOW, CHANGE, CLOSE, OPENED, TEXT, DONE, REFUSED, UNMADE}
+use Rattle.step_calls.specs.declared.course.TheConstants.{OPEN_DIRECTORY, OPEN_ANY, MOUNT, KIND, MAY_HOLD_MAGIC, MAGIC, LINKS, LAYERS, OPEN_TO_READ, READ, CLOSE_READ, READ_LINK, NO_FOLLOW, CHANGE, CLOSE, OPENED, TEXT, DONE, REFUSED, UNMADE}
 use Rattle.step_calls.specs.declared.facts.Facts.{Facts}
 use Rattle.step_calls.specs.declared.facts.TheConstants.{DIRECTORY, DUP, IS_THERE, LINK, OPEN, PARENT, READ_TEXT}
 use Rattle.step_calls.proofs.Ends.{there_all}
@@ -42,9 +42,7 @@ module _ (f : Facts) where
 
   fails_to : (how error : ℕ) → Stood f (asks how) → Stood f (not_opened f how error)
   fails_to how error again =
-      if_elim (Stood f) (error == EINTR) (asks how) _ (λ b. again)
-      (λ b. if_elim (Stood f) ((error == EMFILE) || (error == ENFILE)) (waits SPARE how error) (ends_by f error)
-      (λ c. tt) (λ c. ends error))
+      if_elim (Stood f) (error == EINTR) (asks how) (ends_by f error) (λ b. again) (λ b. ends error)
 
   closes_it : (error : ℕ) → Stood f (waits CLOSE UNMADE error)
   closes_it error = λ r. absurd (omega (arith, r))
@@ -67,10 +65,6 @@ module _ (f : Facts) where
       (λ c. fails_to OPEN_DIRECTORY error tt))
   step (opens_any error) due was =
       if_elim (Stood f) (error == 0) (opened f 0) _ (λ b. opens 0) (λ b. fails_to OPEN_ANY error tt)
-  step (spares error) due was =
-      if_elim (Stood f) (error == 0) (asks (if due.behind == OPEN_ANY then OPEN_ANY else OPEN_DIRECTORY)) (fails UNMADE due.error)
-      (λ b. if_elim (λ (n : ℕ). Stood f (asks n)) (due.behind == OPEN_ANY) OPEN_ANY OPEN_DIRECTORY (λ c. tt) (λ c. tt))
-      (λ b. tt)
   step (asks_mount error) due was =
       if_elim (Stood f) (error == 0) (stayed f due.kind) (waits CLOSE UNMADE EXDEV) (λ b. stays due.kind) (λ b. closes_it EXDEV)
   step (asks_kind error kind) due was =

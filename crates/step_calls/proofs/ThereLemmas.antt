@@ -3,7 +3,7 @@ use Rattle.std.proofs.Common.{◌≡◌, ◌≢◌, ◌<◌, ◌⊎◌, inl, inr
 use Rattle.std.specs.Prelude.{◌==◌, MatchBool}
 use Rattle.std.proofs.lemmas.Bool.{eqb-true, false≢true}
 use Rattle.system_calls.specs.Errors.{ENOENT, EINTR}
-use Rattle.step_calls.specs.History.{after_exchange, asks, asked, fails, first, gone, keeps_links, next_after, there, unasked, Exchange, opens_directory, opens_any, spares, asks_mount, asks_kind, asks_holder, asks_magic, asks_links, asks_layers, opens_to_read, reads, closes_read, asks_follow, reads_link, changes, closes, IsHistory, Next}
+use Rattle.step_calls.specs.History.{after_exchange, asks, asked, fails, first, gone, keeps_links, next_after, there, unasked, Exchange, opens_directory, opens_any, asks_mount, asks_kind, asks_holder, asks_magic, asks_links, asks_layers, opens_to_read, reads, closes_read, asks_follow, reads_link, changes, closes, IsHistory, Next}
 use Rattle.step_calls.specs.Moments.{moment, AreAnswers, IsGone, IsThere, ThereSays, ThereStood, World}
 use Rattle.step_calls.specs.declared.course.TheConstants.{LINKS, LAYERS, OPEN_TO_READ, READ, CLOSE_READ, DONE, REFUSED, UNMADE}
 use Rattle.step_calls.specs.declared.facts.Facts.{Facts}
@@ -104,7 +104,6 @@ step w layered f now closes_read due question stays says was =
     (λ c. is_unasked w layered f (suc now) due.error question))
 step w layered f now (opens_directory error) due question stays says was = absurd was
 step w layered f now (opens_any error) due question stays says was = absurd was
-step w layered f now (spares error) due question stays says was = absurd was
 step w layered f now (asks_mount error) due question stays says was = absurd was
 step w layered f now (asks_kind error kind) due question stays says was = absurd was
 step w layered f now (asks_holder error type) due question stays says was = absurd was

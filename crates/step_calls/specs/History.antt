@@ -1,11 +1,11 @@
 -- What was asked of a driver as it makes one step, what that gave, and what comes next. A history has the last exchange
 -- first.
 use Rattle.std.specs.Prelude.{◌≡◌, ℕ, List, [], ◌∷◌, ◌==◌, Bool, ◌&&◌, ◌||◌, if◌then◌else◌, nat_lt, bit_and, not}
-use Rattle.system_calls.specs.Errors.{EPERM, ENOENT, EINTR, EEXIST, EXDEV, ENOTDIR, EINVAL, ENFILE, EMFILE, ENAMETOOLONG, ENOSYS, ELOOP}
+use Rattle.system_calls.specs.Errors.{EPERM, ENOENT, EINTR, EEXIST, EXDEV, ENOTDIR, EINVAL, ENAMETOOLONG, ENOSYS, ELOOP}
 use Rattle.step_calls.specs.Refusals.{is_refusal}
 use Rattle.step_calls.specs.declared.facts.Facts.{Facts}
 use Rattle.step_calls.specs.declared.facts.TheConstants.{IS_THERE, OPEN, DUP, PARENT, READ_TEXT, DIRECTORY}
-use Rattle.step_calls.specs.declared.course.TheConstants.{OPEN_DIRECTORY, OPEN_ANY, SPARE, MOUNT, KIND, MAY_HOLD_MAGIC, MAGIC, LINKS, LAYERS, OPEN_TO_READ, READ, CLOSE_READ, NO_FOLLOW, READ_LINK, CHANGE, CLOSE, OPENED, TEXT, DONE, REFUSED, UNMADE}
+use Rattle.step_calls.specs.declared.course.TheConstants.{OPEN_DIRECTORY, OPEN_ANY, MOUNT, KIND, MAY_HOLD_MAGIC, MAGIC, LINKS, LAYERS, OPEN_TO_READ, READ, CLOSE_READ, NO_FOLLOW, READ_LINK, CHANGE, CLOSE, OPENED, TEXT, DONE, REFUSED, UNMADE}
 
 -- ---- numbers of statfs(2), <linux/magic.h>
 
@@ -45,8 +45,6 @@ pub data Exchange : Type 0 where
   -- openat(2) with O_PATH, O_NOFOLLOW, O_CLOEXEC and O_DIRECTORY, of the name, `.` or `..`; without O_DIRECTORY
   opens_directory : ℕ → Exchange
   opens_any : ℕ → Exchange
-  -- a descriptor of a directory above is let go
-  spares : ℕ → Exchange
   -- statx(2): what was opened is on the root's mount
   asks_mount : ℕ → Exchange
   -- fstat(2): which kind it is
@@ -76,7 +74,6 @@ pub data Exchange : Type 0 where
 abbrev pub asked : Exchange → ℕ
 asked (opens_directory error) = OPEN_DIRECTORY
 asked (opens_any error) = OPEN_ANY
-asked (spares error) = SPARE
 asked (asks_mount error) = MOUNT
 asked (asks_kind error kind) = KIND
 asked (asks_holder error number) = MAY_HOLD_MAGIC
@@ -96,8 +93,8 @@ is_question next = not (next == 0) && nat_lt next OPENED
 
 -- ---- what comes next
 
--- What is asked for, or how the step ends. At SPARE and CLOSE, what comes behind it. The error by which it ends, or
--- will end. The kind of what was opened, or 0.
+-- What is asked for, or how the step ends. At CLOSE, what comes behind it. The error by which it ends, or will end.
+-- The kind of what was opened, or 0.
 pub record Next : Type 0 where
   pub next : ℕ
   pub behind : ℕ
@@ -132,11 +129,9 @@ stayed f kind = if kind == 0 then asks KIND else came_to f kind
 abbrev pub opened : Facts → ℕ → Next
 opened f kind = if f.mount then knows MOUNT kind else stayed f kind
 
--- openat(2): a signal came (EINTR), before anything was opened; or no descriptor is left
+-- openat(2): a signal came (EINTR), before anything was opened
 abbrev pub not_opened : Facts → ℕ → ℕ → Next
-not_opened f how error =
-    if error == EINTR then asks how
-    else (if (error == EMFILE) || (error == ENFILE) then waits SPARE how error else ends_by f error)
+not_opened f how error = if error == EINTR then asks how else ends_by f error
 
 -- Of a name ENOTDIR says that it is no directory: it is opened as what it is.
 abbrev pub after_directory : Facts → ℕ → Next
@@ -146,10 +141,6 @@ after_directory f error =
 
 abbrev pub after_any : Facts → ℕ → Next
 after_any f error = if error == 0 then opened f 0 else not_opened f OPEN_ANY error
-
-abbrev pub after_spare : ℕ → Next → Next
-after_spare error due =
-    if error == 0 then asks (if due.behind == OPEN_ANY then OPEN_ANY else OPEN_DIRECTORY) else fails UNMADE due.error
 
 -- what isn't on the root's mount, for all that is known, is closed
 abbrev pub after_mount : Facts → ℕ → ℕ → Next
@@ -261,7 +252,6 @@ after_close due = if due.behind == REFUSED then fails REFUSED due.error else fai
 abbrev pub after_exchange : Facts → Exchange → Next → Next
 after_exchange f (opens_directory error) due = after_directory f error
 after_exchange f (opens_any error) due = after_any f error
-after_exchange f (spares error) due = after_spare error due
 after_exchange f (asks_mount error) due = after_mount f error due.kind
 after_exchange f (asks_kind error kind) due = after_kind f error kind
 after_exchange f (asks_holder error type) due = after_holder error type

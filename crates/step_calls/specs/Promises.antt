@@ -1,7 +1,7 @@
 -- What holds of every history.
 use Rattle.std.specs.Prelude.{◌≡◌, ◌≢◌, ℕ, ◌+◌, List, [], ◌∷◌, ◌==◌, Bool, true, false, ◌&&◌, ◌||◌, not, if◌then◌else◌}
-use Rattle.system_calls.specs.Errors.{ENOENT, EINTR, ENOTDIR, ENFILE, EMFILE}
-use Rattle.step_calls.specs.History.{has_followed, is_ordinary, next_after, Exchange, opens_directory, opens_any, spares, asks_mount, asks_kind, asks_holder, asks_magic, asks_links, asks_layers, opens_to_read, reads, closes_read, asks_follow, reads_link, changes, closes, IsHistory}
+use Rattle.system_calls.specs.Errors.{ENOENT, EINTR, ENOTDIR}
+use Rattle.step_calls.specs.History.{has_followed, is_ordinary, next_after, Exchange, opens_directory, opens_any, asks_mount, asks_kind, asks_holder, asks_magic, asks_links, asks_layers, opens_to_read, reads, closes_read, asks_follow, reads_link, changes, closes, IsHistory}
 use Rattle.step_calls.specs.Refusals.{is_refusal}
 use Rattle.step_calls.specs.declared.course.TheConstants.{MOUNT, KIND, LINKS, LAYERS, OPEN_TO_READ, READ, CLOSE_READ, CLOSE, OPENED, REFUSED}
 use Rattle.step_calls.specs.declared.facts.Facts.{Facts}
@@ -49,18 +49,12 @@ needs_read next = (next == READ) || (next == CLOSE_READ)
 
 -- ---- errors
 
--- no descriptor was left
-abbrev pub is_none_left : ℕ → Bool
-is_none_left error = (error == EMFILE) || (error == ENFILE)
-
--- What isn't the step's error: none; a signal; a descriptor that is to be let go; ENOTDIR of a name that is opened
--- as what it is then; a file system, or a directory of one that keeps links, that can't be asked; and an answer that a
--- link is none of the kernel's own.
+-- What isn't the step's error: none; a signal; ENOTDIR of a name that is opened as what it is then; a file system, or
+-- a directory of one that keeps links, that can't be asked; and an answer that a link is none of the kernel's own.
 abbrev pub is_no_error : Facts → Exchange → Bool
 is_no_error f (opens_directory error) =
-    (error == 0) || ((error == EINTR) || (is_none_left error || ((f.what == OPEN) && (error == ENOTDIR))))
-is_no_error f (opens_any error) = (error == 0) || ((error == EINTR) || is_none_left error)
-is_no_error f (spares error) = error == 0
+    (error == 0) || ((error == EINTR) || ((f.what == OPEN) && (error == ENOTDIR)))
+is_no_error f (opens_any error) = (error == 0) || (error == EINTR)
 is_no_error f (asks_mount error) = error == 0
 is_no_error f (asks_kind error kind) = error == 0
 is_no_error f (asks_holder error type) = true
@@ -86,11 +80,10 @@ RefusalsAreOwn = (f : Facts) (history : List Exchange) → f.what ≢ IS_THERE �
 
 -- ---- the end
 
--- three for each descriptor that was let go, one for each signal
+-- one for each signal
 abbrev pub cost_of : Exchange → ℕ
 cost_of (opens_directory error) = if error == EINTR then 1 else 0
 cost_of (opens_any error) = if error == EINTR then 1 else 0
-cost_of (spares error) = if error == 0 then 3 else 0
 cost_of (asks_magic error) = if error == EINTR then 1 else 0
 cost_of (opens_to_read error) = if error == EINTR then 1 else 0
 cost_of (reads error) = if error == EINTR then 1 else 0

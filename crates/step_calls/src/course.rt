@@ -12,73 +12,70 @@ pub const OPEN_DIRECTORY: u8 = 1;
 /// The same without O_DIRECTORY.
 pub const OPEN_ANY: u8 = 2;
 
-/// A descriptor of a directory above is let go, if there is one.
-pub const SPARE: u8 = 3;
-
 /// statx(2): an error, unless what was opened is on the root's mount.
-pub const MOUNT: u8 = 4;
+pub const MOUNT: u8 = 3;
 
 /// fstat(2) of what was opened: its kind.
-pub const KIND: u8 = 5;
+pub const KIND: u8 = 4;
 
 /// fstat(2) of the directory: how many links it has.
-pub const LINKS: u8 = 6;
+pub const LINKS: u8 = 5;
 
 /// fstatfs(2) of the directory: the type of its file system.
-pub const LAYERS: u8 = 7;
+pub const LAYERS: u8 = 6;
 
 /// openat(2) of `.` in the directory with O_RDONLY, O_DIRECTORY and O_CLOEXEC.
-pub const OPEN_TO_READ: u8 = 8;
+pub const OPEN_TO_READ: u8 = 7;
 
 /// getdents64(2).
-pub const READ: u8 = 9;
+pub const READ: u8 = 8;
 
 /// close(2) of what was opened to be read.
-pub const CLOSE_READ: u8 = 10;
+pub const CLOSE_READ: u8 = 9;
 
 /// fstatfs(2) of the link: the flags of its mount.
-pub const NO_FOLLOW: u8 = 11;
+pub const NO_FOLLOW: u8 = 10;
 
 /// fstatfs(2) of the link: the type of its file system.
-pub const MAY_HOLD_MAGIC: u8 = 12;
+pub const MAY_HOLD_MAGIC: u8 = 11;
 
 /// openat2(2) of the link's name with O_PATH, RESOLVE_BENEATH and RESOLVE_NO_MAGICLINKS; what it opens is closed.
-pub const MAGIC: u8 = 13;
+pub const MAGIC: u8 = 12;
 
 /// readlinkat(2) of the link's descriptor.
-pub const READ_LINK: u8 = 14;
+pub const READ_LINK: u8 = 13;
 
 /// The one system call that makes, removes or renames an entry.
-pub const CHANGE: u8 = 15;
+pub const CHANGE: u8 = 14;
 
 /// close(2) of what was opened.
-pub const CLOSE: u8 = 16;
+pub const CLOSE: u8 = 15;
 
 /// The step ends: an object is open, of a kind that is known.
-pub const OPENED: u8 = 17;
+pub const OPENED: u8 = 16;
 
 /// It ends with a link's text.
-pub const TEXT: u8 = 18;
+pub const TEXT: u8 = 17;
 
 /// It ends: the change was made; the directory is there.
-pub const DONE: u8 = 19;
+pub const DONE: u8 = 18;
 
 /// It ends: the step is refused by an error of the step table.
-pub const REFUSED: u8 = 20;
+pub const REFUSED: u8 = 19;
 
 /// It ends: the step wasn't made, for an error that the caller gets.
-pub const UNMADE: u8 = 21;
+pub const UNMADE: u8 = 20;
 
 /// How far a step has come. C keeps it, and leaves it alone.
 #[repr(C)]
 #[derive(Clone, Copy, Debug, PartialEq, Eq)]
 pub struct Course {
-    /// If it is REFUSED or UNMADE, the number of the error (errno(3)). At SPARE, CLOSE and CLOSE_READ, the one by which
-    /// the step may end.
+    /// If it is REFUSED or UNMADE, the number of the error (errno(3)). At CLOSE and CLOSE_READ, the one by which the
+    /// step may end.
     pub error: u32,
     /// What comes next: OPEN_DIRECTORY to CLOSE; or OPENED to UNMADE.
     pub next: u8,
-    /// At SPARE and CLOSE: what comes behind it.
+    /// At CLOSE: what comes behind it.
     pub behind: u8,
     /// The kind of what was opened (`Answer::kind`), or 0.
     pub kind: u8,

@@ -59,9 +59,9 @@ pub fn each_descriptor_is_closed_once()
         → reads_after history ≡ needs_read (next_after f history).next }
 {}
 
-/// Where a step is made, nothing met an error but: a signal; that no descriptor was left, after which one was let go;
-/// ENOTDIR of a name that was then opened as what it is; a file system, or a directory of one that keeps links, that
-/// could not be asked; and an answer that a link is no magic one (proc(5)).
+/// Where a step is made, nothing met an error but: a signal; ENOTDIR of a name that was then opened as what it is; a
+/// file system, or a directory of one that keeps links, that could not be asked; and an answer that a link is no magic
+/// one (proc(5)).
 pub fn no_error_is_passed_over()
     ensures { (f : Facts) (history : List Exchange) → IsHistory f history
         → ((next_after f history).next ≡ OPENED)
@@ -94,8 +94,7 @@ pub fn a_change_is_made_once()
         → history ≡ [] }
 {}
 
-/// It comes to an end, unless descriptors are let go or signals come. There are three exchanges for each of the first,
-/// one for each of the others, and ten, at most.
+/// It comes to an end, unless signals come. There is one exchange for each of them, and ten, at most.
 pub fn calls_are_few()
     ensures { (f : Facts) (history : List Exchange) → IsHistory f history → length history ≤ costs history + 10 }
 {}

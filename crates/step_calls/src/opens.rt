@@ -1,14 +1,14 @@
 //! What comes after the system calls by which an object is opened, and looked at.
 ghost use Rattle.std.specs.Prelude.{◌≡◌};
 ghost use Rattle.step_calls.specs.Course.{due_of};
-ghost use Rattle.step_calls.specs.History.{after_any, after_directory, after_kind, after_mount, after_spare, came_to, not_opened, opened, stayed};
+ghost use Rattle.step_calls.specs.History.{after_any, after_directory, after_kind, after_mount, came_to, not_opened, opened, stayed};
 
 use crate::course::{
-    CLOSE, Course, KIND, LINKS, MOUNT, OPEN_ANY, OPEN_DIRECTORY, OPENED, SPARE, UNMADE, asks,
-    ends_by, fails, knows, waits,
+    CLOSE, Course, KIND, LINKS, MOUNT, OPEN_ANY, OPEN_DIRECTORY, OPENED, UNMADE, asks, ends_by,
+    knows, waits,
 };
 use crate::facts::{DIRECTORY, Facts, OPEN, PARENT};
-use system_calls::errors::{EINTR, EMFILE, ENFILE, ENOTDIR, EXDEV};
+use system_calls::errors::{EINTR, ENOTDIR, EXDEV};
 
 fn came_to(facts: &Facts, kind: u8) -> Course
     ensures { due_of result ≡ came_to facts.now kind }
@@ -45,8 +45,6 @@ fn not_opened(facts: &Facts, how: u8, error: u32) -> Course
 {
     if error == EINTR {
         asks(how)
-    } else if error == EMFILE || error == ENFILE {
-        waits(SPARE, how, error)
     } else {
         ends_by(facts, error)
     }
@@ -71,20 +69,6 @@ pub(crate) fn after_any(facts: &Facts, error: u32) -> Course
         opened(facts, 0)
     } else {
         not_opened(facts, OPEN_ANY, error)
-    }
-}
-
-pub(crate) fn after_spare(course: Course, error: u32) -> Course
-    ensures { due_of result ≡ after_spare error (due_of course) }
-{
-    if error == 0 {
-        if course.behind == OPEN_ANY {
-            asks(OPEN_ANY)
-        } else {
-            asks(OPEN_DIRECTORY)
-        }
-    } else {
-        fails(UNMADE, course.error)
     }
 }
 

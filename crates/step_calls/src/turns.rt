@@ -5,14 +5,14 @@ ghost use Rattle.step_calls.specs.History.{after_exchange, first, is_question, E
 
 use crate::course::{
     CHANGE, CLOSE_READ, Course, KIND, LAYERS, LINKS, MAGIC, MAY_HOLD_MAGIC, MOUNT, NO_FOLLOW,
-    OPEN_ANY, OPEN_DIRECTORY, OPEN_TO_READ, OPENED, READ, READ_LINK, SPARE, asks,
+    OPEN_ANY, OPEN_DIRECTORY, OPEN_TO_READ, OPENED, READ, READ_LINK, asks,
 };
 use crate::facts::{Answer, DUP, Facts, IS_THERE, OPEN, PARENT, READ_TEXT};
 use crate::looks::{
     after_change, after_close, after_close_read, after_follow, after_holder, after_layers,
     after_links, after_magic, after_open_to_read, after_read, after_read_link,
 };
-use crate::opens::{after_any, after_directory, after_kind, after_mount, after_spare};
+use crate::opens::{after_any, after_directory, after_kind, after_mount};
 
 fn first(facts: &Facts) -> Course
     ensures { due_of result ≡ first facts.now }
@@ -45,7 +45,6 @@ fn after(facts: &Facts, course: Course, answer: &Answer) -> Course
     match course.next {
         OPEN_DIRECTORY => after_directory(facts, answer.error),
         OPEN_ANY => after_any(facts, answer.error),
-        SPARE => after_spare(course, answer.error),
         MOUNT => after_mount(facts, answer.error, course.kind),
         KIND => after_kind(facts, answer.error, answer.kind),
         LINKS => after_links(facts, answer.error, answer.number),
@@ -67,9 +66,8 @@ fn after(facts: &Facts, course: Course, answer: &Answer) -> Course
 ///
 /// EINTR (4) has the call made again that opens, that reads a link or a directory's records, or that asks whether the
 /// mount has links followed, or of a magic link. Of another question about what is open it is an error as any other.
-/// After EMFILE (24) or ENFILE (23) of an openat(2) that opens the step's object, a descriptor is let go, and the
-/// object is opened again. ENOTDIR (20) of a name that was opened with O_DIRECTORY has it opened without. A change is
-/// made once, whatever it gave.
+/// ENOTDIR (20) of a name that was opened with O_DIRECTORY has it opened without. A change is made once, whatever it
+/// gave.
 ///
 /// Errors: the step is refused by an error that `is_refusal` has for it: of openat(2), of readlinkat(2), where ENOENT
 /// (2) of what is no link is EINVAL (22), of the change; and by ENOENT where a directory was removed. Any other ends it
