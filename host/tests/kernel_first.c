@@ -1,8 +1,8 @@
 /*
  * kernel_first: each call begins with the kernel's walk, and makes the system calls that one makes by hand, and takes no memory. If a
- * look-up of the kernel's fails, the steps give the same. And each flag reaches the first look-up and the steps: a call that leads
- * over a mount, through a link or a magic one, or out of the root gives its error and changes nothing, by the kernel's walk, by the
- * steps behind one that fails, and with INROOT_EXACT.
+ * look-up of the kernel's fails, the steps give the same; but if a signal ends one that opens an object for use, that is the call's
+ * end. And each flag reaches the first look-up and the steps: a call that leads over a mount, through a link or a magic one, or out
+ * of the root gives its error and changes nothing, by the kernel's walk, by the steps behind one that fails, and with INROOT_EXACT.
  *
  * usage: kernel_first DIR. Exits 0 where that holds. 78: no right to mount, so that mounts are left out. To be linked with --wrap of
  * each function that is wrapped here.
@@ -242,6 +242,16 @@ static void goes_by_steps(const struct op *op)
     }
 }
 
+/* A signal ends a call where the kernel opens an object for use, and no step is made. */
+static void signalled(const struct op *op)
+{
+    if (op->call != open_to_read && op->call != cut_off && op->call != make_nameless)
+        return;
+    plant_anew();
+    gives(made_so(op, "a/b", 0, EINTR), -EINTR, "%s, and a signal", op->name);
+    gives_text(made, "openat2", "%s, and a signal", op->name);
+}
+
 /* Each flag, and what it has the kernel refuse. */
 static void resolves(const struct op *op)
 {
@@ -315,6 +325,7 @@ int main(int words_count, char **words)
     for (const struct op *op = ops; op < ops + OPS; op++) {
         counted(op);
         goes_by_steps(op);
+        signalled(op);
         resolves(op);
         refusals(op, mounts);
     }
