@@ -68,6 +68,7 @@ static const struct {
     {"2/d", 2, move_root, return_root, -EAGAIN},
     {"2/f", 3, move_root, return_root, -EAGAIN},
     {"2/f", 1, exchange, exchange, -EAGAIN},
+    {"2/d", 4, remove_directory, make_directory, -EAGAIN},
 };
 
 /* One call of a row, whose path stands behind these words. */

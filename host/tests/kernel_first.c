@@ -22,6 +22,8 @@ static char made[1024];
 static uint64_t resolved;
 static int looks, rooted, failing, error;
 static bool counting;
+/* So many calls of fstat(2) fail. */
+static int untold;
 
 static void note(const char *name)
 {
@@ -38,7 +40,6 @@ static void note(const char *name)
         return __real_##name arguments;          \
     }
 
-NOTED(int, fstat, (int fd, struct stat *about), (fd, about))
 NOTED(int, close, (int fd), (fd))
 NOTED(int, mkdirat, (int dir, const char *name, mode_t mode), (dir, name, mode))
 NOTED(int, mknodat, (int dir, const char *name, mode_t mode, dev_t dev), (dir, name, mode, dev))
@@ -46,6 +47,18 @@ NOTED(int, symlinkat, (const char *text, int dir, const char *name), (text, dir,
 NOTED(int, unlinkat, (int dir, const char *name, int flags), (dir, name, flags))
 NOTED(ssize_t, readlinkat, (int dir, const char *name, char *text, size_t size), (dir, name, text, size))
 NOTED(void *, malloc, (size_t size), (size))
+
+int __real_fstat(int fd, struct stat *about);
+int __wrap_fstat(int fd, struct stat *about);
+int __wrap_fstat(int fd, struct stat *about)
+{
+    note("fstat");
+    if (!counting || untold == 0)
+        return __real_fstat(fd, about);
+    untold--;
+    errno = EIO;
+    return -1;
+}
 
 static int my_openat(int dir, const char *name, int flags, mode_t mode)
 {
@@ -252,6 +265,19 @@ static void signalled(const struct op *op)
     gives_text(made, "openat2", "%s, and a signal", op->name);
 }
 
+/* Of what kind an object is that the kernel has found, can't be asked: then the steps find it. */
+static void unasked(void)
+{
+    plant_anew();
+    untold = 1;
+    counting = true;
+    const int fd = inroot_mkfile_all(root, "a/b/f", 0600, 0700, 0);
+    counting = false;
+    gives(untold, 0, "a file that is there: what can't be asked");
+    gives_object(fd, root, "a/b/f", "a file that is there, of which the kind can't be asked");
+    close(fd);
+}
+
 /* Each flag, and what it has the kernel refuse. */
 static void resolves(const struct op *op)
 {
@@ -329,6 +355,7 @@ int main(int words_count, char **words)
         resolves(op);
         refusals(op, mounts);
     }
+    unasked();
     printf("kernel_first: %d not as they are to be\n", wrong);
     return wrong != 0 ? 1 : mounts ? 0 : NO_RIGHT;
 }
