@@ -41,8 +41,6 @@ static bool may_have_openat2(bool *is_known)
 {
     const struct open_how how = {.flags = O_PATH | O_DIRECTORY | O_CLOEXEC, .resolve = RESOLVE_NO_MAGICLINKS};
     const int fd = (int)syscall(SYS_openat2, INROOT_NONE, ".", &how, sizeof how);
-    if (fd >= 0)
-        close(fd);
     *is_known = fd < 0 && errno == EBADF;
     return *is_known || (fd < 0 && (errno == EMFILE || errno == ENFILE || errno == ENOMEM));
 }

@@ -30,7 +30,7 @@ static struct inroot_result make(struct inroot_driver *d, const struct inroot_to
     /* It isn't counted: no system call may have seen what is closed, where that is the root. */
     if (step->what == INROOT_STEP_CLOSE)
         return inroot_handles_close(d, step->handle);
-    d->steps++;
+    d->stepped = true;
     struct inroot_result result = inroot_make(d, step, room, text, length);
     d->changed |= result.what == INROOT_ANSWER_DONE;
     return result;
@@ -139,7 +139,7 @@ static void tell(struct work *w, ssize_t result)
 static void note(struct work *w)
 {
     const struct inroot_driver *d = w->d;
-    w->answer.stepped = d->steps > 0;
+    w->answer.stepped = d->stepped;
     w->answer.changed = d->changed;
     w->answer.has_proc = d->proc >= 0;
     w->answer.owns_proc = d->proc_is_own;

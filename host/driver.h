@@ -90,7 +90,8 @@ enum { INROOT_FEW = 8 };
 
 /* A call by steps. */
 struct inroot_driver {
-    uint64_t steps, removed;       /* the first are those that have made a system call, but for Close */
+    uint64_t removed;
+    bool stepped;                  /* a step was due, but for Close: each walk's first one opens the root anew */
     bool counts, begun;            /* a tree is removed; and its first entry's turn has come */
     bool proc_is_own;              /* `proc` is closed at the call's end */
     bool changed;                  /* an entry was changed */

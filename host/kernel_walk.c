@@ -143,8 +143,7 @@ static uint8_t step_of(enum inroot_op op)
     case INROOT_ASK_MKDIR: return INROOT_STEP_MAKE_DIR;
     case INROOT_ASK_SYMLINK: return INROOT_STEP_MAKE_LINK;
     case INROOT_ASK_UNLINK: return INROOT_STEP_REMOVE_FILE;
-    case INROOT_ASK_RMDIR: return INROOT_STEP_REMOVE_DIR;
-    default: return INROOT_STEP_RENAME;
+    default: return INROOT_STEP_REMOVE_DIR;
     }
 }
 

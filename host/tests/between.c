@@ -1,7 +1,7 @@
 /*
  * between: somebody acts between two system calls of a call: as a link of /proc is about to be read, a directory to be
- * asked where it stands, or the names that were told to be looked up. To be linked with --wrap=readlinkat and
- * --wrap=syscall.
+ * asked where it stands, or the names that were told to be looked up; also of the steps behind the kernel's walk. To be
+ * linked with --wrap=readlinkat and --wrap=syscall.
  *
  * usage: between DIR. Exits 0 where each call tells what was so. 77: no openat2(2) here.
  */
@@ -15,10 +15,17 @@
 #include <sys/stat.h>
 #include <sys/syscall.h>
 
+/* The kernel walks no path, so that the steps do. */
+static bool no_kernel_walk;
+
 static long my_syscall(long number, const long *with)
 {
     /* The second witness opens names as they are. */
     const struct open_how *how = number == SYS_openat2 ? (const struct open_how *)with[2] : NULL;
+    if (no_kernel_walk && how != NULL && how->resolve & RESOLVE_IN_ROOT) {
+        errno = EAGAIN;
+        return -1;
+    }
     if (how != NULL && how->resolve & RESOLVE_BENEATH && how->flags & O_NOFOLLOW)
         ask();
     return REAL_SYSCALL(number, with);
@@ -61,6 +68,7 @@ static const struct {
     {"2/d", 2, move_root, return_root, -EAGAIN},
     {"2/f", 3, move_root, return_root, -EAGAIN},
     {"2/f", 1, exchange, exchange, -EAGAIN},
+    {"2/d", 4, remove_directory, make_directory, -EAGAIN},
 };
 
 /* One call of a row, whose path stands behind these words. */
@@ -81,6 +89,16 @@ static void each(void)
     }
 }
 
+/* By the steps behind the kernel's walk the names that were passed are looked up at last: that is the first question. */
+static void by_steps(void)
+{
+    no_kernel_walk = true;
+    for (size_t row = 0; row < sizeof rows / sizeof *rows; row++)
+        if (rows[row].questions == 1)
+            one(row, "", 0, rows[row].wanted);
+    no_kernel_walk = false;
+}
+
 int main(int count, char **words)
 {
     begin_in_box(count, words, &base, &root);
@@ -90,6 +108,7 @@ int main(int count, char **words)
     sure(mknodat(root, "2/g", S_IFREG | 0600, 0), "2/g");
     open_proc();
     each();
+    by_steps();
     printf("between: %d not as they are to be\n", wrong);
     return wrong != 0;
 }

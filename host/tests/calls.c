@@ -1,6 +1,6 @@
 /*
- * calls: what inroot.h says of modes, of opening once more, of nodes, second names and stat, and of why a call failed. By the
- * kernel's walk, and with INROOT_EXACT.
+ * calls: what inroot.h says of modes, of an entry's directory, of opening once more, of nodes, second names and stat, and of why a
+ * call failed. By the kernel's walk, and with INROOT_EXACT.
  *
  * usage: calls DIR. Exits 0 where each is as it says. 78: no right to become nobody, so that a part is left out.
  */
@@ -354,6 +354,30 @@ static void untold(void)
     gives(inroot_last_error(&error), -ENODATA, "a thread whose calls have not failed");
 }
 
+/* The directory of an entry; its name takes the place of the path. A slash at the end is taken away where the flag says so. */
+static void parents(void)
+{
+    static const struct {
+        const char *path, *name;
+        int flag, error;
+    } rows[] = {
+        {"in/f", "f", 0, 0}, {"in/f/", "", 0, ENOTDIR}, {"in/f", "f", INROOT_DIRECTORY, 0}, {"in/f/", "f", INROOT_DIRECTORY, 0},
+        {"in/..", "", INROOT_DIRECTORY, EINVAL},
+    };
+    for (size_t one = 0; one < sizeof rows / sizeof *rows; one++) {
+        char text[256];
+        strcpy(text, rows[one].path);
+        const int dir = inroot_open_parent(root, text, flags | rows[one].flag, text);
+        if (rows[one].error)
+            gives(dir, -rows[one].error, "the parent of %s", rows[one].path);
+        else
+            gives_object(dir, root, "a", "the parent of %s", rows[one].path);
+        gives_text(text, rows[one].name, "the name in the parent of %s", rows[one].path);
+        if (dir >= 0)
+            close(dir);
+    }
+}
+
 static void make_tree(void)
 {
     static const char *const links[][2] = {{"in", "/a"},
@@ -374,7 +398,7 @@ static void make_tree(void)
 static void each(void)
 {
     static void (*const parts[])(void) = {
-        wrong_flags, again, interrupted, rights, nodes, told, why, why_beside, modes, second_names,
+        wrong_flags, parents, again, interrupted, rights, nodes, told, why, why_beside, modes, second_names,
     };
     int before = open_descriptors();
     untold();

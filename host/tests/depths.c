@@ -189,7 +189,10 @@ static void taken_away(void)
     gives(open_descriptors(), before, "open descriptors");
 }
 
-/* Where one proved call doesn't come to. What was opened in another mount namespace doesn't see the mount. */
+/* So many levels down something is mounted. */
+static int mount_level;
+
+/* What was opened in another mount namespace doesn't see the mount. */
 static void mounted_over(void)
 {
     char source[64], target[64];
@@ -198,7 +201,7 @@ static void mounted_over(void)
         _exit(NO_RIGHT);
     root = sure(open(where, O_PATH | O_DIRECTORY | O_CLOEXEC), where);
     int dir = sure(__real_openat(root, "t", O_PATH | O_DIRECTORY | O_CLOEXEC), "t");
-    for (int level = 0; level < ONE_CALL + ONE_CALL / 2; level++) {
+    for (int level = 0; level < mount_level; level++) {
         int below = sure(__real_openat(dir, "d", O_PATH | O_DIRECTORY | O_CLOEXEC), "d");
         close(dir);
         dir = below;
@@ -214,13 +217,19 @@ static void mounted_over(void)
     umount2(target, MNT_DETACH);
 }
 
+/* Where one proved call doesn't come to; and where another one begins at a place that was kept. */
 static int mounted(void)
 {
+    static const int levels[] = {ONE_CALL + ONE_CALL / 2, SOME_CALLS / 2 * ONE_CALL};
+    int skipped = 0;
     sure(mkdirat(root, "kept", 0755), "kept");
     sure(mknodat(root, "kept/f", S_IFREG | 0600, 0), "kept/f");
-    dig(2 * ONE_CALL, LEVELS);
-    int skipped = apart(mounted_over);
-    gives_least(inroot_remove_all(root, "t", 0), 1, "a deep tree without the mount");
+    for (size_t one = 0; one < sizeof levels / sizeof *levels; one++) {
+        mount_level = levels[one];
+        dig(mount_level + ONE_CALL, LEVELS);
+        skipped |= apart(mounted_over);
+        gives_least(inroot_remove_all(root, "t", 0), 1, "a deep tree without the mount");
+    }
     return skipped;
 }
 

@@ -61,7 +61,10 @@ static void under_filter(void)
     gives(faccessat(root, "a/new", F_OK, 0), -1, "system call %ld by %d: what was to be made", refused, error);
 }
 
-/* From now on: the thread has made the system call before, which is known to be there. Whatever comes is an error, and nothing is made. */
+/*
+ * From now on: the thread has made the system call before, which is known to be there. Whatever comes is an error, and nothing is
+ * made. Once openat2(2) has failed so, each call says that it isn't there.
+ */
 static void late(void)
 {
     close(sure(inroot_open(root, "a/f", 0), "a/f"));
@@ -69,6 +72,10 @@ static void late(void)
     refuse(refused, error);
     int got = inroot_mkdir(root, "a/new", 0755, INROOT_EXACT);
     expect(got < 0, "system call %ld by %d, from now on: it gives %d", refused, error, got);
+    if (refused == OPENAT2) {
+        each();
+        each_by_steps();
+    }
     gives(faccessat(root, "a/new", F_OK, 0), -1, "system call %ld by %d: what was to be made", refused, error);
 }
 

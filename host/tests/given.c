@@ -1,15 +1,18 @@
 /*
  * given: what a call makes is given by a descriptor (INROOT_GIVE, and O_PATH with O_CREAT); by the kernel's walk and with
  * INROOT_EXACT, also in a chroot, and with INROOT_NO_XDEV. Between the making and the opening the entry is moved, and another put in
- * its place: then nothing is given; nor is what can't be looked at. To be linked with --wrap=openat, statx, fstat and syscall.
+ * its place: then nothing is given; nor is what can't be looked at, or with INROOT_NO_XDEV what is mounted over it. To be linked
+ * with --wrap=openat, statx, fstat and syscall.
  *
- * usage: given DIR. Exits 0 where each is as inroot.h says. 78: no right to change a root, so that a part is left out.
+ * usage: given DIR. Exits 0 where each is as inroot.h says. 78: no right to change a root or to mount, so that a part is left out.
  */
 #define _GNU_SOURCE
 #include "support.h"
 #include "wraps.h"
 
+#include <sched.h>
 #include <string.h>
+#include <sys/mount.h>
 #include <sys/stat.h>
 #include <sys/sysmacros.h>
 
@@ -264,6 +267,30 @@ static void paths(void)
     close(fd);
 }
 
+static void mount_over(void)
+{
+    sure(mount("a/other", "a/b/new", NULL, MS_BIND, NULL), "a/other");
+}
+
+/* Nobody can tell the directory that is mounted from the one that was made, but by its mount. */
+static void covered(void)
+{
+    struct inroot_error error;
+    umask(0);
+    sure(mkdirat(root, "a/other", 0750), "a/other");
+    sure(fchdir(root), "root");
+    if (unshare(CLONE_NEWNS) != 0 || mount(NULL, "/", NULL, MS_REC | MS_PRIVATE, NULL) != 0)
+        _exit(NO_RIGHT);
+    root = sure(open(".", O_PATH | O_DIRECTORY | O_CLOEXEC), "root");
+    for (way = 0; way <= INROOT_EXACT; way += INROOT_EXACT) {
+        meanwhile = mount_over;
+        gives(make_one(0, INROOT_GIVE), -EXDEV, "a directory over which one is mounted");
+        expect(inroot_last_error(&error) == 0 && strcmp(error.step, "Give") == 0, "the step %s", error.step);
+        sure(umount2("a/b/new", MNT_DETACH), "a/b/new");
+        clean();
+    }
+}
+
 static void each(void)
 {
     umask(0);
@@ -292,6 +319,7 @@ int main(int count, char **words)
     int skipped = in_each_way(root, each);
     more = INROOT_NO_XDEV;
     skipped |= in_each_way(root, each);
+    skipped |= apart(covered);
     printf("given: %d not as they are to be\n", wrong);
     return wrong != 0 ? 1 : skipped;
 }

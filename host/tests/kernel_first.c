@@ -1,8 +1,8 @@
 /*
  * kernel_first: each call begins with the kernel's walk, and makes the system calls that one makes by hand, and takes no memory. If a
- * look-up of the kernel's fails, the steps give the same. And each flag reaches the first look-up and the steps: a call that leads
- * over a mount, through a link or a magic one, or out of the root gives its error and changes nothing, by the kernel's walk, by the
- * steps behind one that fails, and with INROOT_EXACT.
+ * look-up of the kernel's fails, the steps give the same; but if a signal ends one that opens an object for use, that is the call's
+ * end. And each flag reaches the first look-up and the steps: a call that leads over a mount, through a link or a magic one, or out
+ * of the root gives its error and changes nothing, by the kernel's walk, by the steps behind one that fails, and with INROOT_EXACT.
  *
  * usage: kernel_first DIR. Exits 0 where that holds. 78: no right to mount, so that mounts are left out. To be linked with --wrap of
  * each function that is wrapped here.
@@ -22,6 +22,8 @@ static char made[1024];
 static uint64_t resolved;
 static int looks, rooted, failing, error;
 static bool counting;
+/* So many calls of fstat(2) fail. */
+static int untold;
 
 static void note(const char *name)
 {
@@ -38,7 +40,6 @@ static void note(const char *name)
         return __real_##name arguments;          \
     }
 
-NOTED(int, fstat, (int fd, struct stat *about), (fd, about))
 NOTED(int, close, (int fd), (fd))
 NOTED(int, mkdirat, (int dir, const char *name, mode_t mode), (dir, name, mode))
 NOTED(int, mknodat, (int dir, const char *name, mode_t mode, dev_t dev), (dir, name, mode, dev))
@@ -46,6 +47,18 @@ NOTED(int, symlinkat, (const char *text, int dir, const char *name), (text, dir,
 NOTED(int, unlinkat, (int dir, const char *name, int flags), (dir, name, flags))
 NOTED(ssize_t, readlinkat, (int dir, const char *name, char *text, size_t size), (dir, name, text, size))
 NOTED(void *, malloc, (size_t size), (size))
+
+int __real_fstat(int fd, struct stat *about);
+int __wrap_fstat(int fd, struct stat *about);
+int __wrap_fstat(int fd, struct stat *about)
+{
+    note("fstat");
+    if (!counting || untold == 0)
+        return __real_fstat(fd, about);
+    untold--;
+    errno = EIO;
+    return -1;
+}
 
 static int my_openat(int dir, const char *name, int flags, mode_t mode)
 {
@@ -242,6 +255,29 @@ static void goes_by_steps(const struct op *op)
     }
 }
 
+/* A signal ends a call where the kernel opens an object for use, and no step is made. */
+static void signalled(const struct op *op)
+{
+    if (op->call != open_to_read && op->call != cut_off && op->call != make_nameless)
+        return;
+    plant_anew();
+    gives(made_so(op, "a/b", 0, EINTR), -EINTR, "%s, and a signal", op->name);
+    gives_text(made, "openat2", "%s, and a signal", op->name);
+}
+
+/* Of what kind an object is that the kernel has found, can't be asked: then the steps find it. */
+static void unasked(void)
+{
+    plant_anew();
+    untold = 1;
+    counting = true;
+    const int fd = inroot_mkfile_all(root, "a/b/f", 0600, 0700, 0);
+    counting = false;
+    gives(untold, 0, "a file that is there: what can't be asked");
+    gives_object(fd, root, "a/b/f", "a file that is there, of which the kind can't be asked");
+    close(fd);
+}
+
 /* Each flag, and what it has the kernel refuse. */
 static void resolves(const struct op *op)
 {
@@ -315,9 +351,11 @@ int main(int words_count, char **words)
     for (const struct op *op = ops; op < ops + OPS; op++) {
         counted(op);
         goes_by_steps(op);
+        signalled(op);
         resolves(op);
         refusals(op, mounts);
     }
+    unasked();
     printf("kernel_first: %d not as they are to be\n", wrong);
     return wrong != 0 ? 1 : mounts ? 0 : NO_RIGHT;
 }

@@ -32,6 +32,9 @@ static void move_files(void)
     unlinkat(out, "b/g", 0);
     exchange(out, "b/f", out, "secret");
     renameat(out, "b", root, "a/b");
+    /* Nothing is changed, and the directory stands inside for as long. */
+    for (int one = 0; one < 5; one++)
+        exchange(root, "a/b/f", root, "a/b/f");
 }
 
 /* By turns: out and back, and for a link that leads out. */
@@ -153,6 +156,16 @@ static int open_unchecked(int at, int way, uint64_t *state)
     return walk_unchecked(root, everywhere[pick(state, EVERYWHERE)]);
 }
 
+/* By many steps, so that the directory is moved within the walk on a machine of one processor, too. */
+static int open_plainly_unchecked(int at, int way, uint64_t *state)
+{
+    static const char *const paths[] = {
+        "a/b/c/../c/../c/../c/../f", "a/b/c/../c/../c/../c/../g", "a/b/c/../c/../c/../c/../../secret",
+    };
+    (void)at, (void)way;
+    return walk_unchecked(root, paths[pick(state, 3)]);
+}
+
 /* ---- the tree */
 
 static void make_tree(void)
@@ -200,22 +213,23 @@ struct kind {
     const char *name;
     int (*work)(int at, int way, uint64_t *state);
     void (*move)(void);
+    int (*unchecked)(int at, int way, uint64_t *state);
     bool ends_early;
     enum place places[8];
     int count;
 };
 
 static const struct kind kinds[] = {
-    {"plain", open_plainly, move_files, false, {PLAIN, CHROOT, EXACT, EXACT_CHROOT}, 4},
-    {"use", use_any, move_directories, false, {PLAIN, PLAIN, CHROOT, EXACT, EXACT, EXACT_CHROOT}, 6},
-    {"create", create_any, move_directories, false, {PLAIN, CHROOT, EXACT, EXACT_CHROOT}, 4},
-    {"publish", publish_any, move_directories, false, {PLAIN, CHROOT, EXACT}, 3},
-    {"remove", remove_tree, move_directories, false, {PLAIN, CHROOT, EXACT}, 3},
+    {"plain", open_plainly, move_files, open_plainly_unchecked, false, {PLAIN, CHROOT, EXACT, EXACT_CHROOT}, 4},
+    {"use", use_any, move_directories, open_unchecked, false, {PLAIN, PLAIN, CHROOT, EXACT, EXACT, EXACT_CHROOT}, 6},
+    {"create", create_any, move_directories, open_unchecked, false, {PLAIN, CHROOT, EXACT, EXACT_CHROOT}, 4},
+    {"publish", publish_any, move_directories, open_unchecked, false, {PLAIN, CHROOT, EXACT}, 3},
+    {"remove", remove_tree, move_directories, open_unchecked, false, {PLAIN, CHROOT, EXACT}, 3},
 };
 
 static void race_of(const struct kind *kind, unsigned seconds)
 {
-    const struct worker control = {.name = "a walk without a check", .work = open_unchecked, .control = true};
+    const struct worker control = {.name = "a walk without a check", .work = kind->unchecked, .control = true};
     char title[64];
     snprintf(title, sizeof title, "new_race: %s", kind->name);
     may_end_early = kind->ends_early;

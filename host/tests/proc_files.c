@@ -4,7 +4,7 @@
  * followed where the caller says so. By a private proc(5) they lead to what is covered. Nothing stays open.
  *
  * usage: proc_files DIR. Exits 0 where that holds. 78: no right to mount here. 77: no openat2(2). To be linked with --wrap of
- * syscall.
+ * statx and syscall.
  */
 #define _GNU_SOURCE
 #include "filter.h"
@@ -34,6 +34,22 @@ static long my_syscall(long number, const long *with)
 }
 
 INSTEAD_OF_SYSCALL(my_syscall)
+
+/* The call of statx(2) that fails: the first from here on, the second, or none by 0. */
+static int unasked;
+
+#ifdef STATX_INO
+int __real_statx(int dir, const char *name, int flags, unsigned what, struct statx *about);
+int __wrap_statx(int dir, const char *name, int flags, unsigned what, struct statx *about);
+
+int __wrap_statx(int dir, const char *name, int flags, unsigned what, struct statx *about)
+{
+    if (unasked == 0 || --unasked > 0)
+        return __real_statx(dir, name, flags, what, about);
+    errno = EIO;
+    return -1;
+}
+#endif
 
 /* What is read of a file, without the end of its line. */
 static void reads(int fd, const char *wanted, const char *what)
@@ -154,6 +170,38 @@ static void magic_links(void)
 }
 
 /* ---- errors */
+
+/* The question by this number fails, of those about files. Gives whether the call came to it. */
+static bool comes_to(int question, bool link)
+{
+    char text[PATH_MAX];
+    const int before = open_descriptors();
+    unasked = question;
+    const int got = link ? (int)inroot_proc_readlink(INROOT_PROC_SELF, "exe", text, sizeof text)
+                         : inroot_proc_open(INROOT_PROC_SELF, "exe", O_RDONLY);
+    const bool came = unasked == 0;
+    unasked = 0;
+    if (came)
+        gives(got, question == 1 ? -ENOSYS : -EIO, "question %d fails, of a link %d", question, link);
+    else
+        gives_least(got, 1, "a call of %d questions, of a link %d", question - 1, link);
+    if (!link && got >= 0)
+        close(got);
+    gives(open_descriptors(), before, "question %d, of a link %d: open descriptors", question, link);
+    return came;
+}
+
+/* The first question is whether there is a /proc. */
+static void unasked_files(void)
+{
+    open_proc();
+    for (int link = 0; link < 2; link++) {
+        int question = 1;
+        while (comes_to(question, link))
+            question++;
+        gives_least(question, 4, "questions about files, of a link %d", link);
+    }
+}
 
 static void errors(void)
 {
@@ -391,7 +439,7 @@ static void private_copy(void)
 int main(int count, char **words)
 {
     static void (*const parts[])(void) = {
-        each_base, ordinary_links, magic_links, errors, other_processes, no_descriptors, no_openat2, no_proc, not_its_top,
+        each_base, ordinary_links, magic_links, unasked_files, errors, other_processes, no_descriptors, no_openat2, no_proc, not_its_top,
         of_others, covered, covered_process, covered_link, covered_meanwhile, private, private_copy,
     };
     int skipped = 0;
