@@ -108,10 +108,10 @@ static void unknown_flags(void)
     }
 }
 
-/* What is opened by a path without names is a descriptor of its own, by which nothing can be read. */
+/* What is opened is a descriptor of its own, by which nothing can be read; also by a path without names. */
 static void opened_alone(void)
 {
-    static const char *const paths[] = {"/", ".", "..", "link"};
+    static const char *const paths[] = {"/", ".", "..", "link", "file"};
     int root = sure(openat(base, ".", O_RDONLY | O_DIRECTORY | O_CLOEXEC), ".");
     for (size_t at = 0; at < 2 * sizeof paths / sizeof *paths; at++) {
         const char *path = paths[at / 2];
