@@ -40,6 +40,8 @@ static void move_out(void) { move(root, "2/d", base, "d"); }
 static void move_in(void) { move(base, "d", root, "2/d"); }
 static void remove_directory(void) { sure(unlinkat(root, "2/d", AT_REMOVEDIR), "2/d"); }
 static void make_directory(void) { sure(mkdirat(root, "2/d", 0755), "2/d"); }
+static void put_link(void) { move(root, "2", root, "3"); sure(symlinkat("3", root, "2"), "2"); }
+static void take_link(void) { sure(unlinkat(root, "2", 0), "2"); move(root, "3", root, "2"); }
 static void exchange(void) { sure((int)syscall(SYS_renameat2, root, "2/f", root, "2/g", 2), "2/g"); }
 
 /*
@@ -69,6 +71,8 @@ static const struct {
     {"2/f", 3, move_root, return_root, -EAGAIN},
     {"2/f", 1, exchange, exchange, -EAGAIN},
     {"2/d", 4, remove_directory, make_directory, -EAGAIN},
+    {"2/d", 3, put_link, take_link, -EAGAIN},
+    {"2/f", 1, put_link, take_link, -EAGAIN},
 };
 
 /* One call of a row, whose path stands behind these words. */

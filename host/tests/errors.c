@@ -108,18 +108,19 @@ static void unknown_flags(void)
     }
 }
 
-/* What is opened by a path without names is a descriptor of its own, by which nothing can be read. */
+/* What is opened is a descriptor of its own, by which nothing can be read; also by a path without names. */
 static void opened_alone(void)
 {
-    static const char *const paths[] = {"/", ".", "..", "link"};
+    static const char *const paths[] = {"/", ".", "..", "link", "file"};
     int root = sure(openat(base, ".", O_RDONLY | O_DIRECTORY | O_CLOEXEC), ".");
-    for (size_t at = 0; at < sizeof paths / sizeof *paths; at++) {
-        int fd = inroot_open(root, paths[at], 0);
-        gives_fd(fd, "%s", paths[at]);
-        gives(fcntl(fd, F_GETFL) & O_PATH, O_PATH, "%s: its flag O_PATH", paths[at]);
-        gives(fcntl(fd, F_GETFD), FD_CLOEXEC, "%s: its flag FD_CLOEXEC", paths[at]);
-        gives(lseek(fd, 0, SEEK_CUR), -1, "%s: a place to read from", paths[at]);
-        gives(errno, EBADF, "%s: errno of a place to read from", paths[at]);
+    for (size_t at = 0; at < 2 * sizeof paths / sizeof *paths; at++) {
+        const char *path = paths[at / 2];
+        int fd = inroot_open(root, path, at % 2 ? INROOT_EXACT : 0);
+        gives_fd(fd, "%s", path);
+        gives(fcntl(fd, F_GETFL) & O_PATH, O_PATH, "%s: its flag O_PATH", path);
+        gives(fcntl(fd, F_GETFD), FD_CLOEXEC, "%s: its flag FD_CLOEXEC", path);
+        gives(lseek(fd, 0, SEEK_CUR), -1, "%s: a place to read from", path);
+        gives(errno, EBADF, "%s: errno of a place to read from", path);
         close(fd);
     }
     close(root);

@@ -49,6 +49,7 @@ static void each(void)
     is_refused(inroot_unlink(root, "a/f", 0), "a removal");
     is_refused(inroot_rename(root, "a/f", "a/g", INROOT_PLAIN, 0), "a rename");
     is_refused((int)inroot_remove_all(root, "a", 0), "a tree");
+    is_refused(inroot_proc_open(INROOT_PROC_SELF, "comm", O_RDONLY), "a file of /proc");
 }
 
 static void under_filter(void)

@@ -189,6 +189,8 @@ static int count;
 static void plant_anew(void)
 {
     char name[16];
+    if (count > 0)
+        close(root);
     snprintf(name, sizeof name, "%d", count++);
     plant(name);
 }
