@@ -95,15 +95,6 @@ static int open_object(int root, const struct inroot_request *asked)
     return fd >= 0 && asked->opened != NULL ? tell_kind(fd, asked->opened) : fd;
 }
 
-/* Where all directories are there already. */
-static int open_all(int root, const struct inroot_request *asked)
-{
-    const struct look look = {
-        .root = root, .flags = asked->flags, .path = asked->first, .length = strlen(asked->first),
-    };
-    return look_up(&look, O_PATH | O_DIRECTORY, 0);
-}
-
 /* ---- an entry, and the directory that has it */
 
 void inroot_entry_close(const struct inroot_entry *entry)
@@ -173,6 +164,59 @@ static int change_entry(int root, const struct inroot_request *asked)
     const int result = reply(&change, inroot_change(&change));
     inroot_entry_close(&entry);
     return result;
+}
+
+/* So many directories that are missing one in the other are made by look-ups from the root. */
+enum { MISSING_MAX = 16 };
+
+/*
+ * Makes the directory at the end of a path as a call does that makes one, and before it the one above if that is missing
+ * too. The path is cut meanwhile. Whether it is there then: one that others have made counts.
+ */
+static bool make_directory(int root, const struct inroot_request *asked, char *path, unsigned left)
+{
+    struct inroot_parted parted = {0};
+    char name[NAME_MAX + 1];
+    inroot_split((const unsigned char *)path, strlen(path), true, &parted);
+    if (parted.error || left == 0)
+        return false;
+    memcpy(name, path + parted.name, parted.length);
+    name[parted.length] = 0;
+    while (parted.name > 0 && path[parted.name - 1] == '/')
+        parted.name--;
+    const char behind = path[parted.name];
+    path[parted.name] = 0;
+    const struct look above = {.root = root, .flags = asked->flags, .path = path, .length = parted.name};
+    int dir = parted.name == 0 ? root : look_up(&above, O_PATH | O_DIRECTORY, 0);
+    if (dir == INROOT_STEPS && errno == ENOENT && make_directory(root, asked, path, left - 1))
+        dir = look_up(&above, O_PATH | O_DIRECTORY, 0);
+    path[parted.name] = behind;
+    if (dir < 0)
+        return false;
+    struct inroot_change change = {
+        .asked = asked, .what = INROOT_STEP_MAKE_DIR, .dir = dir, .name = name, .other = "", .made = INROOT_NONE,
+    };
+    const uint32_t error = inroot_change(&change);
+    if (dir != root)
+        close(dir);
+    return error == 0 || error == EEXIST;
+}
+
+/*
+ * Where all directories are there, one look-up opens the last one. Those that are missing are made first; if that can't be
+ * done so, the steps go on from what was made.
+ */
+static int open_all(int root, const struct inroot_request *asked)
+{
+    const struct look look = {
+        .root = root, .flags = asked->flags, .path = asked->first, .length = strlen(asked->first),
+    };
+    char path[INROOT_TEXT_MAX + 1];
+    const int fd = look_up(&look, O_PATH | O_DIRECTORY, 0);
+    if (fd != INROOT_STEPS || errno != ENOENT)
+        return fd;
+    memcpy(path, look.path, look.length + 1);
+    return make_directory(root, asked, path, MISSING_MAX) ? look_up(&look, O_PATH | O_DIRECTORY, 0) : INROOT_STEPS;
 }
 
 static bool ends_in_name(const char *path)

@@ -195,10 +195,10 @@ static const struct {
     {"remove a/b/new", "a/b/new", remove_file, 3, 13},
     {"remove a/b/new, a directory", "a/b/new", remove_directory, 3, 13},
     {"rename a/b/new to d/moved", "a/b/new", rename_it, 5, 22},
-    {"make n/e/w/s", "n/e/w/s", make_all, 19, 22},
+    {"make n/e/w/s", "n/e/w/s", make_all, 15, 22},
     {"make a/b, which is there", "a/b", make_all, 1, 11},
     {"make a/b/f with all, which is there", "a/b/f", make_file_all, 2, 14},
-    {"make n/e/w with all", "n/e/w", make_file_all, 23, 44},
+    {"make n/e/w with all", "n/e/w", make_file_all, 17, 44},
     {"remove a/b/new with all, an empty directory", "a/b/new", remove_all, 12, 20},
     {"tell the place of a/b", "a/b", tell_place, 11, 11},
 };

@@ -32,7 +32,7 @@ static void each_by_steps(void)
     char text[PATH_MAX];
     is_refused(inroot_open(root, "a/f", INROOT_EXACT), "INROOT_EXACT");
     is_refused(inroot_mkdir(root, "a/new", 0755, INROOT_EXACT), "a directory with INROOT_EXACT");
-    is_refused(inroot_mkdir_all(root, "a/new/er", 0755, 0), "directories");
+    is_refused(inroot_mkdir_all(root, "a/new/er", 0755, INROOT_EXACT), "directories with INROOT_EXACT");
     is_refused((int)inroot_place(root, root, text, sizeof text), "a place");
 }
 
