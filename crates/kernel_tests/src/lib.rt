@@ -1,13 +1,23 @@
-//! What the kernel's texts say, on texts and records that a kernel writes, and on others; what is decided by numbers
-//! that are handed to it or come back; and where an object stands, by its answers.
+//! What is asked of the kernel and what its answers say, by worked answers: texts, records and numbers; where an object
+//! stands; files that are opened and made, paths opened in part, trees removed and directories listed.
 #![tactic(auto)]
 
 #[cfg(test)]
 mod askings;
 #[cfg(test)]
+mod courses;
+#[cfg(test)]
 mod findings;
 #[cfg(test)]
+mod givings;
+#[cfg(test)]
 mod held;
+#[cfg(test)]
+mod laws;
+#[cfg(test)]
+mod listings;
+#[cfg(test)]
+mod makings;
 #[cfg(test)]
 mod mounts;
 #[cfg(test)]
@@ -22,5 +32,9 @@ mod places;
 mod protocol;
 #[cfg(test)]
 mod records;
+#[cfg(test)]
+mod removals;
+#[cfg(test)]
+mod searches;
 #[cfg(test)]
 mod tries;
