@@ -27,13 +27,9 @@ edition = "2021"
 inroot = { path = "$top/bindings/rust" }
 END
     cat >"$work/rust/src/main.rs" <<'END'
-use std::io::Read;
 fn main() {
-    let root = inroot::Root::open(std::env::args_os().nth(1).unwrap()).unwrap();
-    let mut text = String::new();
-    let found = root.resolve("in/f").unwrap();
-    found.reopen(inroot::OpenFlags::O_RDONLY).unwrap().read_to_string(&mut text).unwrap();
-    assert_eq!((text.as_str(), root.resolve("abs/secret").is_err()), ("inside\n", true));
+    let root = inroot::Root::open_ambient_dir(std::env::args_os().nth(1).unwrap()).unwrap();
+    assert_eq!((root.read_to_string("in/f").unwrap().as_str(), root.exists("abs/secret")), ("inside\n", false));
 }
 END
     for kind in '' 1; do
@@ -50,6 +46,9 @@ END
     ! PKG_CONFIG_PATH=$work/older cargo build -q --offline --manifest-path "$work/rust/Cargo.toml" >"$work/printed" 2>&1 &&
         grep -qF "There is no inroot >= $version" "$work/printed" && grep -qF 0.0.9 "$work/printed"
     verdict $? "Rust over an older library: $(cat "$work/printed")"
+    # Its documentation is built where there is no library, and has no link that leads nowhere.
+    has 'the documentation of bindings/rust' env DOCS_RS=1 PKG_CONFIG=false RUSTDOCFLAGS='-D warnings' \
+        cargo doc -q --offline --locked --no-deps --manifest-path bindings/rust/Cargo.toml
     # What cargo packs of the crate has the licence and the readme.
     cmp -s LICENSE bindings/rust/LICENSE &&
         cargo package -q --list --offline --allow-dirty --manifest-path bindings/rust/Cargo.toml >"$work/printed" 2>&1 &&
