@@ -1,7 +1,7 @@
 # shellcheck shell=bash disable=SC2154
 # The tests of the bindings, and programs over them. checks/library reads this file.
 
-# Both make each call of inroot.h, but for two in whose place they have others: opening and fstat(2), and the version's text.
+# Rust and Go make each call of inroot.h, but for two in whose place they have others: opening and fstat(2), and the version's text.
 for name in $(sed -n 's/^[a-z][a-z_ ]*[ *]\(inroot_[a-z_]*\)(.*/\1/p' host/inroot.h); do
     case $name in
     inroot_stat | inroot_version_number) ! grep -qE "(ffi::|C\.)$name\(" bindings/rust/src/*.rs bindings/go/*.go ;;
@@ -54,6 +54,18 @@ END
         cargo package -q --list --offline --allow-dirty --manifest-path bindings/rust/Cargo.toml >"$work/printed" 2>&1 &&
         grep -qx LICENSE "$work/printed" && grep -qx README.md "$work/printed"
     verdict $? "what cargo packs of bindings/rust: $(cat "$work/printed")"
+fi
+# Python has its own name of the library; the flags are compared by checks/repository.
+grep -qx "_NAME = \"$soname\"" bindings/python/inroot.py
+verdict $? "bindings/python/inroot.py loads another library than $soname"
+if ! lacks python3 bindings/python; then
+    # A run without a test is none that succeeds.
+    has 'the tests of bindings/python' env -C bindings/python python3 -B -m unittest
+    grep -q '^Ran [1-9][0-9]* tests' "$work/printed"
+    verdict $? "bindings/python has no tests: $(tail -n 3 "$work/printed")"
+    [ "$(env -C bindings/python -u LD_LIBRARY_PATH INROOT_LIBRARY_PATH="$prefix/lib/$soname" \
+        python3 -Bc 'import inroot; print(inroot.version())')" = "$version" ]
+    verdict $? 'Python over the library that INROOT_LIBRARY_PATH names'
 fi
 has_go=
 if ! lacks go 'bindings/go and the example in Go'; then
