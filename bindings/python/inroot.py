@@ -273,7 +273,10 @@ class Root:
     def rmtree(self, path):
         """Removes a directory with all that is below it. NotADirectoryError of anything else, a link too. What others
         put into the directory's place meanwhile is removed as well: of a link the link alone."""
-        if not stat.S_ISDIR(self.lstat(path).st_mode):
+        about = self.lstat(path)
+        name = os.fsencode(path).rstrip(b"/")
+        # With a slash behind it a link is followed.
+        if not stat.S_ISDIR(about.st_mode) or name and stat.S_ISLNK(self.lstat(name).st_mode):
             raise OSError(errno.ENOTDIR, os.strerror(errno.ENOTDIR), path)
         if _checked(_library.remove_all(self.fileno(), _bytes(path), self._flags), path) == 0:
             raise OSError(errno.ENOENT, os.strerror(errno.ENOENT), path)

@@ -195,6 +195,9 @@ class Hostile(Room):
     def test_a_removal_follows_no_link(self):
         os.symlink("../../../../outside", self.at("box/a/b/out"))
         self.fails(errno.ENOTDIR, self.root.rmtree, "up")
+        for path in ("in", "in/", "a/b/f"):
+            self.assertEqual(self.fails(errno.ENOTDIR, self.root.rmtree, path).filename, path)
+        self.fails(errno.EINVAL, self.root.rmtree, "/")
         self.root.rmtree("a")
         self.assertFalse(os.path.lexists(self.at("box/a")))
 

@@ -84,8 +84,8 @@ impl Root {
         }
     }
 
-    /// Makes a directory as the builder says, and gives it. EAGAIN where others took one away, that isn't made by
-    /// `recursive`, before it could be opened: it was made.
+    /// Makes a directory as the builder says, and gives it. Without `recursive`, EAGAIN says that the directory was made
+    /// and that others took it away before it could be opened.
     ///
     /// ```
     /// # let root = include!("../tests/shared/example.rs");
@@ -106,8 +106,8 @@ impl Root {
     }
 
     /// Makes an entry that isn't there yet, and gives what it made; or EEXIST. A file, or what got a second name, is
-    /// just that one; of any other only the kind, a link's text and a device's number are known. EAGAIN where others
-    /// took it away before it could be opened: it was made.
+    /// just that one; of any other only the kind, a link's text and a device's number are known. EAGAIN says that the
+    /// entry was made and that others took it away before it could be opened.
     ///
     /// ```
     /// # let root = include!("../tests/shared/example.rs");

@@ -4,8 +4,10 @@ mod shared;
 
 use inroot::{DirBuilder, InodeType, OpenFlags, OpenOptions, RenameFlags, ResolverFlags, Root};
 use shared::*;
+use std::ffi::OsStr;
 use std::fs;
 use std::io::Write;
+use std::os::unix::ffi::OsStrExt;
 use std::os::unix::fs::{symlink, FileTypeExt, MetadataExt};
 use std::os::unix::io::OwnedFd;
 use std::path::Path;
@@ -271,6 +273,28 @@ fn errors_are_told() {
     let file = root.resolve("a/b/f").unwrap();
     assert_eq!(number(Root::from(OwnedFd::from(file)).resolve("x")), Some(ENOTDIR));
     assert_eq!(inroot::version(), env!("CARGO_PKG_VERSION"));
+}
+
+#[test]
+fn names_are_any_bytes() {
+    let tree = Tree::new();
+    let root = tree.root();
+    for name in [&b"\xff\xfe"[..], b"a\nb", b" ", b"-rf", b"\xc3\xbc", b"...", &[b'x'; 255]] {
+        let (name, path) = (OsStr::from_bytes(name), Path::new("in").join(OsStr::from_bytes(name)));
+        root.write(&path, name.as_bytes()).unwrap();
+        assert!(root.read_dir("in").unwrap().any(|entry| entry.unwrap().file_name() == name), "{name:?}");
+        assert_eq!(fs::read(tree.at("box/a/b").join(name)).unwrap(), name.as_bytes());
+        assert_eq!(root.read(&path).unwrap(), name.as_bytes());
+        root.symlink(name, "link").unwrap();
+        assert_eq!(root.read_link("link").unwrap(), Path::new(name));
+        root.rename("link", &path).unwrap();
+        root.remove_file(&path).unwrap();
+    }
+    for path in ["x".repeat(256), "x/".repeat(2048)] {
+        assert_eq!(number(root.create(&path)), number(fs::File::create(tree.at("box").join(&path))), "{path}");
+        assert_eq!(number(root.create_dir(&path)), Some(ENAMETOOLONG), "{path}");
+        assert_eq!(number(root.metadata(&path)), Some(ENAMETOOLONG), "{path}");
+    }
 }
 
 #[test]

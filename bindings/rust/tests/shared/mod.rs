@@ -16,6 +16,7 @@ pub const EXDEV: i32 = 18;
 pub const ENOTDIR: i32 = 20;
 pub const EISDIR: i32 = 21;
 pub const EINVAL: i32 = 22;
+pub const ENAMETOOLONG: i32 = 36;
 pub const ELOOP: i32 = 40;
 pub const ENODATA: i32 = 61;
 pub const EOPNOTSUPP: i32 = 95;
