@@ -1,13 +1,16 @@
 //! Finds libinroot: in `INROOT_LIB_DIR` where that is set, else where `pkg-config` (or `PKG_CONFIG`) says. That one refuses
 //! a library that is older than this crate.
-//! With `INROOT_STATIC` set it is linked statically.
+//! With `INROOT_STATIC` set it is linked statically. Where documentation alone is built (`DOCS_RS`), no library is needed.
 
 use std::env;
 use std::process::Command;
 
 fn main() {
-    for name in ["INROOT_LIB_DIR", "INROOT_STATIC", "PKG_CONFIG", "PKG_CONFIG_PATH", "PKG_CONFIG_LIBDIR"] {
+    for name in ["DOCS_RS", "INROOT_LIB_DIR", "INROOT_STATIC", "PKG_CONFIG", "PKG_CONFIG_PATH", "PKG_CONFIG_LIBDIR"] {
         println!("cargo:rerun-if-env-changed={name}");
+    }
+    if env::var_os("DOCS_RS").is_some() {
+        return;
     }
     for directory in directories() {
         println!("cargo:rustc-link-search=native={directory}");

@@ -149,7 +149,7 @@ arm_tests() {
 arm_flags() {
     sed 's/not(target_arch = "aarch64")/any()/; s/target_arch = "aarch64"/all()/' bindings/rust/src/flags.rs >"$work/flags.rs"
     local names name
-    names=$(sed -n 's/^    pub const \(O_[A-Z]*\): OpenFlags.*/\1/p' "$work/flags.rs")
+    names=$(sed -n 's/^    pub\((crate)\)\{0,1\} const \(O_[A-Z]*\): OpenFlags.*/\2/p' "$work/flags.rs")
     {
         echo '#[allow(dead_code)] mod flags; fn main() {'
         for name in $names; do echo "println!(\"$name {}\", flags::OpenFlags::$name.bits());"; done

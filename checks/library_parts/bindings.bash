@@ -1,7 +1,7 @@
 # shellcheck shell=bash disable=SC2154
 # The tests of the bindings, and programs over them. checks/library reads this file.
 
-# Both make each call of inroot.h, but for two in whose place they have others: opening and fstat(2), and the version's text.
+# Rust and Go make each call of inroot.h, but for two in whose place they have others: opening and fstat(2), and the version's text.
 for name in $(sed -n 's/^[a-z][a-z_ ]*[ *]\(inroot_[a-z_]*\)(.*/\1/p' host/inroot.h); do
     case $name in
     inroot_stat | inroot_version_number) ! grep -qE "(ffi::|C\.)$name\(" bindings/rust/src/*.rs bindings/go/*.go ;;
@@ -27,13 +27,9 @@ edition = "2021"
 inroot = { path = "$top/bindings/rust" }
 END
     cat >"$work/rust/src/main.rs" <<'END'
-use std::io::Read;
 fn main() {
-    let root = inroot::Root::open(std::env::args_os().nth(1).unwrap()).unwrap();
-    let mut text = String::new();
-    let found = root.resolve("in/f").unwrap();
-    found.reopen(inroot::OpenFlags::O_RDONLY).unwrap().read_to_string(&mut text).unwrap();
-    assert_eq!((text.as_str(), root.resolve("abs/secret").is_err()), ("inside\n", true));
+    let root = inroot::Root::open_ambient_dir(std::env::args_os().nth(1).unwrap()).unwrap();
+    assert_eq!((root.read_to_string("in/f").unwrap().as_str(), root.exists("abs/secret")), ("inside\n", false));
 }
 END
     for kind in '' 1; do
@@ -50,11 +46,26 @@ END
     ! PKG_CONFIG_PATH=$work/older cargo build -q --offline --manifest-path "$work/rust/Cargo.toml" >"$work/printed" 2>&1 &&
         grep -qF "There is no inroot >= $version" "$work/printed" && grep -qF 0.0.9 "$work/printed"
     verdict $? "Rust over an older library: $(cat "$work/printed")"
+    # Its documentation is built where there is no library, and has no link that leads nowhere.
+    has 'the documentation of bindings/rust' env DOCS_RS=1 PKG_CONFIG=false RUSTDOCFLAGS='-D warnings' \
+        cargo doc -q --offline --locked --no-deps --manifest-path bindings/rust/Cargo.toml
     # What cargo packs of the crate has the licence and the readme.
     cmp -s LICENSE bindings/rust/LICENSE &&
         cargo package -q --list --offline --allow-dirty --manifest-path bindings/rust/Cargo.toml >"$work/printed" 2>&1 &&
         grep -qx LICENSE "$work/printed" && grep -qx README.md "$work/printed"
     verdict $? "what cargo packs of bindings/rust: $(cat "$work/printed")"
+fi
+# Python has its own name of the library; the flags are compared by checks/repository.
+grep -qx "_NAME = \"$soname\"" bindings/python/inroot.py
+verdict $? "bindings/python/inroot.py loads another library than $soname"
+if ! lacks python3 bindings/python; then
+    # A run without a test is none that succeeds.
+    has 'the tests of bindings/python' env -C bindings/python python3 -B -m unittest
+    grep -q '^Ran [1-9][0-9]* tests' "$work/printed"
+    verdict $? "bindings/python has no tests: $(tail -n 3 "$work/printed")"
+    [ "$(env -C bindings/python -u LD_LIBRARY_PATH INROOT_LIBRARY_PATH="$prefix/lib/$soname" \
+        python3 -Bc 'import inroot; print(inroot.version())')" = "$version" ]
+    verdict $? 'Python over the library that INROOT_LIBRARY_PATH names'
 fi
 has_go=
 if ! lacks go 'bindings/go and the example in Go'; then

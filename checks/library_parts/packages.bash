@@ -3,7 +3,7 @@
 # checks/library reads this file.
 
 shared_name=libinroot${soname#libinroot.so.}
-packed_names="golang-gimowheta-inroot-dev inroot libinroot-dev $shared_name librust-inroot-dev"
+packed_names="golang-gimowheta-inroot-dev inroot libinroot-dev $shared_name librust-inroot-dev python3-inroot"
 packages=$work/packages
 package_root=$work/package-root
 
@@ -69,6 +69,11 @@ packages_use() {
             GOPATH="$package_root/usr/share/gocode" GOTOOLCHAIN=local GOCACHE="$work/package-gocache" \
             PKG_CONFIG_SYSROOT_DIR="$package_root" PKG_CONFIG_PATH="$pkgconfig" PKG_CONFIG_ALLOW_SYSTEM_LIBS=1 \
             PKG_CONFIG_ALLOW_SYSTEM_CFLAGS=1 go build -o "$work/package-unpack-go" .
+    fi
+    if ! lacks python3 'the package of bindings/python'; then
+        [ "$(PYTHONPATH=$package_root/usr/lib/python3/dist-packages LD_LIBRARY_PATH=${pkgconfig%/pkgconfig} \
+            python3 -Bc 'import inroot; print(inroot.version())')" = "$version" ]
+        verdict $? 'Python over the packages'
     fi
     # shellcheck disable=SC2086
     has 'dpkg -P' into_root -P $packed_names inroot-dbgsym "$shared_name-dbgsym"

@@ -1,6 +1,6 @@
 # shellcheck shell=bash disable=SC2154
-# Each program in C, Rust and Go that a document for users shows is cut out, built and run as a reader would: in the
-# language's default mode, with what pkg-config says and nothing else. checks/library reads this file.
+# Each program in C, Rust, Go and Python that a document for users shows is cut out, built and run as a reader would: in
+# the language's default mode, with what pkg-config says and nothing else. checks/library reads this file.
 #
 # A block of such a document is a whole program. Where a line `./FILE ARGS` stands below the block, the program is run with
 # these arguments. The root that the documents name, /srv/box, is a new one here. In it the program ends well, and prints
@@ -27,7 +27,7 @@ blocks_of() {
         ;;
     *)
         awk -v to="$2" '
-            /^```(c|rust|go)$/ { on = 1; file = to "/" ++count "." substr($0, 4); printf "" >file; next }
+            /^```(c|rust|go|python)$/ { on = 1; file = to "/" ++count "." substr($0, 4); printf "" >file; next }
             /^```/ { on = 0; next }
             on { print >file; next }
             count && /^    / { print substr($0, 5) >(to "/" count ".below") }' "$1"
@@ -50,6 +50,7 @@ build_shown() {
             sed "s|^module .*|module shown|; s|=> .*|=> $top/bindings/go|" examples/runtime/unpack-go/go.mod \
                 >"$work/shown/go/go.mod" && env -C "$work/shown/go" go build -o "$3" .
         ;;
+    python) printf '#!/bin/sh\nPYTHONPATH=%q exec python3 -B %q "$@"\n' "$top/bindings/python" "$2" >"$3" && chmod +x "$3" ;;
     esac
 }
 
@@ -84,12 +85,13 @@ for document in README.md bindings/README.md docs/HOST.md man/*.[37]; do
     at=$work/shown/${document//\//-}
     mkdir -p "$at"
     blocks_of "$document" "$at"
-    for source in "$at"/*.c "$at"/*.rust "$at"/*.go; do
+    for source in "$at"/*.c "$at"/*.rust "$at"/*.go "$at"/*.python; do
         [ -f "$source" ] || continue
         shown=$((shown + 1))
         case $source in
         *.rust) lacks cargo "the Rust of $document" && continue ;;
         *.go) lacks go "the Go of $document" && continue ;;
+        *.python) lacks python3 "the Python of $document" && continue ;;
         *) is_too_new "$source" && skip "the C of $document" 'the C library has no move_mount(2)' && continue ;;
         esac
         number=${source##*/}

@@ -1,13 +1,13 @@
 //! Mode, owner, times and extended attributes of what was found, by the object itself.
 
 use crate::error::{c_path, count_of, done};
+use crate::root::mode_of;
 use crate::{ffi, Handle};
 use std::ffi::{OsStr, OsString};
 use std::fs::Permissions;
 use std::io;
 use std::os::raw::c_int;
 use std::os::unix::ffi::OsStringExt;
-use std::os::unix::fs::PermissionsExt;
 use std::os::unix::io::{AsFd, AsRawFd};
 use std::path::Path;
 use std::time::{SystemTime, UNIX_EPOCH};
@@ -20,6 +20,7 @@ const STAYS: u32 = u32::MAX;
 
 /// How [`Handle::set_xattr`] treats an attribute that is there already, or isn't.
 #[derive(Clone, Copy, Debug, PartialEq, Eq, Default)]
+#[non_exhaustive]
 pub enum XattrMode {
     /// It is set in either case.
     #[default]
@@ -36,12 +37,29 @@ impl Handle {
     }
 
     /// Sets the mode. EOPNOTSUPP of a link.
-    pub fn set_permissions(&self, mode: &Permissions) -> io::Result<()> {
+    ///
+    /// ```
+    /// # let root = include!("../tests/shared/example.rs");
+    /// use std::{fs::Permissions, os::unix::fs::PermissionsExt};
+    ///
+    /// root.resolve("etc/conf")?.set_permissions(Permissions::from_mode(0o400))?;
+    /// # assert_eq!(root.metadata("etc/conf")?.permissions().mode() & 0o7777, 0o400);
+    /// # Ok::<(), std::io::Error>(())
+    /// ```
+    pub fn set_permissions(&self, permissions: Permissions) -> io::Result<()> {
         // SAFETY: it takes numbers alone.
-        done(unsafe { ffi::inroot_fchmod(self.number(), mode.mode() & 0o7777) })
+        done(unsafe { ffi::inroot_fchmod(self.number(), mode_of(&permissions)) })
     }
 
     /// Sets the owner and the group; `None` leaves it. EINVAL of the number of all ones, which is nobody's.
+    ///
+    /// ```
+    /// # let root = include!("../tests/shared/example.rs");
+    /// let conf = root.resolve("etc/conf")?;
+    /// let owner = std::os::unix::fs::MetadataExt::uid(&conf.metadata()?);
+    /// conf.chown(Some(owner), None)?;
+    /// # Ok::<(), std::io::Error>(())
+    /// ```
     pub fn chown(&self, user: Option<u32>, group: Option<u32>) -> io::Result<()> {
         if user == Some(STAYS) || group == Some(STAYS) {
             return Err(io::Error::from_raw_os_error(EINVAL));
@@ -52,6 +70,15 @@ impl Handle {
     }
 
     /// Sets the times of the last access and of the last change of the contents; `None` leaves it.
+    ///
+    /// ```
+    /// # let root = include!("../tests/shared/example.rs");
+    /// use std::time::UNIX_EPOCH;
+    ///
+    /// root.resolve("etc/conf")?.set_times(None, Some(UNIX_EPOCH))?;
+    /// assert_eq!(root.metadata("etc/conf")?.modified()?, UNIX_EPOCH);
+    /// # Ok::<(), std::io::Error>(())
+    /// ```
     pub fn set_times(&self, accessed: Option<SystemTime>, modified: Option<SystemTime>) -> io::Result<()> {
         let times = [spec_of(accessed), spec_of(modified)];
         // SAFETY: it reads two times.
@@ -59,6 +86,16 @@ impl Handle {
     }
 
     /// Sets an extended attribute.
+    ///
+    /// ```
+    /// # let root = include!("../tests/shared/example.rs");
+    /// let conf = root.resolve("etc/conf")?;
+    /// // EOPNOTSUPP where the file system has none.
+    /// if conf.set_xattr("user.origin", b"here", inroot::XattrMode::Set).is_ok() {
+    ///     assert_eq!(conf.xattr("user.origin")?, b"here");
+    /// }
+    /// # Ok::<(), std::io::Error>(())
+    /// ```
     pub fn set_xattr(&self, name: impl AsRef<OsStr>, value: &[u8], mode: XattrMode) -> io::Result<()> {
         let name = c_path(Path::new(name.as_ref()))?;
         let (bytes, size) = (value.as_ptr().cast(), value.len());
@@ -67,6 +104,16 @@ impl Handle {
     }
 
     /// The value of an extended attribute.
+    ///
+    /// ```
+    /// # let root = include!("../tests/shared/example.rs");
+    /// let conf = root.resolve("etc/conf")?;
+    /// // EOPNOTSUPP where the file system has none.
+    /// if conf.set_xattr("user.origin", b"here", inroot::XattrMode::Set).is_ok() {
+    ///     assert_eq!(conf.xattr("user.origin")?.len(), 4);
+    /// }
+    /// # Ok::<(), std::io::Error>(())
+    /// ```
     pub fn xattr(&self, name: impl AsRef<OsStr>) -> io::Result<Vec<u8>> {
         let name = c_path(Path::new(name.as_ref()))?;
         // SAFETY: it writes at most the size of the room.
@@ -74,6 +121,16 @@ impl Handle {
     }
 
     /// The names of the extended attributes.
+    ///
+    /// ```
+    /// # let root = include!("../tests/shared/example.rs");
+    /// let conf = root.resolve("etc/conf")?;
+    /// // EOPNOTSUPP where the file system has none.
+    /// if conf.set_xattr("user.origin", b"here", inroot::XattrMode::Set).is_ok() {
+    ///     assert!(conf.xattrs()?.iter().any(|name| name == "user.origin"));
+    /// }
+    /// # Ok::<(), std::io::Error>(())
+    /// ```
     pub fn xattrs(&self) -> io::Result<Vec<OsString>> {
         // SAFETY: it writes at most the size of the room.
         let text = all_of(|room, size| unsafe { ffi::inroot_flistxattr(self.number(), room.cast(), size) })?;
@@ -82,6 +139,16 @@ impl Handle {
     }
 
     /// Removes an extended attribute.
+    ///
+    /// ```
+    /// # let root = include!("../tests/shared/example.rs");
+    /// let conf = root.resolve("etc/conf")?;
+    /// // EOPNOTSUPP where the file system has none.
+    /// if conf.set_xattr("user.origin", b"here", inroot::XattrMode::Set).is_ok() {
+    ///     conf.remove_xattr("user.origin")?;
+    /// }
+    /// # Ok::<(), std::io::Error>(())
+    /// ```
     pub fn remove_xattr(&self, name: impl AsRef<OsStr>) -> io::Result<()> {
         let name = c_path(Path::new(name.as_ref()))?;
         // SAFETY: the name ends with a NUL.

@@ -11,6 +11,7 @@ use std::path::{Path, PathBuf};
 
 /// Why a call failed, for whoever wants to print it.
 #[derive(Clone, Debug, PartialEq, Eq)]
+#[non_exhaustive]
 pub struct Cause {
     /// The error's number.
     pub error: i32,
@@ -21,6 +22,15 @@ pub struct Cause {
 }
 
 /// Why the thread's last call failed, where one has. After a call that succeeded it says nothing of that call.
+///
+/// ```
+/// # let root = include!("../tests/shared/example.rs");
+/// root.symlink("none", "link")?;
+/// assert!(root.open("link/conf").is_err());
+/// let cause = inroot::last_error().unwrap();
+/// assert_eq!((cause.step.as_str(), cause.name.to_str()), ("Open", Some("none")));
+/// # Ok::<(), std::io::Error>(())
+/// ```
 pub fn last_error() -> Option<Cause> {
     let mut told = MaybeUninit::<ffi::Error>::uninit();
     // SAFETY: the library writes the whole structure where it gives 0, and its texts end with a NUL.

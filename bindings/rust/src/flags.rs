@@ -18,19 +18,44 @@ macro_rules! joined {
         }
 
         impl $name {
-            /// The number that the kernel or the library has for it.
+            /// The number that the kernel or the library has for them.
+            ///
+            /// ```
+            /// assert_eq!(inroot::RenameFlags::RENAME_NOREPLACE.bits(), 1);
+            /// ```
             pub const fn bits(self) -> i32 {
                 self.0
             }
 
-            /// Flags of any number: what is none is refused by the call, with EINVAL.
-            pub const fn from_bits(bits: i32) -> $name {
-                $name(bits)
-            }
-
             /// Whether all of the other's flags are set.
+            ///
+            /// ```
+            /// use inroot::OpenFlags;
+            ///
+            /// assert!((OpenFlags::O_PATH | OpenFlags::O_NOFOLLOW).contains(OpenFlags::O_PATH));
+            /// ```
             pub const fn contains(self, other: $name) -> bool {
                 self.0 & other.0 == other.0
+            }
+        }
+    };
+}
+
+macro_rules! of_number {
+    ($name:ident, $($flag:ident)|+) => {
+        impl $name {
+            /// The flags that have this number; `None` of a number that stands for others, too.
+            ///
+            /// ```
+            /// assert_eq!(inroot::ResolverFlags::from_bits(1), Some(inroot::ResolverFlags::BENEATH));
+            /// assert_eq!(inroot::ResolverFlags::from_bits(256), None); // INROOT_GIVE restricts nothing
+            /// ```
+            pub const fn from_bits(bits: i32) -> Option<$name> {
+                if bits & !(0 $(| $name::$flag.0)+) == 0 {
+                    Some($name(bits))
+                } else {
+                    None
+                }
             }
         }
     };
@@ -50,29 +75,45 @@ mod machine {
     pub const O_NOFOLLOW: i32 = 0o400000;
 }
 
-/// How a file is opened for use: the flags of open(2) that inroot_openat(3) takes.
+/// Flags of open(2) for which [`OpenOptions`](crate::OpenOptions) has no method: its `custom_flags` takes them.
 #[derive(Clone, Copy, Debug, PartialEq, Eq, Default)]
 pub struct OpenFlags(i32);
 
 impl OpenFlags {
-    pub const O_RDONLY: OpenFlags = OpenFlags(0);
-    pub const O_WRONLY: OpenFlags = OpenFlags(0o1);
-    pub const O_RDWR: OpenFlags = OpenFlags(0o2);
+    pub(crate) const O_RDONLY: OpenFlags = OpenFlags(0);
+    pub(crate) const O_WRONLY: OpenFlags = OpenFlags(0o1);
+    pub(crate) const O_RDWR: OpenFlags = OpenFlags(0o2);
+    pub(crate) const O_TRUNC: OpenFlags = OpenFlags(0o1000);
+    pub(crate) const O_APPEND: OpenFlags = OpenFlags(0o2000);
+    /// With `O_PATH`, by which nothing is written: what is missing is made, as an empty file.
     pub const O_CREAT: OpenFlags = OpenFlags(0o100);
+    /// With `O_PATH` and `O_CREAT`: EEXIST where there is such an entry. With `O_TMPFILE`: the file never gets a name.
     pub const O_EXCL: OpenFlags = OpenFlags(0o200);
-    pub const O_NOCTTY: OpenFlags = OpenFlags(0o400);
-    pub const O_TRUNC: OpenFlags = OpenFlags(0o1000);
-    pub const O_APPEND: OpenFlags = OpenFlags(0o2000);
+    /// The opening of a FIFO or a device doesn't wait.
     pub const O_NONBLOCK: OpenFlags = OpenFlags(0o4000);
+    /// A write ends as the data is on the device.
     pub const O_DSYNC: OpenFlags = OpenFlags(0o10000);
-    pub const O_DIRECT: OpenFlags = OpenFlags(machine::O_DIRECT);
-    pub const O_DIRECTORY: OpenFlags = OpenFlags(machine::O_DIRECTORY);
-    pub const O_NOFOLLOW: OpenFlags = OpenFlags(machine::O_NOFOLLOW);
-    pub const O_NOATIME: OpenFlags = OpenFlags(0o1000000);
-    pub const O_CLOEXEC: OpenFlags = OpenFlags(0o2000000);
+    /// A write ends as the data and all about the file are on the device.
     pub const O_SYNC: OpenFlags = OpenFlags(0o4010000);
+    /// Reads and writes pass the cache by.
+    pub const O_DIRECT: OpenFlags = OpenFlags(machine::O_DIRECT);
+    /// ENOTDIR of what is no directory.
+    pub const O_DIRECTORY: OpenFlags = OpenFlags(machine::O_DIRECTORY);
+    /// ELOOP of a link at the end of the path; with `O_PATH` the link itself is opened.
+    pub const O_NOFOLLOW: OpenFlags = OpenFlags(machine::O_NOFOLLOW);
+    /// Reading doesn't set the time of the last access.
+    pub const O_NOATIME: OpenFlags = OpenFlags(0o1000000);
+    /// The object is opened for no use: as [`Root::resolve`](crate::Root::resolve) does.
     pub const O_PATH: OpenFlags = OpenFlags(0o10000000);
+    /// A file without a name, in the file system of the directory: as
+    /// [`Root::create_unnamed`](crate::Root::create_unnamed) does.
     pub const O_TMPFILE: OpenFlags = OpenFlags(0o20000000 | machine::O_DIRECTORY);
+}
+
+impl From<OpenFlags> for i32 {
+    fn from(flags: OpenFlags) -> i32 {
+        flags.0
+    }
 }
 
 joined!(OpenFlags);
@@ -95,6 +136,7 @@ impl ResolverFlags {
 }
 
 joined!(ResolverFlags);
+of_number!(ResolverFlags, BENEATH | NO_SYMLINKS | NO_XDEV | NO_RETRY | EXACT);
 
 /// How a rename treats an entry that is there already.
 #[derive(Clone, Copy, Debug, PartialEq, Eq, Default)]
@@ -107,11 +149,7 @@ impl RenameFlags {
     pub const RENAME_EXCHANGE: RenameFlags = RenameFlags(2);
     /// A whiteout is left behind, by itself or together with `RENAME_NOREPLACE`.
     pub const RENAME_WHITEOUT: RenameFlags = RenameFlags(4);
-
-    /// It is replaced.
-    pub const fn empty() -> RenameFlags {
-        RenameFlags(0)
-    }
 }
 
 joined!(RenameFlags);
+of_number!(RenameFlags, RENAME_NOREPLACE | RENAME_EXCHANGE | RENAME_WHITEOUT);

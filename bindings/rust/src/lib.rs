@@ -4,23 +4,25 @@
 //! path and an absolute link begin at the root, and `..` at the root is the root, whoever renames directories
 //! meanwhile. What is promised, and the order of the errors, is that of libinroot(7).
 //!
-//! ```no_run
-//! use inroot::{OpenFlags, Root};
-//! use std::io::Read;
+//! Its methods are named as the functions of [`std::fs`], as those of cap-std's `Dir` are: they take the same arguments
+//! and give std's types and errors, with the kernel's number. Where a path would lead out, cap-std gives an error; here
+//! the path stays below the root.
 //!
-//! # fn main() -> std::io::Result<()> {
-//! let root = Root::open("/srv/box")?;
-//! let mut text = String::new();
-//! root.open_subpath("etc/passwd", OpenFlags::O_RDONLY)?.read_to_string(&mut text)?;
-//!
-//! let found = root.resolve("var/log")?;
-//! let directory = found.reopen(OpenFlags::O_RDONLY | OpenFlags::O_DIRECTORY)?;
-//! # drop(directory);
-//! # Ok(())
-//! # }
+//! ```
+//! # let root = include!("../tests/shared/example.rs");
+//! // let root = inroot::Root::open_ambient_dir("/srv/box")?;
+//! root.create_dir_all("var/log")?;
+//! root.write("var/log/first", "begun\n")?;
+//! root.symlink("/var/log/first", "latest")?;
+//! assert_eq!(root.read_to_string("../../latest")?, "begun\n");
+//! root.remove_dir_all("var")?;
+//! # Ok::<(), std::io::Error>(())
 //! ```
 //!
-//! Types and functions are named as those of libpathrs.
+//! What std has no function for is beside them: a [`Handle`] of what was found, which is opened, changed or linked by
+//! itself ([`Root::resolve`]); restrictions of the walk ([`ResolverFlags`]); nodes ([`Root::create_inode`], [`Root::mknod`]); missing
+//! objects that links lead to ([`DirBuilder::through_links`]); an object's path ([`Root::place`]); and files of /proc
+//! ([`proc_open`]). What std has and the crate has not: `copy` and `canonicalize`.
 
 #[cfg(not(all(
     target_os = "linux",
@@ -31,23 +33,32 @@
 compile_error!("libinroot is there for 64-bit Linux on x86-64 and arm64 alone");
 
 mod attributes;
+mod change;
 mod error;
 mod ffi;
 mod flags;
 mod handle;
-mod names;
+mod options;
 mod parts;
 mod proc;
+mod read_dir;
 mod root;
 
 pub use attributes::XattrMode;
+pub use change::InodeType;
 pub use error::{last_error, Cause};
 pub use flags::{OpenFlags, RenameFlags, ResolverFlags};
 pub use handle::Handle;
+pub use options::{DirBuilder, OpenOptions};
 pub use proc::{proc_open, proc_readlink, use_private_proc, use_proc, ProcfsBase};
-pub use root::{InodeType, Root};
+pub use read_dir::{DirEntry, ReadDir};
+pub use root::Root;
 
 /// The version of the library that is linked.
+///
+/// ```
+/// assert!(inroot::version().starts_with("0."));
+/// ```
 pub fn version() -> String {
     // SAFETY: the library gives a text that ends with a NUL and stays as long as the program.
     let text = unsafe { std::ffi::CStr::from_ptr(ffi::inroot_version()) };

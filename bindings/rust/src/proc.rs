@@ -1,7 +1,7 @@
 //! Which proc(5) the calls ask, and files in it.
 
 use crate::error::{c_path, done, opened, text_from};
-use crate::{ffi, OpenFlags};
+use crate::{ffi, OpenOptions};
 use std::fs::File;
 use std::io;
 use std::os::raw::c_int;
@@ -10,6 +10,12 @@ use std::path::{Path, PathBuf};
 
 /// Has the calls ask the proc(5) of which this is the topmost directory, in place of /proc: inroot_use_proc(3). Before the
 /// first other call; the descriptor may be closed afterwards.
+///
+/// ```
+/// inroot::use_proc(std::fs::File::open("/proc")?)?;
+/// assert!(inroot::Root::open_ambient_dir("/")?.exists("proc/version"));
+/// # Ok::<(), std::io::Error>(())
+/// ```
 pub fn use_proc(proc: impl AsFd) -> io::Result<()> {
     // SAFETY: it takes a number alone.
     done(unsafe { ffi::inroot_use_proc(proc.as_fd().as_raw_fd()) })
@@ -17,6 +23,13 @@ pub fn use_proc(proc: impl AsFd) -> io::Result<()> {
 
 /// Has the calls ask a proc(5) that is mounted nowhere, in place of /proc: inroot_use_private_proc(3). Before the first
 /// other call.
+///
+/// ```
+/// if let Err(refused) = inroot::use_private_proc() {
+///     eprintln!("the calls go by /proc: {refused}"); // as EPERM
+/// }
+/// # Ok::<(), std::io::Error>(())
+/// ```
 pub fn use_private_proc() -> io::Result<()> {
     // SAFETY: it takes nothing.
     done(unsafe { ffi::inroot_use_private_proc() })
@@ -24,6 +37,7 @@ pub fn use_private_proc() -> io::Result<()> {
 
 /// Where a path in the proc(5) begins.
 #[derive(Clone, Copy, Debug, PartialEq, Eq)]
+#[non_exhaustive]
 pub enum ProcfsBase {
     /// At the topmost directory.
     ProcRoot,
@@ -48,14 +62,29 @@ impl ProcfsBase {
 }
 
 /// Opens a file of the proc(5) by which the calls go, and fails where something is mounted over it or over a part of the
-/// path: inroot_proc_open(3). A link at the end is followed, but for `O_NOFOLLOW`.
-pub fn proc_open(base: ProcfsBase, path: impl AsRef<Path>, flags: OpenFlags) -> io::Result<File> {
+/// path: inroot_proc_open(3). A link at the end is followed, but for `O_NOFOLLOW`. EINVAL of options that make a file.
+///
+/// ```
+/// use inroot::{OpenOptions, ProcfsBase};
+///
+/// let comm = inroot::proc_open(ProcfsBase::ProcSelf, "comm", OpenOptions::new().read(true))?;
+/// assert!(comm.metadata()?.is_file());
+/// # Ok::<(), std::io::Error>(())
+/// ```
+pub fn proc_open(base: ProcfsBase, path: impl AsRef<Path>, options: &OpenOptions) -> io::Result<File> {
+    let (flags, _) = options.numbers()?;
     let path = c_path(path.as_ref())?;
     // SAFETY: the path ends with a NUL and stays during the call, here and below.
-    opened(unsafe { ffi::inroot_proc_open(base.number(), path.as_ptr(), flags.bits()) }).map(File::from)
+    opened(unsafe { ffi::inroot_proc_open(base.number(), path.as_ptr(), flags) }).map(File::from)
 }
 
 /// The text of a link there.
+///
+/// ```
+/// let program = inroot::proc_readlink(inroot::ProcfsBase::ProcSelf, "exe")?;
+/// assert_eq!(program, std::env::current_exe()?);
+/// # Ok::<(), std::io::Error>(())
+/// ```
 pub fn proc_readlink(base: ProcfsBase, path: impl AsRef<Path>) -> io::Result<PathBuf> {
     let path = c_path(path.as_ref())?;
     // SAFETY: it writes at most the size of the room.

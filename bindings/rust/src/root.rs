@@ -1,45 +1,21 @@
-//! A directory, and the calls below it.
+//! A directory, and what is found, opened, read and written below it.
 
-use crate::error::{c_path, count_of, done, opened, text_from};
-use crate::{ffi, Handle, OpenFlags, RenameFlags, ResolverFlags};
-use std::fs::{File, Metadata, OpenOptions, Permissions};
-use std::io;
+use crate::error::{c_path, opened, text_from};
+use crate::options::MODE;
+use crate::{ffi, Handle, OpenFlags, OpenOptions, ResolverFlags};
+use std::fs::{File, Metadata, Permissions};
+use std::io::{self, Read, Write};
 use std::os::raw::c_int;
 use std::os::unix::fs::{OpenOptionsExt, PermissionsExt};
 use std::os::unix::io::{AsFd, AsRawFd, BorrowedFd, OwnedFd};
 use std::path::{Path, PathBuf};
 
-const S_IFIFO: u32 = 0o010000;
-const S_IFCHR: u32 = 0o020000;
-const S_IFBLK: u32 = 0o060000;
-const S_IFREG: u32 = 0o100000;
-const S_IFSOCK: u32 = 0o140000;
-const INROOT_NOFOLLOW: c_int = 4;
-pub(crate) const INROOT_FOLLOW: c_int = 16;
-const INROOT_GIVE: c_int = 256;
-
-/// What [`Root::create`] makes. Modes are taken less the umask.
-#[derive(Clone, Debug)]
-pub enum InodeType {
-    /// An empty file.
-    File(Permissions),
-    /// An empty directory.
-    Directory(Permissions),
-    /// A symbolic link with this text.
-    Symlink(PathBuf),
-    /// A second name of what this path means below the root; of a link at its end, of the link itself.
-    Hardlink(PathBuf),
-    /// A FIFO.
-    Fifo(Permissions),
-    /// A socket.
-    Socket(Permissions),
-    /// A node of the character device with this number.
-    CharacterDevice(Permissions, u64),
-    /// A node of the block device with this number.
-    BlockDevice(Permissions, u64),
-}
+pub(crate) const INROOT_NOFOLLOW: c_int = 4;
 
 /// A directory below which paths are resolved. Any number of threads may make calls on it.
+///
+/// A descriptor of a directory is a root, too: `Root::from(fd)`, and `OwnedFd::from(root)` back. If it isn't one of a
+/// directory, the calls give ENOTDIR.
 #[derive(Debug)]
 pub struct Root {
     fd: OwnedFd,
@@ -49,24 +25,57 @@ pub struct Root {
 impl Root {
     /// Opens a directory as the root. Its path is walked as open(2) does, so it should be one that nobody else can
     /// change.
-    pub fn open(path: impl AsRef<Path>) -> io::Result<Root> {
+    ///
+    /// ```
+    /// let root = inroot::Root::open_ambient_dir("/")?;
+    /// assert!(root.exists("proc/version"));
+    /// # Ok::<(), std::io::Error>(())
+    /// ```
+    pub fn open_ambient_dir(path: impl AsRef<Path>) -> io::Result<Root> {
         let flags = OpenFlags::O_PATH | OpenFlags::O_DIRECTORY;
-        let file = OpenOptions::new().read(true).custom_flags(flags.bits()).open(path)?;
-        Ok(Root::from_fd(file))
+        let file = std::fs::OpenOptions::new().read(true).custom_flags(flags.bits()).open(path)?;
+        Ok(Root::from(OwnedFd::from(file)))
     }
 
-    /// The root that this descriptor is open on. Calls give ENOTDIR if it isn't a directory.
-    pub fn from_fd(fd: impl Into<OwnedFd>) -> Root {
-        Root { fd: fd.into(), flags: ResolverFlags::default() }
+    /// Opens a directory below this root as a root of its own, of which nothing leads up to this one. It has the same
+    /// restrictions.
+    ///
+    /// ```
+    /// # let root = include!("../tests/shared/example.rs");
+    /// let etc = root.open_dir("etc")?;
+    /// assert_eq!(etc.read_to_string("../../conf")?, "text\n");
+    /// # Ok::<(), std::io::Error>(())
+    /// ```
+    pub fn open_dir(&self, path: impl AsRef<Path>) -> io::Result<Root> {
+        let flags = OpenFlags::O_PATH | OpenFlags::O_DIRECTORY;
+        let found = self.open_with(path, OpenOptions::new().read(true).custom_flags(flags))?;
+        Ok(Root { fd: found.into(), flags: self.flags })
     }
 
     /// The same root, whose calls are restricted so.
+    ///
+    /// ```
+    /// # let root = include!("../tests/shared/example.rs");
+    /// use inroot::ResolverFlags;
+    ///
+    /// root.symlink("etc/conf", "conf")?;
+    /// let plain = root.try_clone()?.with_resolver_flags(ResolverFlags::NO_SYMLINKS);
+    /// assert_eq!(plain.open("conf").unwrap_err().raw_os_error(), Some(40)); // ELOOP
+    /// # Ok::<(), std::io::Error>(())
+    /// ```
     pub fn with_resolver_flags(mut self, flags: ResolverFlags) -> Root {
         self.flags = flags;
         self
     }
 
     /// The same root by a descriptor of its own.
+    ///
+    /// ```
+    /// # let root = include!("../tests/shared/example.rs");
+    /// let second = root.try_clone()?;
+    /// assert!(std::thread::spawn(move || second.exists("etc")).join().unwrap());
+    /// # Ok::<(), std::io::Error>(())
+    /// ```
     pub fn try_clone(&self) -> io::Result<Root> {
         Ok(Root { fd: self.fd.try_clone()?, flags: self.flags })
     }
@@ -76,11 +85,25 @@ impl Root {
     }
 
     /// Finds what the path means. A link at its end is followed.
+    ///
+    /// ```
+    /// # let root = include!("../tests/shared/example.rs");
+    /// let found = root.resolve("etc/conf")?;
+    /// assert_eq!(found.metadata()?.len(), 5);
+    /// # Ok::<(), std::io::Error>(())
+    /// ```
     pub fn resolve(&self, path: impl AsRef<Path>) -> io::Result<Handle> {
         self.find(path.as_ref(), 0)
     }
 
     /// Finds what the path means. A link at its end is what is found.
+    ///
+    /// ```
+    /// # let root = include!("../tests/shared/example.rs");
+    /// root.symlink("nowhere", "link")?;
+    /// root.resolve_nofollow("link")?.chown(None, None)?;
+    /// # Ok::<(), std::io::Error>(())
+    /// ```
     pub fn resolve_nofollow(&self, path: impl AsRef<Path>) -> io::Result<Handle> {
         self.find(path.as_ref(), INROOT_NOFOLLOW)
     }
@@ -91,136 +114,197 @@ impl Root {
         opened(unsafe { ffi::inroot_open(self.number(), path.as_ptr(), self.flags.bits() | more) }).map(Handle::from)
     }
 
-    /// Opens what the path means for use. It makes nothing: `create_file` does.
-    pub fn open_subpath(&self, path: impl AsRef<Path>, flags: OpenFlags) -> io::Result<File> {
-        self.open_for_use(path.as_ref(), flags, 0)
+    /// Opens a file for reading, as [`File::open`] does.
+    ///
+    /// ```
+    /// # let root = include!("../tests/shared/example.rs");
+    /// let lines = std::io::BufRead::lines(std::io::BufReader::new(root.open("/etc/conf")?));
+    /// assert_eq!(lines.count(), 1);
+    /// # Ok::<(), std::io::Error>(())
+    /// ```
+    pub fn open(&self, path: impl AsRef<Path>) -> io::Result<File> {
+        self.open_with(path, OpenOptions::new().read(true))
     }
 
-    /// Opens a file for use, and makes it where it is missing; with `O_EXCL`, only there.
-    pub fn create_file(&self, path: impl AsRef<Path>, flags: OpenFlags, mode: &Permissions) -> io::Result<File> {
-        self.open_for_use(path.as_ref(), flags | OpenFlags::O_CREAT, mode_of(mode))
+    /// Opens a file for writing, as [`File::create`] does: what is missing is made, and what is there made empty.
+    ///
+    /// ```
+    /// # let root = include!("../tests/shared/example.rs");
+    /// use std::io::Write;
+    ///
+    /// root.create("etc/new")?.write_all(b"one")?;
+    /// # assert_eq!(root.read("etc/new")?, b"one");
+    /// # Ok::<(), std::io::Error>(())
+    /// ```
+    pub fn create(&self, path: impl AsRef<Path>) -> io::Result<File> {
+        self.open_with(path, OpenOptions::new().write(true).create(true).truncate(true))
     }
 
-    /// Makes a file without a name in the file system of this directory. [`Root::link`] gives it one.
-    pub fn create_unnamed(&self, directory: impl AsRef<Path>, mode: &Permissions) -> io::Result<File> {
-        self.open_for_use(directory.as_ref(), OpenFlags::O_TMPFILE | OpenFlags::O_RDWR, mode_of(mode))
+    /// Makes a file, for reading and writing, or gives EEXIST, as `File::create_new` of std does.
+    ///
+    /// ```
+    /// # let root = include!("../tests/shared/example.rs");
+    /// root.create_new("etc/new")?;
+    /// assert_eq!(root.create_new("etc/new").unwrap_err().kind(), std::io::ErrorKind::AlreadyExists);
+    /// # Ok::<(), std::io::Error>(())
+    /// ```
+    pub fn create_new(&self, path: impl AsRef<Path>) -> io::Result<File> {
+        self.open_with(path, OpenOptions::new().read(true).write(true).create_new(true))
     }
 
-    fn open_for_use(&self, path: &Path, flags: OpenFlags, mode: u32) -> io::Result<File> {
-        let path = c_path(path)?;
+    /// Opens a file as the options say.
+    ///
+    /// ```
+    /// # let root = include!("../tests/shared/example.rs");
+    /// use inroot::OpenOptions;
+    /// use std::io::Write;
+    ///
+    /// root.open_with("etc/conf", OpenOptions::new().append(true))?.write_all(b"more\n")?;
+    /// # assert_eq!(root.read_to_string("etc/conf")?, "text\nmore\n");
+    /// # Ok::<(), std::io::Error>(())
+    /// ```
+    pub fn open_with(&self, path: impl AsRef<Path>, options: &OpenOptions) -> io::Result<File> {
+        let (flags, mode) = options.numbers()?;
+        let path = c_path(path.as_ref())?;
         // SAFETY: as above.
-        let given = unsafe { ffi::inroot_openat(self.number(), path.as_ptr(), flags.bits(), mode, self.flags.bits()) };
+        let given = unsafe { ffi::inroot_openat(self.number(), path.as_ptr(), flags, mode, self.flags.bits()) };
         opened(given).map(File::from)
     }
 
-    /// Makes an entry that isn't there yet, or gives EEXIST.
-    pub fn create(&self, path: impl AsRef<Path>, what: &InodeType) -> io::Result<()> {
-        done(self.make(path.as_ref(), what, 0)?)
+    /// Makes a file without a name in the file system of this directory. [`Root::hard_link_fd`] gives it one.
+    ///
+    /// ```
+    /// # let root = include!("../tests/shared/example.rs");
+    /// use std::{fs::Permissions, io::Write, os::unix::fs::PermissionsExt};
+    ///
+    /// let mut file = root.create_unnamed("etc", &Permissions::from_mode(0o644))?;
+    /// file.write_all(b"whole")?;
+    /// root.hard_link_fd(&file, "etc/whole")?;
+    /// # assert_eq!(root.read("etc/whole")?, b"whole");
+    /// # Ok::<(), std::io::Error>(())
+    /// ```
+    pub fn create_unnamed(&self, directory: impl AsRef<Path>, mode: &Permissions) -> io::Result<File> {
+        let mut options = OpenOptions::new();
+        options.read(true).write(true).mode(mode.mode()).custom_flags(OpenFlags::O_TMPFILE);
+        self.open_with(directory, &options)
     }
 
-    /// Makes an entry that isn't there yet, and gives what it made. A file, or what got a second name, is just that
-    /// one; of any other only the kind, a link's text and a device's number are known. EAGAIN where others took it away
-    /// before it could be opened: it was made.
-    pub fn create_handle(&self, path: impl AsRef<Path>, what: &InodeType) -> io::Result<Handle> {
-        opened(self.make(path.as_ref(), what, INROOT_GIVE)?).map(Handle::from)
+    /// Reads a whole file.
+    ///
+    /// ```
+    /// # let root = include!("../tests/shared/example.rs");
+    /// assert_eq!(root.read("etc/conf")?, b"text\n");
+    /// # Ok::<(), std::io::Error>(())
+    /// ```
+    pub fn read(&self, path: impl AsRef<Path>) -> io::Result<Vec<u8>> {
+        let mut bytes = Vec::new();
+        self.open(path)?.read_to_end(&mut bytes)?;
+        Ok(bytes)
     }
 
-    fn make(&self, path: &Path, what: &InodeType, more: c_int) -> io::Result<c_int> {
-        let (root, flags) = (self.number(), self.flags.bits() | more);
-        let to = c_path(path)?;
-        let to = to.as_ptr();
-        // SAFETY: as above, of both paths.
-        Ok(match what {
-            InodeType::File(mode) => unsafe { ffi::inroot_mknod(root, to, S_IFREG | mode_of(mode), 0, flags) },
-            InodeType::Directory(mode) => unsafe { ffi::inroot_mkdir(root, to, mode_of(mode), flags) },
-            InodeType::Symlink(text) => {
-                let text = c_path(text)?;
-                unsafe { ffi::inroot_symlink(root, text.as_ptr(), to, flags) }
-            }
-            InodeType::Hardlink(existing) => {
-                let existing = c_path(existing)?;
-                unsafe { ffi::inroot_link(root, existing.as_ptr(), to, flags) }
-            }
-            InodeType::Fifo(mode) => unsafe { ffi::inroot_mknod(root, to, S_IFIFO | mode_of(mode), 0, flags) },
-            InodeType::Socket(mode) => unsafe { ffi::inroot_mknod(root, to, S_IFSOCK | mode_of(mode), 0, flags) },
-            InodeType::CharacterDevice(mode, device) => unsafe {
-                ffi::inroot_mknod(root, to, S_IFCHR | mode_of(mode), *device, flags)
-            },
-            InodeType::BlockDevice(mode, device) => unsafe {
-                ffi::inroot_mknod(root, to, S_IFBLK | mode_of(mode), *device, flags)
-            },
-        })
+    /// Reads a whole file, which is UTF-8; else the error is of the kind `InvalidData`.
+    ///
+    /// ```
+    /// # let root = include!("../tests/shared/example.rs");
+    /// assert_eq!(root.read_to_string("etc/conf")?, "text\n");
+    /// # Ok::<(), std::io::Error>(())
+    /// ```
+    pub fn read_to_string(&self, path: impl AsRef<Path>) -> io::Result<String> {
+        let mut text = String::new();
+        self.open(path)?.read_to_string(&mut text)?;
+        Ok(text)
     }
 
-    /// Gives what the descriptor is open on, wherever that is, this name.
-    pub fn link(&self, object: impl AsFd, path: impl AsRef<Path>) -> io::Result<()> {
-        let path = c_path(path.as_ref())?;
-        let fd = object.as_fd().as_raw_fd();
-        // SAFETY: as above.
-        done(unsafe { ffi::inroot_link_fd(self.number(), fd, path.as_ptr(), self.flags.bits()) })
-    }
-
-    /// Gives what `existing` means, of a link at its end what that leads to, a second name.
-    pub fn link_followed(&self, existing: impl AsRef<Path>, path: impl AsRef<Path>) -> io::Result<()> {
-        let (existing, path) = (c_path(existing.as_ref())?, c_path(path.as_ref())?);
-        let flags = self.flags.bits() | INROOT_FOLLOW;
-        // SAFETY: as above, of both paths.
-        done(unsafe { ffi::inroot_link(self.number(), existing.as_ptr(), path.as_ptr(), flags) })
-    }
-
-    /// Makes each directory of the path that is missing, none through a link, and gives the last.
-    pub fn mkdir_all(&self, path: impl AsRef<Path>, mode: &Permissions) -> io::Result<Handle> {
-        let path = c_path(path.as_ref())?;
-        // SAFETY: as above.
-        let given = unsafe { ffi::inroot_mkdir_all(self.number(), path.as_ptr(), mode_of(mode), self.flags.bits()) };
-        opened(given).map(Handle::from)
-    }
-
-    /// Removes a non-directory; of a link the link alone.
-    pub fn remove_file(&self, path: impl AsRef<Path>) -> io::Result<()> {
-        let path = c_path(path.as_ref())?;
-        // SAFETY: as above.
-        done(unsafe { ffi::inroot_unlink(self.number(), path.as_ptr(), self.flags.bits()) })
-    }
-
-    /// Removes an empty directory.
-    pub fn remove_dir(&self, path: impl AsRef<Path>) -> io::Result<()> {
-        let path = c_path(path.as_ref())?;
-        // SAFETY: as above.
-        done(unsafe { ffi::inroot_rmdir(self.number(), path.as_ptr(), self.flags.bits()) })
-    }
-
-    /// Removes the entry with all that is below it, and gives how many entries it removed: 0 where there was none.
-    pub fn remove_all(&self, path: impl AsRef<Path>) -> io::Result<usize> {
-        let path = c_path(path.as_ref())?;
-        // SAFETY: as above.
-        count_of(unsafe { ffi::inroot_remove_all(self.number(), path.as_ptr(), self.flags.bits()) })
-    }
-
-    /// Renames the entry, which stays below the root.
-    pub fn rename(&self, from: impl AsRef<Path>, to: impl AsRef<Path>, flags: RenameFlags) -> io::Result<()> {
-        let (from, to) = (c_path(from.as_ref())?, c_path(to.as_ref())?);
-        let (root, restricted) = (self.number(), self.flags.bits());
-        // SAFETY: as above, of both paths.
-        done(unsafe { ffi::inroot_rename(root, from.as_ptr(), to.as_ptr(), flags.bits(), restricted) })
-    }
-
-    /// The text of the link at the end of the path.
-    pub fn readlink(&self, path: impl AsRef<Path>) -> io::Result<PathBuf> {
-        let path = c_path(path.as_ref())?;
-        let (root, flags) = (self.number(), self.flags.bits());
-        // SAFETY: as above, and it writes at most the size of the room.
-        text_from(|room, size| unsafe { ffi::inroot_readlink(root, path.as_ptr(), flags, room, size) })
+    /// Writes a whole file, which is made where it is missing.
+    ///
+    /// ```
+    /// # let root = include!("../tests/shared/example.rs");
+    /// root.write("etc/conf", "other\n")?;
+    /// # assert_eq!(root.read("etc/conf")?, b"other\n");
+    /// # Ok::<(), std::io::Error>(())
+    /// ```
+    pub fn write(&self, path: impl AsRef<Path>, contents: impl AsRef<[u8]>) -> io::Result<()> {
+        self.create(path)?.write_all(contents.as_ref())
     }
 
     /// What fstat(2) says of the object that the path means.
+    ///
+    /// ```
+    /// # let root = include!("../tests/shared/example.rs");
+    /// assert!(root.metadata("etc")?.is_dir());
+    /// # Ok::<(), std::io::Error>(())
+    /// ```
     pub fn metadata(&self, path: impl AsRef<Path>) -> io::Result<Metadata> {
         self.resolve(path)?.metadata()
     }
 
     /// The same, of a link at its end of the link itself.
+    ///
+    /// ```
+    /// # let root = include!("../tests/shared/example.rs");
+    /// root.symlink("nowhere", "link")?;
+    /// assert!(root.symlink_metadata("link")?.file_type().is_symlink());
+    /// # Ok::<(), std::io::Error>(())
+    /// ```
     pub fn symlink_metadata(&self, path: impl AsRef<Path>) -> io::Result<Metadata> {
         self.resolve_nofollow(path)?.metadata()
+    }
+
+    /// Sets the mode of the object that the path means. A link at its end is followed.
+    ///
+    /// ```
+    /// # let root = include!("../tests/shared/example.rs");
+    /// use std::{fs::Permissions, os::unix::fs::PermissionsExt};
+    ///
+    /// root.set_permissions("etc/conf", Permissions::from_mode(0o600))?;
+    /// assert_eq!(root.metadata("etc/conf")?.permissions().mode() & 0o7777, 0o600);
+    /// # Ok::<(), std::io::Error>(())
+    /// ```
+    pub fn set_permissions(&self, path: impl AsRef<Path>, permissions: Permissions) -> io::Result<()> {
+        self.resolve(path)?.set_permissions(permissions)
+    }
+
+    /// Whether the path leads to an object. If that can't be told, it is `false`.
+    ///
+    /// ```
+    /// # let root = include!("../tests/shared/example.rs");
+    /// root.symlink("nowhere", "link")?;
+    /// assert!(root.exists("etc/conf") && !root.exists("link"));
+    /// # Ok::<(), std::io::Error>(())
+    /// ```
+    pub fn exists(&self, path: impl AsRef<Path>) -> bool {
+        self.resolve(path).is_ok()
+    }
+
+    /// Whether the path leads to an object, or why that can't be told.
+    ///
+    /// ```
+    /// # let root = include!("../tests/shared/example.rs");
+    /// assert!(!root.try_exists("etc/none")?);
+    /// assert!(root.try_exists("etc/conf/none").is_err()); // ENOTDIR
+    /// # Ok::<(), std::io::Error>(())
+    /// ```
+    pub fn try_exists(&self, path: impl AsRef<Path>) -> io::Result<bool> {
+        match self.resolve(path) {
+            Ok(_) => Ok(true),
+            Err(error) if error.kind() == io::ErrorKind::NotFound => Ok(false),
+            Err(error) => Err(error),
+        }
+    }
+
+    /// The text of the link at the end of the path.
+    ///
+    /// ```
+    /// # let root = include!("../tests/shared/example.rs");
+    /// root.symlink("/etc/conf", "link")?;
+    /// assert_eq!(root.read_link("link")?.to_str(), Some("/etc/conf"));
+    /// # Ok::<(), std::io::Error>(())
+    /// ```
+    pub fn read_link(&self, path: impl AsRef<Path>) -> io::Result<PathBuf> {
+        let path = c_path(path.as_ref())?;
+        let (root, flags) = (self.number(), self.flags.bits());
+        // SAFETY: as above, and it writes at most the size of the room.
+        text_from(|room, size| unsafe { ffi::inroot_readlink(root, path.as_ptr(), flags, room, size) })
     }
 }
 
@@ -230,7 +314,19 @@ impl AsFd for Root {
     }
 }
 
+impl From<OwnedFd> for Root {
+    fn from(fd: OwnedFd) -> Root {
+        Root { fd, flags: ResolverFlags::default() }
+    }
+}
+
+impl From<Root> for OwnedFd {
+    fn from(root: Root) -> OwnedFd {
+        root.fd
+    }
+}
+
 /// The bits that the kernel takes for a new entry: those of the kind are the call's own.
 pub(crate) fn mode_of(mode: &Permissions) -> u32 {
-    mode.mode() & 0o7777
+    mode.mode() & MODE
 }

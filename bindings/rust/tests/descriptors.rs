@@ -1,10 +1,12 @@
 //! No call leaves a descriptor open, whether it succeeds or fails. In a program of its own: no other test opens any.
 
-use inroot::{OpenFlags, Root};
-use std::fs::{self, Permissions};
+mod shared;
+
+use inroot::{DirBuilder, InodeType, OpenFlags, OpenOptions, Root};
+use shared::{mode, Room};
+use std::fs;
 use std::os::raw::c_int;
-use std::os::unix::fs::PermissionsExt;
-use std::os::unix::io::AsRawFd;
+use std::os::unix::io::{AsRawFd, OwnedFd};
 
 extern "C" {
     fn getrlimit(resource: c_int, limits: *mut [u64; 2]) -> c_int;
@@ -31,18 +33,30 @@ fn open_now() -> usize {
 
 #[test]
 fn none_is_left_open() {
-    let top = std::env::temp_dir().join(format!("inroot-rust-fds-{}", std::process::id()));
-    fs::create_dir_all(top.join("a")).unwrap();
-    fs::write(top.join("a/f"), "x").unwrap();
-    let root = Root::open(&top).unwrap();
-    let mode = Permissions::from_mode(0o755);
+    let room = Room::new();
+    fs::create_dir(room.0.join("a")).unwrap();
+    fs::write(room.0.join("a/f"), "x").unwrap();
+    let root = Root::open_ambient_dir(&room.0).unwrap();
+    let reading = OpenOptions::new().read(true).clone();
     let all = || {
-        drop(root.resolve("a/f").unwrap().reopen(OpenFlags::O_RDONLY).unwrap());
-        drop(root.mkdir_all("a/x/y", &mode).unwrap());
-        drop(root.create_file("a/g", OpenFlags::O_RDWR, &mode).unwrap());
-        assert_eq!(root.remove_all("a/x").unwrap(), 2);
-        assert!(root.resolve("none/f").is_err() && root.mkdir_all("a/f/x", &mode).is_err());
-        assert!(root.readlink("a").is_err() && root.open_subpath("a", OpenFlags::O_WRONLY).is_err());
+        drop(root.resolve("a/f").unwrap().reopen(&reading).unwrap());
+        drop(root.create_dir_with("a/x/y", DirBuilder::new().recursive(true)).unwrap());
+        drop(root.create("a/g").unwrap());
+        drop(root.create_inode("a/p", &InodeType::Fifo(mode(0o600))).unwrap());
+        drop(root.create_unnamed("a", &mode(0o600)).unwrap());
+        drop(OwnedFd::from(root.try_clone().unwrap().open_dir("a").unwrap()));
+        drop(root.read_dir("a").unwrap().next().unwrap().unwrap());
+        assert!(root.read_dir("a").unwrap().all(|entry| entry.unwrap().metadata().is_ok()));
+        assert_eq!((root.read("a/f").unwrap(), root.metadata("a/f").unwrap().len()), (b"x".to_vec(), 1));
+        root.create_dir_all("a/x/y/z").unwrap();
+        root.remove_dir_all("a/x").unwrap();
+        assert_eq!(root.remove_all("a/p").unwrap(), 1);
+        assert!(root.resolve("none/f").is_err() && root.create_dir_all("a/f/x").is_err());
+        assert!(root.create_dir_all("a/f").is_err() && root.remove_dir_all("a/f").is_err());
+        assert!(root.read_link("a").is_err() && root.create("a").is_err() && root.create_new("a/f").is_err());
+        assert!(root.read("a").is_err() && root.read_dir("a/f").is_err() && root.open_dir("a/f").is_err());
+        let directory = OpenOptions::new().read(true).custom_flags(OpenFlags::O_DIRECTORY).clone();
+        assert!(root.resolve("a/f").unwrap().reopen(&directory).is_err());
     };
     // The first calls open /proc, which stays.
     all();
@@ -57,6 +71,4 @@ fn none_is_left_open() {
     let about = found.metadata();
     with_limit(limit);
     assert_eq!(about.unwrap().len(), 1);
-    drop(root);
-    fs::remove_dir_all(&top).unwrap();
 }

@@ -1,75 +1,39 @@
 //! Parents and places, and what is missing of a path.
 
-use inroot::{InodeType, OpenFlags, ResolverFlags, Root};
-use std::fs::{self, Permissions};
+mod shared;
+
+use inroot::{DirBuilder, InodeType, OpenFlags, OpenOptions, ResolverFlags, Root};
+use shared::*;
+use std::fs;
 use std::io;
-use std::os::unix::fs::{symlink, FileTypeExt, MetadataExt, PermissionsExt};
-use std::path::{Path, PathBuf};
-
-const ENOENT: i32 = 2;
-const EAGAIN: i32 = 11;
-const EEXIST: i32 = 17;
-const EXDEV: i32 = 18;
-const ENOTDIR: i32 = 20;
-const EISDIR: i32 = 21;
-const EINVAL: i32 = 22;
-const ELOOP: i32 = 40;
-
-fn mode(bits: u32) -> Permissions {
-    Permissions::from_mode(bits)
-}
+use std::os::unix::fs::{symlink, FileTypeExt, MetadataExt};
+use std::path::Path;
 
 fn fails<T: std::fmt::Debug>(result: io::Result<T>, error: i32) {
-    assert_eq!(result.unwrap_err().raw_os_error(), Some(error));
-}
-
-/// A root `box` beside `outside`, in a directory that is removed at the end.
-struct Tree(PathBuf);
-
-impl Tree {
-    fn new(name: &str) -> Tree {
-        let top = std::env::temp_dir().join(format!("inroot-parts-{}-{name}", std::process::id()));
-        fs::create_dir_all(top.join("box/a/b")).unwrap();
-        fs::create_dir(top.join("outside")).unwrap();
-        fs::write(top.join("box/a/b/f"), "inside").unwrap();
-        symlink("/../a/b", top.join("box/in")).unwrap();
-        symlink("../run/pid", top.join("box/a/to")).unwrap();
-        Tree(top)
-    }
-
-    fn root(&self) -> Root {
-        Root::open(self.0.join("box")).unwrap()
-    }
-
-    fn inode(&self, path: &str) -> u64 {
-        fs::symlink_metadata(self.0.join("box").join(path)).unwrap().ino()
-    }
-}
-
-impl Drop for Tree {
-    fn drop(&mut self) {
-        let _ = fs::remove_dir_all(&self.0);
-    }
+    assert_eq!(number(result), Some(error));
 }
 
 #[test]
 fn a_path_is_taken_apart() {
-    let tree = Tree::new("parts");
+    let tree = Tree::new();
     let root = tree.root();
     let (dir, last) = root.resolve_parent("in/none").unwrap();
     assert_eq!((dir.metadata().unwrap().ino(), last.to_str()), (tree.inode("a/b"), Some("none")));
     fails(root.resolve_parent("in/.."), EINVAL);
     fails(root.resolve_parent("in/x/"), ENOTDIR);
+    let (dir, last) = root.resolve_directory_parent("in/x/").unwrap();
+    assert_eq!((dir.metadata().unwrap().ino(), last.to_str()), (tree.inode("a/b"), Some("x")));
     let file = root.resolve("in/f").unwrap();
     assert_eq!(root.place(&file).unwrap(), Path::new("/a/b/f"));
     assert_eq!(root.place(&root).unwrap(), Path::new("/"));
-    fails(root.place(fs::File::open(tree.0.join("outside")).unwrap()), EXDEV);
+    fails(root.place(fs::File::open(tree.at("outside")).unwrap()), EXDEV);
 }
 
 #[test]
 fn what_is_missing_is_made() {
-    let tree = Tree::new("all");
+    let tree = Tree::new();
     let root = tree.root();
+    symlink("../run/pid", tree.at("box/a/to")).unwrap();
     let file = root.mkfile_all("a/x/y", &mode(0o640), &mode(0o711)).unwrap();
     assert_eq!(file.metadata().unwrap().ino(), tree.inode("a/x/y"));
     fails(root.mkfile_all("a/x", &mode(0o640), &mode(0o711)), EISDIR);
@@ -77,37 +41,40 @@ fn what_is_missing_is_made() {
     let file = root.mkfile_all_followed("a/to", &mode(0o640), &mode(0o711)).unwrap();
     assert_eq!(file.metadata().unwrap().ino(), tree.inode("run/pid"));
     root.remove_all("run").unwrap();
-    fails(root.mkdir_all("a/to/x", &mode(0o755)), ENOENT);
-    let dir = root.mkdir_all_followed("a/to/x", &mode(0o755)).unwrap();
+    fails(root.create_dir_all("a/to/x"), ENOENT);
+    let dir = root.create_dir_with("a/to/x", DirBuilder::new().recursive(true).through_links(true)).unwrap();
     assert_eq!(dir.metadata().unwrap().ino(), tree.inode("run/pid/x"));
 }
 
 #[test]
 fn what_was_made_is_given() {
-    let tree = Tree::new("given");
+    let tree = Tree::new();
     let root = tree.root();
     for what in [
         InodeType::File(mode(0o600)),
-        InodeType::Directory(mode(0o700)),
         InodeType::Symlink("text".into()),
         InodeType::Hardlink("in/f".into()),
         InodeType::Fifo(mode(0o600)),
     ] {
-        let made = root.create_handle("in/new", &what).unwrap();
+        let made = root.create_inode("in/new", &what).unwrap();
         assert_eq!(made.metadata().unwrap().ino(), tree.inode("a/b/new"));
         assert_eq!(made.metadata().unwrap().file_type().is_fifo(), matches!(what, InodeType::Fifo(_)));
-        fails(root.create_handle("in/new", &what), EEXIST);
+        fails(root.create_inode("in/new", &what), EEXIST);
         root.remove_all("in/new").unwrap();
     }
-    let given = root.create_file("in/path", OpenFlags::O_PATH, &mode(0o600)).unwrap();
-    assert_eq!(given.metadata().unwrap().ino(), tree.inode("a/b/path"));
+    let made = root.create_dir_with("in/dir", &DirBuilder::new()).unwrap();
+    assert_eq!(made.metadata().unwrap().ino(), tree.inode("a/b/dir"));
+    fails(root.create_dir_with("in/dir", &DirBuilder::new()), EEXIST);
+    let path = OpenOptions::new().read(true).custom_flags(OpenFlags::O_PATH | OpenFlags::O_CREAT).mode(0o600).clone();
+    let given = root.open_with("in/path", &path).unwrap();
+    assert_eq!((given.metadata().unwrap().ino(), given.metadata().unwrap().mode()), (tree.inode("a/b/path"), 0o100600));
 }
 
 /// By single steps one that is at no certain place isn't found: the kernel writes the same behind that of a removed one.
 #[test]
 fn exact_calls_ask_for_a_place() {
-    let tree = Tree::new("exact");
-    fs::write(tree.0.join("box/a/b/f (deleted)"), "").unwrap();
+    let tree = Tree::new();
+    fs::write(tree.at("box/a/b/f (deleted)"), "").unwrap();
     let found = tree.root().resolve("in/f (deleted)").unwrap();
     assert_eq!(found.metadata().unwrap().ino(), tree.inode("a/b/f (deleted)"));
     let exact = tree.root().with_resolver_flags(ResolverFlags::EXACT | ResolverFlags::NO_RETRY);
@@ -117,7 +84,7 @@ fn exact_calls_ask_for_a_place() {
 
 #[test]
 fn magic_links_are_refused() {
-    let root = Root::open("/").unwrap();
+    let root = Root::open_ambient_dir("/").unwrap();
     fails(root.resolve("proc/self/cwd"), ELOOP);
     root.resolve("proc/self/comm").unwrap();
 }

@@ -1,0 +1,282 @@
+"""Paths below a directory, of which nothing leads out: libinroot(7) by ctypes, for Python 3.9 and later.
+
+A Root is a directory. Its methods are named as those of pathlib, os and shutil, and take a path below it: an absolute
+path and an absolute link begin at the root, and `..` at the root is the root, whoever renames directories meanwhile.
+
+    with inroot.Root("/srv/box") as root:
+        root.mkdir("var/log", parents=True, exist_ok=True)
+        root.write_text("var/log/first", "begun")
+
+A path is a str, bytes or an os.PathLike, and becomes bytes as by os.fsencode(). One with a NUL is a ValueError. A call
+that fails raises an OSError with the kernel's number and the path as it was given. A call that a signal interrupts is
+not made again (InterruptedError).
+
+The library is found as libinroot.so.0.2 where the loader looks, or is the file that INROOT_LIBRARY_PATH names.
+"""
+
+import ctypes
+import enum
+import errno
+import io
+import os
+import pathlib
+import stat
+
+__all__ = ["Flags", "Rename", "Root", "version"]
+
+_NAME = "libinroot.so.0.2"
+_NOFOLLOW = 4
+
+
+class Flags(enum.IntFlag):
+    """Restrictions of each call of a Root."""
+
+    BENEATH = 1         # refuses what would lead out of the root: EXDEV
+    NO_LINKS = 2        # refuses every symbolic link on the way: ELOOP
+    NO_RETRY = 8        # makes one try, where others are in the way
+    NO_XDEV = 128       # refuses to leave the root's mount: EXDEV
+    EXACT = 16384       # walks by single steps, and asks at which names the object stands
+
+
+class Rename(enum.IntFlag):
+    """How Root.rename() treats an entry that is there already. Without any it is replaced."""
+
+    NOREPLACE = 1       # EEXIST
+    EXCHANGE = 2        # the two entries are exchanged
+    WHITEOUT = 4        # a whiteout is left behind, by itself or together with NOREPLACE
+
+
+def _load():
+    library = ctypes.CDLL(os.environ.get("INROOT_LIBRARY_PATH") or _NAME)
+    number, text, long = ctypes.c_int, ctypes.c_char_p, ctypes.c_ssize_t
+    for name, given, taken in (
+        ("version", text, ()),
+        ("open", number, (number, text, number)),
+        ("openat", number, (number, text, number, ctypes.c_uint, number)),
+        ("readlink", long, (number, text, number, text, ctypes.c_size_t)),
+        ("fchmod", number, (number, ctypes.c_uint)),
+        ("mkdir", number, (number, text, ctypes.c_uint, number)),
+        ("mkdir_all", number, (number, text, ctypes.c_uint, number)),
+        ("symlink", number, (number, text, text, number)),
+        ("link", number, (number, text, text, number)),
+        ("unlink", number, (number, text, number)),
+        ("rmdir", number, (number, text, number)),
+        ("remove_all", long, (number, text, number)),
+        ("rename", number, (number, text, text, number, number)),
+    ):
+        call = library["inroot_" + name]
+        call.restype, call.argtypes = given, taken
+        setattr(library, name, call)
+    return library
+
+
+_library = _load()
+
+
+def version():
+    """The version of the library that is loaded."""
+    return _library.version().decode()
+
+
+def _bytes(path):
+    path = os.fsencode(path)
+    if b"\0" in path:
+        raise ValueError("embedded null byte")
+    return path
+
+
+def _checked(result, path, second=None):
+    """What a call gave; an OSError of the class that its number has where it failed."""
+    if result >= 0:
+        return result
+    raise OSError(-result, os.strerror(-result), path, None, second)
+
+
+class Root:
+    """A directory, and calls below it. Any number of threads may make calls, but none beside close()."""
+
+    _fd = -1
+
+    def __init__(self, directory, flags=Flags(0)):
+        """Opens a directory, whose own path is walked as open(2) does; or takes a descriptor of one, which stays the
+        caller's. The flags restrict each call."""
+        self._flags = int(flags)
+        if self._flags & ~sum(Flags):
+            raise ValueError(f"not flags of a root: {flags!r}")
+        if isinstance(directory, int):
+            self._fd = os.dup(directory)
+        else:
+            self._fd = os.open(directory, os.O_PATH | os.O_DIRECTORY | os.O_CLOEXEC)
+
+    def fileno(self):
+        """The root's own descriptor."""
+        if self._fd < 0:
+            raise ValueError("I/O operation on closed root")
+        return self._fd
+
+    def close(self):
+        """Closes the root's descriptor. Files that were opened stay open."""
+        fd, self._fd = self._fd, -1
+        if fd >= 0:
+            os.close(fd)
+
+    def __enter__(self):
+        self.fileno()
+        return self
+
+    def __exit__(self, *_):
+        self.close()
+
+    def __del__(self):
+        self.close()
+
+    # ---- what is there
+
+    def open_descriptor(self, path, flags, mode=0o666):
+        """Opens what the path means by the flags of open(2), and gives a descriptor, as os.open() does. With os.O_PATH
+        it is a handle of the object alone."""
+        makes = flags & os.O_CREAT or flags & os.O_TMPFILE == os.O_TMPFILE
+        mode = stat.S_IMODE(mode) if makes else 0
+        return _checked(_library.openat(self.fileno(), _bytes(path), flags, mode, self._flags), path)
+
+    def open(self, path, mode="r", buffering=-1, encoding=None, errors=None, newline=None):
+        """Opens a file as the function open() of Python does. The file's `name` is its descriptor's number, since its
+        path leads elsewhere for whoever opens that without the root."""
+        fds = []
+
+        def opener(_, flags):
+            fds.append(self.open_descriptor(path, flags))
+            if stat.S_ISDIR(os.fstat(fds[0]).st_mode):
+                os.close(fds[0])
+                raise OSError(errno.EISDIR, os.strerror(errno.EISDIR), path)
+            return fds[0]
+
+        file = io.open("", mode, buffering, encoding, errors, newline, opener=opener)
+        buffered = getattr(file, "buffer", file)
+        getattr(buffered, "raw", buffered).name = fds[0]
+        return file
+
+    def read_bytes(self, path):
+        """The whole contents of a file."""
+        with self.open(path, "rb") as file:
+            return file.read()
+
+    def read_text(self, path, encoding=None, errors=None):
+        """The whole contents of a file, as text."""
+        with self.open(path, "r", encoding=encoding, errors=errors) as file:
+            return file.read()
+
+    def _status(self, path, more):
+        fd = _checked(_library.open(self.fileno(), _bytes(path), self._flags | more), path)
+        try:
+            return os.fstat(fd)
+        finally:
+            os.close(fd)
+
+    def stat(self, path):
+        """What os.fstat() says of the object that the path means."""
+        return self._status(path, 0)
+
+    def lstat(self, path):
+        """The same, of a link at the end of the path of the link itself."""
+        return self._status(path, _NOFOLLOW)
+
+    def exists(self, path):
+        """Whether the path leads to an object."""
+        try:
+            self.stat(path)
+        except OSError as error:
+            if error.errno in (errno.ENOENT, errno.ENOTDIR, errno.ELOOP):
+                return False
+            raise
+        return True
+
+    def iterdir(self, path="."):
+        """The paths of a directory's entries below this root, in no order: each a pathlib.PurePosixPath, which the
+        methods here take and which by itself opens nothing."""
+        fd = self.open_descriptor(path, os.O_RDONLY | os.O_DIRECTORY)
+        try:
+            names = os.listdir(fd)
+        finally:
+            os.close(fd)
+        directory = pathlib.PurePosixPath(os.fsdecode(path))
+        return iter([directory / name for name in names])
+
+    def readlink(self, path):
+        """The text of the link at the end of the path: a str, or bytes where the path is bytes."""
+        text = ctypes.create_string_buffer(4096)
+        length = _checked(_library.readlink(self.fileno(), _bytes(path), self._flags, text, len(text)), path)
+        return text.raw[:length] if isinstance(os.fspath(path), bytes) else os.fsdecode(text.raw[:length])
+
+    # ---- what is made and changed
+
+    def write_bytes(self, path, data):
+        """Writes a whole file, which is made where it is missing, and gives the number of bytes."""
+        with self.open(path, "wb") as file:
+            return file.write(data)
+
+    def write_text(self, path, data, encoding=None, errors=None):
+        """The same of text, and gives the number of characters."""
+        if not isinstance(data, str):
+            raise TypeError(f"data must be str, not {type(data).__name__}")
+        with self.open(path, "w", encoding=encoding, errors=errors) as file:
+            return file.write(data)
+
+    def chmod(self, path, mode):
+        """Sets the mode of the object that the path means."""
+        fd = _checked(_library.open(self.fileno(), _bytes(path), self._flags), path)
+        try:
+            _checked(_library.fchmod(fd, stat.S_IMODE(mode)), path)
+        finally:
+            os.close(fd)
+
+    def mkdir(self, path, mode=0o777, parents=False, exist_ok=False):
+        """Makes a directory. With `parents`, first those above it that are missing, none through a link, of the mode
+        0o777; with `exist_ok` it is no error that it is there."""
+        if parents:
+            above = os.path.dirname(_bytes(path).rstrip(b"/"))
+            if above:
+                os.close(_checked(_library.mkdir_all(self.fileno(), above, 0o777, self._flags), path))
+        try:
+            _checked(_library.mkdir(self.fileno(), _bytes(path), stat.S_IMODE(mode), self._flags), path)
+        except FileExistsError:
+            if not (exist_ok and self.exists(path) and stat.S_ISDIR(self.stat(path).st_mode)):
+                raise
+
+    def symlink_to(self, path, target):
+        """Makes the path a symbolic link with the text `target`, which is any text."""
+        _checked(_library.symlink(self.fileno(), _bytes(target), _bytes(path), self._flags), target, path)
+
+    def hardlink_to(self, path, target):
+        """Makes the path a second name of what `target` means below the root; of a link at its end, of the link."""
+        _checked(_library.link(self.fileno(), _bytes(target), _bytes(path), self._flags), target, path)
+
+    def rename(self, path, target, flags=Rename(0)):
+        """Renames the entry, which stays below the root. One that is there is treated as the flags say."""
+        result = _library.rename(self.fileno(), _bytes(path), _bytes(target), flags, self._flags)
+        _checked(result, path, target)
+
+    # ---- what is removed
+
+    def unlink(self, path, missing_ok=False):
+        """Removes a non-directory; of a link the link alone."""
+        try:
+            _checked(_library.unlink(self.fileno(), _bytes(path), self._flags), path)
+        except FileNotFoundError:
+            if not missing_ok:
+                raise
+
+    def rmdir(self, path):
+        """Removes an empty directory."""
+        _checked(_library.rmdir(self.fileno(), _bytes(path), self._flags), path)
+
+    def rmtree(self, path):
+        """Removes a directory with all that is below it. NotADirectoryError of anything else, a link too. What others
+        put into the directory's place meanwhile is removed as well: of a link the link alone."""
+        about = self.lstat(path)
+        name = os.fsencode(path).rstrip(b"/")
+        # With a slash behind it a link is followed.
+        if not stat.S_ISDIR(about.st_mode) or name and stat.S_ISLNK(self.lstat(name).st_mode):
+            raise OSError(errno.ENOTDIR, os.strerror(errno.ENOTDIR), path)
+        if _checked(_library.remove_all(self.fileno(), _bytes(path), self._flags), path) == 0:
+            raise OSError(errno.ENOENT, os.strerror(errno.ENOENT), path)
