@@ -61,7 +61,7 @@
  *   ENOENT        PATH is empty
  *   ENAMETOOLONG  PATH is longer than 4,095 bytes
  *   EINVAL        the last part of PATH isn't a name where an entry is changed, as `.`, `..` or none
- *   ENOTDIR       a slash at the end of PATH, where a non-directory is made or removed
+ *   ENOTDIR       a slash at the end of PATH, where a non-directory is made or removed, but by inroot_remove_all()
  *   ENAMETOOLONG  the last name is longer than 255 bytes, where an entry is changed
  *   EXDEV         the path leads out of the root, under INROOT_BENEATH; or to another mount, under INROOT_NO_XDEV
  *   ENAMETOOLONG  a name on the way is longer than 255 bytes, or a link's text or an object's own path than 4,095
@@ -389,8 +389,9 @@ int inroot_mkdir_all(int root, const char *path, mode_t mode, int flags);
 int inroot_mkfile_all(int root, const char *path, mode_t mode, mode_t above, int flags);
 
 /*
- * Removes the entry of PATH with all that is below it (unlinkat(2)); of a link the link alone. Gives how many entries
- * it removed, 0 where there was none. Entries removed before an error stay removed.
+ * Removes the entry of PATH with all that is below it (unlinkat(2)); of a link the link alone. A slash at the end of PATH
+ * says nothing here. Gives how many entries it removed, 0 where there was none. Entries removed before an error stay
+ * removed.
  *
  * It goes to any depth, holds some 40 descriptors at most, fewer where fewer are left, and less than 64 megabytes. A
  * very deep tree takes it longer: 40,000 directories, each in the one before, some seconds. It goes on as long as it
