@@ -181,9 +181,10 @@ ssize_t inroot_proc_readlink(int base, const char *path, char *text, size_t size
  * Why the thread's last call failed. STEP is the last step that it made, by its name in docs/HOST.md, or empty if it
  * failed before the first. Beside the steps of a walk there are `Reopen`, which opens for use, `Stat`, `Attribute`,
  * which changes an object that was found, `Give`, which opens a new entry, `Proc`, which is about a file of /proc, and
- * `Kernel`, where the kernel lacks what the library needs. NAME is the name that the step was about, or empty: also where one openat2(2) found that a name is
- * missing, and didn't say which. It ends with a NUL, and is cut off where it doesn't fit. A later version may use the
- * reserved bytes, which are zero: the structure doesn't get larger while the library's soname stays.
+ * `Kernel`, where the kernel lacks what the library needs. NAME is the name that the step was about, or empty: also where
+ * one openat2(2) found that a name is missing, and didn't say which. It ends with a NUL, and is cut off where it doesn't
+ * fit. A later version may use the reserved bytes, which are zero: the structure doesn't get larger while the library's
+ * soname stays.
  */
 struct inroot_error {
     int error;          /* its number, as ENOENT */
