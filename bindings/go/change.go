@@ -25,7 +25,7 @@ func (r *Root) mkdir(name string, perm fs.FileMode, flags C.int) (int, error) {
 
 // MkdirAll makes each directory of name that is missing, none of them through a link, of mode perm less the umask.
 // One that is there keeps its mode. ENOTDIR where something else is there, ENOENT of a link whose target is missing,
-// but for Follow. Directories that were made before an error stay.
+// unless the root is With(Follow). Directories that were made before an error stay.
 func (r *Root) MkdirAll(name string, perm fs.FileMode) error {
 	return closed(r.mkdirAll(name, perm))
 }
@@ -37,8 +37,8 @@ func (r *Root) mkdirAll(name string, perm fs.FileMode) (int, error) {
 }
 
 // Mknod makes an empty file, a FIFO, a socket or a device, as mknod(2) does: mode has its kind, and permissions, of
-// which the umask is taken. device is 0 but for a device. EEXIST where there is such an entry, EPERM without the
-// right.
+// which the umask is taken. device is 0 unless a device is made. EEXIST where there is such an entry, EPERM without
+// the right.
 func (r *Root) Mknod(name string, mode uint32, device uint64) error {
 	_, err := r.mknod(name, mode, device, 0)
 	return err
@@ -63,8 +63,8 @@ func (r *Root) symlink(oldname, newname string, flags C.int) (int, error) {
 	})
 }
 
-// Link gives what oldname means a second name; of a link at its end, the link itself, but for Follow. EEXIST where
-// there is such an entry, EPERM of a directory, EXDEV to another mount.
+// Link gives what oldname means a second name; of a link at its end, the link itself, unless the root is
+// With(Follow). EEXIST where there is such an entry, EPERM of a directory, EXDEV to another mount.
 func (r *Root) Link(oldname, newname string) error {
 	_, err := r.link(oldname, newname, 0)
 	return err
@@ -123,9 +123,9 @@ func (r *Root) Rmdir(name string) error {
 	return err
 }
 
-// RemoveAll removes an entry with all that is below it; of a link the link alone. It is no error if there is none, or
-// no directory of it. Entries that were removed before an error stay removed. EBUSY where one is in use, as a mount
-// point.
+// RemoveAll removes an entry with all that is below it; of a link the link alone. If there is none, or no directory
+// for it, that is no error. Entries that were removed before an error stay removed. EBUSY where one is in use, as a
+// mount point.
 func (r *Root) RemoveAll(name string) error {
 	_, err := r.RemoveAllCount(name)
 	return err

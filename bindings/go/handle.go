@@ -37,7 +37,7 @@ func (r *Root) ResolveNoFollow(name string) (*Handle, error) {
 
 // ResolveParent returns a Handle of the directory that has the entry of name, or in which it is to be made, and the
 // entry's own name, for system calls that the library doesn't make. See to it that they follow no link there. EINVAL
-// where the last part is no name, as ".."; ENOTDIR of a slash at the end, but for Directory.
+// where the last part is no name, as ".."; ENOTDIR of a slash at the end, unless the root is With(Directory).
 func (r *Root) ResolveParent(name string) (*Handle, string, error) {
 	var last [256]C.char
 	fd, err := r.of("resolve", name, func(root C.int, name *C.char) (int, error) {
@@ -94,7 +94,7 @@ func (r *Root) MkdirAllHandle(name string, perm fs.FileMode) (*Handle, error) {
 
 // MkfileAll returns a Handle of what is there, unless that is a directory (EISDIR). Else it makes an empty file of
 // mode perm, and before that each directory above it that is missing, of mode above. ENOENT of a link whose target is
-// missing, but for Follow. What was made before an error stays.
+// missing, unless the root is With(Follow). What was made before an error stays.
 func (r *Root) MkfileAll(name string, perm, above fs.FileMode) (*Handle, error) {
 	fd, err := r.of("mkfileall", name, func(root C.int, name *C.char) (int, error) {
 		return result(C.inroot_mkfile_all(root, name, newModeOf(perm), newModeOf(above), r.with(0)))

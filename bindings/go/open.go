@@ -27,8 +27,7 @@ const makesFile = C.O_TMPFILE &^ C.O_DIRECTORY
 
 // OpenFile opens a file by the flags of open(2), as os.OpenFile does: ENOENT where it is missing, EEXIST of O_EXCL
 // where it isn't, EINVAL of other flags. With O_CREATE it makes a file that is missing, of mode perm less the umask.
-// A link at the end is followed, without O_EXCL also where its target is missing: then the target is made, below the
-// root.
+// A link at the end is followed. If its target is missing, O_CREATE without O_EXCL makes the target, below the root.
 //
 // If perm has other bits than those of permissions and fs.ModeSetuid, fs.ModeSetgid and fs.ModeSticky, nothing is
 // made and the error is EINVAL. So it is in all calls that make an entry.

@@ -55,7 +55,7 @@ func inProc(op, path string, call func(path *C.char) (int, error)) (int, error) 
 }
 
 // ProcOpen opens a file of the proc(5) by which the calls go, and fails with EXDEV where something is mounted over it
-// or over a part of the path: inroot_proc_open(3). A link at the end is followed, but for O_NOFOLLOW.
+// or over a part of the path: inroot_proc_open(3). A link at the end is followed without O_NOFOLLOW.
 func ProcOpen(base int, path string, flag int) (*os.File, error) {
 	fd, err := inProc("procopen", path, func(path *C.char) (int, error) {
 		return result(C.inroot_proc_open(number(base), path, number(flag)))

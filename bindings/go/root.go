@@ -1,10 +1,11 @@
 // Package inroot has a type Root like os.Root of Go 1.25: its methods act on the files below one directory. It is a
 // binding to libinroot.
 //
-// A name is walked as after chroot(2) to the root (openat2(2), RESOLVE_IN_ROOT), whoever renames directories
-// meanwhile: an absolute name and an absolute link begin at the root, and ".." at the root is the root. So a link
-// that leads out of the root leads to what the root has at that place, or to nothing. os.Root refuses such a link,
-// and so does a Root [Root.With] Beneath. What is promised, and the order of the errors, is that of libinroot(7).
+// The difference from os.Root: links stay below the root. A name is walked as after chroot(2) to the root
+// (openat2(2), RESOLVE_IN_ROOT), whoever renames directories meanwhile: an absolute name and an absolute link begin
+// at the root, and ".." at the root is the root. So a link that leads out leads to what the root has at that place,
+// or to nothing. os.Root refuses such a link, and so do the calls of root.With(Beneath). What is promised, and the
+// order of the errors, is that of libinroot(7).
 //
 // An error is an *fs.PathError with the name as it was given, or of two names an *os.LinkError. In it is the
 // syscall.Errno of the call, for which errors.Is finds fs.ErrNotExist, fs.ErrExist and fs.ErrPermission, and for
@@ -40,7 +41,7 @@ type Root struct {
 	flags Flags
 }
 
-// OpenRoot opens a directory by its name, which is walked as open(2) does. Nobody has to be allowed to read it.
+// OpenRoot opens a directory by its name, which is walked as open(2) does. It need not be readable.
 func OpenRoot(name string) (*Root, error) {
 	dir, err := os.OpenFile(name, oPath|syscall.O_DIRECTORY, 0)
 	if err != nil {
