@@ -6,27 +6,44 @@ package inroot
 import "C"
 
 import (
-	"os"
-	"runtime"
+	"io/fs"
 	"strings"
 	"syscall"
 	"time"
-	"unsafe"
 )
 
-// onHandle makes a call on what handle is open on. The number that it gives is negative where it failed.
-func onHandle(op string, handle *os.File, call func(fd C.int) C.long) (int, error) {
-	given := call(C.int(handle.Fd()))
-	runtime.KeepAlive(handle)
-	if given < 0 {
-		return 0, &os.PathError{Op: op, Path: handle.Name(), Err: syscall.Errno(-given)}
+// do makes a call on the object.
+func (h *Handle) do(op string, call func(fd C.int) (int, error)) (int, error) {
+	given, err := held(h.File, call)
+	if err != nil {
+		return 0, &fs.PathError{Op: op, Path: h.Name(), Err: err}
 	}
-	return int(given), nil
+	return given, nil
 }
 
-// Chmod sets the mode of what handle is open on, as OpenatInRoot gives it. EOPNOTSUPP of a link.
-func Chmod(handle *os.File, mode os.FileMode) error {
-	_, err := onHandle("chmod", handle, func(fd C.int) C.long { return C.long(C.inroot_fchmod(fd, modeOf(mode))) })
+// on makes a call on what name means below the root.
+func (r *Root) on(op, name string, flags C.int, call func(fd C.int) (int, error)) error {
+	handle, err := r.resolve(op, name, name, flags)
+	if err != nil {
+		return err
+	}
+	defer handle.Close()
+	_, err = handle.do(op, call)
+	return err
+}
+
+func setsMode(mode fs.FileMode) func(fd C.int) (int, error) {
+	return func(fd C.int) (int, error) { return result(C.inroot_fchmod(fd, modeOf(mode))) }
+}
+
+// Chmod sets the mode of a file or a directory, as os.Chmod does. A link at the end of name is followed.
+func (r *Root) Chmod(name string, mode fs.FileMode) error {
+	return r.on("chmodat", name, 0, setsMode(mode))
+}
+
+// Chmod sets the mode of the object. EOPNOTSUPP of a link.
+func (h *Handle) Chmod(mode fs.FileMode) error {
+	_, err := h.do("chmod", setsMode(mode))
 	return err
 }
 
@@ -35,15 +52,30 @@ func isOwner(number int) bool {
 	return number >= -1 && int64(number) < 1<<32-1
 }
 
-// Chown sets its owner and its group; -1 leaves it. EINVAL of a number that has more than 32 bits. With
-// OpenatInRootNoFollow it may be a link.
-func Chown(handle *os.File, user, group int) error {
-	if !isOwner(user) || !isOwner(group) {
-		return &os.PathError{Op: "chown", Path: handle.Name(), Err: syscall.EINVAL}
+func setsOwner(uid, gid int) func(fd C.int) (int, error) {
+	return func(fd C.int) (int, error) {
+		if !isOwner(uid) || !isOwner(gid) {
+			return 0, invalid{syscall.EINVAL}
+		}
+		return result(C.inroot_fchown(fd, C.uid_t(uid), C.gid_t(gid)))
 	}
-	_, err := onHandle("chown", handle, func(fd C.int) C.long {
-		return C.long(C.inroot_fchown(fd, C.uid_t(user), C.gid_t(group)))
-	})
+}
+
+// Chown sets the owner and the group of a file or a directory, as os.Chown does: -1 leaves one as it is. A link at
+// the end of name is followed. EINVAL of a number that has more than 32 bits, EPERM without the right.
+func (r *Root) Chown(name string, uid, gid int) error {
+	return r.on("chownat", name, 0, setsOwner(uid, gid))
+}
+
+// Lchown does the same, but of a link at the end of name it sets those of the link itself.
+func (r *Root) Lchown(name string, uid, gid int) error {
+	return r.on("lchownat", name, C.INROOT_NOFOLLOW, setsOwner(uid, gid))
+}
+
+// Chown sets the owner and the group of the object, which may be a link, as [Root.Chown] does. Set the owner before
+// the mode: the kernel takes the bits for set-user-ID and set-group-ID off.
+func (h *Handle) Chown(uid, gid int) error {
+	_, err := h.do("chown", setsOwner(uid, gid))
 	return err
 }
 
@@ -55,36 +87,45 @@ func specOf(at time.Time) C.struct_timespec {
 	return C.struct_timespec{tv_sec: C.time_t(at.Unix()), tv_nsec: C.long(at.Nanosecond())}
 }
 
-// Chtimes sets the times of its last access and of the last change of its contents; a zero time leaves what is there.
-func Chtimes(handle *os.File, accessed, modified time.Time) error {
-	times := [2]C.struct_timespec{specOf(accessed), specOf(modified)}
-	_, err := onHandle("chtimes", handle, func(fd C.int) C.long { return C.long(C.inroot_futimens(fd, &times[0])) })
+func setsTimes(atime, mtime time.Time) func(fd C.int) (int, error) {
+	return func(fd C.int) (int, error) {
+		times := [2]C.struct_timespec{specOf(atime), specOf(mtime)}
+		return result(C.inroot_futimens(fd, &times[0]))
+	}
+}
+
+// Chtimes sets the times of the last access and of the last change of the contents, as os.Chtimes does: a zero time
+// leaves one as it is. A link at the end of name is followed.
+func (r *Root) Chtimes(name string, atime, mtime time.Time) error {
+	return r.on("chtimesat", name, 0, setsTimes(atime, mtime))
+}
+
+// Chtimes sets the times of the object, which may be a link, as [Root.Chtimes] does.
+func (h *Handle) Chtimes(atime, mtime time.Time) error {
+	_, err := h.do("chtimes", setsTimes(atime, mtime))
 	return err
 }
 
-// How Setxattr treats an attribute that is there already, or isn't.
+// Flags of Setxattr, as setxattr(2) has them.
 const (
-	XattrSet     = 0 // it is set in either case
-	XattrCreate  = 1 // EEXIST where it is there already
+	XattrCreate  = 1 // EEXIST where the attribute is there already
 	XattrReplace = 2 // ENODATA where it isn't there
 )
 
-// onAttribute makes a call on an extended attribute of what handle is open on.
-func onAttribute(op string, handle *os.File, name string, call func(fd C.int, name *C.char) C.long) (int, error) {
-	if strings.IndexByte(name, 0) >= 0 {
-		return 0, &os.PathError{Op: op, Path: handle.Name(), Err: syscall.EINVAL}
-	}
-	text := C.CString(name)
-	defer C.free(unsafe.Pointer(text))
-	return onHandle(op, handle, func(fd C.int) C.long { return call(fd, text) })
+// attribute makes a call on an extended attribute of the object.
+func (h *Handle) attribute(op, attr string, call func(fd C.int, attr *C.char) (int, error)) (int, error) {
+	return h.do(op, func(fd C.int) (int, error) {
+		return texted(attr, func(attr *C.char) (int, error) { return call(fd, attr) })
+	})
 }
 
-// Setxattr sets an extended attribute of it.
-func Setxattr(handle *os.File, name string, value []byte, mode int) error {
+// Setxattr sets an extended attribute of the object, of a link its own. flags is 0, XattrCreate or XattrReplace.
+// EOPNOTSUPP where the file system has none, EPERM of one that the object can't have.
+func (h *Handle) Setxattr(attr string, value []byte, flags int) error {
 	bytes := C.CBytes(value)
 	defer C.free(bytes)
-	_, err := onAttribute("setxattr", handle, name, func(fd C.int, name *C.char) C.long {
-		return C.long(C.inroot_fsetxattr(fd, name, bytes, C.size_t(len(value)), number(mode)))
+	_, err := h.attribute("setxattr", attr, func(fd C.int, attr *C.char) (int, error) {
+		return result(C.inroot_fsetxattr(fd, attr, bytes, C.size_t(len(value)), number(flags)))
 	})
 	return err
 }
@@ -92,12 +133,12 @@ func Setxattr(handle *os.File, name string, value []byte, mode int) error {
 // The most bytes that a value has, and all names of an object together.
 const mostBytes = 65536
 
-// Getxattr gives the value of an extended attribute of it.
-func Getxattr(handle *os.File, name string) ([]byte, error) {
+// Getxattr returns the value of an extended attribute of the object. ENODATA where there is none.
+func (h *Handle) Getxattr(attr string) ([]byte, error) {
 	room := C.malloc(mostBytes)
 	defer C.free(room)
-	length, err := onAttribute("getxattr", handle, name, func(fd C.int, name *C.char) C.long {
-		return C.long(C.inroot_fgetxattr(fd, name, room, mostBytes))
+	length, err := h.attribute("getxattr", attr, func(fd C.int, attr *C.char) (int, error) {
+		return result(C.inroot_fgetxattr(fd, attr, room, mostBytes))
 	})
 	if err != nil {
 		return nil, err
@@ -105,12 +146,12 @@ func Getxattr(handle *os.File, name string) ([]byte, error) {
 	return C.GoBytes(room, C.int(length)), nil
 }
 
-// Listxattr gives the names of its extended attributes.
-func Listxattr(handle *os.File) ([]string, error) {
+// Listxattr returns the names of the object's extended attributes.
+func (h *Handle) Listxattr() ([]string, error) {
 	room := C.malloc(mostBytes)
 	defer C.free(room)
-	length, err := onHandle("listxattr", handle, func(fd C.int) C.long {
-		return C.long(C.inroot_flistxattr(fd, (*C.char)(room), mostBytes))
+	length, err := h.do("listxattr", func(fd C.int) (int, error) {
+		return result(C.inroot_flistxattr(fd, (*C.char)(room), mostBytes))
 	})
 	if err != nil || length == 0 {
 		return nil, err
@@ -118,10 +159,10 @@ func Listxattr(handle *os.File) ([]string, error) {
 	return strings.Split(string(C.GoBytes(room, C.int(length-1))), "\x00"), nil
 }
 
-// Removexattr removes an extended attribute of it.
-func Removexattr(handle *os.File, name string) error {
-	_, err := onAttribute("removexattr", handle, name, func(fd C.int, name *C.char) C.long {
-		return C.long(C.inroot_fremovexattr(fd, name))
+// Removexattr removes an extended attribute of the object. ENODATA where there is none.
+func (h *Handle) Removexattr(attr string) error {
+	_, err := h.attribute("removexattr", attr, func(fd C.int, attr *C.char) (int, error) {
+		return result(C.inroot_fremovexattr(fd, attr))
 	})
 	return err
 }

@@ -4,119 +4,165 @@ package inroot
 import "C"
 
 import (
+	"errors"
+	"io/fs"
 	"os"
-	"runtime"
+	"syscall"
 )
 
-// MkdirAll makes each directory of unsafePath that is missing below the directory root, none through a link.
-func MkdirAll(root, unsafePath string, mode os.FileMode, flags ...Flags) error {
-	directory, err := openRoot(root)
+// Mkdir makes a directory of mode perm less the umask, as os.Mkdir does. EEXIST where there is such an entry, a link
+// too.
+func (r *Root) Mkdir(name string, perm fs.FileMode) error {
+	_, err := r.mkdir(name, perm, 0)
+	return err
+}
+
+func (r *Root) mkdir(name string, perm fs.FileMode, flags C.int) (int, error) {
+	return r.of("mkdirat", name, func(root C.int, name *C.char) (int, error) {
+		return result(C.inroot_mkdir(root, name, newModeOf(perm), r.with(flags)))
+	})
+}
+
+// MkdirAll makes each directory of name that is missing, none of them through a link, of mode perm less the umask.
+// One that is there keeps its mode. ENOTDIR where something else is there, ENOENT of a link whose target is missing,
+// unless the root is With(Follow). Directories that were made before an error stay.
+func (r *Root) MkdirAll(name string, perm fs.FileMode) error {
+	return closed(r.mkdirAll(name, perm))
+}
+
+func (r *Root) mkdirAll(name string, perm fs.FileMode) (int, error) {
+	return r.of("mkdirat", name, func(root C.int, name *C.char) (int, error) {
+		return result(C.inroot_mkdir_all(root, name, newModeOf(perm), r.with(0)))
+	})
+}
+
+// Mknod makes an empty file, a FIFO, a socket or a device, as mknod(2) does: mode has its kind, and permissions, of
+// which the umask is taken. device is 0 unless a device is made. EEXIST where there is such an entry, EPERM without
+// the right.
+func (r *Root) Mknod(name string, mode uint32, device uint64) error {
+	_, err := r.mknod(name, mode, device, 0)
+	return err
+}
+
+func (r *Root) mknod(name string, mode uint32, device uint64, flags C.int) (int, error) {
+	return r.of("mknodat", name, func(root C.int, name *C.char) (int, error) {
+		return result(C.inroot_mknod(root, name, C.mode_t(mode), C.dev_t(device), r.with(flags)))
+	})
+}
+
+// Symlink makes newname as a link with the text oldname, which is any text, and is followed below the root. EEXIST
+// where there is such an entry.
+func (r *Root) Symlink(oldname, newname string) error {
+	_, err := r.symlink(oldname, newname, 0)
+	return err
+}
+
+func (r *Root) symlink(oldname, newname string, flags C.int) (int, error) {
+	return r.ofTwo("symlinkat", oldname, newname, func(root C.int, text, name *C.char) (int, error) {
+		return result(C.inroot_symlink(root, text, name, r.with(flags)))
+	})
+}
+
+// Link gives what oldname means a second name; of a link at its end, the link itself, unless the root is
+// With(Follow). EEXIST where there is such an entry, EPERM of a directory, EXDEV to another mount.
+func (r *Root) Link(oldname, newname string) error {
+	_, err := r.link(oldname, newname, 0)
+	return err
+}
+
+func (r *Root) link(oldname, newname string, flags C.int) (int, error) {
+	return r.ofTwo("linkat", oldname, newname, func(root C.int, existing, name *C.char) (int, error) {
+		return result(C.inroot_link(root, existing, name, r.with(flags)))
+	})
+}
+
+// LinkFile gives the object that file is open on, wherever that is, the name newname: a file that
+// [Root.CreateUnnamed] has made, or the File of a Handle. Errors are those of [Root.Link].
+func (r *Root) LinkFile(file *os.File, newname string) error {
+	_, err := texted(newname, func(name *C.char) (int, error) {
+		return held(r.dir, func(root C.int) (int, error) {
+			return held(file, func(fd C.int) (int, error) {
+				return result(C.inroot_link_fd(root, fd, name, r.with(0)))
+			})
+		})
+	})
 	if err != nil {
+		return &os.LinkError{Op: "linkat", Old: file.Name(), New: newname, Err: err}
+	}
+	return nil
+}
+
+// Remove removes a file or an empty directory; of a link the link alone. ENOENT where there is none, ENOTEMPTY of a
+// directory with entries.
+func (r *Root) Remove(name string) error {
+	err := r.Unlink(name)
+	// A slash behind the name of a directory is ENOTDIR for what isn't one.
+	if !errors.Is(err, syscall.EISDIR) && !errors.Is(err, syscall.ENOTDIR) {
 		return err
 	}
-	defer directory.Close()
-	made, err := MkdirAllHandle(directory, unsafePath, mode, flags...)
-	if err != nil {
-		return err
+	if asDirectory := r.Rmdir(name); !errors.Is(asDirectory, syscall.ENOTDIR) {
+		return asDirectory
 	}
-	return made.Close()
+	return err
 }
 
-// MkdirAllHandle does the same below a directory that is open, and gives the last directory, with O_PATH.
-func MkdirAllHandle(root *os.File, unsafePath string, mode os.FileMode, flags ...Flags) (*os.File, error) {
-	return opened("mkdirall", root, unsafePath, func(root C.int, path *C.char) C.int {
-		return C.inroot_mkdir_all(root, path, modeOf(mode), joined(flags, 0))
+// Unlink removes what isn't a directory; of a link the link alone. ENOENT where there is none, EISDIR of a directory.
+func (r *Root) Unlink(name string) error {
+	_, err := r.of("unlinkat", name, func(root C.int, name *C.char) (int, error) {
+		return result(C.inroot_unlink(root, name, r.with(0)))
 	})
+	return err
 }
 
-// RemoveAll removes the entry of unsafePath below the directory root with all that is below it; of a link the link
-// alone. It gives how many entries it removed, 0 where there was none.
-func RemoveAll(root, unsafePath string, flags ...Flags) (int, error) {
-	directory, err := openRoot(root)
-	if err != nil {
-		return 0, err
+// Rmdir removes an empty directory. ENOENT where there is none, ENOTDIR of anything else, ENOTEMPTY where it has
+// entries.
+func (r *Root) Rmdir(name string) error {
+	_, err := r.of("unlinkat", name, func(root C.int, name *C.char) (int, error) {
+		return result(C.inroot_rmdir(root, name, r.with(0)))
+	})
+	return err
+}
+
+// RemoveAll removes an entry with all that is below it; of a link the link alone. If there is none, or no directory
+// for it, that is no error. Entries that were removed before an error stay removed. EBUSY where one is in use, as a
+// mount point.
+func (r *Root) RemoveAll(name string) error {
+	_, err := r.RemoveAllCount(name)
+	return err
+}
+
+// RemoveAllCount does the same, and returns how many entries it removed.
+func (r *Root) RemoveAllCount(name string) (int, error) {
+	count, err := r.of("RemoveAll", name, func(root C.int, name *C.char) (int, error) {
+		return result(C.inroot_remove_all(root, name, r.with(0)))
+	})
+	if errors.Is(err, fs.ErrNotExist) {
+		return 0, nil
 	}
-	defer directory.Close()
-	return RemoveAllInRoot(directory, unsafePath, flags...)
+	return count, err
 }
 
-// RemoveAllInRoot does the same below a directory that is open.
-func RemoveAllInRoot(root *os.File, unsafePath string, flags ...Flags) (int, error) {
-	removed, err := onPath("removeall", root, unsafePath, func(root C.int, path *C.char) C.long {
-		return C.long(C.inroot_remove_all(root, path, joined(flags, 0)))
-	})
-	return int(removed), err
-}
+// RenameFlags say how [Root.RenameWith] treats an entry that is there already.
+type RenameFlags int
 
-// MkdirInRoot makes a directory.
-func MkdirInRoot(root *os.File, unsafePath string, mode os.FileMode, flags ...Flags) error {
-	return done("mkdir", root, unsafePath, func(root C.int, path *C.char) C.int {
-		return C.inroot_mkdir(root, path, modeOf(mode), joined(flags, 0))
-	})
-}
-
-// MknodInRoot makes an empty file, a FIFO, a socket or a device: mode has the kind as mknod(2) numbers it.
-func MknodInRoot(root *os.File, unsafePath string, mode uint32, device uint64, flags ...Flags) error {
-	return done("mknod", root, unsafePath, func(root C.int, path *C.char) C.int {
-		return C.inroot_mknod(root, path, C.mode_t(mode), C.dev_t(device), joined(flags, 0))
-	})
-}
-
-// SymlinkInRoot makes a symbolic link with that text.
-func SymlinkInRoot(root *os.File, text, unsafePath string, flags ...Flags) error {
-	return onPaths("symlink", root, text, unsafePath, func(root C.int, text, path *C.char) C.int {
-		return C.inroot_symlink(root, text, path, joined(flags, 0))
-	})
-}
-
-// LinkInRoot gives what existing means a second name; of a link at its end, the link itself.
-func LinkInRoot(root *os.File, existing, unsafePath string, flags ...Flags) error {
-	return onPaths("link", root, existing, unsafePath, func(root C.int, existing, path *C.char) C.int {
-		return C.inroot_link(root, existing, path, joined(flags, 0))
-	})
-}
-
-// LinkFollowedInRoot gives what existing means a second name; of a link at its end, what the link leads to.
-func LinkFollowedInRoot(root *os.File, existing, unsafePath string, flags ...Flags) error {
-	return onPaths("link", root, existing, unsafePath, func(root C.int, existing, path *C.char) C.int {
-		return C.inroot_link(root, existing, path, joined(flags, C.INROOT_FOLLOW))
-	})
-}
-
-// LinkFileInRoot gives what file is open on, wherever that is, this name: a file that UnnamedFileInRoot has made, or
-// one that was found.
-func LinkFileInRoot(root *os.File, file *os.File, unsafePath string, flags ...Flags) error {
-	defer runtime.KeepAlive(file)
-	return done("link", root, unsafePath, func(root C.int, path *C.char) C.int {
-		return C.inroot_link_fd(root, C.int(file.Fd()), path, joined(flags, 0))
-	})
-}
-
-// UnlinkInRoot removes a non-directory; of a link the link alone.
-func UnlinkInRoot(root *os.File, unsafePath string, flags ...Flags) error {
-	return done("unlink", root, unsafePath, func(root C.int, path *C.char) C.int {
-		return C.inroot_unlink(root, path, joined(flags, 0))
-	})
-}
-
-// RmdirInRoot removes an empty directory.
-func RmdirInRoot(root *os.File, unsafePath string, flags ...Flags) error {
-	return done("rmdir", root, unsafePath, func(root C.int, path *C.char) C.int {
-		return C.inroot_rmdir(root, path, joined(flags, 0))
-	})
-}
-
-// How RenameInRoot treats an entry that is there already.
 const (
-	RenamePlain     = 0 // it is replaced
-	RenameNoReplace = 1 // it fails with EEXIST
-	RenameExchange  = 2 // the two are exchanged
-	RenameWhiteout  = 4 // a whiteout is left behind, by itself or or-ed with RenameNoReplace
+	// RenameNoReplace leaves newname alone: EEXIST where there is such an entry.
+	RenameNoReplace RenameFlags = C.INROOT_NOREPLACE
+	// RenameExchange exchanges the two. EINVAL with another flag.
+	RenameExchange RenameFlags = C.INROOT_EXCHANGE
+	// RenameWhiteout leaves a whiteout of overlayfs at oldname. EINVAL where the file system has none.
+	RenameWhiteout RenameFlags = C.INROOT_WHITEOUT
 )
 
-// RenameInRoot renames an entry, which stays below the root.
-func RenameInRoot(root *os.File, from, to string, mode int, flags ...Flags) error {
-	return onPaths("rename", root, from, to, func(root C.int, from, to *C.char) C.int {
-		return C.inroot_rename(root, from, to, number(mode), joined(flags, 0))
+// Rename renames an entry, which stays below the root, and replaces newname where that is there, as rename(2) does.
+func (r *Root) Rename(oldname, newname string) error {
+	return r.RenameWith(oldname, newname, 0)
+}
+
+// RenameWith does so by flags, as renameat2(2) does.
+func (r *Root) RenameWith(oldname, newname string, flags RenameFlags) error {
+	_, err := r.ofTwo("renameat", oldname, newname, func(root C.int, from, to *C.char) (int, error) {
+		return result(C.inroot_rename(root, from, to, number(int(flags)), r.with(0)))
 	})
+	return err
 }

@@ -4,6 +4,7 @@ import (
 	"go/ast"
 	"go/parser"
 	"go/token"
+	"io/fs"
 	"os"
 	"path/filepath"
 	"strings"
@@ -14,60 +15,101 @@ import (
 // outOf leads above any directory: joined to the name of a root, it gives a path of the host.
 var outOf = strings.Repeat("../", 64)
 
-// first gives the file of those that give more than that.
-func first(file *os.File, _ string, err error) (*os.File, error) {
-	return file, err
+// fileOf gives the file of a handle.
+func fileOf(handle *Handle, err error) (*os.File, error) {
+	if err != nil {
+		return nil, err
+	}
+	return handle.File, nil
 }
 
-// givers has a call of each exported function that gives a file, by a path that leads to root's own a.
-var givers = map[string]func(root *os.File) (*os.File, error){
-	"OpenInRoot":           func(root *os.File) (*os.File, error) { return OpenInRoot(root.Name(), outOf+"a/b/f") },
-	"OpenatInRoot":         func(root *os.File) (*os.File, error) { return OpenatInRoot(root, outOf+"a/b/f") },
-	"OpenatInRootNoFollow": func(root *os.File) (*os.File, error) { return OpenatInRootNoFollow(root, outOf+"a/b/f") },
-	"OpenFileInRoot":       func(root *os.File) (*os.File, error) { return OpenFileInRoot(root, outOf+"a/b/f", os.O_RDONLY, 0) },
-	"UnnamedFileInRoot":    func(root *os.File) (*os.File, error) { return UnnamedFileInRoot(root, outOf+"a", 0o600) },
-	"Reopen": func(root *os.File) (*os.File, error) {
-		found, err := OpenatInRoot(root, outOf+"a/b/f")
-		if err != nil {
-			return nil, err
-		}
-		defer found.Close()
-		return Reopen(found, os.O_RDONLY)
+// givers has a call of each exported function and method that gives a file or a handle, by a name that leads to
+// root's own a. Those of proc(5) aren't below a root, and a Root's name is that of its directory.
+var givers = map[string]func(root *Root) (*os.File, error){
+	"Root.Open":     func(root *Root) (*os.File, error) { return root.Open(outOf + "a/b/f") },
+	"Root.Create":   func(root *Root) (*os.File, error) { return root.Create(outOf + "a/0") },
+	"Root.OpenFile": func(root *Root) (*os.File, error) { return root.OpenFile(outOf+"a/b/f", os.O_RDWR, 0) },
+	"Root.OpenRoot": func(root *Root) (*os.File, error) { return dirOf(root.OpenRoot(outOf + "a")) },
+	"Root.FS":       func(root *Root) (*os.File, error) { return fileOfFS(root.FS().Open("a/b/f")) },
+	"Root.Resolve":  func(root *Root) (*os.File, error) { return fileOf(root.Resolve(outOf + "a/b/f")) },
+	"Handle.Reopen": reopened,
+	"Root.MkdirAllHandle": func(root *Root) (*os.File, error) {
+		return fileOf(root.MkdirAllHandle(outOf+"a/1", 0o755))
 	},
-	"OpenParentInRoot": func(root *os.File) (*os.File, error) { return first(OpenParentInRoot(root, outOf+"a/b/f")) },
-	"MkdirAllHandle":   func(root *os.File) (*os.File, error) { return MkdirAllHandle(root, outOf+"a/1", 0o755) },
-	"MkdirAllFollowedHandle": func(root *os.File) (*os.File, error) {
-		return MkdirAllFollowedHandle(root, outOf+"a/2", 0o755)
+	"Root.MkfileAll": func(root *Root) (*os.File, error) {
+		return fileOf(root.MkfileAll(outOf+"a/3", 0o600, 0o755))
 	},
-	"MkfileAllHandle": func(root *os.File) (*os.File, error) { return MkfileAllHandle(root, outOf+"a/3", 0o600, 0o755) },
-	"MkfileAllFollowedHandle": func(root *os.File) (*os.File, error) {
-		return MkfileAllFollowedHandle(root, outOf+"a/4", 0o600, 0o755)
+	"Root.MkdirHandle":   func(root *Root) (*os.File, error) { return fileOf(root.MkdirHandle(outOf+"a/6", 0o755)) },
+	"Root.LinkHandle":    func(root *Root) (*os.File, error) { return fileOf(root.LinkHandle("a/b/f", outOf+"a/9")) },
+	"Root.CreateUnnamed": func(root *Root) (*os.File, error) { return root.CreateUnnamed(outOf+"a", 0o600) },
+	"Root.ResolveNoFollow": func(root *Root) (*os.File, error) {
+		return fileOf(root.ResolveNoFollow(outOf + "a/b/f"))
 	},
-	"MkdirHandle":   func(root *os.File) (*os.File, error) { return MkdirHandle(root, outOf+"a/6", 0o755) },
-	"MknodHandle":   func(root *os.File) (*os.File, error) { return MknodHandle(root, outOf+"a/7", syscall.S_IFIFO|0o600, 0) },
-	"SymlinkHandle": func(root *os.File) (*os.File, error) { return SymlinkHandle(root, "/etc/passwd", outOf+"a/8") },
-	"LinkHandle":    func(root *os.File) (*os.File, error) { return LinkHandle(root, "a/b/f", outOf+"a/9") },
+	"Root.ResolveParent": func(root *Root) (*os.File, error) {
+		handle, _, err := root.ResolveParent(outOf + "a/b/f")
+		return fileOf(handle, err)
+	},
+	"Root.MknodHandle": func(root *Root) (*os.File, error) {
+		return fileOf(root.MknodHandle(outOf+"a/7", syscall.S_IFIFO|0o600, 0))
+	},
+	"Root.SymlinkHandle": func(root *Root) (*os.File, error) {
+		return fileOf(root.SymlinkHandle("/etc/passwd", outOf+"a/8"))
+	},
 }
 
-// givesFile says whether a function is exported and has an *os.File among its results, and by which name givers has it.
+func reopened(root *Root) (*os.File, error) {
+	found, err := root.Resolve(outOf + "a/b/f")
+	if err != nil {
+		return nil, err
+	}
+	defer found.Close()
+	return found.Reopen(os.O_RDONLY)
+}
+
+func dirOf(sub *Root, err error) (*os.File, error) {
+	if err != nil {
+		return nil, err
+	}
+	return sub.dir, nil
+}
+
+func fileOfFS(file fs.File, err error) (*os.File, error) {
+	if err != nil {
+		return nil, err
+	}
+	return file.(*os.File), nil
+}
+
+// typeName gives the name of a type that may be a pointer, and may be another package's.
+func typeName(of ast.Expr) string {
+	switch of := of.(type) {
+	case *ast.StarExpr:
+		return typeName(of.X)
+	case *ast.SelectorExpr:
+		return of.Sel.Name
+	case *ast.Ident:
+		return of.Name
+	}
+	return ""
+}
+
+// givesFile says whether a function is exported and has a file, a handle, a root or an fs.FS among its results, and
+// by which name givers has it.
 func givesFile(function *ast.FuncDecl) (string, bool) {
+	name := function.Name.Name
+	if function.Recv != nil {
+		of := typeName(function.Recv.List[0].Type)
+		if !ast.IsExported(of) {
+			return "", false
+		}
+		name = of + "." + name
+	}
 	if !function.Name.IsExported() || function.Type.Results == nil {
 		return "", false
 	}
-	name := function.Name.Name
-	if function.Recv != nil {
-		kind := function.Recv.List[0].Type
-		if star, is := kind.(*ast.StarExpr); is {
-			kind = star.X
-		}
-		name = kind.(*ast.Ident).Name + "." + name
-	}
 	for _, result := range function.Type.Results.List {
-		star, _ := result.Type.(*ast.StarExpr)
-		if star == nil {
-			continue
-		}
-		if of, is := star.X.(*ast.SelectorExpr); is && of.Sel.Name == "File" {
+		switch typeName(result.Type) {
+		case "File", "Handle", "Root", "FS":
 			return name, true
 		}
 	}
@@ -87,8 +129,9 @@ func TestEachGiverOfAFileHasACall(t *testing.T) {
 				continue
 			}
 			name, gives := givesFile(function)
-			if name == "ProcOpen" {
-				continue // its files aren't below a root
+			switch name {
+			case "ProcOpen", "OpenRoot", "NewRoot", "Root.With":
+				continue
 			}
 			if gives && givers[name] == nil {
 				t.Errorf("%s gives a file, and no call of it is tried", name)
@@ -107,15 +150,12 @@ func TestEachGiverOfAFileHasACall(t *testing.T) {
 func TestNamesAreBelowTheRoots(t *testing.T) {
 	for giver, call := range givers {
 		for _, name := range []string{"absolute", ".", "../box", ""} {
-			if giver == "OpenInRoot" && name == "" {
-				continue
-			}
 			checkName(t, giver, name, call)
 		}
 	}
 }
 
-func checkName(t *testing.T, giver, name string, call func(root *os.File) (*os.File, error)) {
+func checkName(t *testing.T, giver, name string, call func(root *Root) (*os.File, error)) {
 	_, root := tree(t)
 	if name == "absolute" {
 		name = root.Name()
@@ -124,9 +164,9 @@ func checkName(t *testing.T, giver, name string, call func(root *os.File) (*os.F
 	must(t, err)
 	must(t, os.Chdir(root.Name()))
 	defer os.Chdir(before)
-	fd, err := syscall.Dup(int(root.Fd()))
+	fd, err := syscall.Dup(int(root.dir.Fd()))
 	must(t, err)
-	named := os.NewFile(uintptr(fd), name)
+	named := NewRoot(os.NewFile(uintptr(fd), name))
 	defer named.Close()
 	file, err := call(named)
 	must(t, err)
@@ -140,5 +180,68 @@ func checkName(t *testing.T, giver, name string, call func(root *os.File) (*os.F
 	rest, err := filepath.Rel(name, file.Name())
 	if err != nil || rest == "." || rest == ".." || strings.HasPrefix(rest, "../") {
 		t.Errorf("%s below %q: %q", giver, name, file.Name())
+	}
+}
+
+func TestNameOfAPathThatLeadsOut(t *testing.T) {
+	top, root := tree(t)
+	must(t, root.MkdirAll("etc", 0o755))
+	file, err := root.Create("../../../../etc/passwd")
+	must(t, err)
+	defer file.Close()
+	is(t, file.Name(), nil, filepath.Join(top, "box/etc/passwd"))
+}
+
+// Names that a text of C, a line or a command could take otherwise.
+func TestHostileNames(t *testing.T) {
+	top, root := tree(t)
+	names := []string{
+		" ", "a\nb", "-rf", "...", "..x", "a\\b", "$(x)", "*", "\xff\xfe", "\u202e", "%s%n", "'\"",
+		strings.Repeat("n", 255),
+	}
+	for _, name := range names {
+		must(t, root.Symlink(name, "in/"+name))
+		text, err := root.Readlink("in/" + name)
+		is(t, text, err, name)
+		must(t, root.Remove("in/"+name))
+		must(t, root.MkdirAll("in/"+name+"/"+name, 0o755))
+		must(t, root.WriteFile("in/"+name+"/f", []byte(name), 0o644))
+		must(t, root.Rename("in/"+name+"/f", "in/"+name+"/"+name+"/g"))
+		inside, err := os.ReadFile(filepath.Join(top, "box/a/b", name, name, "g"))
+		is(t, string(inside), err, name)
+		about, err := root.Stat("in/" + name)
+		must(t, err)
+		is(t, about.Name(), err, name)
+		entries, err := root.FS().(rootFS).ReadDir("a/b")
+		if err != nil || len(entries) != 2 {
+			t.Errorf("%q: %v, %v", name, entries, err)
+		}
+		must(t, root.RemoveAll("in/"+name))
+	}
+}
+
+func TestRefusedNames(t *testing.T) {
+	top, root := tree(t)
+	before := seen(t, top)
+	for name, wanted := range map[string]error{
+		"": fs.ErrNotExist, "a\x00b": fs.ErrInvalid, strings.Repeat("n", 256): syscall.ENAMETOOLONG,
+		strings.Repeat("a/", 2048): syscall.ENAMETOOLONG, ".": fs.ErrInvalid, "..": fs.ErrInvalid, "/": fs.ErrInvalid,
+		"a/..": fs.ErrInvalid,
+	} {
+		fails(t, root.Mkdir(name, 0o755), wanted)
+		fails(t, root.Remove(name), wanted)
+		fails(t, root.Rename(name, "x"), wanted)
+		fails(t, root.Rename("a", name), wanted)
+		fails(t, root.Symlink("x", name), wanted)
+		fails(t, root.Mknod(name, syscall.S_IFIFO|0o600, 0), wanted)
+		fails(t, root.Link("in/f", name), wanted)
+		_, err := root.Readlink(name)
+		fails(t, err, wanted)
+	}
+	fails(t, root.Symlink("", "x"), fs.ErrNotExist)
+	fails(t, root.Symlink("a\x00b", "x"), fs.ErrInvalid)
+	fails(t, root.Symlink(strings.Repeat("n", 4096), "x"), syscall.ENAMETOOLONG)
+	if now := seen(t, top); now != before {
+		t.Errorf("refused names have made %s", now)
 	}
 }

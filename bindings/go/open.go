@@ -6,72 +6,92 @@ package inroot
 import "C"
 
 import (
+	"io"
 	"io/fs"
 	"os"
-	"runtime"
-	"syscall"
 )
 
-// OpenInRoot opens what unsafePath means below the directory root, with O_PATH. Reopen opens it for use.
-func OpenInRoot(root, unsafePath string, flags ...Flags) (*os.File, error) {
-	directory, err := openRoot(root)
-	if err != nil {
-		return nil, err
-	}
-	defer directory.Close()
-	return OpenatInRoot(directory, unsafePath, flags...)
+// Open opens a file or a directory for reading, as os.Open does.
+func (r *Root) Open(name string) (*os.File, error) {
+	return r.OpenFile(name, os.O_RDONLY, 0)
 }
 
-// OpenatInRoot does the same below a directory that is open.
-func OpenatInRoot(root *os.File, unsafePath string, flags ...Flags) (*os.File, error) {
-	return opened("openat", root, unsafePath, func(root C.int, path *C.char) C.int {
-		return C.inroot_open(root, path, joined(flags, 0))
-	})
-}
-
-// OpenatInRootNoFollow opens a link at the end of unsafePath itself.
-func OpenatInRootNoFollow(root *os.File, unsafePath string, flags ...Flags) (*os.File, error) {
-	return opened("openat", root, unsafePath, func(root C.int, path *C.char) C.int {
-		return C.inroot_open(root, path, joined(flags, C.INROOT_NOFOLLOW))
-	})
+// Create opens a file for reading and writing, as os.Create does: it is emptied if it is there, else made of mode
+// 0o666 less the umask. EISDIR of a directory.
+func (r *Root) Create(name string) (*os.File, error) {
+	return r.OpenFile(name, os.O_RDWR|os.O_CREATE|os.O_TRUNC, 0o666)
 }
 
 // makesFile is the bit of O_TMPFILE that O_DIRECTORY hasn't.
 const makesFile = C.O_TMPFILE &^ C.O_DIRECTORY
 
-// OpenFileInRoot opens what unsafePath means for use, by the flags of open(2). With os.O_CREATE it makes a file that is
-// missing, and with O_TMPFILE one without a name in that directory, of that mode less the umask.
-func OpenFileInRoot(root *os.File, unsafePath string, flag int, mode os.FileMode, flags ...Flags) (*os.File, error) {
-	return opened("openat", root, unsafePath, func(root C.int, path *C.char) C.int {
-		bits := modeOf(mode)
-		if flag&(os.O_CREATE|makesFile) == 0 {
-			bits = 0
-		}
-		return C.inroot_openat(root, path, number(flag), bits, joined(flags, 0))
-	})
+// OpenFile opens a file by the flags of open(2), as os.OpenFile does: ENOENT where it is missing, EEXIST of O_EXCL
+// where it isn't, EINVAL of other flags. With O_CREATE it makes a file that is missing, of mode perm less the umask.
+// A link at the end is followed. If its target is missing, O_CREATE without O_EXCL makes the target, below the root.
+//
+// If perm has other bits than those of permissions and fs.ModeSetuid, fs.ModeSetgid and fs.ModeSticky, nothing is
+// made and the error is EINVAL. So it is in all calls that make an entry.
+func (r *Root) OpenFile(name string, flag int, perm fs.FileMode) (*os.File, error) {
+	return r.openAs(r.nameOf(name), name, flag, perm)
 }
 
-// UnnamedFileInRoot makes a file without a name in the file system of that directory, to be read and written.
-// LinkFileInRoot gives it one.
-func UnnamedFileInRoot(root *os.File, directory string, mode os.FileMode, flags ...Flags) (*os.File, error) {
-	return OpenFileInRoot(root, directory, os.O_RDWR|C.O_TMPFILE, mode, flags...)
-}
-
-// Reopen opens what handle is open on once more, for another use. No path is walked again.
-func Reopen(handle *os.File, flag int) (*os.File, error) {
-	fd := C.inroot_reopen(C.int(handle.Fd()), number(flag))
-	runtime.KeepAlive(handle)
-	if fd < 0 {
-		return nil, &os.PathError{Op: "reopen", Path: handle.Name(), Err: syscall.Errno(-fd)}
+// openAs does so, and gives the file the name as.
+func (r *Root) openAs(as, name string, flag int, perm fs.FileMode) (*os.File, error) {
+	bits := newModeOf(perm)
+	if flag&(os.O_CREATE|makesFile) == 0 {
+		bits = 0
 	}
-	return os.NewFile(uintptr(fd), handle.Name()), nil
+	fd, err := r.of("openat", name, func(root C.int, name *C.char) (int, error) {
+		open := func() (int, error) { return result(C.inroot_openat(root, name, number(flag), bits, r.with(0))) }
+		if flag&os.O_EXCL != 0 {
+			return open()
+		}
+		return ignoringEINTR(open)
+	})
+	if err != nil {
+		return nil, err
+	}
+	return os.NewFile(uintptr(fd), as), nil
 }
 
-// ReadlinkInRoot gives the text of the link at the end of unsafePath.
-func ReadlinkInRoot(root *os.File, unsafePath string, flags ...Flags) (string, error) {
+// CreateUnnamed makes a file without a name in the file system of that directory, of mode perm less the umask, and
+// opens it for reading and writing (O_TMPFILE). [Root.LinkFile] gives it a name. EOPNOTSUPP where the file system has
+// none.
+func (r *Root) CreateUnnamed(directory string, perm fs.FileMode) (*os.File, error) {
+	return r.OpenFile(directory, os.O_RDWR|C.O_TMPFILE, perm)
+}
+
+// ReadFile returns the contents of a file, as os.ReadFile does.
+func (r *Root) ReadFile(name string) ([]byte, error) {
+	file, err := r.openAs(name, name, os.O_RDONLY, 0)
+	if err != nil {
+		return nil, err
+	}
+	defer file.Close()
+	return io.ReadAll(file)
+}
+
+// WriteFile writes the contents of a file, as os.WriteFile does: the file is emptied before if it is there, else made
+// of mode perm less the umask.
+func (r *Root) WriteFile(name string, data []byte, perm fs.FileMode) error {
+	file, err := r.openAs(name, name, os.O_WRONLY|os.O_CREATE|os.O_TRUNC, perm)
+	if err != nil {
+		return err
+	}
+	_, err = file.Write(data)
+	if closed := file.Close(); err == nil {
+		err = closed
+	}
+	return err
+}
+
+// Readlink returns the text of the link at the end of name. EINVAL of anything else.
+func (r *Root) Readlink(name string) (string, error) {
 	var text [4096]C.char
-	length, err := onPath("readlink", root, unsafePath, func(root C.int, path *C.char) C.long {
-		return C.long(C.inroot_readlink(root, path, joined(flags, 0), &text[0], C.size_t(len(text))))
+	length, err := r.of("readlinkat", name, func(root C.int, name *C.char) (int, error) {
+		return ignoringEINTR(func() (int, error) {
+			return result(C.inroot_readlink(root, name, r.with(0), &text[0], C.size_t(len(text))))
+		})
 	})
 	if err != nil {
 		return "", err
@@ -79,31 +99,21 @@ func ReadlinkInRoot(root *os.File, unsafePath string, flags ...Flags) (string, e
 	return C.GoStringN(&text[0], C.int(length)), nil
 }
 
-// ReaddirnamesInRoot gives the names of the entries of a directory, in no order, as os.File.Readdirnames does. (Its ReadDir
-// may ask for the kind of an entry by the file's name, which leads along the host's links.)
-func ReaddirnamesInRoot(root *os.File, unsafePath string, flags ...Flags) ([]string, error) {
-	dir, err := OpenFileInRoot(root, unsafePath, os.O_RDONLY|syscall.O_DIRECTORY, 0, flags...)
+// Stat returns the status of a file or a directory, as os.Stat does.
+func (r *Root) Stat(name string) (fs.FileInfo, error) {
+	return r.status("statat", name, 0)
+}
+
+// Lstat does the same, but of a link at the end of name it returns that of the link itself.
+func (r *Root) Lstat(name string) (fs.FileInfo, error) {
+	return r.status("lstatat", name, C.INROOT_NOFOLLOW)
+}
+
+func (r *Root) status(op, name string, flags C.int) (fs.FileInfo, error) {
+	handle, err := r.resolve(op, name, name, flags)
 	if err != nil {
 		return nil, err
 	}
-	defer dir.Close()
-	return dir.Readdirnames(-1)
-}
-
-// StatInRoot returns the status of what stands at unsafePath.
-func StatInRoot(root *os.File, unsafePath string, flags ...Flags) (fs.FileInfo, error) {
-	return status(OpenatInRoot(root, unsafePath, flags...))
-}
-
-// LstatInRoot returns that of a link at the end of unsafePath itself.
-func LstatInRoot(root *os.File, unsafePath string, flags ...Flags) (fs.FileInfo, error) {
-	return status(OpenatInRootNoFollow(root, unsafePath, flags...))
-}
-
-func status(found *os.File, err error) (fs.FileInfo, error) {
-	if err != nil {
-		return nil, err
-	}
-	defer found.Close()
-	return found.Stat()
+	defer handle.Close()
+	return handle.Stat()
 }

@@ -4,30 +4,29 @@ package inroot
 import "C"
 
 import (
+	"io/fs"
 	"os"
 	"path/filepath"
 	"strconv"
-	"syscall"
 )
 
-// UsePrivateProc has all functions ask a proc(5) that is mounted nowhere, in place of /proc: inroot_use_private_proc(3).
-// It comes before the first other function.
+// UsePrivateProc has all calls ask a proc(5) that is mounted nowhere, in place of /proc: inroot_use_private_proc(3).
+// Call it before any other. EBUSY where there is one already, EPERM without CAP_SYS_ADMIN.
 func UsePrivateProc() error {
-	if given := C.inroot_use_private_proc(); given < 0 {
-		return syscall.Errno(-given)
-	}
-	return nil
-}
-
-// UseProc has all functions ask the proc(5) of which proc is the topmost directory, in place of /proc: inroot_use_proc(3).
-// It comes before the first other function; proc may be closed afterwards.
-func UseProc(proc *os.File) error {
-	_, err := onHandle("useproc", proc, func(fd C.int) C.long { return C.long(C.inroot_use_proc(fd)) })
+	_, err := result(C.inroot_use_private_proc())
 	return err
 }
 
-// Where a path of ProcOpen and ProcReadlink begins; or at the process that has a number above 0. A goroutine may go on in
-// another thread: one that begins at ProcThreadSelf calls runtime.LockOSThread before.
+// UseProc has all calls ask the proc(5) of which proc is the topmost directory, in place of /proc:
+// inroot_use_proc(3). Call it before any other; proc may be closed afterwards. EINVAL of another file system, EBUSY
+// where there is one already.
+func UseProc(proc *os.File) error {
+	_, err := (&Handle{proc}).do("useproc", func(fd C.int) (int, error) { return result(C.inroot_use_proc(fd)) })
+	return err
+}
+
+// Where a path of ProcOpen and ProcReadlink begins; or at the process that has a number above 0. A goroutine may go
+// on in another thread: one that begins at ProcThreadSelf calls runtime.LockOSThread before.
 const (
 	ProcRoot       = C.INROOT_PROC_ROOT
 	ProcSelf       = C.INROOT_PROC_SELF
@@ -44,11 +43,22 @@ func procName(base int, path string) string {
 	return filepath.Join("/proc", at, filepath.Join("/", path))
 }
 
-// ProcOpen opens a file of the proc(5) by which the functions go, and fails where something is mounted over it or over a
-// part of the path: inroot_proc_open(3). A link at the end is followed, but for O_NOFOLLOW.
+// inProc makes a call on a path there.
+func inProc(op, path string, call func(path *C.char) (int, error)) (int, error) {
+	given, err := texted(path, func(path *C.char) (int, error) {
+		return ignoringEINTR(func() (int, error) { return call(path) })
+	})
+	if err != nil {
+		return 0, &fs.PathError{Op: op, Path: path, Err: err}
+	}
+	return given, nil
+}
+
+// ProcOpen opens a file of the proc(5) by which the calls go, and fails with EXDEV where something is mounted over it
+// or over a part of the path: inroot_proc_open(3). A link at the end is followed without O_NOFOLLOW.
 func ProcOpen(base int, path string, flag int) (*os.File, error) {
-	fd, err := onText("procopen", path, func(path *C.char) C.long {
-		return C.long(C.inroot_proc_open(number(base), path, number(flag)))
+	fd, err := inProc("procopen", path, func(path *C.char) (int, error) {
+		return result(C.inroot_proc_open(number(base), path, number(flag)))
 	})
 	if err != nil {
 		return nil, err
@@ -56,11 +66,11 @@ func ProcOpen(base int, path string, flag int) (*os.File, error) {
 	return os.NewFile(uintptr(fd), procName(base, path)), nil
 }
 
-// ProcReadlink gives the text of a link there.
+// ProcReadlink returns the text of a link there. EINVAL of anything else.
 func ProcReadlink(base int, path string) (string, error) {
 	var text [4096]C.char
-	length, err := onText("procreadlink", path, func(path *C.char) C.long {
-		return C.long(C.inroot_proc_readlink(number(base), path, &text[0], C.size_t(len(text))))
+	length, err := inProc("procreadlink", path, func(path *C.char) (int, error) {
+		return result(C.inroot_proc_readlink(number(base), path, &text[0], C.size_t(len(text))))
 	})
 	if err != nil {
 		return "", err

@@ -1,6 +1,7 @@
 package inroot
 
 import (
+	"io/fs"
 	"os"
 	"os/exec"
 	"strconv"
@@ -19,19 +20,17 @@ func TestProcThatIsHandedIn(t *testing.T) {
 		return
 	}
 	_, root := tree(t)
-	fails(t, UseProc(root), syscall.EINVAL)
+	fails(t, UseProc(root.dir), syscall.EINVAL)
 	proc, err := os.Open("/proc")
 	must(t, err)
 	must(t, UseProc(proc))
 	must(t, proc.Close())
-	fails(t, UseProc(proc), syscall.EBADF)
+	fails(t, UseProc(proc), fs.ErrClosed)
 	fails(t, UsePrivateProc(), syscall.EBUSY)
-	found, err := OpenatInRoot(root, "in/f")
+	found, err := root.Resolve("in/f")
 	must(t, err)
-	file, err := Reopen(found, os.O_RDONLY)
-	if text := textOf(t, file, err); text != "inside" {
-		t.Errorf("%q", text)
-	}
+	file, err := found.Reopen(os.O_RDONLY)
+	is(t, textOf(t, file, err), nil, "inside")
 	must(t, found.Close())
 }
 
@@ -39,22 +38,16 @@ func TestFilesOfProc(t *testing.T) {
 	_, root := tree(t)
 	file, err := ProcOpen(ProcSelf, "comm", os.O_RDONLY)
 	must(t, err)
-	if file.Name() != "/proc/self/comm" {
-		t.Errorf("%q", file.Name())
-	}
+	is(t, file.Name(), nil, "/proc/self/comm")
 	own, err := os.ReadFile("/proc/self/comm")
 	must(t, err)
-	if text := textOf(t, file, nil); text != string(own) {
-		t.Errorf("%q, and not %q", text, own)
-	}
-	link := "fd/" + strconv.Itoa(int(root.Fd()))
+	is(t, textOf(t, file, nil), nil, string(own))
+	link := "fd/" + strconv.Itoa(int(root.dir.Fd()))
 	for _, base := range []int{ProcSelf, os.Getpid()} {
 		text, err := ProcReadlink(base, link)
-		if err != nil || text != root.Name() {
-			t.Errorf("%q, %v, and not %q", text, err, root.Name())
-		}
+		is(t, text, err, root.Name())
 		file, err = ProcOpen(base, link, os.O_RDONLY|syscall.O_DIRECTORY)
-		sameAs(t, file, err, root.Name())
+		sameAs(t, &Handle{file}, err, root.Name())
 	}
 	_, err = ProcOpen(ProcRoot, "../etc/passwd", os.O_RDONLY)
 	fails(t, err, syscall.EXDEV)

@@ -75,7 +75,15 @@ if ! lacks go 'bindings/go and the example in Go'; then
     [ -z "$(gofmt -l bindings/go examples)" ]
     verdict $? "gofmt -l: $(gofmt -l bindings/go examples)"
     has 'go vet of bindings/go' env -C bindings/go go vet ./...
-    has 'the tests of bindings/go' env -C bindings/go go test -count=1 ./...
+    # The detector of races sees what calls do beside Close.
+    race=-race
+    mkdir "$work/race" && printf 'package main\n\nfunc main() {}\n' >"$work/race/main.go"
+    if ! go build -race -o "$work/race/main" "$work/race/main.go" 2>/dev/null || ! "$work/race/main"; then
+        race=
+        skip 'the detector of races in the tests of bindings/go' 'this Go has none'
+    fi
+    has 'the tests of bindings/go' env -C bindings/go go test $race -count=1 ./...
+    has 'the tests of bindings/go, over the archive' env -C bindings/go go test -tags inroot_static -count=1 ./...
     has 'a Go program' env -C examples/runtime/unpack-go go build -o "$work/unpack-go" . && has_go=yes
     cp "$work/unpack-go" "$work/used" && has 'a Go program takes the shared library' is_shared
     has 'a Go program, over the archive' env -C examples/runtime/unpack-go \

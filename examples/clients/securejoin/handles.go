@@ -11,19 +11,32 @@ import (
 
 var errInvalidMode = errors.New("invalid permission mode")
 
+// fileOf gives the file of a handle.
+func fileOf(handle *inroot.Handle, err error) (*os.File, error) {
+	if err != nil {
+		return nil, err
+	}
+	return handle.File, nil
+}
+
 // OpenInRoot opens an O_PATH handle of what unsafePath leads to below the directory root.
 func OpenInRoot(root, unsafePath string) (*os.File, error) {
-	return inroot.OpenInRoot(root, unsafePath)
+	directory, err := inroot.OpenRoot(root)
+	if err != nil {
+		return nil, err
+	}
+	defer directory.Close()
+	return fileOf(directory.Resolve(unsafePath))
 }
 
 // OpenatInRoot is OpenInRoot below a directory that is open.
 func OpenatInRoot(root *os.File, unsafePath string) (*os.File, error) {
-	return inroot.OpenatInRoot(root, unsafePath)
+	return fileOf(inroot.NewRoot(root).Resolve(unsafePath))
 }
 
 // Reopen opens for use what a handle has open.
 func Reopen(handle *os.File, flags int) (*os.File, error) {
-	return inroot.Reopen(handle, flags)
+	return (&inroot.Handle{File: handle}).Reopen(flags)
 }
 
 // MkdirAllHandle makes a directory below root, and those above it, and gives the last one, open for reading.
@@ -31,12 +44,12 @@ func MkdirAllHandle(root *os.File, unsafePath string, mode os.FileMode) (*os.Fil
 	if mode&^(os.ModePerm|os.ModeSticky) != 0 {
 		return nil, fmt.Errorf("%w for mkdir 0o%.3o", errInvalidMode, mode)
 	}
-	made, err := inroot.MkdirAllHandle(root, unsafePath, mode)
+	made, err := inroot.NewRoot(root).MkdirAllHandle(unsafePath, mode)
 	if err != nil {
 		return nil, err
 	}
 	defer made.Close()
-	return inroot.Reopen(made, syscall.O_DIRECTORY|syscall.O_CLOEXEC)
+	return made.Reopen(syscall.O_DIRECTORY | syscall.O_CLOEXEC)
 }
 
 // MkdirAll is MkdirAllHandle below a directory by its path, and keeps nothing open.

@@ -18,6 +18,7 @@ import (
 	"flag"
 	"fmt"
 	"io"
+	"io/fs"
 	"os"
 	"strings"
 	"syscall"
@@ -38,10 +39,10 @@ type object struct {
 }
 
 type unpacking struct {
-	root                  *os.File
-	above                 *os.File // the directory of the last entry, or nil; and its path
+	root                  *inroot.Root
+	above                 *inroot.Handle // the directory of the last entry, or nil; and its path
 	aboveName             string
-	at                    *os.File // where the paths of calls begin: that directory, or the root
+	at                    *inroot.Root // where the paths of calls begin: that directory, or the root
 	owners, strict, times bool
 	failed                bool
 	again                 bool // a directory was there already, so it may have come before
@@ -70,7 +71,7 @@ func (u *unpacking) fail(name string, what error) {
 func (u *unpacking) lookAgain() {
 	was, err := u.above.Stat()
 	if err == nil {
-		now, failed := inroot.StatInRoot(u.root, u.aboveName)
+		now, failed := u.root.Stat(u.aboveName)
 		if err = failed; err == nil && !os.SameFile(was, now) {
 			err = syscall.ESTALE
 		}
@@ -106,53 +107,53 @@ func (u *unpacking) openAbove(name string) (last string, err error) {
 	}
 	u.closeAbove()
 	u.aboveName = above
-	opened, err := inroot.MkdirAllHandle(u.root, above, 0o755)
+	opened, err := u.root.MkdirAllHandle(above, 0o755)
 	if err != nil {
 		return last, err
 	}
-	u.above, u.at = opened, opened
-	if u.strict {
-		u.at = u.root
+	u.above, u.at = opened, u.root
+	if !u.strict {
+		u.at = inroot.NewRoot(opened.File)
 	}
 	return last, nil
 }
 
 // makeRoom removes what is at the name, so that the entry is made anew.
 func (u *unpacking) makeRoom(last string) error {
-	err := inroot.UnlinkInRoot(u.at, last)
+	err := u.at.Unlink(last)
 	if errors.Is(err, syscall.EISDIR) {
-		_, err = inroot.RemoveAllInRoot(u.at, last, inroot.NoXdev)
+		err = u.at.With(inroot.NoXDev).RemoveAll(last)
 	}
-	if errors.Is(err, syscall.ENOENT) {
+	if errors.Is(err, fs.ErrNotExist) {
 		return nil
 	}
 	return err
 }
 
 // setFound sets what is to be set of what was found or made. The owner first: the kernel takes bits of the mode off.
-func (u *unpacking) setFound(found *os.File, header *tar.Header) error {
+func (u *unpacking) setFound(found *inroot.Handle, header *tar.Header) error {
 	if u.owners {
 		// -1 would leave what is there.
 		if header.Uid < 0 || header.Gid < 0 {
 			return syscall.EINVAL
 		}
-		if err := inroot.Chown(found, header.Uid, header.Gid); err != nil {
+		if err := found.Chown(header.Uid, header.Gid); err != nil {
 			return err
 		}
 	}
 	if header.Typeflag != tar.TypeSymlink {
-		if err := inroot.Chmod(found, header.FileInfo().Mode()); err != nil {
+		if err := found.Chmod(header.FileInfo().Mode()); err != nil {
 			return err
 		}
 	}
 	if u.times {
-		return inroot.Chtimes(found, time.Time{}, header.ModTime)
+		return found.Chtimes(time.Time{}, header.ModTime)
 	}
 	return nil
 }
 
 // setGiven does that to an entry that was made and given.
-func (u *unpacking) setGiven(given *os.File, err error, header *tar.Header) error {
+func (u *unpacking) setGiven(given *inroot.Handle, err error, header *tar.Header) error {
 	if err != nil {
 		return err
 	}
@@ -162,14 +163,14 @@ func (u *unpacking) setGiven(given *os.File, err error, header *tar.Header) erro
 
 func (u *unpacking) makeFile(last string, header *tar.Header) error {
 	// O_EXCL: it is this call that makes it, so that nobody's file is written to.
-	file, err := inroot.OpenFileInRoot(u.at, last, os.O_WRONLY|os.O_CREATE|os.O_EXCL, 0o600)
+	file, err := u.at.OpenFile(last, os.O_WRONLY|os.O_CREATE|os.O_EXCL, 0o600)
 	if err != nil {
 		return err
 	}
 	// Without the file's own ReadFrom, which tries system calls that don't take an archive's part.
 	_, err = io.CopyBuffer(struct{ io.Writer }{file}, struct{ io.Reader }{u.archive}, u.buffer)
 	if err == nil {
-		err = u.setFound(file, header)
+		err = u.setFound(&inroot.Handle{File: file}, header)
 	}
 	if closed := file.Close(); err == nil {
 		err = closed
@@ -183,21 +184,21 @@ func (u *unpacking) makeNode(last string, kind uint32, header *tar.Header) error
 	if kind == syscall.S_IFIFO {
 		device = 0
 	}
-	given, err := inroot.MknodHandle(u.at, last, kind|0o600, device)
+	given, err := u.at.MknodHandle(last, kind|0o600, device)
 	return u.setGiven(given, err, header)
 }
 
 func (u *unpacking) makeLink(last string, header *tar.Header) error {
 	if !u.owners && !u.times {
-		return inroot.SymlinkInRoot(u.at, header.Linkname, last)
+		return u.at.Symlink(header.Linkname, last)
 	}
-	given, err := inroot.SymlinkHandle(u.at, header.Linkname, last)
+	given, err := u.at.SymlinkHandle(header.Linkname, last)
 	return u.setGiven(given, err, header)
 }
 
 // isThere says whether the name is that object's already.
-func (u *unpacking) isThere(last string, object *os.File) bool {
-	found, err := inroot.LstatInRoot(u.at, last)
+func (u *unpacking) isThere(last string, object *inroot.Handle) bool {
+	found, err := u.at.Lstat(last)
 	if err != nil {
 		return false
 	}
@@ -207,12 +208,12 @@ func (u *unpacking) isThere(last string, object *os.File) bool {
 
 // makeSecondName leaves what has the name already: a file that comes twice is a link to itself the second time.
 func (u *unpacking) makeSecondName(last string, header *tar.Header) error {
-	existing, err := inroot.OpenatInRootNoFollow(u.root, header.Linkname)
+	existing, err := u.root.ResolveNoFollow(header.Linkname)
 	if err != nil {
 		return err
 	}
 	defer existing.Close()
-	err = inroot.LinkFileInRoot(u.at, existing, last)
+	err = u.at.LinkFile(existing.File, last)
 	if errors.Is(err, syscall.EEXIST) && u.isThere(last, existing) {
 		return nil
 	}
@@ -231,7 +232,7 @@ func (u *unpacking) makeNew(last string, header *tar.Header) error {
 	case tar.TypeBlock:
 		return u.makeNode(last, syscall.S_IFBLK, header)
 	case tar.TypeDir:
-		return inroot.MkdirInRoot(u.at, last, 0o700)
+		return u.at.Mkdir(last, 0o700)
 	case tar.TypeFifo:
 		return u.makeNode(last, syscall.S_IFIFO, header)
 	case tar.TypeReg, tar.TypeCont:
@@ -250,7 +251,7 @@ func (u *unpacking) makeInPlace(last string, header *tar.Header) error {
 		return err
 	}
 	if header.Typeflag == tar.TypeDir {
-		if about, err := inroot.LstatInRoot(u.at, last); err == nil && about.IsDir() {
+		if about, err := u.at.Lstat(last); err == nil && about.IsDir() {
 			u.again = true
 			return nil
 		}
@@ -267,11 +268,7 @@ func (u *unpacking) makeDirectories(name string, header *tar.Header) error {
 		return syscall.EINVAL
 	}
 	u.again = u.again || len(u.directories) > 0
-	made, err := inroot.MkdirAllHandle(u.root, name, 0o700)
-	if err != nil {
-		return err
-	}
-	return made.Close()
+	return u.root.MkdirAll(name, 0o700)
 }
 
 func (u *unpacking) makeEntry(name string, header *tar.Header) error {
@@ -314,7 +311,7 @@ func (u *unpacking) isNew(found *os.File) (bool, error) {
 func (u *unpacking) setDirectory(one directory) error {
 	const oPath = 0x200000
 	flags := oPath | syscall.O_DIRECTORY | syscall.O_NOFOLLOW
-	found, err := inroot.OpenFileInRoot(u.root, one.name, flags, 0)
+	found, err := u.root.OpenFile(one.name, flags, 0)
 	if err != nil {
 		return err
 	}
@@ -324,7 +321,7 @@ func (u *unpacking) setDirectory(one directory) error {
 			return err
 		}
 	}
-	return u.setFound(found, one.header)
+	return u.setFound(&inroot.Handle{File: found}, one.header)
 }
 
 func (u *unpacking) unpack() int {
@@ -371,7 +368,7 @@ func main() {
 		flag.Usage()
 		os.Exit(2)
 	}
-	root, err := os.Open(flag.Arg(0))
+	root, err := inroot.OpenRoot(flag.Arg(0))
 	if err != nil {
 		fmt.Fprintf(os.Stderr, "unpack: %v\n", err)
 		os.Exit(4)
