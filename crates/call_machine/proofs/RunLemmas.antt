@@ -175,7 +175,7 @@ table_after x n now table opened h d (Dup k) (Made Done) is has small t s = absu
 table_after x n now table opened h d (Parent k) (Made (Opened fd kind)) is has small t (inl f) =
     adds x n now table opened fd f.node small f.one t
 table_after x n now table opened h d (Parent k) (Made (Opened fd kind)) is has small t (inr w) =
-    adds x n now table opened fd w.1.node small w.1.one t
+    adds x n now table opened fd w.2.node small w.2.one t
 table_after x n now table opened h d (Parent k) (Made (Refused error)) is has small t s = keeps x n now table s.0 t
 table_after x n now table opened h d (Parent k) (Made (Unmade error)) is has small t s = keeps x n now table s t
 table_after x n now table opened h d (Parent k) (Made (Text length)) is has small t s = absurd s

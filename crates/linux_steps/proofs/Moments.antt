@@ -11,7 +11,7 @@ use Rattle.dialogue.specs.Dialogue.{Dialogue, Exchange, SystemCall, Talks, Whole
 use Rattle.dialogue.specs.declared.calls.Answer.{Answer}
 use Rattle.dialogue.specs.declared.calls.How.{How}
 use Rattle.dialogue.proofs.PartLemmas.{Parts, parts, same_end}
-use Rattle.linux_steps.specs.Linux.{AreAnswers, Closes, IsLinux, Linux, Looks, OpenSays, Opens, Same, Says, moment_behind}
+use Rattle.linux_steps.specs.Linux.{AreAnswers, Closes, IsLinux, IsTold, Linux, Looks, OpenSays, Opens, Same, Says, moment_behind}
 use Rattle.linux_steps.specs.Promises.{Answered, OneLess, OneMore, Unchanged}
 use Rattle.linux_steps.specs.Steps.{closing, opening, tried}
 
@@ -33,7 +33,7 @@ moment_both m (x ∷ xs) ys = moment_both (suc m) xs ys
 answers_apart : (x : Linux) (m : ℕ) (xs ys : List Exchange) → AreAnswers x m (xs ++ ys)
     → AreAnswers x m xs × AreAnswers x (moment_behind m xs) ys
 answers_apart x m [] ys h = (tt, h)
-answers_apart x m (e ∷ xs) ys h = let k = answers_apart x (suc m) xs ys h.1 in ((h.0, k.0), k.1)
+answers_apart x m (e ∷ xs) ys h = let k = answers_apart x (suc m) xs ys h.2 in ((h.0, h.1, k.0), k.1)
 
 moment_on : (m : ℕ) (es : List Exchange) → m ≤ moment_behind m es
 moment_on m [] = omega arith
@@ -67,6 +67,8 @@ pub record Answers (x : Linux) (m now : ℕ) (q : SystemCall) (a : Answer) : Typ
   pub is : now ≡ suc n
   pub same : Unchanged x m n
   pub says : Says x n q a
+  pub told : IsTold x q a
+  pub heard : again q a ≡ false
 
 pub not_zero : (n : ℕ) → (n == 0) ≡ false → n ≢ 0
 not_zero n is same = absurd (grind (arith, is, same))
@@ -98,22 +100,40 @@ signal_same x n (closes fd) a is says = absurd (false≢true is)
 abbrev Calls : SystemCall → Dialogue Answer
 Calls q = asks q (λ a. ends a)
 
-last : (x : Linux) (m : ℕ) (q : SystemCall) (e a : Answer) (es : List Exchange) → Says x m q e
+last : (x : Linux) (m : ℕ) (q : SystemCall) (e a : Answer) (es : List Exchange) → again q e ≡ false → Says x m q e
+    → IsTold x q e
     → Talks (ends e) es (λ rest. rest ≡ ends a) → Answers x m (moment_behind (suc m) es) q a
 unfolding Talks
-last x m q e a [] says w =
-    record { n = m; after = omega arith; is = refl; same = λ fd. refl; says = subst (Says x m q) (same_end e a w) says }
-last x m q e a (y ∷ ys) says w = absurd w
+last x m q e a [] heard says told w =
+    let same = same_end e a w in
+    record {
+      n = m;
+      after = omega arith;
+      is = refl;
+      same = λ fd. refl;
+      says = subst (Says x m q) same says;
+      told = subst (IsTold x q) same told;
+      heard = subst (λ (p : Answer). again q p ≡ false) same heard;
+    }
+last x m q e a (y ∷ ys) heard says told w = absurd w
 
 by_signal : (x : Linux) (m : ℕ) (q : SystemCall) (e a : Answer) (es : List Exchange) (b : Bool) → again q e ≡ b
-    → Says x m q e → Talks (if b then Calls q else ends e) es (λ rest. rest ≡ ends a)
+    → Says x m q e → IsTold x q e → Talks (if b then Calls q else ends e) es (λ rest. rest ≡ ends a)
     → (Talks (Calls q) es (λ rest. rest ≡ ends a) → Answers x (suc m) (moment_behind (suc m) es) q a)
     → Answers x m (moment_behind (suc m) es) q a
-by_signal x m q e a es true is says w more =
+by_signal x m q e a es true is says told w more =
     let k = more w in
     let same = signal_same x m q e is says in
-    record { n = k.n; after = omega (arith, k.after); is = k.is; same = λ fd. k.same fd ∙ same fd; says = k.says }
-by_signal x m q e a es false is says w more = last x m q e a es says w
+    record {
+      n = k.n;
+      after = omega (arith, k.after);
+      is = k.is;
+      same = λ fd. k.same fd ∙ same fd;
+      says = k.says;
+      told = k.told;
+      heard = k.heard;
+    }
+by_signal x m q e a es false is says told w more = last x m q e a es is says told w
 
 called_by : (x : Linux) (q : SystemCall) (es : List Exchange) (m : ℕ) (a : Answer) → AreAnswers x m es
     → Talks (Calls q) es (λ rest. rest ≡ ends a) → Answers x m (moment_behind m es) q a
@@ -121,7 +141,8 @@ unfolding Talks
 called_by x q [] m a says w = absurd cc
 called_by x q (e ∷ es) m a says w =
     by_signal x m q e.answer a es (again q e.answer) refl
-    (subst (λ p. Says x m p e.answer) w.0 says.0) w.1 (called_by x q es (suc m) a says.1)
+    (subst (λ p. Says x m p e.answer) w.0 says.0) (subst (λ p. IsTold x p e.answer) w.0 says.1) w.1
+    (called_by x q es (suc m) a says.2)
 
 pub called : (x : Linux) (m : ℕ) (q : SystemCall) → Holds x m (calling q) (λ now a. Answers x m now q a)
 unfolding calling

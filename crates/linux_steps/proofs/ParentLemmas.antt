@@ -1,11 +1,11 @@
 -- What is opened above a directory was the directory above.
 use Rattle.std.proofs.Common.{◌≡◌, ◌≢◌, ◌≤◌, ◌<◌, ◌⊎◌, inl, inr, ℕ, zero, suc, ◌+◌, ◌-◌, List, [], ◌∷◌, Bool, true, false, if◌then◌else◌, not, Result, Ok, Err, refl, sym, ap, subst, ◌∙◌, arith}
-use Rattle.std.specs.Prelude.{◌==◌, ◌&&◌, Option, Some, None, is_some}
+use Rattle.std.specs.Prelude.{◌==◌, ◌&&◌, ◌||◌, Option, Some, None, is_some}
 use Rattle.std.specs.Option.{option_map}
 use Rattle.std.proofs.lemmas.Bool.{eqb-true, false≢true}
 use Rattle.std.proofs.lemmas.Option.{same_Some}
 use Rattle.path_text.specs.declared.errno.Errno.TheVariants.{NotFound}
-use Rattle.system_calls.specs.Errors.{ENOENT}
+use Rattle.system_calls.specs.Errors.{EINTR, ENOENT}
 use Rattle.tree_model.specs.declared.answer.Answer.TheVariants as answers
 use Rattle.tree_model.specs.declared.inode.Inode.{Inode}
 use Rattle.tree_model.specs.declared.inode.Place.{Place}
@@ -56,17 +56,38 @@ record At (Is : Linux → ℕ → ℕ → Type 0) (x : Linux) (m now d : ℕ) : 
 abbrev TellsThere : Linux → ℕ → ℕ → ℕ → There → Type 0
 TellsThere x m now d Yes = At IsThere x m now d
 TellsThere x m now d No = At IsGone x m now d
-TellsThere x m now d Unknown = Unit {0}
+TellsThere x m now d Unknown = x.asks ≡ false
 TellsThere x m now d (Fails error) = Unit {0}
 
 abbrev ThereSo : Linux → ℕ → ℕ → ℕ → There → Type 0
 ThereSo x m now d t = (m ≤ now) × Unchanged x m now × TellsThere x m now d t
 
+-- nobody could be asked
+not_told : (asks a b c : Bool) → (asks ≡ true → (a || (b || c)) ≡ true) → a ≡ false → b ≡ false → c ≡ false
+    → asks ≡ false
+not_told false a b c told e1 e2 e3 = refl
+not_told true false false false told e1 e2 e3 = absurd (false≢true (told refl))
+not_told true true b c told e1 e2 e3 = absurd (false≢true (sym e1))
+not_told true false true c told e1 e2 e3 = absurd (false≢true (sym e2))
+not_told true false false true told e1 e2 e3 = absurd (false≢true (sym e3))
+
+no_type : (asks a b : Bool) → (asks ≡ true → (a || b) ≡ true) → a ≡ false → b ≡ false → asks ≡ false
+no_type false a b told e1 e2 = refl
+no_type true false false told e1 e2 = absurd (false≢true (told refl))
+no_type true true b told e1 e2 = absurd (false≢true (sym e1))
+no_type true false true told e1 e2 = absurd (false≢true (sym e2))
+
+not_zero_is : (n : ℕ) (b : Bool) → (n == 0) ≡ b → n ≢ 0 → b ≡ false
+not_zero_is n true is some = absurd (some (eqb-true n 0 is))
+not_zero_is n false is some = refl
+
 read_so : (x : Linux) (m n now d error : ℕ) (b c : Bool) → (error == 0) ≡ b → (error == ENOENT) ≡ c → m < n → n ≤ now
+    → (x.asks ≡ true → ((error == 0) || ((error == EINTR) || (error == ENOENT))) ≡ true) → (error == EINTR) ≡ false
     → ReadSays x n d error → TellsThere x m now d (if b then Yes else (if c then No else Unknown))
-read_so x m n now d error true c is two after by says = record { n = n; after = after; by = by; is = says.there (eqb-true error 0 is) }
-read_so x m n now d error false true is two after by says = record { n = n; after = after; by = by; is = says.gone (eqb-true error ENOENT two) }
-read_so x m n now d error false false is two after by says = tt
+read_so x m n now d error true c is two after by told heard says = record { n = n; after = after; by = by; is = says.there (eqb-true error 0 is) }
+read_so x m n now d error false true is two after by told heard says = record { n = n; after = after; by = by; is = says.gone (eqb-true error ENOENT two) }
+read_so x m n now d error false false is two after by told heard says =
+    not_told x.asks (error == 0) (error == EINTR) (error == ENOENT) told is heard two
 
 reads : (x : Linux) (m m1 d fd : ℕ) → m ≤ m1 → OneMore x m m1 fd d
     → Holds x m1 (entries_opened (Ok fd)) (λ now t. ThereSo x m now d t)
@@ -80,7 +101,7 @@ reads x m m1 d fd before one =
     (λ last u c. end x last (by_read a.error) (λ now t. ThereSo x m now d t)
     (omega (arith, before, h.is, h.after, c.by), back x m now last fd d open_still c,
     read_so x m (suc h.n) last d a.error (a.error == 0) (a.error == ENOENT) refl refl (omega (arith, before, h.after))
-    (omega (arith, h.is, c.by)) says)))
+    (omega (arith, h.is, c.by)) h.told h.heard says)))
 
 entries_failed : (x : Linux) (m now dir error : ℕ) → Failed x m now (open_same dir to_read) error → Unchanged x m now
 entries_failed x m now dir error h =
@@ -97,7 +118,10 @@ entries_fail x m m1 now dir d error true is before same on h =
       is = h.by.says.missing (h.fails ∙ eqb-true error ENOENT is) refl d (h.by.same dir ∙ same dir ∙ on);
     })
 entries_fail x m m1 now dir d error false is before same on h =
-    (omega (arith, before, h.by.is, h.by.after), unchanged x m m1 now same (entries_failed x m1 now dir error h), tt)
+    (omega (arith, before, h.by.is, h.by.after), unchanged x m m1 now same (entries_failed x m1 now dir error h),
+    not_told x.asks (h.answer.error == 0) (h.answer.error == EINTR) (h.answer.error == ENOENT) h.by.told
+    (not_zero_is h.answer.error (h.answer.error == 0) refl (λ none. h.some (sym h.fails ∙ none))) h.by.heard
+    (ap (λ n. n == ENOENT) h.fails ∙ is))
 
 entries_end : (x : Linux) (m m1 now dir d : ℕ) (r : Result ℕ ℕ) → m ≤ m1 → Unchanged x m m1 → x.on m dir ≡ Some d
     → Tried x m1 (open_same dir to_read) now r → Holds x now (entries_opened r) (λ now t. ThereSo x m now d t)
@@ -139,7 +163,8 @@ file_system_end x m m1 now dir d a before same on known h =
     let all = unchanged x m m1 now same (looked x m1 h.n now dir h.is h.same h.says) in
     let on_time : m ≤ now = omega (arith, before, h.is, h.after) in
     choose x now (not (a.error == 0)) (ends Unknown) _ (λ now t. ThereSo x m now d t)
-    (λ is. end x now Unknown (λ now t. ThereSo x m now d t) (on_time, all, tt))
+    (λ is. end x now Unknown (λ now t. ThereSo x m now d t)
+    (on_time, all, no_type x.asks (a.error == 0) (a.error == EINTR) h.told (negative (a.error == 0) is) h.heard))
     (λ is. choose x now (not (keeps_links a.file_system)) (ends Yes) (by_entries dir) (λ now t. ThereSo x m now d t)
     (λ type. end x now Yes (λ now t. ThereSo x m now d t)
     (on_time, all, other_type x m now d
@@ -248,7 +273,7 @@ above_there_end x m m1 now d fd Yes linux a h =
     }))
 above_there_end x m m1 now d fd Unknown linux a h =
     end x now (Opened fd kind.Dir) (λ now end. ParentStood x m now d end)
-    (inr (refl, record {
+    (inr (h.2, refl, record {
       node = a.node;
       one = still x m m1 now fd a.node a.one h.1;
       n = a.n;

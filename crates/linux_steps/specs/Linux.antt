@@ -1,7 +1,7 @@
 -- What an answer of Linux says of the tree and of the program's descriptors, at its moment: premises, each with the
 -- manual page that it is from.
-use Rattle.std.specs.Prelude.{◌≡◌, ◌≢◌, ◌⊎◌, ℕ, suc, List, [], ◌∷◌, Bool, true, false, Option, Some, None}
-use Rattle.system_calls.specs.Errors.{ENOENT}
+use Rattle.std.specs.Prelude.{◌≡◌, ◌≢◌, ◌⊎◌, ◌==◌, ◌||◌, ℕ, suc, List, [], ◌∷◌, Bool, true, false, Option, Some, None}
+use Rattle.system_calls.specs.Errors.{ENOENT, EINTR}
 use Rattle.tree_model.specs.declared.inode.Inode.{Inode}
 use Rattle.tree_model.specs.declared.inode.Object.{Object}
 use Rattle.tree_model.specs.declared.inode.Object.TheVariants as object
@@ -21,6 +21,8 @@ pub record Linux : Type 0 where
   pub layered : ℕ → Bool
   -- the text that readlinkat(2) wrote
   pub text : ℕ → List ℕ
+  -- whether a file system always says its type, and a directory that is read whether it is there
+  pub asks : Bool
 
 abbrev pub IsGone : Linux → ℕ → ℕ → Type 0
 IsGone x n d = is_gone (x.nodes n) d ≡ true
@@ -120,10 +122,24 @@ Says x n (reads_link fd) a =
     Looks x n fd (λ y. a.error ≡ 0 → object_at (x.nodes (suc n)) y ≡ Some (object.Link (x.text (suc n))))
 Says x n (closes fd) a = Closes x n fd
 
+-- a file system says its type, and a directory that is read whether it is there
+abbrev pub is_told : SystemCall → ℕ → Bool
+is_told (open_name dir name how) error = true
+is_told (open_same dir how) error = how.path || ((error == 0) || ((error == EINTR) || (error == ENOENT)))
+is_told (open_above dir how) error = true
+is_told (stats fd) error = true
+is_told (stats_file_system fd) error = (error == 0) || (error == EINTR)
+is_told (reads_entries fd) error = (error == 0) || ((error == EINTR) || (error == ENOENT))
+is_told (reads_link fd) error = true
+is_told (closes fd) error = true
+
+abbrev pub IsTold : Linux → SystemCall → Answer → Type 0
+IsTold x q a = x.asks ≡ true → is_told q a.error ≡ true
+
 -- each answer says what is said of it, one moment after another
 abbrev pub AreAnswers : Linux → ℕ → List Exchange → Type 0
 AreAnswers x n [] = Unit {0}
-AreAnswers x n (e ∷ es) = Says x n e.asked e.answer × AreAnswers x (suc n) es
+AreAnswers x n (e ∷ es) = Says x n e.asked e.answer × IsTold x e.asked e.answer × AreAnswers x (suc n) es
 
 abbrev pub moment_behind : ℕ → List Exchange → ℕ
 moment_behind n [] = n

@@ -73,13 +73,14 @@ pub record WasAbove (x : Linux) (m now d fd : ℕ) : Type 0 where
 
 abbrev pub ParentStood : Linux → ℕ → ℕ → ℕ → Ended → Type 0
 ParentStood x m now d (Opened fd kind) =
-    IsFound x m now d (Parent 0) fd kind ⊎ ((kind ≡ kinds.Dir) × WasAbove x m now d fd)
+    IsFound x m now d (Parent 0) fd kind ⊎ ((x.asks ≡ false) × (kind ≡ kinds.Dir) × WasAbove x m now d fd)
 ParentStood x m now d (Refused error) = Unchanged x m now × Answered x m now d (Parent 0) (answers.Refused error)
 ParentStood x m now d (Unmade error) = Unchanged x m now
 ParentStood x m now d (Text length) = ⊥
 ParentStood x m now d Done = ⊥
 
--- What is opened, the step table opened at a moment of a call; or whether the directory was removed could not be asked.
+-- What is opened, the step table opened at a moment of a call; or whether the directory was removed could not be asked:
+-- its file system's type, or by reading it (overlayfs, cgroups, btrfs).
 -- And where the step is refused, the step table refused it so at a moment of a call.
 abbrev pub ParentsStood : Type 0
 ParentsStood = (x : Linux) (m dir d : ℕ) (no_xdev : Bool) (es : List Exchange) (end : Ended) → IsLinux x
