@@ -1,5 +1,5 @@
 -- What a call took for each step's answer was so, and each of its handles stays open on its node.
-use Rattle.std.proofs.Common.{◌≡◌, ◌≢◌, ◌<◌, inl, inr, ℕ, List, [], ◌∷◌, Bool, true, false, if◌then◌else◌, refl, sym, ap, subst, ◌∙◌, arith}
+use Rattle.std.proofs.Common.{◌≡◌, ◌≢◌, ◌<◌, ◌+◌, ◌*◌, inl, inr, ℕ, List, [], ◌∷◌, Bool, true, false, if◌then◌else◌, refl, sym, ap, subst, ◌∙◌, arith}
 use Rattle.std.specs.Prelude.{◌==◌, Option, Some, None}
 use Rattle.std.proofs.lemmas.Bool.{eqb-true}
 use Rattle.std.proofs.lemmas.Nat.{mod-mul-add}
@@ -9,6 +9,7 @@ use Rattle.tree_model.specs.declared.step.Kind.{Kind}
 use Rattle.tree_model.specs.StepWith.{StepWith}
 use Rattle.tree_model.specs.declared.step.StepOf.TheVariants.{Open, Dup, Parent, ReadLink, NameBelow, List as ListNames, Close, MakeDir, MakeFile, MakeLink, RemoveFile, RemoveDir, Rename}
 use Rattle.dialogue.specs.Dialogue.{Dialogue, Exchange, Whole, ends}
+use Rattle.dialogue.proofs.TalkLemmas.{driven_whole}
 use Rattle.linux_steps.specs.Linux.{AreAnswers, IsLinux, Linux, moment_behind}
 use Rattle.linux_steps.specs.Promises.{OneLess, OneMore, Unchanged}
 use Rattle.linux_steps.specs.Steps.{close_step, dup_step, open_step, parent_step, read_link_step}
@@ -19,8 +20,10 @@ use Rattle.linux_steps.proofs.Moments.{Holds, both, differs, end, stays_open}
 use Rattle.linux_steps.proofs.OpenLemmas.{opens}
 use Rattle.linux_steps.proofs.ParentLemmas.{parents}
 use Rattle.call_machine.specs.Machine.{due_step}
-use Rattle.call_machine.specs.Runs.{AreAnswered, AreSmall, CallsStood, EndStood, Has, HasHandles, IsRun, IsSmall, IsTable, Round, RoundStood, RunStood, StepStood, Table, behind, handle_in, table_behind}
+use Rattle.call_machine.specs.Runs.{AreAnswered, AreSmall, CallsStood, EndStood, Has, HasHandles, IsRound, IsSmall, IsTable, Leads, Round, RoundStood, RunStood, StepStood, Table, behind, dialogue_of, handle_in, of_root, table_behind}
 use Rattle.call_machine.specs.Steps.{fd_of, handle_of, made, step_dialogue}
+use Rattle.call_machine.specs.declared.machine.Turn.{Turn}
+use Rattle.call_machine.specs.declared.machine.Turn.TheVariants.{Goes, Ends}
 use Rattle.call_machine.specs.declared.steps.StepEnd.{StepEnd}
 use Rattle.call_machine.specs.declared.steps.StepEnd.TheVariants.{Made, NotHereYet}
 
@@ -84,6 +87,11 @@ not_here no_xdev (Rename k name l new mode) is = refl
 
 keeps : (x : Linux) (n now : ℕ) (table : Table) → Unchanged x n now → IsTable x n table → IsTable x now table
 keeps x n now table same t = record { is = λ h d e. same (fd_of h) ∙ t.is h d e; apart = t.apart }
+
+small_mod : (n : ℕ) → n < 4294967296 → fd_of n ≡ n
+small_mod n small =
+    let e : n ≡ 0 * 4294967296 + n = omega arith in
+    ap fd_of e ∙ mod-mul-add 0 4294967296 n small
 
 new_fd : (opened fd : ℕ) → fd < 4294967296 → fd_of (handle_of opened fd) ≡ fd
 new_fd opened fd small = mod-mul-add opened 4294967296 fd small
@@ -223,13 +231,37 @@ round_by x n table no_xdev opened step es e (Some h) is linux t w says small (d,
     ((λ k c has_it has_on. steps_hold x n k c no_xdev step linux has_it (t.is k c has_on) es e says w),
     table_after x n now table opened h d step e is has small t s)
 
-runs : (x : Linux) (n : ℕ) (table : Table) (rounds : List Round) → IsLinux x → IsTable x n table → IsRun rounds
-    → AreAnswered x n rounds → AreSmall rounds → HasHandles x n table rounds → RunStood x n table rounds
-runs x n table [] linux t run says small has = tt
-runs x n table (r ∷ rs) linux t run says small has =
+runs : (x : Linux) (n : ℕ) (table : Table) (turn last : Turn) (rounds : List Round) → IsLinux x → IsTable x n table
+    → Leads turn rounds last → AreAnswered x n rounds → AreSmall rounds → HasHandles x n table rounds
+    → RunStood x n table rounds
+runs x n table turn last [] linux t run says small has = tt
+runs x n table (Ends reply why) last (r ∷ rs) linux t run says small has = absurd run
+runs x n table (Goes m) last (r ∷ rs) linux t (same, round, (next, taken, run)) says small has =
+    let w = driven_whole (dialogue_of r.machine) r.exchanges r.end round.left round.driven round.ended in
     let k = round_by x n table r.machine.no_xdev r.machine.opened (due_step r.machine) r.exchanges r.end
-        (handle_in (due_step r.machine)) refl linux t run.0 says.0 small.0 has.0 in
-    (k.0, k.1, runs x (moment_behind n r.exchanges) (behind x n table r) rs linux k.1 run.2 says.1 small.1 has.1)
+        (handle_in (due_step r.machine)) refl linux t w says.0 small.0 has.0 in
+    (k.0, k.1, runs x (moment_behind n r.exchanges) (behind x n table r) next last rs linux k.1 run says.1 small.1 has.1)
+
+root_by : (x : Linux) (n root d h e : ℕ) (b : Bool) → (h == root) ≡ b → root < 4294967296 → x.on n root ≡ Some d
+    → (if b then Some d else None) ≡ Some e → x.on n (fd_of h) ≡ Some e
+root_by x n root d h e false is small on has = absurd (some_none e (sym has))
+root_by x n root d h e true is small on has =
+    let same : fd_of h ≡ root = ap fd_of (eqb-true h root is) ∙ small_mod root small in
+    ap (x.on n) same ∙ on ∙ has
+
+root_apart : (h k root d e c : ℕ) (a b : Bool) → (h == root) ≡ a → (k == root) ≡ b
+    → (if a then Some d else None) ≡ Some e → (if b then Some d else None) ≡ Some c → h ≡ k
+root_apart h k root d e c false b is ks he kc = absurd (some_none e (sym he))
+root_apart h k root d e c true false is ks he kc = absurd (some_none c (sym kc))
+root_apart h k root d e c true true is ks he kc = eqb-true h root is ∙ sym (eqb-true k root ks)
+
+root_table : (x : Linux) (n root d : ℕ) → root < 4294967296 → x.on n root ≡ Some d → IsTable x n (of_root root d)
+root_table x n root d small on =
+    record {
+      is = λ h e has. root_by x n root d h e (h == root) refl small on has;
+      apart = λ h k e c he kc same. root_apart h k root d e c (h == root) (k == root) refl refl he kc;
+    }
 
 pub calls-stood : CallsStood
-calls-stood = runs
+calls-stood x n request root d no_xdev first last rounds linux small on started run says are_small has =
+    runs x n (of_root root d) first last rounds linux (root_table x n root d small on) run says are_small has

@@ -1,16 +1,19 @@
 -- A call, step by step, as a driver leads it; and that what it took for each step's answer was so.
-use Rattle.std.specs.Prelude.{◌≡◌, ◌<◌, ℕ, ◌==◌, List, [], ◌∷◌, if◌then◌else◌, Option, Some, None}
+use Rattle.std.specs.Prelude.{◌≡◌, ◌<◌, ℕ, ◌==◌, List, [], ◌∷◌, Bool, if◌then◌else◌, Option, Some, None}
 use Rattle.tree_model.specs.StepWith.{StepWith}
 use Rattle.tree_model.specs.declared.step.StepOf.TheVariants.{Open, Dup, Parent, ReadLink, NameBelow, List as ListNames, Close, MakeDir, MakeFile, MakeLink, RemoveFile, RemoveDir, Rename}
-use Rattle.dialogue.specs.Dialogue.{Exchange, Whole}
+use Rattle.dialogue.specs.Dialogue.{Dialogue, Exchange, IsDriven, answers_of, came, ran}
+use Rattle.dialogue.specs.declared.calls.Answer.{Answer}
+use Rattle.root_ops.specs.declared.op.Request.{Request}
 use Rattle.linux_steps.specs.Linux.{AreAnswers, IsLinux, Linux, moment_behind}
 use Rattle.linux_steps.specs.Promises.{DupStood, LinkStood, OneLess, OpenStood, ParentStood, Unchanged}
 use Rattle.linux_steps.specs.declared.ended.Ended.{Ended}
 use Rattle.linux_steps.specs.declared.ended.Ended.TheVariants.{Opened, Text, Done, Refused, Unmade}
-use Rattle.call_machine.specs.Machine.{due_step, IsTaken}
+use Rattle.call_machine.specs.Machine.{due_step, IsStarted, IsTaken}
 use Rattle.call_machine.specs.Steps.{fd_of, handle_of, step_dialogue}
 use Rattle.call_machine.specs.declared.machine.Machine.{Machine}
-use Rattle.call_machine.specs.declared.machine.Turn.TheVariants.{Goes}
+use Rattle.call_machine.specs.declared.machine.Turn.{Turn}
+use Rattle.call_machine.specs.declared.machine.Turn.TheVariants.{Goes, Ends}
 use Rattle.call_machine.specs.declared.steps.StepEnd.{StepEnd}
 use Rattle.call_machine.specs.declared.steps.StepEnd.TheVariants.{Made, NotHereYet}
 
@@ -23,18 +26,21 @@ pub record Round : Type 0 where
   pub end : StepEnd
   pub text : List ℕ
 
--- the exchanges are a whole conversation of the step's dialogue
-abbrev pub IsRound : Round → Type 0
-IsRound r = Whole (step_dialogue r.machine.no_xdev (due_step r.machine)) r.exchanges r.end
+abbrev pub dialogue_of : Machine → Dialogue StepEnd
+dialogue_of m = step_dialogue m.no_xdev (due_step m)
 
--- the call takes the step's end, and goes on with the next step
-abbrev pub GoesOn : Round → List Round → Type 0
-GoesOn r [] = Unit {0}
-GoesOn r (s ∷ rs) = IsTaken r.machine r.end r.text (Goes s.machine)
+-- The system call that was due was made, one after another, until the step had ended so.
+pub record IsRound (r : Round) : Type 0 where
+  pub driven : IsDriven (dialogue_of r.machine) [] r.exchanges
+  pub left : List Answer
+  pub ended : ran (dialogue_of r.machine) (answers_of r.exchanges) ≡ came r.end left
 
-abbrev pub IsRun : List Round → Type 0
-IsRun [] = Unit {0}
-IsRun (r ∷ rs) = IsRound r × GoesOn r rs × IsRun rs
+-- From a turn the rounds lead to another one: each time the call took the step's end.
+abbrev pub Leads : Turn → List Round → Turn → Type 0
+Leads turn [] last = turn ≡ last
+Leads (Goes m) (r ∷ rs) last =
+    (r.machine ≡ m) × IsRound r × ((turn : Turn) × IsTaken m r.end r.text turn × Leads turn rs last)
+Leads (Ends reply why) (r ∷ rs) last = ⊥
 
 -- each answer says of the tree what the manual pages say, one moment after another
 abbrev pub AreAnswered : Linux → ℕ → List Round → Type 0
@@ -135,6 +141,13 @@ RunStood x n table (r ∷ rs) =
     × IsTable x (moment_behind n r.exchanges) (behind x n table r)
     × RunStood x (moment_behind n r.exchanges) (behind x n table r) rs
 
+-- the root's handle alone
+abbrev pub of_root : ℕ → ℕ → Table
+of_root root d = λ h. if h == root then Some d else None
+
+-- So it is from a call's beginning on, whatever answers it was led by, and so far it has come.
 abbrev pub CallsStood : Type 0
-CallsStood = (x : Linux) (n : ℕ) (table : Table) (rounds : List Round) → IsLinux x → IsTable x n table → IsRun rounds
-    → AreAnswered x n rounds → AreSmall rounds → HasHandles x n table rounds → RunStood x n table rounds
+CallsStood = (x : Linux) (n : ℕ) (request : Request) (root d : ℕ) (no_xdev : Bool) (first last : Turn)
+    (rounds : List Round) → IsLinux x → root < 4294967296 → x.on n root ≡ Some d
+    → IsStarted request root no_xdev first → Leads first rounds last → AreAnswered x n rounds → AreSmall rounds
+    → HasHandles x n (of_root root d) rounds → RunStood x n (of_root root d) rounds

@@ -11,6 +11,6 @@ mod machine;
 mod numbers;
 mod steps;
 
-pub use laws::calls_stood;
+pub use laws::{calls_are_dialogues, calls_stood};
 pub use machine::{Machine, NOT_HERE_YET, Progress, Turn};
 pub use steps::StepEnd;

@@ -49,19 +49,19 @@ driven (asks q after) [] h = refl
 driven (asks q after) (x ∷ xs) h =
     (cc, driven (behind q after x.answer) xs (shifted q after x.answer [] xs h.1))
 
-pub driven_whole : {E : Type 0} → (s : Dialogue E) (es : List Exchange) (e : E) → IsDriven s [] es
-    → ran s (answers_of es) ≡ came e [] → Whole s es e
+pub driven_whole : {E : Type 0} → (s : Dialogue E) (es : List Exchange) (e : E) (left : List Answer)
+    → IsDriven s [] es → ran s (answers_of es) ≡ came e left → Whole s es e
 unfolding ran Talks
-driven_whole (ends v) [] e h r = cc
-driven_whole (ends v) (x ∷ xs) e h r = absurd cc
-driven_whole (asks q after) [] e h r = absurd cc
-driven_whole (asks q after) (x ∷ xs) e h r =
-    (cc, driven_whole (behind q after x.answer) xs e (shifted q after x.answer [] xs h.1) r)
+driven_whole (ends v) [] e left h r = cc
+driven_whole (ends v) (x ∷ xs) e left h r = absurd cc
+driven_whole (asks q after) [] e left h r = absurd cc
+driven_whole (asks q after) (x ∷ xs) e left h r =
+    (cc, driven_whole (behind q after x.answer) xs e left (shifted q after x.answer [] xs h.1) r)
 
 -- ---- checkpoints
 
 -- behind the first part comes the second
-passed : {E F : Type 0} → (s : Dialogue E) (f : E → Dialogue F) (es : List Exchange) (v : E)
+pub passed : {E F : Type 0} → (s : Dialogue E) (f : E → Dialogue F) (es : List Exchange) (v : E)
     → Whole s es v → Talks (and_then s f) es (λ rest. rest ≡ f v)
 unfolding Talks and_then
 passed (ends e) f [] v h = cc
@@ -85,7 +85,7 @@ pub kept : {E F : Type 0} → (whole : Dialogue F) (before : List Exchange) (par
     → Talks whole (before ++ es) (λ rest. rest ≡ after value)
 kept whole before part after es value h d r =
     joined whole (and_then part after) before es (λ rest. rest ≡ after value) h
-    (passed part after es value (driven_whole part es value d r))
+    (passed part after es value (driven_whole part es value [] d r))
 
 -- ---- signals
 
