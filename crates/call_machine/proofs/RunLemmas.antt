@@ -221,15 +221,17 @@ round_by : (x : Linux) (n : ℕ) (table : Table) (no_xdev : Bool) (opened : ℕ)
 round_by x n table no_xdev opened step es e None is linux t w says small has =
     let now = moment_behind n es in
     let k = end x n NotHereYet (λ now e. (now ≡ n) × (e ≡ NotHereYet)) (refl, refl) es e says
-        (subst (λ s. Whole s es e) (not_here no_xdev step is) w) in
-    ((λ h d has_it. absurd (some_none h (sym has_it ∙ is))),
-    subst (λ e. IsTable x now (table_behind x now table opened step e)) (sym k.1)
-    (keeps x n now table (λ fd. ap (λ i. x.on i fd) k.0) t))
+    (subst (λ s. Whole s es e) (not_here no_xdev step is) w) in (
+      (λ h d has_it. absurd (some_none h (sym has_it ∙ is))),
+      subst (λ e. IsTable x now (table_behind x now table opened step e)) (sym k.1)
+          (keeps x n now table (λ fd. ap (λ i. x.on i fd) k.0) t),
+    )
 round_by x n table no_xdev opened step es e (Some h) is linux t w says small (d, has) =
     let now = moment_behind n es in
-    let s = steps_hold x n h d no_xdev step linux is (t.is h d has) es e says w in
-    ((λ k c has_it has_on. steps_hold x n k c no_xdev step linux has_it (t.is k c has_on) es e says w),
-    table_after x n now table opened h d step e is has small t s)
+    let s = steps_hold x n h d no_xdev step linux is (t.is h d has) es e says w in (
+      (λ k c has_it has_on. steps_hold x n k c no_xdev step linux has_it (t.is k c has_on) es e says w),
+      table_after x n now table opened h d step e is has small t s,
+    )
 
 runs : (x : Linux) (n : ℕ) (table : Table) (turn last : Turn) (rounds : List Round) → IsLinux x → IsTable x n table
     → Leads turn rounds last → AreAnswered x n rounds → AreSmall rounds → HasHandles x n table rounds
@@ -239,7 +241,7 @@ runs x n table (Ends reply why) last (r ∷ rs) linux t run says small has = abs
 runs x n table (Goes m) last (r ∷ rs) linux t (same, round, (next, taken, run)) says small has =
     let w = driven_whole (dialogue_of r.machine) r.exchanges r.end round.left round.driven round.ended in
     let k = round_by x n table r.machine.no_xdev r.machine.opened (due_step r.machine) r.exchanges r.end
-        (handle_in (due_step r.machine)) refl linux t w says.0 small.0 has.0 in
+    (handle_in (due_step r.machine)) refl linux t w says.0 small.0 has.0 in
     (k.0, k.1, runs x (moment_behind n r.exchanges) (behind x n table r) next last rs linux k.1 run says.1 small.1 has.1)
 
 root_by : (x : Linux) (n root d h e : ℕ) (b : Bool) → (h == root) ≡ b → root < 4294967296 → x.on n root ≡ Some d

@@ -50,13 +50,15 @@ dialogues (Goes m) last (r ∷ rs) (same, round, (turn, taken, leads)) =
     let rest = dialogues turn last rs leads in
     let l = lucky m r turn taken in
     let w = subst (λ k. Talks (dialogue_of k) r.exchanges (λ left. left ≡ over r.end)) same
-        (driven_whole (dialogue_of r.machine) r.exchanges r.end round.left round.driven round.ended) in
-    (l.luck ∷ rest.0, λ more.
-    joined (whole_from (l.luck ∷ (rest.0 ++ more)) (Goes m)) (whole_from (rest.0 ++ more) turn) r.exchanges (exchanges_of rs)
-    (λ left. left ≡ whole_from more last)
-    (subst (λ t. Talks (and_then (dialogue_of m) (behind_end m l.luck (whole (rest.0 ++ more)))) r.exchanges (λ left. left ≡ t))
-    (l.is (rest.0 ++ more)) (passed (dialogue_of m) (behind_end m l.luck (whole (rest.0 ++ more))) r.exchanges r.end w))
-    (rest.1 more))
+    (driven_whole (dialogue_of r.machine) r.exchanges r.end round.left round.driven round.ended) in (
+      l.luck ∷ rest.0,
+      λ more.
+          joined (whole_from (l.luck ∷ (rest.0 ++ more)) (Goes m)) (whole_from (rest.0 ++ more) turn) r.exchanges (exchanges_of rs)
+          (λ left. left ≡ whole_from more last)
+          (subst (λ t. Talks (and_then (dialogue_of m) (behind_end m l.luck (whole (rest.0 ++ more)))) r.exchanges (λ left. left ≡ t))
+          (l.is (rest.0 ++ more)) (passed (dialogue_of m) (behind_end m l.luck (whole (rest.0 ++ more))) r.exchanges r.end w))
+          (rest.1 more),
+    )
 
 pub calls-are-dialogues : CallsAreDialogues
 calls-are-dialogues = dialogues

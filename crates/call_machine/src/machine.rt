@@ -84,20 +84,8 @@ fn why_by(why: u32, end: StepEnd) -> u32
     ensures { result ≡ why_by why end }
 {
     match end {
-        StepEnd::Made(Ended::Unmade(error)) => {
-            if why == 0 {
-                error
-            } else {
-                why
-            }
-        }
-        StepEnd::NotHereYet => {
-            if why == 0 {
-                NOT_HERE_YET
-            } else {
-                why
-            }
-        }
+        StepEnd::Made(Ended::Unmade(error)) => { if why == 0 { error } else { why } }
+        StepEnd::NotHereYet => { if why == 0 { NOT_HERE_YET } else { why } }
         _ => why,
     }
 }
@@ -112,8 +100,8 @@ fn front(text: &[u8], length: usize) -> &[u8]
     }
 }
 
-// What the call is answered. A step that wasn't made is as if there had been no memory for it: so the call closes what it
-// opened, and ends.
+// What the call is answered. A step that wasn't made is as if there had been no memory for it: so the call closes what
+// it opened, and ends.
 fn answer(alloc: Global, opened: u32, text: &[u8], end: StepEnd) -> tree_model::Answer
     ensures { (room : Bool) × (result ≡ answer_of room opened text.now end) }
 {
@@ -126,7 +114,10 @@ fn answer(alloc: Global, opened: u32, text: &[u8], end: StepEnd) -> tree_model::
                 kind,
             }
         }
-        StepEnd::Made(Ended::Text(length)) => match Bytes::from_slice(alloc, front(text, length as usize)) {
+        StepEnd::Made(Ended::Text(length)) => match Bytes::from_slice(
+            alloc,
+            front(text, length as usize),
+        ) {
             Ok(text) => tree_model::Answer::Text(text),
             Err(_) => tree_model::Answer::Refused(Errno::NoMemory),
         },
@@ -149,7 +140,12 @@ impl Machine {
             actor: Actor::new(0),
         };
         let handle = HandleNo::new(root as u64);
-        going(Call::start(alloc, request, Root { owner, handle }), 1, 0, no_xdev)
+        going(
+            Call::start(alloc, request, Root { owner, handle }),
+            1,
+            0,
+            no_xdev,
+        )
     }
 
     /// The system call that is due by the answers to this step's system calls so far; or how the step has ended.

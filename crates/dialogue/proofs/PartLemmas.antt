@@ -18,7 +18,7 @@ parts (ends e) f es r h = record { value = e; first = []; second = es; all = ref
 parts (asks q after) f [] r h = absurd cc
 parts (asks q after) f (x ∷ xs) r h =
     let p = parts (behind q after x.answer) f xs r
-        (subst (λ s. Talks s xs (λ rest. rest ≡ ends r)) (behind_then q after f x.answer) h.1) in
+    (subst (λ s. Talks s xs (λ rest. rest ≡ ends r)) (behind_then q after f x.answer) h.1) in
     record {
       value = p.value;
       first = x ∷ p.first;

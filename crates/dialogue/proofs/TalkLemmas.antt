@@ -11,10 +11,10 @@ pub behind_then : {E F : Type 0} (q : SystemCall) (after : Answer → Dialogue E
 unfolding and_then
 behind_then {E} {F} q after f a = by_case (again q a)
   where
-  by_case : (b : Bool) → (if b then asks q (λ x. and_then (after x) f) else and_then (after a) f)
-      ≡ and_then (if b then asks q after else after a) f
-  by_case true = refl
-  by_case false = refl
+    by_case : (b : Bool) → (if b then asks q (λ x. and_then (after x) f) else and_then (after a) f)
+        ≡ and_then (if b then asks q after else after a) f
+    by_case true = refl
+    by_case false = refl
 
 pub ran_ends : {E : Type 0} → (e : E) (answers : List Answer) → ran (ends e) answers ≡ came e answers
 unfolding ran
@@ -67,9 +67,11 @@ unfolding Talks and_then
 passed (ends e) f [] v h = cc
 passed (ends e) f (x ∷ xs) v h = absurd h
 passed (asks q after) f [] v h = absurd cc
-passed (asks q after) f (x ∷ xs) v h =
-    (h.0, subst (λ s. Talks s xs (λ rest. rest ≡ f v)) (sym (behind_then q after f x.answer))
-    (passed (behind q after x.answer) f xs v h.1))
+passed (asks q after) f (x ∷ xs) v h = (
+  h.0,
+  subst (λ s. Talks s xs (λ rest. rest ≡ f v)) (sym (behind_then q after f x.answer))
+      (passed (behind q after x.answer) f xs v h.1),
+)
 
 -- one conversation goes on with another
 pub joined : {E : Type 0} → (s t : Dialogue E) (es fs : List Exchange) (End : Dialogue E → Type 0)

@@ -22,7 +22,8 @@ fn is_again(question: &Question<'_>, answer: &Answer) -> bool
 /// wasn't made yet. close(2) is made once.
 #[tactic(auto, unfolding(crate::specs::Dialogue::ran, crate::specs::Dialogue::calling))]
 pub fn ask<'n>(answers: &mut &[Answer], question: Question<'n>) -> Asked<'n, Answer>
-    ensures { ran_by (λ a. a) asked_of result answers.new.now ≡ ran (calling (asked_of question.entry)) answers.old.now }
+    ensures { ran_by (λ a. a) asked_of result answers.new.now
+        ≡ ran (calling (asked_of question.entry)) answers.old.now }
 {
     while let Some((answer, rest)) = answers.split_first() {
         *answers = rest;

@@ -4,7 +4,8 @@ ghost use Rattle.dialogue.specs.declared.calls.Answer.{Answer};
 ghost use Rattle.dialogue.specs.Dialogue.{Dialogue, Exchange, IsDriven, Talks, Whole, and_then, answers_of, came, ran, without_signals};
 
 /// Whoever makes the system call that is due by the answers so far, one after another, has one of the dialogue's
-/// conversations; and what is due in the end is what it has come to. Once that is the dialogue's end, it is a whole one.
+/// conversations; and what is due in the end is what it has come to. Once that is the dialogue's end, it is a whole
+/// one.
 pub fn driving_is_talking<E>()
     ensures talks { (s : Dialogue E) (es : List Exchange) → IsDriven s [] es
         → Talks s es (λ rest. ran rest [] ≡ ran s (answers_of es)) }

@@ -50,14 +50,26 @@ text_so : (x : Linux) (m m1 now fd y : ℕ) (is_link : Bool) (a : Answer) (b c :
     → Unchanged x m m1 → x.on m fd ≡ Some y → Answers x m1 now (reads_link fd) a
     → LinkStood x m now y (if b then Text a.value else (if c then Refused Invalid else Unmade (not_read a.error)))
 text_so x m m1 now fd y is_link a true c is before same on h =
-    let all = unchanged x m m1 now same (looked x m1 h.n now fd h.is h.same h.says) in
-    (all, (suc h.n, omega (arith, before, h.after), omega (arith, h.is),
-    table_reads (x.nodes (suc h.n)) y (x.text (suc h.n)) (h.says.tells y (h.same fd ∙ same fd ∙ on) (eqb-true a.error 0 is))
-    ∙ ap (λ n. answers.Text (x.text n)) (sym h.is)))
+    let all = unchanged x m m1 now same (looked x m1 h.n now fd h.is h.same h.says) in (
+      all,
+      (
+        suc h.n,
+        omega (arith, before, h.after),
+        omega (arith, h.is),
+        table_reads (x.nodes (suc h.n)) y (x.text (suc h.n)) (h.says.tells y (h.same fd ∙ same fd ∙ on) (eqb-true a.error 0 is))
+            ∙ ap (λ n. answers.Text (x.text n)) (sym h.is),
+      ),
+    )
 text_so x m m1 now fd y is_link a false true is before same on h =
-    let all = unchanged x m m1 now same (looked x m1 h.n now fd h.is h.same h.says) in
-    (all, (λ none. (suc h.n, omega (arith, before, h.after), omega (arith, h.is),
-    no_text (x.nodes (suc h.n)) y (object_at (x.nodes (suc h.n)) y) refl (none (suc h.n)))))
+    let all = unchanged x m m1 now same (looked x m1 h.n now fd h.is h.same h.says) in (
+      all,
+      (λ none. (
+        suc h.n,
+        omega (arith, before, h.after),
+        omega (arith, h.is),
+        no_text (x.nodes (suc h.n)) y (object_at (x.nodes (suc h.n)) y) refl (none (suc h.n)),
+      )),
+    )
 text_so x m m1 now fd y is_link a false false is before same on h =
     unchanged x m m1 now same (looked x m1 h.n now fd h.is h.same h.says)
 
@@ -76,14 +88,14 @@ kernel_end : (x : Linux) (m m1 now fd y : ℕ) (is_link : Bool) (e : Entry) (r :
 kernel_end x m m1 now fd y is_link e (Ok made) before same on h =
     let o = h.by.says.opened h.works in
     let one = subst (λ k. OneMore x m1 now k o.node) h.value
-        (one_more x m1 h.by.n now h.answer.value followed h.by.is h.by.same o) in
+    (one_more x m1 h.by.n now h.answer.value followed h.by.is h.by.same o) in
     both x now (closing made) (λ u. text_of fd is_link) (λ last u. OneLess x now last made)
     (λ now end. LinkStood x m now y end) (lets_go x now made)
     (λ last u c. reads_text x m last fd y is_link (omega (arith, before, h.by.is, h.by.after, c.by))
     (unchanged x m m1 last same (back x m1 now last made o.node one c)) on)
 kernel_end x m m1 now fd y is_link e (Err error) before same on h =
     let all = unchanged x m m1 now same
-        (fails_at x m1 h.by.n now error h.answer h.by.is h.by.same h.fails h.some h.by.says.failed) in
+    (fails_at x m1 h.by.n now error h.answer h.by.is h.by.same h.fails h.some h.by.says.failed) in
     choose x now (not (is_ordinary error)) (ends (Unmade (not_ordinary error))) (text_of fd is_link)
     (λ now end. LinkStood x m now y end)
     (λ is. end x now (Unmade (not_ordinary error)) (λ now end. LinkStood x m now y end) all)
@@ -157,8 +169,13 @@ dup_end x m now dir d no_xdev (Ok fd) on h =
     record {
       node = d;
       one = subst (λ k. OneMore x m now k d) h.value (subst (λ y. OneMore x m now h.answer.value y) is one);
-      stood = (suc n, omega (arith, h.by.after), omega (arith, h.by.is), table_dups (x.nodes (suc n)) d
-          (subst (λ y. object_at (x.nodes (suc n)) y ≡ Some object.Dir) is (o.is ∙ ap Some (o.directory refl))));
+      stood = (
+        suc n,
+        omega (arith, h.by.after),
+        omega (arith, h.by.is),
+        table_dups (x.nodes (suc n)) d
+            (subst (λ y. object_at (x.nodes (suc n)) y ≡ Some object.Dir) is (o.is ∙ ap Some (o.directory refl))),
+      );
     }
 dup_end x m now dir d no_xdev (Err error) on h =
     fails_at x m h.by.n now error h.answer h.by.is h.by.same h.fails h.some h.by.says.failed

@@ -57,8 +57,13 @@ found x m now d name fd k e is =
     record {
       node = e.node;
       one = e.one;
-      stood = (e.n, e.after, e.by, table_opens (x.nodes e.n) d e.node name e.what e.directory e.entry e.is
-          ∙ ap (λ j. answers.Opened 1 e.node j) (sym is));
+      stood = (
+        e.n,
+        e.after,
+        e.by,
+        table_opens (x.nodes e.n) d e.node name e.what e.directory e.entry e.is
+            ∙ ap (λ j. answers.Opened 1 e.node j) (sym is),
+      );
     }
 
 enters : (x : Linux) (m m1 now dir d : ℕ) (name : List ℕ) (directory no_xdev : Bool) (fd : ℕ) → m ≤ m1 → Unchanged x m m1
@@ -102,9 +107,10 @@ misses : (x : Linux) (m m1 now dir d : ℕ) (name : List ℕ) (directory no_xdev
     → OpenStood x m now d name (if b then Refused NotFound else Unmade error)
 misses x m m1 now dir d name directory no_xdev error true is before same on h =
     let n = h.by.n in
-    let none = h.by.says.missing (h.fails ∙ eqb-true error ENOENT is) refl d (h.by.same dir ∙ same dir ∙ on) in
-    (unchanged x m m1 now same (fails_so x m1 now dir name directory no_xdev error h),
-    (suc n, omega (arith, before, h.by.after), omega (arith, h.by.is), table_misses (x.nodes (suc n)) d name none.0 none.1))
+    let none = h.by.says.missing (h.fails ∙ eqb-true error ENOENT is) refl d (h.by.same dir ∙ same dir ∙ on) in (
+      unchanged x m m1 now same (fails_so x m1 now dir name directory no_xdev error h),
+      (suc n, omega (arith, before, h.by.after), omega (arith, h.by.is), table_misses (x.nodes (suc n)) d name none.0 none.1),
+    )
 misses x m m1 now dir d name directory no_xdev error false is before same on h =
     unchanged x m m1 now same (fails_so x m1 now dir name directory no_xdev error h)
 

@@ -98,10 +98,12 @@ reads x m m1 d fd before one =
     let open_still = still x m m1 now fd d one (looked x m1 h.n now fd h.is h.same h.says) in
     both x now (closing fd) (λ u. ends (by_read a.error)) (λ last u. OneLess x now last fd)
     (λ now t. ThereSo x m now d t) (lets_go x now fd)
-    (λ last u c. end x last (by_read a.error) (λ now t. ThereSo x m now d t)
-    (omega (arith, before, h.is, h.after, c.by), back x m now last fd d open_still c,
-    read_so x m (suc h.n) last d a.error (a.error == 0) (a.error == ENOENT) refl refl (omega (arith, before, h.after))
-    (omega (arith, h.is, c.by)) h.told h.heard says)))
+    (λ last u c. end x last (by_read a.error) (λ now t. ThereSo x m now d t) (
+      omega (arith, before, h.is, h.after, c.by),
+      back x m now last fd d open_still c,
+      read_so x m (suc h.n) last d a.error (a.error == 0) (a.error == ENOENT) refl refl (omega (arith, before, h.after))
+          (omega (arith, h.is, c.by)) h.told h.heard says,
+    )))
 
 entries_failed : (x : Linux) (m now dir error : ℕ) → Failed x m now (open_same dir to_read) error → Unchanged x m now
 entries_failed x m now dir error h =
@@ -110,18 +112,23 @@ entries_failed x m now dir error h =
 entries_fail : (x : Linux) (m m1 now dir d error : ℕ) (b : Bool) → (error == ENOENT) ≡ b → m ≤ m1 → Unchanged x m m1
     → x.on m dir ≡ Some d → Failed x m1 now (open_same dir to_read) error
     → ThereSo x m now d (if b then No else Unknown)
-entries_fail x m m1 now dir d error true is before same on h =
-    (omega (arith, before, h.by.is, h.by.after), unchanged x m m1 now same (entries_failed x m1 now dir error h), record {
-      n = suc h.by.n;
-      after = omega (arith, before, h.by.after);
-      by = omega (arith, h.by.is);
-      is = h.by.says.missing (h.fails ∙ eqb-true error ENOENT is) refl d (h.by.same dir ∙ same dir ∙ on);
-    })
-entries_fail x m m1 now dir d error false is before same on h =
-    (omega (arith, before, h.by.is, h.by.after), unchanged x m m1 now same (entries_failed x m1 now dir error h),
-    not_told x.asks (h.answer.error == 0) (h.answer.error == EINTR) (h.answer.error == ENOENT) h.by.told
-    (not_zero_is h.answer.error (h.answer.error == 0) refl (λ none. h.some (sym h.fails ∙ none))) h.by.heard
-    (ap (λ n. n == ENOENT) h.fails ∙ is))
+entries_fail x m m1 now dir d error true is before same on h = (
+  omega (arith, before, h.by.is, h.by.after),
+  unchanged x m m1 now same (entries_failed x m1 now dir error h),
+  record {
+    n = suc h.by.n;
+    after = omega (arith, before, h.by.after);
+    by = omega (arith, h.by.is);
+    is = h.by.says.missing (h.fails ∙ eqb-true error ENOENT is) refl d (h.by.same dir ∙ same dir ∙ on);
+  },
+)
+entries_fail x m m1 now dir d error false is before same on h = (
+  omega (arith, before, h.by.is, h.by.after),
+  unchanged x m m1 now same (entries_failed x m1 now dir error h),
+  not_told x.asks (h.answer.error == 0) (h.answer.error == EINTR) (h.answer.error == ENOENT) h.by.told
+      (not_zero_is h.answer.error (h.answer.error == 0) refl (λ none. h.some (sym h.fails ∙ none))) h.by.heard
+      (ap (λ n. n == ENOENT) h.fails ∙ is),
+)
 
 entries_end : (x : Linux) (m m1 now dir d : ℕ) (r : Result ℕ ℕ) → m ≤ m1 → Unchanged x m m1 → x.on m dir ≡ Some d
     → Tried x m1 (open_same dir to_read) now r → Holds x now (entries_opened r) (λ now t. ThereSo x m now d t)
@@ -166,10 +173,13 @@ file_system_end x m m1 now dir d a before same on known h =
     (λ is. end x now Unknown (λ now t. ThereSo x m now d t)
     (on_time, all, no_type x.asks (a.error == 0) (a.error == EINTR) h.told (negative (a.error == 0) is) h.heard))
     (λ is. choose x now (not (keeps_links a.file_system)) (ends Yes) (by_entries dir) (λ now t. ThereSo x m now d t)
-    (λ type. end x now Yes (λ now t. ThereSo x m now d t)
-    (on_time, all, other_type x m now d
-    (h.says.tells d (h.same dir ∙ same dir ∙ on) (eqb-true a.error 0 (positive (a.error == 0) is)) (negative (keeps_links a.file_system) type))
-    (at_later x m m1 now d (omega (arith, h.is, h.after)) known)))
+    (λ type. end x now Yes (λ now t. ThereSo x m now d t) (
+      on_time,
+      all,
+      other_type x m now d
+          (h.says.tells d (h.same dir ∙ same dir ∙ on) (eqb-true a.error 0 (positive (a.error == 0) is)) (negative (keeps_links a.file_system) type))
+          (at_later x m m1 now d (omega (arith, h.is, h.after)) known),
+    ))
     (λ type. by_entries_so x m now dir d (omega (arith, before, h.is, h.after)) all on))
 
 by_file_system_so : (x : Linux) (m m1 dir d : ℕ) → m ≤ m1 → Unchanged x m m1 → x.on m dir ≡ Some d
@@ -196,13 +206,16 @@ links_end x m n0 now dir d a linux before directory on h =
     let dir_now = stays x n0 (suc h.n) d object.Dir linux (omega (arith, before, h.after)) directory in
     let what = same_Some says.what object.Dir (sym says.is ∙ dir_now) in
     choose x now (a.links == 0) (ends No) (by_file_system dir) (λ now t. ThereSo x m now d t)
-    (λ none. end x now No (λ now t. ThereSo x m now d t)
-    (on_time, same, record {
-      n = suc h.n;
-      after = omega (arith, h.after);
-      by = omega (arith, h.is);
-      is = says.none what (eqb-true a.links 0 none);
-    }))
+    (λ none. end x now No (λ now t. ThereSo x m now d t) (
+      on_time,
+      same,
+      record {
+        n = suc h.n;
+        after = omega (arith, h.after);
+        by = omega (arith, h.is);
+        is = says.none what (eqb-true a.links 0 none);
+      },
+    ))
     (λ some. by_file_system_so x m now dir d (omega (arith, h.is, h.after)) same on
     (there_now x m (suc h.n) now d (omega (arith, h.after)) (omega (arith, h.is)) (says.some what (not_zero a.links some)))))
 
@@ -246,10 +259,13 @@ no_parent nodes d g = no_parent_by (d == TOP) (is_some (place_at nodes d)) nodes
 removed : (x : Linux) (m m1 n0 now d : ℕ) → IsLinux x → m ≤ m1 → n0 ≤ m1 → IsDirectory x n0 d → At IsGone x m1 now d
     → Answered x m now d (Parent 0) (answers.Refused NotFound)
 removed x m m1 n0 now d linux before early directory gone =
-    let n = gone.n in
-    (n, omega (arith, before, gone.after), gone.by,
-    table_misses (x.nodes n) d (stays x n0 n d object.Dir linux (omega (arith, early, gone.after)) directory)
-    (no_parent (x.nodes n) d gone.is))
+    let n = gone.n in (
+      n,
+      omega (arith, before, gone.after),
+      gone.by,
+      table_misses (x.nodes n) d (stays x n0 n d object.Dir linux (omega (arith, early, gone.after)) directory)
+          (no_parent (x.nodes n) d gone.is),
+    )
 
 led : (x : Linux) (m n now d node : ℕ) → IsLinux x → m < n → n ≤ now → IsAbove x n node d → IsDirectory x n node
     → (later : At IsThere x n now d) → Answered x m now d (Parent 0) (answers.Opened 1 node kind.Dir)
@@ -273,22 +289,27 @@ above_there_end x m m1 now d fd Yes linux a h =
     }))
 above_there_end x m m1 now d fd Unknown linux a h =
     end x now (Opened fd kind.Dir) (λ now end. ParentStood x m now d end)
-    (inr (h.2, refl, record {
-      node = a.node;
-      one = still x m m1 now fd a.node a.one h.1;
-      n = a.n;
-      after = a.after;
-      by = omega (arith, a.by, h.0);
-      above = a.above;
-      is = a.is;
-    }))
+    (inr (
+      h.2,
+      refl,
+      record {
+        node = a.node;
+        one = still x m m1 now fd a.node a.one h.1;
+        n = a.n;
+        after = a.after;
+        by = omega (arith, a.by, h.0);
+        above = a.above;
+        is = a.is;
+      },
+    ))
 above_there_end x m m1 now d fd No linux a h =
     both_by x now (closing fd) (λ u. ends (Refused NotFound)) (λ last u. OneLess x now last fd)
     (λ now end. ParentStood x m now d end) (lets_go x now fd)
-    (λ last u by c. end x last (Refused NotFound) (λ now end. ParentStood x m now d end)
-    (back x m now last fd a.node (still x m m1 now fd a.node a.one h.1) c,
-    answered_later x m now last d (Parent 0) (answers.Refused NotFound) by
-    (removed x m m1 a.n now d linux (omega (arith, a.after, a.by)) a.by a.above.0 h.2)))
+    (λ last u by c. end x last (Refused NotFound) (λ now end. ParentStood x m now d end) (
+      back x m now last fd a.node (still x m m1 now fd a.node a.one h.1) c,
+      answered_later x m now last d (Parent 0) (answers.Refused NotFound) by
+          (removed x m m1 a.n now d linux (omega (arith, a.after, a.by)) a.by a.above.0 h.2),
+    ))
 above_there_end x m m1 now d fd (Fails error) linux a h =
     both x now (closing fd) (λ u. ends (Unmade error)) (λ last u. OneLess x now last fd)
     (λ now end. ParentStood x m now d end) (lets_go x now fd)

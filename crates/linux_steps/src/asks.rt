@@ -24,7 +24,8 @@ pub(crate) fn opened<'n>(
     answers: &mut &[Answer],
     question: Question<'n>,
 ) -> Asked<'n, Result<u32, u32>>
-    ensures { ran_by (λ x. x) asked_of result answers.new.now ≡ ran (opening (asked_of question.entry)) answers.old.now }
+    ensures { ran_by (λ x. x) asked_of result answers.new.now
+        ≡ ran (opening (asked_of question.entry)) answers.old.now }
 {
     let answer = ask(answers, question)?;
     Ok(if answer.error == 0 {

@@ -92,9 +92,9 @@ fn text_of<'n>(answers: &mut &[Answer], fd: u32, is_link: bool) -> Asked<'n, End
     Ok(link_text(is_link, &read))
 }
 
-// Only the kernel knows whether the link leads to an object and not along its text, and refuses to follow it by its name
-// then, before it looks where the link leads. So it refuses a link beyond that one, and so would the walk that comes to
-// it.
+// Only the kernel knows whether the link leads to an object and not along its text, and refuses to follow it by its
+// name then, before it looks where the link leads. So it refuses a link beyond that one, and so would the walk that
+// comes to it.
 #[tactic(auto, using(dialogue::proofs::TalkLemmas::ran_then, dialogue::proofs::TalkLemmas::ran_ends), unfolding(crate::specs::Steps::by_kernel))]
 fn by_kernel<'n>(
     answers: &mut &[Answer],
@@ -105,7 +105,10 @@ fn by_kernel<'n>(
     ensures { ran_by (λ x. x) asked_of result answers.new.now
         ≡ ran (by_kernel fd is_link (entry_of entry.entry)) answers.old.now }
 {
-    match opened(answers, Question::OpenName(entry.dir, entry.name, followed()))? {
+    match opened(
+        answers,
+        Question::OpenName(entry.dir, entry.name, followed()),
+    )? {
         Ok(led) => close(answers, led)?,
         Err(error) => {
             if !is_ordinary(error) {

@@ -41,7 +41,10 @@ fn open_any<'n>(
 ) -> Asked<'n, Ended>
     ensures { ran_by (λ x. x) asked_of result answers.new.now ≡ ran (open_any dir name.now no_xdev) answers.old.now }
 {
-    match opened(answers, Question::OpenName(dir, name, by_path(false, no_xdev)))? {
+    match opened(
+        answers,
+        Question::OpenName(dir, name, by_path(false, no_xdev)),
+    )? {
         Ok(fd) => by_kind(answers, fd),
         Err(error) => Ok(missing(error)),
     }
@@ -61,7 +64,10 @@ pub fn open_step<'n>(
 ) -> Asked<'n, Ended>
     ensures { ran_by (λ x. x) asked_of result answers.new.now ≡ ran (open_step dir name.now no_xdev) answers.old.now }
 {
-    match opened(answers, Question::OpenName(dir, name, by_path(true, no_xdev)))? {
+    match opened(
+        answers,
+        Question::OpenName(dir, name, by_path(true, no_xdev)),
+    )? {
         Ok(fd) => Ok(Ended::Opened(fd, Kind::Dir)),
         Err(ENOTDIR) => open_any(answers, dir, name, no_xdev),
         Err(error) => Ok(missing(error)),
@@ -73,10 +79,12 @@ pub fn open_step<'n>(
 pub fn dup_step<'n>(answers: &mut &[Answer], dir: u32, no_xdev: bool) -> Asked<'n, Ended>
     ensures { ran_by (λ x. x) asked_of result answers.new.now ≡ ran (dup_step dir no_xdev) answers.old.now }
 {
-    Ok(match opened(answers, Question::OpenSame(dir, by_path(true, no_xdev)))? {
-        Ok(fd) => Ended::Opened(fd, Kind::Dir),
-        Err(error) => Ended::Unmade(error),
-    })
+    Ok(
+        match opened(answers, Question::OpenSame(dir, by_path(true, no_xdev)))? {
+            Ok(fd) => Ended::Opened(fd, Kind::Dir),
+            Err(error) => Ended::Unmade(error),
+        },
+    )
 }
 
 /// Closes what is open, which close(2) does whatever it gives.
