@@ -69,7 +69,7 @@ fn step(rt: &impl Abort, alloc: Global, turn: Turn, wants: &[Want], answers: &[A
         Turn::Ends(_, _) => panic!(rt; "the call has ended"),
     };
     for at in 0..wants.len() {
-        let mut left = &answers[..at];
+        let mut left = &answers[..at.min(answers.len())];
         match machine.due(&mut left) {
             Err(question) => assert!(rt; is_wanted(&question, wants[at]), "{question:?}"),
             Ok(end) => panic!(rt; "the step has ended: {end:?}"),
