@@ -2,7 +2,7 @@
 ghost use Rattle.call_machine.specs.Runs.{CallsStood};
 ghost use Rattle.call_machine.specs.Whole.{CallsAreDialogues};
 
-/// What answers of Linux say of the tree and of the program's descriptors, each at its moment, is a premise
+/// What answers of Linux say of the tree and of the call's descriptors, each at its moment, is a premise
 /// (`specs/Linux.antt` of `linux_steps`). Supposed is, too, that each step is by a handle that the call has. With it,
 /// of whatever answers a call is led by: what it took for a step's answer was the step table's at a moment of that
 /// step's own system calls, for the very object that the walk had opened by the step's handle. So an Opened is of the

@@ -1,4 +1,4 @@
--- What an answer of Linux says of the tree and of the program's descriptors, at its moment: premises, each with the
+-- What an answer of Linux says of the tree and of the call's descriptors, at its moment: premises, each with the
 -- manual page that it is from.
 use Rattle.std.specs.Prelude.{◌≡◌, ◌≢◌, ◌⊎◌, ◌==◌, ◌||◌, ℕ, suc, List, [], ◌∷◌, Bool, true, false, Option, Some, None}
 use Rattle.system_calls.specs.Errors.{ENOENT, EINTR}
@@ -12,8 +12,9 @@ use Rattle.dialogue.specs.declared.calls.Answer.{Answer}
 use Rattle.dialogue.specs.declared.calls.How.{How}
 use Rattle.linux_steps.specs.Steps.{keeps_links, kind_by_mode}
 
--- The tree moment by moment, and the node on which each of the program's descriptors is open then. The program's n-th
--- system call, counted from 1, finds the tree of the moment n; the moment 0 is before the first.
+-- The tree moment by moment, and the node on which each of the call's descriptors is open then: those that it was
+-- handed, and those that it has opened. (What else the program has open isn't spoken of.) The call's n-th system call,
+-- counted from 1, finds the tree of the moment n; the moment 0 is before the first.
 pub record Linux : Type 0 where
   pub nodes : ℕ → List Inode
   pub on : ℕ → ℕ → Option ℕ
