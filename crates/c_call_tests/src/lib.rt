@@ -10,4 +10,6 @@ mod callings;
 #[cfg(test)]
 mod laws;
 #[cfg(test)]
+mod machine_calls;
+#[cfg(test)]
 mod steps;

@@ -1,0 +1,4 @@
+pub mod Machine
+pub mod Runs
+pub mod Steps
+pub mod Whole

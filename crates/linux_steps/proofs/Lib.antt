@@ -1,0 +1,4 @@
+pub mod LinkLemmas
+pub mod Moments
+pub mod OpenLemmas
+pub mod ParentLemmas

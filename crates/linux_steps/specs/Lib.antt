@@ -1,0 +1,3 @@
+pub mod Linux
+pub mod Promises
+pub mod Steps
