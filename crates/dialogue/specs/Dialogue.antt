@@ -1,47 +1,118 @@
 -- Dialogues: code asks for a system call, goes on with what that gave, and comes to its end. (Dialogue trees.)
-use Rattle.std.specs.Prelude.{◌≡◌, ◌++◌, ◌==◌, ℕ, List, [], ◌∷◌, Bool, true, false, if◌then◌else◌, Result, Ok, Err}
+use Rattle.std.specs.Prelude.{◌≡◌, ◌++◌, ◌==◌, ◌&&◌, bit_and, ℕ, List, [], ◌∷◌, Bool, true, false, if◌then◌else◌, Result, Ok, Err}
 use Rattle.system_calls.specs.Errors.{EINTR}
 use Rattle.dialogue.specs.declared.calls.Answer.{Answer}
 use Rattle.dialogue.specs.declared.calls.How.{How}
 use Rattle.dialogue.specs.declared.calls.Question.{Question}
-use Rattle.dialogue.specs.declared.calls.Question.TheVariants.{OpenName, OpenSame, OpenAbove, Stat, FileSystem, ReadEntries, ReadLink, Close}
+use Rattle.dialogue.specs.declared.calls.Question.TheVariants.{OpenName, OpenSame, OpenAbove, LookUp, OpenPath, Open, OpenObject, Stat, StatName, FileSystem, ReadEntries, ReadLink, ReadObjectLink, ReadThread, Close, IsOpen, CopyAbove, MakeDirectory, MakeNode, MakeLink, Link, Remove, Rename, ChangeMode, ChangeOwner, ChangeTimes, AttributeAt, Attribute, NoAttribute, NewProc, Configure, Mount, CopyProc, Wait, Claim, Keep, Release, Know}
 
 -- ---- system calls
 
--- the questions of the code, where a name is its bytes
+-- the questions of the code, where a name, a path and a text are their bytes
 pub data SystemCall : Type 0 where
   open_name : ℕ → List ℕ → How → SystemCall
   open_same : ℕ → How → SystemCall
   open_above : ℕ → How → SystemCall
+  look_up : ℕ → List ℕ → ℕ → ℕ → SystemCall
+  open_path : ℕ → List ℕ → ℕ → ℕ → ℕ → SystemCall
+  opens : ℕ → List ℕ → ℕ → ℕ → SystemCall
+  opens_object : ℕ → ℕ → ℕ → SystemCall
   stats : ℕ → SystemCall
+  stats_name : ℕ → List ℕ → SystemCall
   stats_file_system : ℕ → SystemCall
   reads_entries : ℕ → SystemCall
   reads_link : ℕ → SystemCall
+  reads_object_link : ℕ → ℕ → SystemCall
+  reads_thread : ℕ → SystemCall
   closes : ℕ → SystemCall
+  asks_open : ℕ → SystemCall
+  copies_above : ℕ → SystemCall
+  makes_directory : ℕ → List ℕ → ℕ → SystemCall
+  makes_node : ℕ → List ℕ → ℕ → ℕ → SystemCall
+  makes_link : ℕ → List ℕ → List ℕ → SystemCall
+  links : ℕ → ℕ → ℕ → List ℕ → SystemCall
+  removes : ℕ → List ℕ → Bool → SystemCall
+  renames : ℕ → List ℕ → ℕ → List ℕ → ℕ → SystemCall
+  changes_mode : ℕ → ℕ → ℕ → SystemCall
+  changes_owner : ℕ → ℕ → ℕ → SystemCall
+  changes_times : ℕ → SystemCall
+  attribute_at : ℕ → ℕ → SystemCall
+  attribute : ℕ → SystemCall
+  no_attribute : SystemCall
+  new_proc : SystemCall
+  configures : ℕ → Bool → SystemCall
+  mounts : ℕ → SystemCall
+  copies_proc : SystemCall
+  waits : ℕ → SystemCall
+  claims : Bool → SystemCall
+  keeps : ℕ → ℕ → ℕ → ℕ → Bool → SystemCall
+  releases : SystemCall
+  knows : Bool → SystemCall
 
 abbrev pub asked_of : Question → SystemCall
 asked_of (OpenName dir name how) = open_name dir name.now how
 asked_of (OpenSame dir how) = open_same dir how
 asked_of (OpenAbove dir how) = open_above dir how
+asked_of (LookUp dir path flags resolve) = look_up dir path.now flags resolve
+asked_of (OpenPath dir path flags mode resolve) = open_path dir path.now flags mode resolve
+asked_of (Open dir path flags mode) = opens dir path.now flags mode
+asked_of (OpenObject proc fd flags) = opens_object proc fd flags
 asked_of (Stat fd) = stats fd
+asked_of (StatName dir name) = stats_name dir name.now
 asked_of (FileSystem fd) = stats_file_system fd
 asked_of (ReadEntries fd) = reads_entries fd
 asked_of (ReadLink fd) = reads_link fd
+asked_of (ReadObjectLink proc fd) = reads_object_link proc fd
+asked_of (ReadThread proc) = reads_thread proc
 asked_of (Close fd) = closes fd
+asked_of (IsOpen fd) = asks_open fd
+asked_of (CopyAbove fd) = copies_above fd
+asked_of (MakeDirectory dir name mode) = makes_directory dir name.now mode
+asked_of (MakeNode dir name mode device) = makes_node dir name.now mode device
+asked_of (MakeLink dir name text) = makes_link dir name.now text.now
+asked_of (Link proc fd dir name) = links proc fd dir name.now
+asked_of (Remove dir name directory) = removes dir name.now directory
+asked_of (Rename from name to other flags) = renames from name.now to other.now flags
+asked_of (ChangeMode proc fd mode) = changes_mode proc fd mode
+asked_of (ChangeOwner fd user group) = changes_owner fd user group
+asked_of (ChangeTimes fd) = changes_times fd
+asked_of (AttributeAt proc fd) = attribute_at proc fd
+asked_of (Attribute fd) = attribute fd
+asked_of NoAttribute = no_attribute
+asked_of NewProc = new_proc
+asked_of (Configure fd restricts) = configures fd restricts
+asked_of (Mount fd) = mounts fd
+asked_of CopyProc = copies_proc
+asked_of (Wait time) = waits time
+asked_of (Claim handed_in) = claims handed_in
+asked_of (Keep fd device inode mount handed_in) = keeps fd device inode mount handed_in
+asked_of Release = releases
+asked_of (Know known) = knows known
 
-abbrev pub is_close : SystemCall → Bool
-is_close (open_name dir name how) = false
-is_close (open_same dir how) = false
-is_close (open_above dir how) = false
-is_close (stats fd) = false
-is_close (stats_file_system fd) = false
-is_close (reads_entries fd) = false
-is_close (reads_link fd) = false
-is_close (closes fd) = true
+abbrev pub O_PATH : ℕ
+O_PATH = 2097152
 
--- signal(7): a signal came before anything was done, and the call is made again; close(2): never of that
+-- it changes nothing, and opens nothing for use
+abbrev pub is_look : SystemCall → Bool
+is_look (open_name dir name how) = true
+is_look (open_same dir how) = true
+is_look (open_above dir how) = true
+is_look (look_up dir path flags resolve) = true
+is_look (stats fd) = true
+is_look (stats_name dir name) = true
+is_look (stats_file_system fd) = true
+is_look (reads_entries fd) = true
+is_look (reads_link fd) = true
+is_look (reads_object_link proc fd) = true
+is_look (reads_thread proc) = true
+is_look copies_proc = true
+-- open(2): O_PATH only names the object
+is_look (opens dir path flags mode) = bit_and flags O_PATH == O_PATH
+is_look _ = false
+
+-- signal(7): a signal came before anything was seen
 abbrev pub again : SystemCall → Answer → Bool
-again q a = if is_close q then false else a.error == EINTR
+again q a = is_look q && (a.error == EINTR)
 
 -- ---- dialogues
 

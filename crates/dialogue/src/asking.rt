@@ -1,6 +1,6 @@
 //! One question, over the answers that are left.
 ghost use Rattle.std.specs.Prelude.{◌≡◌};
-ghost use Rattle.dialogue.specs.Dialogue.{again, asked_of, calling, ran, ran_by};
+ghost use Rattle.dialogue.specs.Dialogue.{again, asked_of, calling, is_look, ran, ran_by};
 
 use crate::calls::{Answer, Question};
 use system_calls::errors::EINTR;
@@ -8,19 +8,43 @@ use system_calls::errors::EINTR;
 /// What came of the answers; or the system call that is due.
 pub type Asked<'n, T> = Result<T, Question<'n>>;
 
-// A signal came before anything was done. After close(2) the descriptor is closed all the same.
-fn is_again(question: &Question<'_>, answer: &Answer) -> bool
-    ensures { result ≡ again (asked_of question.now) answer.now }
+const O_PATH: u32 = 0o10000000;
+
+#[inline(always)]
+fn is_look(question: &Question<'_>) -> bool
+    ensures { result ≡ is_look (asked_of question.now) }
 {
     match question {
-        Question::Close(_) => false,
-        _ => answer.error == EINTR,
+        Question::OpenName(..)
+        | Question::OpenSame(..)
+        | Question::OpenAbove(..)
+        | Question::LookUp(..)
+        | Question::Stat(_)
+        | Question::StatName(..)
+        | Question::FileSystem(_)
+        | Question::ReadEntries(_)
+        | Question::ReadLink(_)
+        | Question::ReadObjectLink(..)
+        | Question::ReadThread(_)
+        | Question::CopyProc => true,
+        Question::Open(_, _, flags, _) => flags & O_PATH == O_PATH,
+        _ => false,
     }
 }
 
-/// Takes the next answer, but for signals (EINTR), after which the system call is made again; or it is due, since it
-/// wasn't made yet. close(2) is made once.
+// A signal came before anything was seen. What opens for use, or changes something, is the caller's to repeat; after
+// close(2) the descriptor is closed all the same.
+#[inline(always)]
+fn is_again(question: &Question<'_>, answer: &Answer) -> bool
+    ensures { result ≡ again (asked_of question.now) answer.now }
+{
+    is_look(question) && answer.error == EINTR
+}
+
+/// Takes the next answer, except for signals (EINTR), after which a system call that only looks is made again; or the
+/// system call is due, since it wasn't made yet.
 #[tactic(auto, unfolding(crate::specs::Dialogue::ran, crate::specs::Dialogue::calling))]
+#[inline(always)]
 pub fn ask<'n>(answers: &mut &[Answer], question: Question<'n>) -> Asked<'n, Answer>
     ensures { ran_by (λ a. a) asked_of result answers.new.now
         ≡ ran (calling (asked_of question.entry)) answers.old.now }

@@ -1,13 +1,13 @@
 -- What holds behind each part of a dialogue, by what its answers say.
 use Rattle.std.proofs.Common.{◌≡◌, ◌≢◌, ◌≤◌, ◌<◌, ℕ, zero, suc, ◌+◌, ◌-◌, List, [], ◌∷◌, ◌++◌, Bool, true, false, if◌then◌else◌, not, Result, Ok, Err, refl, sym, ap, subst, ◌∙◌, arith}
-use Rattle.std.specs.Prelude.{◌==◌, Option, Some, None}
+use Rattle.std.specs.Prelude.{◌==◌, ◌&&◌, bit_and, Option, Some, None}
 use Rattle.std.proofs.lemmas.Bool.{eqb-true, false≢true}
 use Rattle.system_calls.specs.Errors.{EINTR, ENOENT}
 use Rattle.tree_model.specs.declared.inode.Object.{Object}
 use Rattle.tree_model.specs.State.{object_at}
 use Rattle.tree_model.specs.StepWith.{StepWith}
 use Rattle.tree_model.specs.declared.answer.Answer.{Answer as StepAnswer}
-use Rattle.dialogue.specs.Dialogue.{Dialogue, Exchange, SystemCall, Talks, Whole, again, and_then, asks, behind, calling, closes, ends, open_above, open_name, open_same, reads_entries, reads_link, stats, stats_file_system}
+use Rattle.dialogue.specs.Dialogue.{Dialogue, Exchange, SystemCall, Talks, Whole, again, and_then, asks, behind, calling, closes, ends, open_above, open_name, open_same, reads_entries, reads_link, stats, stats_file_system, copies_proc, look_up, opens, O_PATH, reads_object_link, reads_thread, stats_name}
 use Rattle.dialogue.specs.declared.calls.Answer.{Answer}
 use Rattle.dialogue.specs.declared.calls.How.{How}
 use Rattle.dialogue.proofs.PartLemmas.{Parts, parts, same_end}
@@ -87,6 +87,10 @@ negative false is = refl
 signal_fails : (n : ℕ) → (n == EINTR) ≡ true → n ≢ 0
 signal_fails n is same = let e = eqb-true n EINTR is in absurd (omega (arith, e, same))
 
+and_right : (b c : Bool) → (b && c) ≡ true → c ≡ true
+and_right true c is = is
+and_right false c is = absurd (false≢true is)
+
 signal_same : (x : Linux) (n : ℕ) (q : SystemCall) (a : Answer) → again q a ≡ true → Says x n q a → Same x n
 signal_same x n (open_name dir name how) a is says = says.failed (signal_fails a.error is)
 signal_same x n (open_same dir how) a is says = says.failed (signal_fails a.error is)
@@ -95,7 +99,13 @@ signal_same x n (stats fd) a is says = says.same
 signal_same x n (stats_file_system fd) a is says = says.same
 signal_same x n (reads_entries fd) a is says = says.same
 signal_same x n (reads_link fd) a is says = says.same
-signal_same x n (closes fd) a is says = absurd (false≢true is)
+signal_same x n (look_up dir path flags resolve) a is says = says (signal_fails a.error is)
+signal_same x n (opens dir path flags mode) a is says = says (signal_fails a.error (and_right (bit_and flags O_PATH == O_PATH) (a.error == EINTR) is))
+signal_same x n copies_proc a is says = says (signal_fails a.error is)
+signal_same x n (stats_name dir name) a is says = says
+signal_same x n (reads_object_link proc fd) a is says = says
+signal_same x n (reads_thread proc) a is says = says
+signal_same x n _ a is says = absurd (false≢true is)
 
 abbrev Calls : SystemCall → Dialogue Answer
 Calls q = asks q (λ a. ends a)

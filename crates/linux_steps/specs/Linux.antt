@@ -7,7 +7,7 @@ use Rattle.tree_model.specs.declared.inode.Object.{Object}
 use Rattle.tree_model.specs.declared.inode.Object.TheVariants as object
 use Rattle.tree_model.specs.State.{child, is_dir, is_gone, object_at, parent}
 use Rattle.tree_model.specs.Steps.{kind_of}
-use Rattle.dialogue.specs.Dialogue.{Exchange, SystemCall, closes, open_above, open_name, open_same, reads_entries, reads_link, stats, stats_file_system}
+use Rattle.dialogue.specs.Dialogue.{Exchange, SystemCall, closes, copies_proc, look_up, open_above, open_name, open_same, opens, reads_entries, reads_link, reads_object_link, reads_thread, stats, stats_file_system, stats_name}
 use Rattle.dialogue.specs.declared.calls.Answer.{Answer}
 use Rattle.dialogue.specs.declared.calls.How.{How}
 use Rattle.linux_steps.specs.Steps.{keeps_links, kind_by_mode}
@@ -122,17 +122,21 @@ Says x n (reads_entries fd) a = Looks x n fd (λ d. ReadSays x (suc n) d a.error
 Says x n (reads_link fd) a =
     Looks x n fd (λ y. a.error ≡ 0 → object_at (x.nodes (suc n)) y ≡ Some (object.Link (x.text (suc n))))
 Says x n (closes fd) a = Closes x n fd
+-- of these no step asks; what fails opens nothing
+Says x n (look_up dir path flags resolve) a = a.error ≢ 0 → Same x n
+Says x n (opens dir path flags mode) a = a.error ≢ 0 → Same x n
+Says x n copies_proc a = a.error ≢ 0 → Same x n
+Says x n (stats_name dir name) a = Same x n
+Says x n (reads_object_link proc fd) a = Same x n
+Says x n (reads_thread proc) a = Same x n
+Says x n _ a = Unit {0}
 
 -- a file system says its type, and a directory that is read whether it is there
 abbrev pub is_told : SystemCall → ℕ → Bool
-is_told (open_name dir name how) error = true
 is_told (open_same dir how) error = how.path || ((error == 0) || ((error == EINTR) || (error == ENOENT)))
-is_told (open_above dir how) error = true
-is_told (stats fd) error = true
 is_told (stats_file_system fd) error = (error == 0) || (error == EINTR)
 is_told (reads_entries fd) error = (error == 0) || ((error == EINTR) || (error == ENOENT))
-is_told (reads_link fd) error = true
-is_told (closes fd) error = true
+is_told _ error = true
 
 abbrev pub IsTold : Linux → SystemCall → Answer → Type 0
 IsTold x q a = x.asks ≡ true → is_told q a.error ≡ true
