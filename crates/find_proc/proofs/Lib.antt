@@ -1,2 +1,5 @@
-pub mod FindingLemmas
-pub mod OwningLemmas
+pub mod FindLemmas
+pub mod Goes
+pub mod HandLemmas
+pub mod Parts
+pub mod PrivateLemmas

@@ -1,5 +1,6 @@
-pub mod Believed
-pub mod Finding
-pub mod History
-pub mod Owning
+pub mod Asks
+pub mod Find
+pub mod HandIn
+pub mod Private
 pub mod Promises
+pub mod Seen

@@ -1,137 +1,117 @@
--- What holds of every history. What an answer shows is said here by its own numbers.
-use Rattle.std.specs.Prelude.{◌≡◌, ℕ, ◌+◌, List, [], ◌∷◌, ◌==◌, Bool, true, false, not, ◌&&◌, ◌||◌, if◌then◌else◌, bit_and}
-use Rattle.system_calls.specs.Errors.{EINTR, EINVAL, ENFILE, EMFILE, ENOMEM, ENOSYS}
-use Rattle.find_proc.specs.History.{Exchange}
-use Rattle.find_proc.specs.declared.finding.Facts.{Facts}
-use Rattle.find_proc.specs.declared.finding.TheConstants.{FIND, CHECK, TELL, ASK, OPEN, RAISE, CLOSE_LOW, LOOK, COPY, IDENTIFY, CLOSE, PROGRAMS, GIVES}
+-- What holds of whole conversations.
+use Rattle.std.specs.Prelude.{◌≡◌, ◌≢◌, ◌⊎◌, ◌≤◌, ℕ, List, [], ◌∷◌, length, Bool, true, false, Some, None, Result, Ok, Err}
+use Rattle.system_calls.specs.Errors.{EBUSY, ENOSYS}
+use Rattle.dialogue.specs.Dialogue.{Dialogue, Exchange, Whole, without_signals}
+use Rattle.find_proc.specs.Find.{find, is_it, is_lost, kept_of, proc_of}
+use Rattle.find_proc.specs.HandIn.{hand_in}
+use Rattle.find_proc.specs.Private.{make_private}
+use Rattle.find_proc.specs.Seen.{AllMay, Seen, Wish, at_first, seen_after}
+use Rattle.find_proc.specs.declared.asks.File.{File}
+use Rattle.find_proc.specs.declared.asks.Kept.{Kept}
+use Rattle.find_proc.specs.declared.asks.Known.{Known}
+use Rattle.find_proc.specs.declared.asks.Proc.{Proc}
 
--- ---- the one at hand
+-- The exchanges are so many at most; each system call is made where it may be; and what they come to in the end.
+pub record Holds (w : Wish) (most : ℕ) (first : Seen) (es : List Exchange) (Ends : Seen → Type 0) : Type 0 where
+  pub few : length es ≤ most
+  pub fair : AllMay w first es
+  pub ends : Ends (seen_after w first es)
 
--- the last answer says that it is on the mount that is kept, whose number is known (statx(2))
-abbrev pub is_on_mount_after : Facts → List Exchange → Bool
-is_on_mount_after f [] = false
-is_on_mount_after f (e ∷ older) =
-    (e.asked == ASK)
-    && ((e.gave.error == 0)
-    && (not (e.gave.file.mount == 0)
-    && ((e.gave.file.mount == f.program.file.mount) && (e.gave.file.device == f.program.file.device))))
+-- what so holds of each whole conversation, except for signals
+abbrev pub EachHolds : {E : Type 0} → Wish → ℕ → Seen → Dialogue E → (Seen → E → Type 0) → Type 0
+EachHolds {E} w most first s Ends =
+    (es : List Exchange) (e : E) → Whole s es e → Holds w most first (without_signals es) (λ t. Ends t e)
 
--- that it is of the inode that is kept
-abbrev pub is_file_after : Facts → List Exchange → Bool
-is_file_after f [] = false
-is_file_after f (e ∷ older) = e.gave.file.inode == f.program.file.inode
+-- ---- how it ends
 
-pub record IsBelieved (f : Facts) (history : List Exchange) : Type 0 where
-  pub present : f.program.there ≡ true
-  pub mount : is_on_mount_after f history ≡ true
-  pub surely : f.surely ≡ true → is_file_after f history ≡ true
+-- nothing is open in the end, and the program's place isn't claimed any more; it fails by the last error that was met
+pub record Fails (t : Seen) (error : ℕ) : Type 0 where
+  pub closed : t.held ≡ []
+  pub free : t.claimed ≡ false
+  pub unfilled : t.filled ≡ None
+  pub some : error ≢ 0
+  pub why : error ≡ t.why
 
--- an answer says that it isn't the one: there is no such descriptor, or its mount isn't told or another one, or another
--- device, or another inode where it must be the very file; a signal says nothing
-abbrev pub denied_by : Facts → Exchange → Bool → Bool
-denied_by f e was =
-    ((e.asked == ASK)
-    && (not (e.gave.error == EINTR)
-    && (not (e.gave.error == 0)
-    || ((e.gave.file.mount == 0)
-    || (not (e.gave.file.mount == f.program.file.mount)
-    || (not (e.gave.file.device == f.program.file.device)
-    || (f.surely && not (e.gave.file.inode == f.program.file.inode))))))))
-    || was
+-- the last answer about the program's descriptor says that it is the one
+pub record IsShown (kept : Kept) (surely : Bool) (t : Seen) : Type 0 where
+  pub there : kept.there ≡ true
+  pub file : File
+  pub told : t.told ≡ Some (record { fd = kept.fd; file = file })
+  pub shown : is_it kept surely file ≡ true
 
-abbrev pub is_denied_after : Facts → List Exchange → Bool
-is_denied_after f [] = false
-is_denied_after f (e ∷ older) = denied_by f e (is_denied_after f older)
+pub record IsAtHand (kept : Kept) (surely : Bool) (t : Seen) (f : Kept) (proc : Proc) : Type 0 where
+  pub is : proc ≡ proc_of kept.fd false
+  pub stays : f ≡ kept
+  pub shown : IsShown kept surely t
+  pub closed : t.held ≡ []
+  pub free : t.claimed ≡ false
+  pub unfilled : t.filled ≡ None
 
-abbrev pub looks_at_hand : Facts → Bool
-looks_at_hand f = (f.wanted == FIND) || (f.wanted == CHECK)
+-- it is the call's to close; or the program's, whose place was claimed
+abbrev pub IsOnes : Bool → Kept → Seen → Kept → ℕ → File → Type 0
+IsOnes true kept t f fd file = (t.held ≡ fd ∷ []) × (t.filled ≡ None) × (f ≡ kept)
+IsOnes false kept t f fd file = (t.held ≡ []) × (t.filled ≡ Some fd) × (f ≡ kept_of fd file)
 
--- a question about the one at hand, or that is it
-abbrev pub is_at_hand : ℕ → Bool
-is_at_hand next = (next == ASK) || (next == PROGRAMS)
+-- it was seen to be a proc(5), and it was asked which file it is
+pub record IsNew (kept : Kept) (t : Seen) (f : Kept) (proc : Proc) : Type 0 where
+  pub is_proc : t.proc ≡ Some proc.fd
+  pub file : File
+  pub told : t.told ≡ Some (record { fd = proc.fd; file = file })
+  pub ones : IsOnes proc.own kept t f proc.fd file
+  pub free : t.claimed ≡ false
 
--- ---- a new one
+-- there is none: the kernel lacks what is needed, or no kept one is passed over unasked
+abbrev pub IsNone : Kept → Seen → Type 0
+IsNone kept t = (t.lacks ≡ true) ⊎ (kept.there ≡ true → t.denied ≡ true)
 
--- since it was opened, if it was, it was seen to be of a proc(5) (PROC_SUPER_MAGIC of statfs(2)), on a mount that
--- follows links (no ST_NOSYMFOLLOW)
-abbrev pub proc_by : Exchange → Bool → Bool
-proc_by e was =
-    if e.asked == OPEN then false
-    else (if e.asked == LOOK
-    then (e.gave.error == 0) && ((e.gave.kind == 40864) && not (bit_and e.gave.flags 8192 == 8192)) else was)
+abbrev pub FindEnds : Kept → Bool → Seen → Kept → Result Proc ℕ → Type 0
+FindEnds kept surely t f (Ok proc) = IsAtHand kept surely t f proc ⊎ IsNew kept t f proc
+FindEnds kept surely t f (Err error) = Fails t error × (f ≡ kept) × IsNone kept t
 
-abbrev pub is_proc_after : List Exchange → Bool
-is_proc_after [] = false
-is_proc_after (e ∷ older) = proc_by e (is_proc_after older)
+abbrev pub LostEnds : Kept → ℕ → Seen → Bool → Type 0
+LostEnds kept fd t true = IsNone kept t
+LostEnds kept fd t false = kept.there ≡ true → kept.fd ≡ fd → IsShown kept true t
 
--- and which file it is
-abbrev pub file_by : Exchange → Bool → Bool
-file_by e was =
-    if (e.asked == OPEN) || (e.asked == COPY) then false else (if e.asked == IDENTIFY then e.gave.error == 0 else was)
+-- what was handed in is closed, except its copy, which is the program's
+pub record IsHandedIn (t : Seen) : Type 0 where
+  pub closed : t.held ≡ []
+  pub free : t.claimed ≡ false
+  pub fd : ℕ
+  pub filled : t.filled ≡ Some fd
 
-abbrev pub is_identified_after : List Exchange → Bool
-is_identified_after [] = false
-is_identified_after (e ∷ older) = file_by e (is_identified_after older)
+abbrev pub HandEnds : Seen → Result (Unit {0}) ℕ → Type 0
+HandEnds t (Ok done) = IsHandedIn t
+HandEnds t (Err error) = Fails t error
 
--- ---- descriptors
+-- ---- what is wanted
 
--- whether what was opened is open
-abbrev pub open_by : Exchange → Bool → Bool
-open_by e was =
-    if (e.asked == OPEN) || (e.asked == COPY) then e.gave.error == 0 else (if e.asked == CLOSE then false else was)
+abbrev pub for_call : Known → Bool → Wish
+for_call k surely = record { kept = k.kept; surely = surely; finds = true; handed = None }
 
-abbrev pub is_open_after : List Exchange → Bool
-is_open_after [] = false
-is_open_after (e ∷ older) = open_by e (is_open_after older)
+abbrev pub for_own : Known → Wish
+for_own k = record { kept = k.kept; surely = false; finds = false; handed = None }
 
--- It is asked about, copied and closed while it is open; and it is what is given.
-abbrev pub needs_open : Facts → ℕ → Bool
-needs_open f next =
-    ((next == RAISE) || ((next == CLOSE_LOW) || ((next == IDENTIFY) || (next == CLOSE))))
-    || (((next == LOOK) && (f.wanted == FIND)) || ((next == GIVES) && not (f.wanted == TELL)))
+abbrev pub for_program : Known → ℕ → Wish
+for_program k fd = record { kept = k.kept; surely = false; finds = false; handed = Some fd }
 
--- whether there are two of it: the one with a standard file's number, and the copy of that
-abbrev pub low_by : Exchange → Bool → Bool
-low_by e was = if e.asked == RAISE then e.gave.error == 0 else (if e.asked == CLOSE_LOW then false else was)
+-- ---- laws
 
-abbrev pub is_low_after : List Exchange → Bool
-is_low_after [] = false
-is_low_after (e ∷ older) = low_by e (is_low_after older)
+abbrev pub FindsHold : Type 0
+FindsHold = (k : Known) (surely : Bool)
+    → EachHolds (for_call k surely) 11 (at_first ENOSYS) (find k surely) (λ t f. FindEnds k.kept surely t f.kept f.proc)
 
--- ---- errors
+abbrev pub LooksHold : Type 0
+LooksHold = (k : Known) (fd : ℕ)
+    → EachHolds (for_call k true) 4 (at_first ENOSYS) (is_lost k fd) (λ t lost. LostEnds k.kept fd t lost)
 
-abbrev pub open_error : ℕ → ℕ
-open_error error = if (error == EMFILE) || ((error == ENFILE) || (error == ENOMEM)) then error else ENOSYS
+abbrev pub HandingHolds : Type 0
+HandingHolds = (k : Known) (fd : ℕ) → EachHolds (for_program k fd) 11 (at_first 0) (hand_in k fd) HandEnds
 
--- that of fstatfs(2) of what was opened is ENOSYS; of what was handed in its own, or EINVAL
-abbrev pub look_error : Facts → Exchange → ℕ
-look_error f e =
-    if proc_by e false then 0
-    else (if f.wanted == FIND then ENOSYS else (if e.gave.error == 0 then EINVAL else e.gave.error))
+abbrev pub MakingHolds : Type 0
+MakingHolds = (k : Known) → k.kept.claimed ≡ false
+    → EachHolds (for_own k) 30 (at_first 0) (make_private k) HandEnds
 
--- None for a signal. Of the one at hand there is none, either: /proc may be opened.
-abbrev pub error_of : Facts → Exchange → ℕ
-error_of f e =
-    if e.gave.error == EINTR then 0
-    else (if e.asked == LOOK then look_error f e
-    else (if e.gave.error == 0 then 0
-    else (if e.asked == OPEN then open_error e.gave.error
-    else (if e.asked == RAISE then (if e.gave.error == EINVAL then EMFILE else e.gave.error)
-    else (if (e.asked == COPY) || (e.asked == IDENTIFY) then e.gave.error else 0)))))
-
--- the last one, or that there is none at hand
-abbrev pub why_by : Facts → Exchange → ℕ → ℕ
-why_by f e why = if error_of f e == 0 then why else error_of f e
-
-abbrev pub why_after : Facts → List Exchange → ℕ
-why_after f [] = ENOSYS
-why_after f (e ∷ older) = why_by f e (why_after f older)
-
--- ---- how many
-
-abbrev pub is_signal : Exchange → Bool
-is_signal e = (e.gave.error == EINTR) && not ((e.asked == CLOSE) || (e.asked == CLOSE_LOW))
-
-abbrev pub signals : List Exchange → ℕ
-signals [] = 0
-signals (e ∷ older) = signals older + (if is_signal e then 1 else 0)
+-- the program has one already
+abbrev pub NoneIsMade : Type 0
+NoneIsMade = (k : Known) (es : List Exchange) (r : Result (Unit {0}) ℕ) → k.kept.claimed ≡ true
+    → Whole (make_private k) es r → (es ≡ []) × (r ≡ Err EBUSY)
