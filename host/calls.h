@@ -1,8 +1,8 @@
 /*
  * calls.h: the proved library's functions, and what passes between it and a driver. The numbers and bytes are those
- * of crates/c_protocol, step_calls, place_protocol, open_or_make, make_through_links, remove_by_calls, list_directory,
- * call_course, ask_place, give_entry, find_proc, private_proc, open_partial, kernel_text and
- * system_calls, whose contracts say what they stand for. A program that makes calls includes inroot.h, and not this.
+ * of crates/linux_call, c_protocol, step_calls, place_protocol, open_or_make, make_through_links, remove_by_calls,
+ * list_directory, call_course, ask_place, open_partial, kernel_text and system_calls, whose contracts say what they stand
+ * for. A program that makes calls includes inroot.h, and not this.
  *
  * Each function asks this of its caller, beside what stands at it. No pointer is NULL, not even one to no bytes. Each is
  * aligned, and leads to a value of its type: a bool is 0 or 1, also where the function only writes it; a number may be any.
@@ -77,22 +77,6 @@ void inroot_begin(const struct inroot_asked *asked, const unsigned char *first, 
 /* Takes the answer to the last step. `kept` holds a call: the one that the last turn left there. */
 void inroot_next(struct inroot_kept *kept, const struct inroot_answered *answered, const unsigned char *bytes,
                  size_t length, struct inroot_told *told, unsigned char *room, size_t size);
-
-/*
- * Whether a call fails by ENOENT where one of PATH's names is missing in what those before it led to. It is true of a resolve of just
- * the names of PLACE, a slash before each, with a slash between each two and one before the first or none; but not of a path that
- * leads out by its first byte. It takes no memory, changes nothing, and needs no call under way. docs/HOST-WHY.md has the argument.
- */
-bool inroot_misses_at_once(const struct inroot_asked *asked, const unsigned char *path, size_t path_length,
-                           const unsigned char *place, size_t place_length);
-
-/*
- * Whether one system call may walk PATH as a whole in the place of a call's steps, through links and `..`: openat2(2) with
- * RESOLVE_IN_ROOT, or with RESOLVE_BENEATH; and with RESOLVE_NO_SYMLINKS where NO_LINKS. It is true of a text of 1 to 4,095 bytes
- * without NUL in which no part has more than 255; but not of a path that leads out by its first byte. It takes no memory, changes
- * nothing, and needs no call under way. docs/HOST-WHY.md has the argument.
- */
-bool inroot_follows_at_once(bool beneath, bool no_links, const unsigned char *path, size_t path_length);
 
 /* Where a path's last name stands in it, of so many bytes; or the error's number, and zeros. */
 struct inroot_parted {
@@ -214,9 +198,6 @@ struct inroot_use {
 
 /* By an opening that was taken, and the kind of what was found (`enum inroot_kind`), which may be any if the opening doesn't ask. */
 void inroot_use_of(const struct inroot_opening *opening, uint8_t kind, struct inroot_use *use);
-
-/* The flags by which what is open is opened once more; or 0, where these are refused by EINVAL. */
-uint32_t inroot_reopen_flags(const struct inroot_machine_flags *machine, uint32_t flags);
 
 /* The object that a system call describes. The mount is 0 if the call doesn't give it. */
 struct inroot_object {
@@ -504,178 +485,6 @@ struct inroot_question {
  */
 void inroot_next_question(uint32_t asked, uint32_t error, size_t length, size_t size, struct inroot_question *question);
 
-/* ---- which system call comes next, as an entry that a call has made is opened. These take no memory. */
-
-/*
- * The entry is opened by its name: openat(2) with O_PATH, O_NOFOLLOW and O_CLOEXEC. What was opened is looked at:
- * statx(2). So is the object that it must be. The text of the link that was opened is read: readlinkat(2). What was
- * opened is closed. So is the descriptor by which the file was made. If it GIVES, what was opened is the entry. If it
- * FAILS, there is an error.
- */
-enum inroot_giving_next {
-    INROOT_GIVING_OPEN = 1, INROOT_GIVING_LOOK, INROOT_GIVING_COMPARE, INROOT_GIVING_READ, INROOT_GIVING_CLOSE,
-    INROOT_GIVING_CLOSE_MADE, INROOT_GIVING_GIVES, INROOT_GIVING_FAILS,
-};
-
-/*
- * What the call has made: its MODE, of which the kind counts, and the number of a DEVICE. LINKED: an object got
- * another name, and is known by its descriptor. MADE: the file is known by the descriptor by which it was made. There
- * is one of these two at most.
- */
-struct inroot_giving_facts {
-    uint64_t device;
-    uint32_t mode;
-    bool linked, made;
-};
-
-/*
- * What a system call gave: an error, or 0; and of what was looked at, which object it is, its mode, and a device's
- * number.
- */
-struct inroot_giving_answer {
-    struct inroot_object object;
-    uint64_t device;
-    uint32_t error, mode;
-};
-
-/*
- * How far it has come. A driver reads what comes NEXT, and the ERROR if it fails. It leaves all of it alone between
- * two turns.
- */
-struct inroot_giving {
-    struct inroot_object object;
-    uint32_t error;
-    uint8_t next;
-};
-
-void inroot_giving_begin(struct inroot_giving *giving);
-
-/*
- * Takes what the last system call gave; the text that was READ, if one was; and the TEXT of the link that the call
- * has made, if so.
- */
-void inroot_giving_next(struct inroot_giving *giving, const struct inroot_giving_facts *facts,
-                        const struct inroot_giving_answer *answer, const unsigned char *read, size_t read_length,
-                        const unsigned char *text, size_t text_length);
-
-/* ---- which system call comes next, as a /proc is found, and which proc(5) is believed. These take no memory. */
-
-/*
- * What is wanted: a /proc for a call, at hand or opened: FIND. One that is at hand: CHECK. A copy of what is handed in: TAKE.
- * Whether a descriptor is of a proc(5) that follows links: TELL.
- */
-enum inroot_wants { INROOT_WANTS_FIND = 1, INROOT_WANTS_CHECK, INROOT_WANTS_TAKE, INROOT_WANTS_TELL };
-
-/*
- * Which file the one at hand is is ASKed: statx(2). /proc is opened: open(2) with O_PATH, O_DIRECTORY, O_NOFOLLOW and O_CLOEXEC. A
- * standard file's number is copied above those, by fcntl(2) with F_DUPFD_CLOEXEC, and then closed. The file system of what was
- * opened or handed in is LOOKed at: fstatfs(2). `.` is opened in what was handed in: openat(2) with O_PATH, O_DIRECTORY and
- * O_CLOEXEC. Which file was opened: statx(2). It is closed. In the end it is the program's, or what was opened; or there is an error.
- */
-enum inroot_finding_next {
-    INROOT_FINDING_ASK = 1, INROOT_FINDING_OPEN, INROOT_FINDING_RAISE, INROOT_FINDING_CLOSE_LOW, INROOT_FINDING_LOOK,
-    INROOT_FINDING_COPY, INROOT_FINDING_IDENTIFY, INROOT_FINDING_CLOSE, INROOT_FINDING_PROGRAMS, INROOT_FINDING_GIVES,
-    INROOT_FINDING_FAILS,
-};
-
-/* Which file of a proc(5) it is, and on which mount (statx(2)); 0 where the kernel doesn't say. */
-struct inroot_proc_file {
-    uint64_t device, inode, mount;
-};
-
-/* What is kept of a descriptor, if one is THERE. */
-struct inroot_proc_kept {
-    struct inroot_proc_file file;
-    bool there;
-};
-
-/*
- * What is kept of the PROGRAM's descriptor. What is WANTED. One was HANDED_IN; and the one at hand is to be SURELY the file that is
- * kept, and not another one on its mount.
- */
-struct inroot_finding_facts {
-    struct inroot_proc_kept program;
-    uint8_t wanted;
-    bool handed_in, surely;
-};
-
-/* What a system call gave, or 0: of statx(2) which FILE it is; of fstatfs(2) the type, and the mount's flags; what was opened; an error. */
-struct inroot_finding_answer {
-    struct inroot_proc_file file;
-    uint64_t kind, flags;
-    uint32_t descriptor, error;
-};
-
-/*
- * How far it has come. A driver reads what comes NEXT, the ERROR if it fails, and in the end what was FOUND out of what was opened.
- * It leaves all of it alone between two turns.
- */
-struct inroot_finding {
-    struct inroot_proc_file found;
-    uint32_t error;
-    uint8_t next;
-};
-
-void inroot_finding_begin(const struct inroot_finding_facts *facts, struct inroot_finding *finding);
-void inroot_finding_next(struct inroot_finding *finding, const struct inroot_finding_facts *facts,
-                         const struct inroot_finding_answer *answer);
-
-/* ---- whose a /proc is. These take no memory. */
-
-/* A call has found it; or the program is to HAND one IN. */
-enum inroot_for { INROOT_FOR_CALL = 1, INROOT_FOR_HAND_IN };
-
-/*
- * The program's place is CLAIMed, or another error than 0 says that the program has one. What is handed in is copied: TAKE
- * (inroot_finding_begin). The program's place is free again. What was opened is closed. In the end it was AT HAND; or it is the
- * program's, or the caller's to close; or there is an error.
- */
-enum inroot_owning_next {
-    INROOT_OWNING_CLAIM = 1, INROOT_OWNING_TAKE, INROOT_OWNING_RELEASE, INROOT_OWNING_CLOSE, INROOT_OWNING_AT_HAND,
-    INROOT_OWNING_PROGRAMS, INROOT_OWNING_CALLERS, INROOT_OWNING_FAILS,
-};
-
-/* A driver reads what comes NEXT, and the ERROR if it fails. It leaves all of it alone between two turns. */
-struct inroot_owning {
-    uint32_t error;
-    uint8_t wanted, next;
-    bool claimed;
-};
-
-/* Begins with one that is wanted so: IS_NEW if it was just opened. */
-void inroot_owning_begin(uint8_t wanted, bool is_new, struct inroot_owning *owning);
-void inroot_owning_next(struct inroot_owning *owning, uint32_t error);
-
-/* ---- which system call comes next, as a proc(5) of the library's own is made. These take no memory. */
-
-/*
- * fsopen(2) of `proc`; fsconfig(2) of `subset` and `pid`; fsconfig(2), which creates it; fsmount(2); what fsopen(2) gave is
- * closed. open_tree(2) of /proc, as a copy. Whether what was opened is a proc(5) that follows links; whether `thread-self` can be read
- * in it, by readlinkat(2). What is none is closed. What is one is handed in, and closed. In the end it is kept, or there is an
- * error.
- */
-enum inroot_mounting_next {
-    INROOT_MOUNTING_MAKE = 1, INROOT_MOUNTING_RESTRICT, INROOT_MOUNTING_CREATE, INROOT_MOUNTING_MOUNT, INROOT_MOUNTING_CLOSE_MADE,
-    INROOT_MOUNTING_COPY, INROOT_MOUNTING_LOOK, INROOT_MOUNTING_THREADS, INROOT_MOUNTING_REFUSE, INROOT_MOUNTING_HAND_IN,
-    INROOT_MOUNTING_CLOSE, INROOT_MOUNTING_GIVES, INROOT_MOUNTING_FAILS,
-};
-
-/* What it gave: 0 or an error's number. YES: it is a proc(5). */
-struct inroot_mounting_answer {
-    uint32_t error;
-    bool yes;
-};
-
-/* A driver reads what comes NEXT, and the ERROR if it fails. It leaves all of it alone between two turns. */
-struct inroot_mounting {
-    uint32_t error;
-    uint8_t next;
-    bool copied;
-};
-
-void inroot_mounting_begin(bool kept, struct inroot_mounting *mounting);
-void inroot_mounting_next(struct inroot_mounting *mounting, const struct inroot_mounting_answer *answer);
-
 /* ---- how much of a path is tried next, as as much as is there is opened. These take no memory. */
 
 /*
@@ -792,5 +601,93 @@ void inroot_removal_begin(bool may_retry, struct inroot_removal *removal);
 
 /* Takes what the call gave. It isn't looked at where a place was kept or closed. */
 void inroot_removal_next(struct inroot_removal *removal, const struct inroot_removal_answer *answer);
+
+/* ---- a call by the kernel's walk, or by a descriptor: which system call comes next. It takes no memory. */
+
+/* A file of a proc(5), and its mount (statx(2)). */
+struct inroot_proc_file {
+    uint64_t device, inode, mount;
+};
+
+/* The program's /proc, if it is THERE; whether it was HANDED_IN, or is about to be; whether the place is taken (CLAIMED). */
+struct inroot_proc_kept {
+    struct inroot_proc_file file;
+    uint32_t fd;
+    bool there, handed_in, claimed;
+};
+
+/* What is known before a call. HAS_FLOOR: this thread has seen that the kernel has what the library needs. */
+struct inroot_known {
+    struct inroot_proc_kept kept;
+    struct inroot_machine_flags machine;
+    bool has_floor;
+};
+
+/*
+ * What is asked for, by one of `enum inroot_op` or of these: a path is opened for use, by flags HOW and a MODE; the directory of an
+ * entry is opened, and the name is in the room; an entry is changed, by this STEP, in the directory ROOT; an object is opened once
+ * more, or its mode, owner, times or attributes are changed or read; a /proc is handed in, or made; a file of a /proc is opened, or
+ * read as a link; a /proc is found; whether it is lost; why a system call failed by an object's name in ROOT, a /proc, by the error
+ * MODE; whether the kernel has what the library needs.
+ */
+enum inroot_do {
+    INROOT_DO_OPEN = 16, INROOT_DO_ENTRY, INROOT_DO_CHANGE, INROOT_DO_REOPEN, INROOT_DO_CHANGE_MODE, INROOT_DO_CHANGE_OWNER,
+    INROOT_DO_CHANGE_TIMES, INROOT_DO_SET_ATTRIBUTE, INROOT_DO_GET_ATTRIBUTE, INROOT_DO_LIST_ATTRIBUTES,
+    INROOT_DO_REMOVE_ATTRIBUTE, INROOT_DO_USE_PROC, INROOT_DO_USE_PRIVATE_PROC, INROOT_DO_PROC_OPEN, INROOT_DO_PROC_READ_LINK,
+    INROOT_DO_FIND_PROC, INROOT_DO_IS_LOST, INROOT_DO_PROC_ERROR, INROOT_DO_HAS_FLOOR,
+};
+
+/* crates/linux_call says of each field what it is. */
+struct inroot_demand {
+    struct inroot_known known;
+    uint64_t device, size, accessed, changed;
+    uint32_t root, other, fd, flags, how, mode, user, group;
+    uint8_t what, step;
+    bool opens, linked, gives, directory, surely, asks_kind;
+};
+
+/* What a system call gave: 0 or an error, a descriptor or a length; of statx(2) and fstatfs(2) what these say, and else 0. */
+struct inroot_gave {
+    uint64_t file_system, flags, device, inode, mount, node;
+    uint32_t value, error, links;
+    uint16_t mode;
+    bool has_mount;
+};
+
+/*
+ * A system call, by FD and the text in the room: openat2(2) by NUMBER, MODE and RESOLVE; openat(2) by NUMBER and MODE; statx(2) and
+ * fstatfs(2); getdents64(2), whose records nobody reads; readlinkat(2); close(2); fcntl(2), F_GETFD and F_DUPFD_CLOEXEC; what makes
+ * by MODE, and a device's NUMBER; symlinkat(2) of the second text; linkat(2) to OTHER and the second text, through the link;
+ * unlinkat(2), of a directory if NUMBER isn't 0; renameat2(2) to OTHER and the second text by NUMBER; fchmodat(2); fchownat(2) by
+ * OTHER and MODE; utimensat(2); what is asked for of attributes, of NUMBER bytes, by a name in FD or a path; fsopen(2) of `proc`;
+ * fsconfig(2), of `subset` if NUMBER isn't 0; fsmount(2); open_tree(2) of /proc; nanosleep(2). No system call: the program's place
+ * for a /proc is claimed, to hand one in if FD isn't 0; filled by FD, which is the file of NUMBER, RESOLVE and MOUNT, handed in if
+ * MODE isn't 0; free again; the thread knows of the kernel whether it has what is needed, FD. The end: a NUMBER, and a text; an
+ * error's NUMBER, its STEP and the name; the steps are to make the call.
+ */
+enum inroot_due_what {
+    INROOT_DUE_OPENAT2 = 1, INROOT_DUE_OPENAT, INROOT_DUE_STATX, INROOT_DUE_FSTATFS, INROOT_DUE_GETDENTS, INROOT_DUE_READLINKAT,
+    INROOT_DUE_CLOSE, INROOT_DUE_GETFD, INROOT_DUE_DUPFD, INROOT_DUE_MKDIRAT, INROOT_DUE_MKNODAT, INROOT_DUE_SYMLINKAT,
+    INROOT_DUE_LINKAT, INROOT_DUE_UNLINKAT, INROOT_DUE_RENAMEAT2, INROOT_DUE_FCHMODAT, INROOT_DUE_FCHOWNAT, INROOT_DUE_UTIMENSAT,
+    INROOT_DUE_XATTR_AT, INROOT_DUE_XATTR, INROOT_DUE_FSOPEN, INROOT_DUE_FSCONFIG, INROOT_DUE_FSMOUNT, INROOT_DUE_OPEN_TREE,
+    INROOT_DUE_NANOSLEEP, INROOT_DUE_CLAIM, INROOT_DUE_KEEP, INROOT_DUE_RELEASE, INROOT_DUE_KNOW,
+    INROOT_DUE_VALUE = 32, INROOT_DUE_FAILS, INROOT_DUE_STEPS,
+};
+
+/* AGAIN: a signal has the system call made again. The first text lies at the room's beginning, the second at its half. */
+struct inroot_due {
+    uint64_t number, resolve, mount;
+    uint32_t fd, other, mode;
+    uint8_t what, step;
+    bool again;
+};
+
+/*
+ * What is due by the answers so far, of which each was asked for; READ has the text that was read last. A slash stands before FIRST
+ * and SECOND, the demand's texts.
+ */
+void inroot_turn(const struct inroot_demand *demand, const unsigned char *first, size_t first_length, const unsigned char *second,
+                 size_t second_length, const unsigned char *read, size_t read_length, const struct inroot_gave *answers,
+                 size_t count, struct inroot_due *due, unsigned char *room, size_t size);
 
 #endif

@@ -15,7 +15,7 @@
 #include <sys/types.h>
 
 /* A path and a NUL; what a step or a reply can lay out: two texts, or a name and a text. */
-enum { INROOT_TEXT_MAX = PATH_MAX, INROOT_ROOM = 2 * PATH_MAX + 2 * (NAME_MAX + 1) };
+enum { INROOT_TEXT_MAX = PATH_MAX, INROOT_ROOM = 2 * PATH_MAX + 2 * (NAME_MAX + 1), INROOT_SECOND = INROOT_ROOM / 2 };
 
 /* So many levels deep goes one proved call that removes a tree: it holds a descriptor of each directory above. */
 enum { INROOT_LEVELS = 20 };
@@ -30,7 +30,7 @@ enum { INROOT_STEPS = -65536 };
 static const uint64_t INROOT_ROOT_HANDLE = UINT64_C(1) << 32;
 
 /* Beside the steps of the proved call: the kernel lacks what the library needs; the driver opens what it made. */
-enum { INROOT_STEP_KERNEL = INROOT_STEP_RENAME + 1, INROOT_STEP_GIVE };
+enum { INROOT_STEP_KERNEL = INROOT_STEP_RENAME + 1, INROOT_STEP_GIVE, INROOT_STEP_REOPEN, INROOT_STEP_ATTRIBUTE, INROOT_STEP_PROC };
 
 /* What the last step of a call that makes an entry makes. */
 enum inroot_makes { INROOT_MAKES_NEW, INROOT_MAKES_OPEN, INROOT_MAKES_LINKED };
@@ -173,33 +173,67 @@ void inroot_passed_place(struct inroot_driver *d, uint64_t dir, const char *plac
 /* The names that lead from the root to a handle, a slash before each, with a NUL; or NULL where nobody knows. */
 const char *inroot_passed_names(struct inroot_driver *d, uint64_t handle, size_t *length);
 
+/* exchange.c */
+/* A call, as the library is asked for it. A slash stands before each text; NULL is none. */
+struct inroot_call {
+    struct inroot_demand demand;
+    const char *first, *second;
+    const struct timespec *times;
+    const char *attribute;
+    void *value;                   /* of an attribute */
+    char *text;                    /* what is read comes here, so much of it */
+    size_t size;
+};
+/*
+ * Makes a call: what it gives, the name of an entry among it; or -errno, which is kept; or INROOT_STEPS. A thread that is
+ * cancelled meanwhile finishes the call.
+ */
+int64_t inroot_exchange(struct inroot_call *call, char *name);
+/* The same where nobody wants the text or the name; and where no more than the beginning of a text is looked at. */
+int64_t inroot_exchange_alone(struct inroot_call *call);
+int64_t inroot_exchange_numbers(struct inroot_call *call);
+
+/* program.c */
+/* What is known of the program and of the thread. */
+void inroot_program_known(struct inroot_known *known);
+/* What is due and no system call: 0, or -1 with errno. */
+long inroot_program_does(const struct inroot_due *due);
+/* The thread doesn't know any more that the kernel has what the library needs. */
+void inroot_program_forgets(void);
+
 /* below.c */
-/* openat2(2): each one that the library makes. */
+/* openat2(2): each one that the steps make. */
 struct open_how;
 int inroot_openat2(int dir, const char *path, const struct open_how *how);
 /* Opens a name in a directory by these flags of open(2); under INROOT_NO_XDEV only what is on the directory's mount. */
 int inroot_open_here(int dir, const char *name, int open_flags, int flags);
-/* Whether the kernel has what the library needs. */
-bool inroot_has_floor(void);
 /* Opens names through no link, by O_PATH and these flags, and by RESOLVE bits: the descriptor, or -1 with errno. */
 int inroot_look_up(int dir, const char *names, uint64_t flags, uint64_t resolve);
 
-/* kernel_walk.c: each gives INROOT_STEPS, where the kernel's walk doesn't do it; or -errno, which is noted. */
-/* Makes a call: what it gives. */
-int inroot_kernel_walk(int root, const struct inroot_request *asked);
-/* Opens what a path means by flags of open(2). */
+/* by_exchange.c */
+/* Whether the kernel has what the library needs. */
+bool inroot_has_floor(void);
+/* A /proc that is one, or -errno; IS_CALLERS where the caller is to close it. SURELY: the very file that was opened. */
+int inroot_proc_find(bool surely, bool *is_callers);
+/* Whether somebody closed the library's own /proc, so that its number is another file of a proc(5). */
+bool inroot_proc_is_lost(int proc);
+/* The error of a system call on a descriptor's name in a /proc; ENOSYS if there is no such /proc. */
+int inroot_proc_error(int proc, int fd, int error);
+/* The same as inroot_proc_find(), for a call. */
+int inroot_proc_for(struct inroot_driver *d);
+void inroot_proc_end(struct inroot_driver *d);
+/*
+ * Makes a call by the kernel's walk: what it gives, or -errno, which is kept; or INROOT_STEPS. A slash stands before each text.
+ * What is read comes into the room.
+ */
+int inroot_kernel_walk(int root, const struct inroot_request *asked, char *room);
+/* The same: opens what a path means by flags of open(2). */
 int inroot_kernel_open(int root, const char *path, int flags, int open_flags, mode_t mode);
-/* Opens the directory that has an entry: 0. */
-int inroot_kernel_entry(int root, int flags, const char *path, bool takes_slash, struct inroot_entry *entry);
+/* The same: opens the directory that has an entry: 0. */
+int inroot_kernel_entry(int root, int flags, const char *path, struct inroot_entry *entry);
 void inroot_entry_close(const struct inroot_entry *entry);
-
-/* change.c */
-/* Makes it, and opens what it made where the call gives that. Gives 0 or the error's number. */
+/* Makes a change, and opens what it made where the call gives that. Gives 0 or the error's number. */
 uint32_t inroot_change(struct inroot_change *change);
-
-/* give.c */
-/* Opens the entry that was just made, and checks that it is this one. Keeps it, or why not, for the reply. */
-void inroot_give(struct inroot_change *change);
 
 /* error.c */
 /* Keeps the step and its name, in case the call fails: the next turn overwrites the room. */
@@ -207,37 +241,10 @@ void inroot_error_note(struct inroot_driver *d, const struct inroot_told *step, 
 /* Keeps why a call failed: with the step of this driver; or alone, and then returns -error. */
 void inroot_error_of(const struct inroot_driver *d, int error);
 int inroot_error_alone(int error, const char *step, const char *name);
+/* Keeps it. */
+void inroot_error_keep(int error, const char *step, const char *name);
 /* The name of a step (`enum inroot_what`). */
 const char *inroot_step_name(unsigned step);
-
-/* proc.c */
-enum { INROOT_PROC_NAME = 48 };
-/*
- * A /proc that is one, or -errno; IS_CALLERS where the caller is to close it. One that is at hand is any file of that
- * proc(5), or SURELY the directory that was opened. If the program has handed one in, there is no other.
- */
-int inroot_proc_find(bool surely, bool *is_callers);
-/* Whether the program has one already; and whether a descriptor is of a proc(5). */
-bool inroot_proc_is_kept(void);
-bool inroot_proc_is(int fd);
-/* Whether somebody closed the library's own /proc, so that its number is another file of a proc(5). */
-bool inroot_proc_is_lost(int proc);
-/* The same as inroot_proc_find(), for a call. */
-int inroot_proc_for(struct inroot_driver *d);
-void inroot_proc_end(struct inroot_driver *d);
-/* The name in /proc of a descriptor of this thread, which is written into the room. */
-const char *inroot_proc_name(int fd, char room[INROOT_PROC_NAME]);
-/*
- * The error of a system call on such a name. If there is no such link at all, or the number is another file's by now,
- * there is no such /proc.
- */
-int inroot_proc_error(int proc, const char *name, int error);
-
-/* by_proc.c */
-/* What is done by an object's name in a /proc: what that gave, or -1 with errno. */
-typedef ssize_t inroot_act(int proc, const char *name, void *what);
-/* Does it to the object of a descriptor. Gives what that gave, or -errno: -EBADF, -ENOSYS where there is no /proc. */
-ssize_t inroot_by_proc(int fd, inroot_act *act, void *what);
 
 /* call.c */
 /* A try: one proved call from its beginning to its reply, whose text then lies in the room. */
@@ -251,8 +258,11 @@ int inroot_error_behind(int root, int error);
 /* inroot.c */
 /* Whether the root is one to be asked with these flags: 0 or -errno. */
 int inroot_check(int root, int flags);
-/* Reads the text once, since a program may change it meanwhile. A text that is too long stays too long. */
-void inroot_copy(char text[INROOT_TEXT_MAX + 1], const char *from);
+/*
+ * Reads the text once, since a program may change it meanwhile, to where a slash stands before it. A text that is too long
+ * stays too long.
+ */
+char *inroot_copy(char room[INROOT_TEXT_MAX + 2], const char *from);
 /* Makes a call, from its first check on. A thread that is cancelled meanwhile finishes the call. */
 ssize_t inroot_carry_out(int root, const struct inroot_request *asked, char *room);
 /* The same of a call whose reply has no text. */

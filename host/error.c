@@ -1,19 +1,63 @@
 /* error.c: why a thread's last call failed, for whoever wants to print it. */
-#define _GNU_SOURCE
+#undef _GNU_SOURCE      /* strerror_r(3) is then that of POSIX, in each C library */
 #include "driver.h"
+#include "error_name.h"
 
 #include <errno.h>
+#include <stdio.h>
 #include <string.h>
 
 static _Thread_local struct inroot_error last = {.step = ""};
 
-static const char *const steps[] = {
-    "",      "Open",    "Dup",      "Parent",   "ReadLink",   "NameBelow", "List",
-    "Close", "MakeDir", "MakeFile", "MakeLink", "RemoveFile", "RemoveDir", "Rename", "Kernel",
-    "Give",
+/* A step; what a call can't do that fails there; and to what, where the step was about no name. */
+static const struct {
+    const char *name, *act, *object;
+} steps[] = {
+    {"", "", ""}, {"Open", "look up", " the path"}, {"Dup", "copy the root's descriptor", ""}, {"Parent", "go up", ""},
+    {"ReadLink", "read the link", ""}, {"NameBelow", "find the object's place", ""}, {"List", "list the directory", ""},
+    {"Close", "close a descriptor", ""}, {"MakeDir", "make the directory", ""}, {"MakeFile", "make the file", ""},
+    {"MakeLink", "make the link", ""}, {"RemoveFile", "remove", " the entry"},
+    {"RemoveDir", "remove the directory", ""}, {"Rename", "rename", " the entry"}, {"Kernel", "", ""},
+    {"Give", "open the new entry", ""}, {"Reopen", "open", " the object"},
+    {"Attribute", "use the object's attributes", ""}, {"Proc", "use the file of /proc", ""},
+    {"Stat", "look at the object", ""},
 };
 
-_Static_assert(sizeof steps / sizeof *steps == INROOT_STEP_GIVE + 1, "each step has its name");
+/* What an error means at a step, or at each other one (NULL). What isn't here means what strerror(3) says. */
+static const struct {
+    int error;
+    const char *step, *words;
+} meanings[] = {
+    {ENOSYS, "Kernel", "the kernel lacks openat2(2) or the number of mounts, or a filter refuses them"},
+    {ENOSYS, NULL, "there is no proc(5) to go by"},
+    {EINVAL, "", "an argument isn't valid: a flag, a mode, or a path that ends in no name"},
+    {EINVAL, "ReadLink", "it isn't a link"},
+    {EINVAL, "Proc", "it isn't a link"},
+    {EBADF, NULL, "a descriptor isn't open"},
+    {EBUSY, "", "the library has a proc(5) already"},
+    {ENOENT, "", "the path is empty"},
+    {ENOTDIR, "", "a descriptor isn't that of a directory, or a path ends in a slash"},
+    {ENAMETOOLONG, NULL, "a path has more than 4,095 bytes, or a name more than 255"},
+    {EXDEV, "Proc", "it leads out, or something is mounted over it"},
+    {EXDEV, "", "the path leads out of the root or to another mount"},
+    {EXDEV, "NameBelow", "it isn't below the root, or is on another mount"},
+    {EXDEV, NULL, "it leads out of the root or to another mount"},
+    {EISDIR, "", "a directory is there"},
+    {ELOOP, NULL, "too many links, or one that the call doesn't follow"},
+    {EEXIST, "Rename", "the other name is there already"},
+    {EEXIST, NULL, "it is there already"},
+    {EAGAIN, "Give", "others moved or replaced it meanwhile"},
+    {EAGAIN, "NameBelow", "others moved or removed it at each try, or its name ends in ` (deleted)`"},
+    {EAGAIN, "Reopen", "others made and removed it at each try, or the system call would wait"},
+    {EAGAIN, NULL, "others renamed or removed entries at each try"},
+    {ERANGE, "", "the text doesn't fit"},
+    {ERANGE, NULL, "it doesn't fit, or the attribute's name is empty or too long"},
+    {ENODATA, NULL, "there is no such attribute"},
+};
+
+enum { STEPS = sizeof steps / sizeof *steps, MEANINGS = sizeof meanings / sizeof *meanings };
+
+_Static_assert(STEPS == INROOT_STEP_PROC + 2, "each step has its name, and behind them is one without a number");
 
 /* The proved library compares errors with these numbers. */
 _Static_assert(EPERM == 1 && ENOENT == 2 && EINTR == 4 && EIO == 5 && EBADF == 9 && EAGAIN == 11 && ENOMEM == 12 &&
@@ -24,7 +68,7 @@ _Static_assert(EPERM == 1 && ENOENT == 2 && EINTR == 4 && EIO == 5 && EBADF == 9
 
 const char *inroot_step_name(unsigned step)
 {
-    return steps[step <= INROOT_STEP_GIVE ? step : 0];
+    return steps[step <= INROOT_STEP_PROC ? step : 0].name;
 }
 
 /* As much of the name as fits. */
@@ -35,6 +79,11 @@ static void keep(int error, const char *step, const char *name, size_t length)
     length = length < sizeof last.name ? length : sizeof last.name - 1;
     memcpy(last.name, name, length);
     last.name[length] = 0;
+}
+
+void inroot_error_keep(int error, const char *step, const char *name)
+{
+    keep(error, step, name, strlen(name));
 }
 
 int inroot_error_alone(int error, const char *step, const char *name)
@@ -64,4 +113,44 @@ int inroot_last_error(struct inroot_error *error)
         return -ENODATA;
     *error = last;
     return 0;
+}
+
+/* In quotes, so that a line of a log holds it. */
+static void quote(const char *name, char *quoted)
+{
+    quoted += sprintf(quoted, " \"");
+    for (; *name != 0; name++) {
+        const unsigned byte = (unsigned char)*name;
+        const bool plain = byte >= ' ' && byte <= '~' && byte != '"' && byte != '\\';
+        quoted += sprintf(quoted, plain ? "%c" : "\\%03o", byte);
+    }
+    strcpy(quoted, "\"");
+}
+
+static const char *meaning(char *room, size_t size)
+{
+    size_t at = 0;
+    while (at < MEANINGS && (meanings[at].error != last.error ||
+                             (meanings[at].step != NULL && strcmp(meanings[at].step, last.step) != 0)))
+        at++;
+    if (at < MEANINGS)
+        return meanings[at].words;
+    strerror_r(last.error, room, size);
+    return room;
+}
+
+int inroot_last_error_text(char *text, size_t size)
+{
+    char quoted[4 * sizeof last.name + 4], room[128] = "";
+    size_t step = 0;
+    if (last.error == 0)
+        return -ENODATA;
+    while (step < STEPS - 1 && strcmp(steps[step].name, last.step) != 0)
+        step++;
+    const bool acts = steps[step].act[0] != 0;
+    strcpy(quoted, steps[step].object);
+    if (acts && last.name[0] != 0)
+        quote(last.name, quoted);
+    return snprintf(text, size, "%s%s%s%s%s (%s)", acts ? "can't " : "", steps[step].act, quoted, acts ? ": " : "",
+                    meaning(room, sizeof room), error_name(last.error));
 }

@@ -1,4 +1,4 @@
-/* error_name.h: the names of errors, for the programs: strerrorname_np(3) is of one C library alone. */
+/* error_name.h: the names of errors: strerrorname_np(3) is of one C library alone. */
 #ifndef INROOT_ERROR_NAME_H
 #define INROOT_ERROR_NAME_H
 
@@ -8,7 +8,7 @@
 /* The name of an error, or its number as a text where it has none here. */
 static inline const char *error_name(int error)
 {
-    static char number[16];
+    static _Thread_local char number[16];
 #define NAME(error) {error, #error}
     static const struct {
         int error;
@@ -18,7 +18,7 @@ static inline const char *error_name(int error)
         NAME(EBUSY), NAME(EEXIST), NAME(EXDEV), NAME(ENODEV), NAME(ENOTDIR), NAME(EISDIR), NAME(EINVAL), NAME(ENFILE),
         NAME(EMFILE), NAME(ETXTBSY), NAME(EFBIG), NAME(ENOSPC), NAME(EROFS), NAME(EMLINK), NAME(ENAMETOOLONG), NAME(ENOSYS),
         NAME(ENOTEMPTY), NAME(ELOOP), NAME(EOVERFLOW), NAME(EOPNOTSUPP), NAME(ETIMEDOUT), NAME(ESTALE), NAME(EDQUOT),
-        NAME(EUCLEAN), NAME(EREMOTEIO),
+        NAME(EUCLEAN), NAME(EREMOTEIO), NAME(ENODATA), NAME(E2BIG), NAME(ESRCH), NAME(ERANGE),
     };
 #undef NAME
     for (size_t at = 0; at < sizeof names / sizeof *names; at++)

@@ -137,17 +137,14 @@ static void tell_text(const char *text)
 enum fs_status fs_refused(const struct fs_call *call, const char *path, int error)
 {
     struct inroot_error why;
+    char sentence[2048];
+    const bool is_last = inroot_last_error(&why) == 0 && why.error == error;
     fprintf(stderr, "inroot-fs: %s '", call->command);
     tell_text(path);
-    fprintf(stderr, "': %s: %s", error_name(error), strerror(error));
-    /* Which name of a longer path it was. A renaming is about two. */
-    bool tells_more = inroot_last_error(&why) == 0 && why.error == error && why.name[0] != '\0';
-    if (tells_more && strcmp(why.name, path) != 0 && strcmp(why.step, "Rename") != 0) {
-        fputs(", at '", stderr);
-        tell_text(why.name);
-        fputc('\'', stderr);
-    }
-    fputc('\n', stderr);
+    if (is_last && inroot_last_error_text(sentence, sizeof sentence) > 0)
+        fprintf(stderr, "': %s\n", sentence);
+    else
+        fprintf(stderr, "': %s (%s)\n", strerror(error), error_name(error));
     return FS_REFUSED;
 }
 
@@ -155,7 +152,7 @@ enum fs_status fs_invalid(const struct fs_call *call, const char *path, const ch
 {
     fprintf(stderr, "inroot-fs: %s '", call->command);
     tell_text(path);
-    fprintf(stderr, "': EINVAL: %s\n", why);
+    fprintf(stderr, "': %s (EINVAL)\n", why);
     return FS_REFUSED;
 }
 
@@ -163,7 +160,7 @@ enum fs_status fs_fault(const struct fs_call *call, const char *what, int error)
 {
     fprintf(stderr, "inroot-fs: %s: ", call->command);
     tell_text(what);
-    fprintf(stderr, ": %s: %s\n", error_name(error), strerror(error));
+    fprintf(stderr, ": %s (%s)\n", strerror(error), error_name(error));
     return FS_FAULT;
 }
 

@@ -18,28 +18,29 @@ int inroot_check(int root, int flags)
     return flags & ~ALL_CALLS ? -EINVAL : root < 0 ? -EBADF : 0;
 }
 
-void inroot_copy(char text[INROOT_TEXT_MAX + 1], const char *from)
+char *inroot_copy(char room[INROOT_TEXT_MAX + 2], const char *from)
 {
+    char *text = room + 1;
+    room[0] = '/';
     if (memccpy(text, from, 0, INROOT_TEXT_MAX) == NULL)
         text[INROOT_TEXT_MAX] = 0;
+    return text;
 }
 
 ssize_t inroot_carry_out(int root, const struct inroot_request *asked, char *room)
 {
-    char first[INROOT_TEXT_MAX + 1], second[INROOT_TEXT_MAX + 1];
+    char first[INROOT_TEXT_MAX + 2], second[INROOT_TEXT_MAX + 2];
     struct inroot_request own = *asked;
-    own.first = first;
-    own.second = second;
-    inroot_copy(first, asked->first);
-    inroot_copy(second, asked->second);
+    own.first = inroot_copy(first, asked->first);
+    own.second = inroot_copy(second, asked->second);
     const int failed = inroot_check(root, own.flags);
     if (failed)
         return inroot_error_alone(-failed, "", "");
+    const ssize_t result = inroot_kernel_walk(root, &own, room);
+    if (result != INROOT_STEPS)
+        return result;
     INROOT_UNCANCELLED;
-    ssize_t result = inroot_kernel_walk(root, &own);
-    if (result == INROOT_STEPS)
-        result = own.op == INROOT_ASK_REMOVE_ALL ? inroot_remove_tree(root, &own, room) : inroot_call(root, &own, room);
-    return result;
+    return own.op == INROOT_ASK_REMOVE_ALL ? inroot_remove_tree(root, &own, room) : inroot_call(root, &own, room);
 }
 
 int inroot_carry_out_alone(int root, const struct inroot_request *asked)
@@ -66,11 +67,6 @@ static int make(int root, enum inroot_op op, const char *path, mode_t kind, mode
 const char *inroot_version(void)
 {
     return INROOT_VERSION;
-}
-
-int inroot_version_number(void)
-{
-    return INROOT_VERSION_NUMBER;
 }
 
 int inroot_open(int root, const char *path, int flags)

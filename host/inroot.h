@@ -99,14 +99,13 @@
 extern "C" {
 #endif
 
-/* The version of this header, also as a number that grows with it; and those of the library that is linked. */
+/* The version of this header, also as a number that grows with it; and that of the library that is linked. */
 #define INROOT_VERSION "0.2.0"
 #define INROOT_VERSION_MAJOR 0
 #define INROOT_VERSION_MINOR 2
 #define INROOT_VERSION_PATCH 0
 #define INROOT_VERSION_NUMBER (INROOT_VERSION_MAJOR * 1000000 + INROOT_VERSION_MINOR * 1000 + INROOT_VERSION_PATCH)
 const char *inroot_version(void);
-int inroot_version_number(void);
 
 enum {
     INROOT_BENEATH = 1,
@@ -179,22 +178,22 @@ ssize_t inroot_proc_readlink(int base, const char *path, char *text, size_t size
 
 /*
  * Why the thread's last call failed. STEP is the last step that it made, by its name in docs/HOST.md, or empty if it
- * failed before the first. Beside the steps of a walk there are `Reopen`, which opens for use, `Stat`, `Attribute`,
- * which changes an object that was found, `Give`, which opens a new entry, `Proc`, which is about a file of /proc, and
- * `Kernel`, where the kernel lacks what the library needs. NAME is the name that the step was about, or empty: also where
- * one openat2(2) found that a name is missing, and didn't say which. It ends with a NUL, and is cut off where it doesn't
- * fit. A later version may use the reserved bytes, which are zero: the structure doesn't get larger while the library's
- * soname stays.
+ * failed before the first. NAME is the name that the step was about, cut off where it doesn't fit, or empty: also where
+ * one openat2(2) found that a name is missing, and didn't say which.
  */
 struct inroot_error {
     int error;          /* its number, as ENOENT */
     const char *step;   /* stays as long as the program */
     char name[256];
-    unsigned long long reserved[15];
+    unsigned long long reserved[15];    /* zero; a later version of the same soname may use them */
 };
 
-/* Gets it: 0, or -ENODATA where no call of this thread has failed. After a call that succeeded it is unspecified. */
+/*
+ * Get it: 0; and as one sentence for a log, a line of ASCII: its length, as snprintf(3) gives and cuts it. Both give
+ * -ENODATA where no call of this thread has failed. After a call that succeeded both are unspecified.
+ */
 int inroot_last_error(struct inroot_error *error);
+int inroot_last_error_text(char *text, size_t size);
 
 /*
  * Opens what PATH means, as openat2(2) does with O_PATH. Gives a descriptor (O_PATH and O_CLOEXEC), which shares

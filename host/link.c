@@ -47,7 +47,7 @@ int inroot_link_fd(int root, int fd, const char *path, int flags)
 
 int inroot_link(int root, const char *existing, const char *path, int flags)
 {
-    char text[INROOT_TEXT_MAX + 1];
+    char room[INROOT_TEXT_MAX + 2];
     bool follows = flags & INROOT_FOLLOW;
     const struct inroot_request asked = {
         .op = follows ? INROOT_ASK_RESOLVE : INROOT_ASK_RESOLVE_NOFOLLOW,
@@ -56,7 +56,7 @@ int inroot_link(int root, const char *existing, const char *path, int flags)
         .second = "",
     };
     /* Of both paths the text as the call began counts. */
-    inroot_copy(text, path);
+    const char *text = inroot_copy(room, path);
     INROOT_UNCANCELLED;
     int fd = inroot_carry_out_alone(root, &asked);
     int result = fd;

@@ -16,8 +16,10 @@ struct work {
     int root, flags;
     mode_t mode, above;
     struct inroot_making making;
-    char path[INROOT_TEXT_MAX + 1], part[INROOT_TEXT_MAX + 1];
+    char room[INROOT_TEXT_MAX + 2], part[INROOT_TEXT_MAX + 1];
+    char *path;                    /* in the room, behind a slash */
     uint32_t error;
+    char *text;                    /* a room for calls: the text of a link that was read lies in it */
 };
 
 static struct inroot_outcome outcome_of(int result)
@@ -30,19 +32,19 @@ static struct inroot_outcome outcome_of(int result)
 /* ---- the calls */
 
 /* Makes a call on this part of the path. */
-static ssize_t carry_out(const struct work *w, const char *part, struct inroot_request asked, char *room)
+static ssize_t carry_out(const struct work *w, const char *part, struct inroot_request asked)
 {
     asked.flags = w->flags;
     asked.first = part;
     asked.second = "";
-    return room == NULL ? inroot_carry_out_alone(w->root, &asked) : inroot_carry_out(w->root, &asked, room);
+    return inroot_carry_out(w->root, &asked, w->text);
 }
 
 static struct inroot_outcome find(const struct work *w)
 {
     enum inroot_kind kind = INROOT_KIND_FILE;
     const struct inroot_request asked = {.op = INROOT_ASK_RESOLVE, .opened = &kind};
-    struct inroot_outcome outcome = outcome_of((int)carry_out(w, w->part, asked, NULL));
+    struct inroot_outcome outcome = outcome_of((int)carry_out(w, w->part, asked));
     outcome.directory = kind == INROOT_KIND_DIR;
     return outcome;
 }
@@ -57,19 +59,19 @@ static struct inroot_outcome split(const struct work *w)
 static struct inroot_outcome make_directories(const struct work *w, const char *path, mode_t mode)
 {
     const struct inroot_request asked = {.op = INROOT_ASK_MKDIR_ALL, .bits = mode, .directory = true};
-    return outcome_of((int)carry_out(w, path, asked, NULL));
+    return outcome_of((int)carry_out(w, path, asked));
 }
 
 static struct inroot_outcome create(const struct work *w)
 {
     const struct inroot_request asked = {.op = INROOT_ASK_MKFILE, .bits = S_IFREG | w->mode, .gives = true};
-    return outcome_of((int)carry_out(w, w->part, asked, NULL));
+    return outcome_of((int)carry_out(w, w->part, asked));
 }
 
-static struct inroot_outcome read_link(const struct work *w, char *text, size_t *text_length)
+static struct inroot_outcome read_link(const struct work *w, size_t *text_length)
 {
     const struct inroot_request asked = {.op = INROOT_ASK_READLINK};
-    const ssize_t length = carry_out(w, w->part, asked, text);
+    const ssize_t length = carry_out(w, w->part, asked);
     *text_length = length > 0 ? (size_t)length : 0;
     return (struct inroot_outcome){.error = length < 0 ? (uint32_t)-length : 0};
 }
@@ -84,7 +86,7 @@ static int open_pieces(const struct work *w, char *text, size_t length, const st
     char *end = text + now.length, behind = *end;
     *end = 0;
     const struct inroot_request asked = {.op = (enum inroot_op)now.op, .directory = now.directory};
-    int fd = (int)carry_out(w, now.dot ? "." : text, asked, NULL);
+    int fd = (int)carry_out(w, now.dot ? "." : text, asked);
     *end = behind;
     return fd;
 }
@@ -111,7 +113,7 @@ static struct inroot_outcome open_partial(const struct work *w, char *text)
 /* ---- from one call to the next */
 
 /* Makes the call that comes next; of a link that it reads, the text. */
-static struct inroot_outcome call(struct work *w, char *text, size_t *text_length)
+static struct inroot_outcome call(struct work *w, size_t *text_length)
 {
     char here[] = ".";
     char *directories = w->part[0] != 0 ? w->part : here;
@@ -122,7 +124,7 @@ static struct inroot_outcome call(struct work *w, char *text, size_t *text_lengt
     case INROOT_MAKING_MAKE: return make_directories(w, w->part, w->mode);
     case INROOT_MAKING_PARTIAL: return open_partial(w, directories);
     case INROOT_MAKING_CREATE: return create(w);
-    default: return read_link(w, text, text_length);
+    default: return read_link(w, text_length);
     }
 }
 
@@ -136,8 +138,9 @@ static void turn(struct work *w)
 {
     char text[INROOT_ROOM];
     size_t text_length = 0;
+    w->text = text;
     inroot_wait(w->making.pause);
-    const struct inroot_outcome outcome = call(w, text, &text_length);
+    const struct inroot_outcome outcome = call(w, &text_length);
     inroot_making_next(&w->making, &outcome, (const unsigned char *)text, text_length, (unsigned char *)w->path,
                        INROOT_TEXT_MAX);
     if (w->making.closes != 0)
@@ -161,7 +164,7 @@ static int make(struct work *w)
 static int run(int root, const char *path, mode_t mode, mode_t above, int flags, bool file)
 {
     struct work w = {.root = root, .flags = flags & ~INROOT_FOLLOW, .mode = mode, .above = above};
-    inroot_copy(w.path, path);
+    w.path = inroot_copy(w.room, path);
     const bool is_mode = ((mode | above) & ~(mode_t)MODE_BITS) == 0;
     int failed = is_mode ? inroot_check(root, w.flags) : -EINVAL;
     if (failed)

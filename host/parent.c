@@ -19,11 +19,11 @@ static int open_before(int root, char *text, const struct inroot_parted *parted,
 
 int inroot_open_parent(int root, const char *path, int flags, char last[256])
 {
-    char text[INROOT_TEXT_MAX + 1], name[NAME_MAX + 1];
+    char room[INROOT_TEXT_MAX + 2], name[NAME_MAX + 1];
     struct inroot_parted parted = {0};
     const int restrictions = flags & ~INROOT_DIRECTORY;
     /* LAST may be the room of PATH. */
-    inroot_copy(text, path);
+    char *text = inroot_copy(room, path);
     last[0] = 0;
     int failed = inroot_check(root, restrictions);
     if (failed)

@@ -9,6 +9,7 @@
 
 #include <errno.h>
 #include <fcntl.h>
+#include <stdio.h>
 #include <string.h>
 #include <sys/sysmacros.h>
 #include <unistd.h>
@@ -67,12 +68,12 @@ struct search {
 /* The length of the text of a descriptor's link in /proc. It is this thread's, whichever thread of which process this is by now. */
 static size_t read_link(struct search *s, int fd, char *text)
 {
-    char written[INROOT_PROC_NAME];
+    char name[48];
     int proc = inroot_proc_for(s->d);
-    const char *name = inroot_proc_name(fd, written);
+    snprintf(name, sizeof name, "thread-self/fd/%u", (unsigned)fd);
     ssize_t length = proc < 0 ? -1 : readlinkat(proc, name, text, INROOT_TEXT_MAX);
     if (length < 0)
-        s->answer.error = (uint32_t)(proc < 0 ? -proc : inroot_proc_error(proc, name, errno));
+        s->answer.error = (uint32_t)(proc < 0 ? -proc : inroot_proc_error(proc, fd, errno));
     return length < 0 ? 0 : (size_t)length;
 }
 

@@ -110,7 +110,7 @@ ssize_t inroot_remove_tree(int root, const struct inroot_request *asked, char *r
 {
     struct inroot_entry entry;
     struct inroot_request named = *asked;
-    if (asked->flags & INROOT_EXACT || inroot_kernel_entry(root, asked->flags, asked->first, false, &entry) != 0)
+    if (asked->flags & INROOT_EXACT || inroot_kernel_entry(root, asked->flags, asked->first, &entry) != 0)
         return remove_below(root, asked, room);
     named.first = entry.name;
     const ssize_t result = remove_below(entry.dir, &named, room);

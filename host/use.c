@@ -31,15 +31,10 @@ struct use {
 
 /* ---- what is found */
 
-static ssize_t open_by_name(int proc, const char *name, void *how)
-{
-    return openat(proc, name, *(const int *)how);
-}
-
 static int reopened(int fd, uint32_t flags)
 {
-    int how = (int)flags;
-    return (int)inroot_by_proc(fd, open_by_name, &how);
+    struct inroot_call call = {.demand = {.what = INROOT_DO_REOPEN, .fd = (uint32_t)fd, .how = flags, .surely = true}};
+    return (int)inroot_exchange_alone(&call);
 }
 
 /* Does the one thing that is due: the reply is the descriptor that was found, another one, or -errno. */
@@ -141,10 +136,10 @@ static int turn(const struct use *use, struct inroot_course *course, char path[I
 int inroot_openat(int root, const char *path, int open_flags, mode_t mode, int flags)
 {
     int result = 0;
-    char text[INROOT_TEXT_MAX + 1];
+    char room[INROOT_TEXT_MAX + 2];
     struct use use = {.root = root, .flags = flags, .mode = mode};
     struct inroot_course course = {0};
-    inroot_copy(text, path);
+    char *text = inroot_copy(room, path);
     inroot_opening_of(&machine, (uint32_t)open_flags, mode, &use.how);
     inroot_course_begin(strlen(text), &use.how, flags & INROOT_NO_LINKS, !(flags & INROOT_NO_RETRY), &course);
     INROOT_UNCANCELLED;
@@ -153,16 +148,4 @@ int inroot_openat(int root, const char *path, int open_flags, mode_t mode, int f
     if (course.next == INROOT_COURSE_FAILS)
         result = inroot_error_alone(course.error, inroot_step_name(course.step), "");
     return result;
-}
-
-int inroot_reopen(int fd, int open_flags)
-{
-    uint32_t how = inroot_reopen_flags(&machine, (uint32_t)open_flags);
-    if (how == 0)
-        return inroot_error_alone(EINVAL, "", "");
-    if (fcntl(fd, F_GETFD) < 0)
-        return inroot_error_alone(EBADF, "", "");
-    INROOT_UNCANCELLED;
-    int result = reopened(fd, how);
-    return result < 0 ? inroot_error_alone(-result, "Reopen", "") : result;
 }

@@ -1,10 +1,10 @@
 # shellcheck shell=bash disable=SC2154
 # The tests of the bindings, and programs over them. checks/library reads this file.
 
-# Rust and Go make each call of inroot.h, but for two in whose place they have others: opening and fstat(2), and the version's text.
+# Rust and Go make each call of inroot.h, but for one in whose place they open, and call fstat(2).
 for name in $(sed -n 's/^[a-z][a-z_ ]*[ *]\(inroot_[a-z_]*\)(.*/\1/p' host/inroot.h); do
     case $name in
-    inroot_stat | inroot_version_number) ! grep -qE "(ffi::|C\.)$name\(" bindings/rust/src/*.rs bindings/go/*.go ;;
+    inroot_stat) ! grep -qE "(ffi::|C\.)$name\(" bindings/rust/src/*.rs bindings/go/*.go ;;
     *) grep -qF "ffi::$name(" bindings/rust/src/*.rs && grep -qF "C.$name(" bindings/go/*.go ;;
     esac
     verdict $? "a binding makes no call $name, or makes one that this check leaves out"

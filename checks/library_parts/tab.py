@@ -149,6 +149,8 @@ def script_cases(_):
     yield "inroot walk x\t", ["walk", "x"]
     yield "inroot replay < x\t", ["replay", "text"]
     yield "inroot replay < z\t", ["replay", "text"]
+    yield "inroot draw --color al\t", ["draw", "--color", "always"]
+    yield "inroot help rep\t", ["help", "replay"]
 
 
 def option_cases(shell):

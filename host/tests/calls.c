@@ -438,7 +438,6 @@ static void versions(void)
     snprintf(text, sizeof text, "%d.%d.%d", INROOT_VERSION_MAJOR, INROOT_VERSION_MINOR, INROOT_VERSION_PATCH);
     gives_text(text, INROOT_VERSION, "the version in the header");
     gives_text(inroot_version(), text, "the version of the library");
-    gives(inroot_version_number(), INROOT_VERSION_NUMBER, "the version's number");
 }
 
 int main(int count, char **words)

@@ -1,7 +1,7 @@
 /*
  * conversations: what the functions of the proved library are asked and tell, to the number and the byte. The steps of
  * a call are answered by hand, in rooms of each size up to one that is large enough. Errors are those of errno(3), as
- * openat2(2), mkdirat(2) and renameat2(2) give them. Which paths the kernel may walk, and which errors refuse a step.
+ * openat2(2), mkdirat(2) and renameat2(2) give them. How a path is taken apart, and which errors refuse a step.
  *
  * usage: conversations. Exits 0 where each row holds.
  */
@@ -330,152 +330,7 @@ static void converses(const struct conversation *with, size_t size)
     give_up(&talk);
 }
 
-/* ---- of which paths a missing name is the call's error */
-
-/* A path and a place, of as many bytes as they have before their last NUL: in some there is a NUL between. */
-#define TEXTS(path, place) path, sizeof path - 1, place, sizeof place - 1
-
-struct missing {
-    bool wanted;
-    uint8_t op;
-    bool beneath, no_links;
-    const char *path;
-    size_t path_length;
-    const char *place;
-    size_t place_length;
-};
-
-/* Operations: 1 resolves, 2 resolves the link itself. */
-static const struct missing missing[] = {
-    {true, 1, false, false, TEXTS("a/b/f", "/a/b/f")}, {true, 1, false, false, TEXTS("a/b", "/a/b")},
-    {true, 1, false, false, TEXTS("f", "/f")}, {true, 2, false, false, TEXTS("a/b/f", "/a/b/f")},
-    {true, 2, false, false, TEXTS("a/l", "/a/l")}, {true, 1, false, false, TEXTS("a/l", "/a/l")},
-    {true, 1, false, true, TEXTS("a/f", "/a/f")}, {true, 1, true, false, TEXTS("a/f", "/a/f")},
-    {true, 2, true, true, TEXTS("a/l", "/a/l")}, {true, 1, false, false, TEXTS("/a/f", "/a/f")},
-    {false, 1, true, false, TEXTS("/a/f", "/a/f")}, {false, 2, true, false, TEXTS("/a/f", "/a/f")},
-    {false, 0, false, false, TEXTS("a/f", "/a/f")}, {false, 3, false, false, TEXTS("a/l", "/a/l")},
-    {false, 4, false, false, TEXTS("a/f", "/a/f")}, {false, 5, false, false, TEXTS("a/b", "/a/b")},
-    {false, 10, false, false, TEXTS("a/b", "/a/b")}, {false, 10, true, true, TEXTS("a/b", "/a/b")},
-    {false, 10, true, false, TEXTS("/a/b", "/a/b")}, {false, 10, false, false, TEXTS("a/f", "/a/f")},
-    {false, 10, false, false, TEXTS("a/l", "/a/l")}, {true, 1, false, false, TEXTS("a/f", "/a/f")},
-    {false, 11, false, false, TEXTS("a/b", "/a/b")}, {false, 12, false, false, TEXTS("a/f", "/a/f")},
-    {false, 255, false, false, TEXTS("a/f", "/a/f")}, {false, 1, false, false, TEXTS("a//f", "/a//f")},
-    {false, 1, false, false, TEXTS("a//f", "/a/f")}, {false, 1, false, false, TEXTS("//a/f", "/a/f")},
-    {false, 1, false, false, TEXTS("//a/f", "//a/f")}, {false, 1, false, false, TEXTS("/a/f", "//a/f")},
-    {false, 1, false, false, TEXTS("a/b/", "/a/b/")}, {false, 1, false, false, TEXTS("a/b/", "/a/b")},
-    {false, 1, false, false, TEXTS("a/b", "/a/b/")}, {false, 1, false, false, TEXTS("./a/f", "/a/f")},
-    {false, 1, false, false, TEXTS("./a/f", "/./a/f")}, {false, 1, false, false, TEXTS("a/./f", "/a/./f")},
-    {false, 1, false, false, TEXTS("a/.", "/a/.")}, {false, 1, false, false, TEXTS("a/b/..", "/a")},
-    {false, 1, false, false, TEXTS("a/b/..", "/a/b/..")}, {false, 1, false, false, TEXTS("../a/b", "/../a/b")},
-    {true, 1, false, false, TEXTS("a/...", "/a/...")}, {true, 1, false, false, TEXTS("..a/.f", "/..a/.f")},
-    {true, 1, false, false, TEXTS("a/f (deleted)", "/a/f (deleted)")},
-    {true, 1, false, false, TEXTS("a\xff/\x01", "/a\xff/\x01")}, {false, 1, false, false, TEXTS("a/\0f", "/a/\0f")},
-    {false, 1, false, false, TEXTS("a/f\0", "/a/f\0")}, {false, 1, false, false, TEXTS("a/f\0", "/a/f")},
-    {false, 1, false, false, TEXTS("", "")}, {false, 1, false, false, TEXTS("", "/")},
-    {false, 1, false, false, TEXTS("/", "/")}, {false, 1, false, false, TEXTS(".", "/")},
-    {false, 1, false, false, TEXTS("a/f", "")}, {false, 1, false, false, TEXTS("a/f", "/")},
-    {false, 1, false, false, TEXTS("a/f", "a/f")}, {false, 1, false, false, TEXTS("a/f", "/a/g")},
-    {false, 1, false, false, TEXTS("a/f", "/b/f")}, {false, 1, false, false, TEXTS("a/f", "/a")},
-    {false, 1, false, false, TEXTS("a/f", "/a/ff")}, {false, 1, false, false, TEXTS("a/ff", "/a/f")},
-    {false, 1, false, false, TEXTS("a/f", "/a/f (deleted)")},
-    {false, 1, false, false, TEXTS("a/f", "(unreachable)/a/f")}, {false, 1, false, false, TEXTS("a/f", "/out/a/f")},
-};
-
-static void misses(const struct missing *with)
-{
-    const struct inroot_asked asked = {.root = ROOT, .op = with->op, .beneath = with->beneath, .no_links = with->no_links};
-    rows++;
-    if (inroot_misses_at_once(&asked, (const unsigned char *)with->path, with->path_length, (const unsigned char *)with->place,
-                              with->place_length) == with->wanted)
-        return;
-    wrong++;
-    printf("not so: operation %u, beneath %u, %.20s of %zu bytes at %.20s of %zu: a missing name is to be the error %u\n", with->op,
-           with->beneath, with->path, with->path_length, with->place, with->place_length, with->wanted);
-}
-
-/* A path of so many bytes, whose names have so many each, but for a shorter last one; with a slash before it or none. */
-static void misses_long(size_t length, size_t name, bool slash, bool wanted)
-{
-    static char place[2 * 4096];
-    size_t from = slash ? 0 : 1;
-    memset(place, 'n', sizeof place);
-    for (size_t at = 0; at < length; at += name + 1)
-        place[at] = '/';
-    const struct missing with = {
-        .wanted = wanted, .op = INROOT_ASK_RESOLVE, .path = place + from, .path_length = length, .place = place,
-        .place_length = length + from,
-    };
-    misses(&with);
-}
-
-static void missing_names(void)
-{
-    for (size_t at = 0; at < sizeof missing / sizeof *missing; at++)
-        misses(&missing[at]);
-    misses_long(255, 255, false, true);
-    misses_long(256, 256, false, false);
-    misses_long(256, 255, true, true);
-    misses_long(257, 256, true, false);
-    misses_long(4095, 255, false, true);
-    misses_long(4096, 200, false, false);
-    misses_long(4095, 200, true, true);
-    misses_long(4096, 200, true, false);
-    misses_long(5000, 200, false, false);
-}
-
 #define TEXT_OF(path) path, sizeof path - 1
-
-/* ---- what the kernel may walk as a whole */
-
-struct walking {
-    bool wanted, beneath, no_links;
-    const char *path;
-    size_t path_length;
-};
-
-static const struct walking walkings[] = {
-    {true, false, false, TEXT_OF("a/b/f")}, {true, false, false, TEXT_OF("/a")}, {true, true, false, TEXT_OF("a/../b/.")},
-    {false, true, false, TEXT_OF("/a")}, {false, true, false, TEXT_OF("//a")}, {true, true, false, TEXT_OF("a//")},
-    {true, false, false, TEXT_OF("..")}, {true, false, false, TEXT_OF("/")}, {true, false, false, TEXT_OF("\xff/\x01")},
-    {true, false, true, TEXT_OF("a/b/f")}, {true, true, true, TEXT_OF("a")}, {false, true, true, TEXT_OF("/a")},
-    {false, false, false, TEXT_OF("")}, {false, false, false, TEXT_OF("a\0b")}, {false, false, false, TEXT_OF("\0")},
-};
-
-static void walks(const struct walking *with)
-{
-    rows++;
-    if (inroot_follows_at_once(with->beneath, with->no_links, (const unsigned char *)with->path, with->path_length) == with->wanted)
-        return;
-    wrong++;
-    printf("not so: beneath %u, no links %u, %.20s of %zu bytes: walked at once is to be %u\n", with->beneath, with->no_links,
-           with->path, with->path_length, with->wanted);
-}
-
-/* A path of so many bytes, whose parts have so many each, but for a shorter last one. */
-static void walks_long(size_t length, size_t part, bool wanted)
-{
-    static char path[8192];
-    memset(path, 'n', sizeof path);
-    for (size_t at = part; at < length; at += part + 1)
-        path[at] = '/';
-    const struct walking with = {.wanted = wanted, .path = path, .path_length = length};
-    walks(&with);
-}
-
-static void walked_at_once(void)
-{
-    for (size_t at = 0; at < sizeof walkings / sizeof *walkings; at++)
-        walks(&walkings[at]);
-    walks_long(255, 255, true);
-    walks_long(256, 256, false);
-    walks_long(256, 255, true);
-    walks_long(512, 255, true);
-    walks_long(513, 256, false);
-    walks_long(4095, 255, true);
-    walks_long(4095, 0, true);
-    walks_long(4096, 200, false);
-    walks_long(5000, 1, false);
-}
 
 /* ---- a path taken apart */
 
@@ -596,43 +451,6 @@ static void errors(void)
     refuses(INROOT_STEP_OPEN, 0, 0, UINT32_MAX, false);
 }
 
-/* ---- a private proc(5): what comes next, as the numbers of calls.h */
-
-static void comes(const char *what, unsigned turn, unsigned got, unsigned due)
-{
-    rows++;
-    if (got == due)
-        return;
-    wrong++;
-    printf("not so: %s, turn %u: %u is to be %u\n", what, turn, got, due);
-}
-
-/* Each thing works, but for one of this number, which gives EPERM. */
-static void mounts(uint8_t fails, const uint8_t *due)
-{
-    struct inroot_mounting now;
-    unsigned turn = 0;
-    inroot_mounting_begin(false, &now);
-    for (; now.next < INROOT_MOUNTING_GIVES; turn++) {
-        comes("a private proc(5)", turn, now.next, due[turn]);
-        inroot_mounting_next(&now, &(struct inroot_mounting_answer){.error = now.next == fails ? EPERM : 0, .yes = true});
-    }
-    comes("a private proc(5)", turn, now.next, due[turn]);
-}
-
-#define DUE (const uint8_t[])
-
-static void private_procs(void)
-{
-    mounts(0, DUE{1, 2, 3, 4, 5, 7, 8, 10, 11, 12});
-    mounts(INROOT_MOUNTING_MAKE, DUE{1, 6, 7, 8, 10, 11, 12});
-    mounts(INROOT_MOUNTING_RESTRICT, DUE{1, 2, 3, 4, 5, 7, 8, 10, 11, 12});
-    mounts(INROOT_MOUNTING_CREATE, DUE{1, 2, 3, 5, 6, 7, 8, 10, 11, 12});
-    mounts(INROOT_MOUNTING_MOUNT, DUE{1, 2, 3, 4, 5, 6, 7, 8, 10, 11, 12});
-    mounts(INROOT_MOUNTING_THREADS, DUE{1, 2, 3, 4, 5, 7, 8, 9, 6, 7, 8, 9, 13});
-    mounts(INROOT_MOUNTING_HAND_IN, DUE{1, 2, 3, 4, 5, 7, 8, 10, 11, 13});
-}
-
 int main(void)
 {
     for (size_t size = 0; size <= ROOM; size++) {
@@ -643,11 +461,8 @@ int main(void)
         for (size_t at = 0; at < COUNT(changes); at++)
             converses(&changes[at], size);
     }
-    missing_names();
-    walked_at_once();
     paths_taken_apart();
     errors();
-    private_procs();
     printf("conversations: %u of %u rows not as they are to be\n", wrong, rows);
     return wrong != 0;
 }

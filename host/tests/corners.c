@@ -32,14 +32,13 @@ static int refused(int error)
     return -1;
 }
 
-int __real_open(const char *path, int flags, ...);
-int __wrap_open(const char *path, int flags, ...);
-
-/* The library makes nothing by open(2). */
-int __wrap_open(const char *path, int flags, ...)
+static int my_openat(int dir, const char *path, int flags, mode_t mode)
 {
-    return strcmp(path, "/proc") == 0 && open_interrupts > 0 ? open_interrupts--, refused(EINTR) : __real_open(path, flags);
+    return strcmp(path, "/proc") == 0 && open_interrupts > 0 ? open_interrupts--, refused(EINTR)
+                                                             : __real_openat(dir, path, flags, mode);
 }
+
+INSTEAD_OF_OPENAT(my_openat)
 
 ssize_t __wrap_readlinkat(int dir, const char *name, char *text, size_t size)
 {

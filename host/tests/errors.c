@@ -1,6 +1,6 @@
 /*
- * errors: what a call gives for a bad root before anything else, what it opens, and what the kernel's words for what is
- * removed are taken for.
+ * errors: what a call gives for a bad root before anything else, what it opens, what the kernel's words for what is
+ * removed are taken for, and the sentence of an error.
  *
  * usage: errors DIR. Exits 0 where each is as inroot.h says. 78: no right to become nobody, so that a part is left out.
  */
@@ -21,6 +21,16 @@ static int closed(int result)
         return result;
     close(result);
     return 0;
+}
+
+/* FORM may have the C library's own words. */
+static void says(long got, int error, const char *form)
+{
+    char text[2048] = "", wanted[2048];
+    snprintf(wanted, sizeof wanted, form, strerror(error));
+    gives(got, -error, "the call that is to say '%s'", wanted);
+    gives(inroot_last_error_text(text, sizeof text), (long)strlen(wanted), "the length of '%s'", wanted);
+    gives_text(text, wanted, "error %d", error);
 }
 
 /* The root's own error comes before what the second path says of itself, though the first one leads to the root without a step. */
@@ -137,7 +147,8 @@ static void files_called_so(int root)
     int file = sure(openat(root, "g (deleted)", O_PATH | O_CLOEXEC), "openat");
     gives(inroot_place(root, file, place, sizeof place), -EXDEV, "the place of a file that is called so");
     close(file);
-    gives(closed(inroot_open(root, "g (deleted)", INROOT_EXACT | INROOT_NO_RETRY)), -EAGAIN, "a file that is called so, exactly");
+    says(inroot_open(root, "g (deleted)", INROOT_EXACT | INROOT_NO_RETRY), EAGAIN,
+         "can't find the object's place: others moved or removed it at each try, or its name ends in ` (deleted)` (EAGAIN)");
     gives(closed(inroot_open(root, "d/../g (deleted)", INROOT_EXACT | INROOT_NO_RETRY)), -EAGAIN, "the same behind `..`, exactly");
     gives(closed(inroot_open(root, "g (deleted)", INROOT_NO_RETRY)), 0, "the same by the kernel's walk");
     gives(closed(inroot_openat(root, "g (deleted)", O_RDONLY, 0, INROOT_EXACT | INROOT_NO_RETRY)), -EAGAIN, "the same to be read, exactly");
@@ -176,6 +187,60 @@ static void deleted_names(void)
     close(root);
 }
 
+/* ---- the sentence of an error */
+
+static void sentences(void)
+{
+    static const char mount[] = "the path leads out of the root or to another mount (EXDEV)";
+    int root = sure(openat(base, ".", O_PATH | O_DIRECTORY | O_CLOEXEC), ".");
+    int above = sure(open("/", O_PATH | O_DIRECTORY | O_CLOEXEC), "/");
+    int link = sure(openat(base, "link", O_PATH | O_NOFOLLOW | O_CLOEXEC), "link");
+    char place[8];
+    says(inroot_open(root, "x", 64), EINVAL, "an argument isn't valid: a flag, a mode, or a path that ends in no name (EINVAL)");
+    says(inroot_open(-1, "x", 0), EBADF, "a descriptor isn't open (EBADF)");
+    says(inroot_open(root, "", 0), ENOENT, "the path is empty (ENOENT)");
+    says(inroot_open(root, "..", INROOT_BENEATH), EXDEV, mount);
+    says(inroot_open(root, "none/x", 0), ENOENT, "can't look up the path: %s (ENOENT)");
+    says(inroot_open(root, "none/x", INROOT_EXACT), ENOENT, "can't look up \"none\": %s (ENOENT)");
+    says(inroot_open(root, "link", INROOT_NO_LINKS), ELOOP,
+         "can't look up \"link\": too many links, or one that the call doesn't follow (ELOOP)");
+    says(inroot_open(root, "link", INROOT_BENEATH), EXDEV,
+         "can't read the link: it leads out of the root or to another mount (EXDEV)");
+    says(inroot_mkdir(root, "open", 0755, 0), EEXIST, "can't make the directory \"open\": it is there already (EEXIST)");
+    says(inroot_rename(root, "file", "open", INROOT_NOREPLACE, 0), EEXIST,
+         "can't rename \"file\": the other name is there already (EEXIST)");
+    says(inroot_unlink(root, "a\nb\"\\ \x7f\xe9", 0), ENOENT, "can't remove \"a\\012b\\042\\134 \\177\\351\": %s (ENOENT)");
+    says(inroot_openat(root, "open", O_WRONLY, 0, 0), EISDIR, "can't open the object: %s (EISDIR)");
+    says(inroot_fchmod(link, 0600), EOPNOTSUPP, "can't use the object's attributes: %s (EOPNOTSUPP)");
+    says(inroot_place(root, above, place, sizeof place), EXDEV,
+         "can't find the object's place: it isn't below the root, or is on another mount (EXDEV)");
+    says(inroot_place(root, root, place, 1), ERANGE, "the text doesn't fit (ERANGE)");
+    close(link);
+    close(above);
+    close(root);
+}
+
+/* A sentence is cut off where it doesn't fit, and the longest name is in it. */
+static void cut_sentences(void)
+{
+    static const char whole[] = "the path is empty (ENOENT)";
+    char text[sizeof whole + 2], name[NAME_MAX + 1];
+    gives(inroot_open(base, "", 0), -ENOENT, "no path");
+    gives(inroot_last_error_text(NULL, 0), sizeof whole - 1, "the length alone");
+    for (size_t size = 0; size <= sizeof whole + 1; size++) {
+        const size_t fits = size == 0 ? 0 : size < sizeof whole ? size - 1 : sizeof whole - 1;
+        memset(text, '#', sizeof text);
+        gives(inroot_last_error_text(text, size), sizeof whole - 1, "the length, cut to %zu", size);
+        expect(memcmp(text, whole, fits) == 0, "what fits into %zu", size);
+        gives(text[fits], size == 0 ? '#' : 0, "the end, cut to %zu", size);
+        gives(text[fits + 1], '#', "what is behind the end, cut to %zu", size);
+    }
+    memset(name, '\n', sizeof name - 1);
+    name[sizeof name - 1] = 0;
+    gives(inroot_rmdir(base, name, 0), -ENOENT, "a long name");
+    gives(inroot_last_error_text(NULL, 0), (long)(40 + 4 * NAME_MAX + strlen(strerror(ENOENT))), "the length by a long name");
+}
+
 /* As nobody: a directory that may not be searched is opened where the path ends, and leads nowhere. */
 static void shut_directories(int flags)
 {
@@ -212,6 +277,9 @@ int main(int count, char **words)
     sure(mknodat(base, "open/sub/file", S_IFREG | 0600, 0), "file");
     open_proc();
     int before = open_descriptors();
+    gives(inroot_last_error_text(NULL, 0), -ENODATA, "the sentence before an error");
+    sentences();
+    cut_sentences();
     unknown_flags();
     bad_roots();
     opened_alone();

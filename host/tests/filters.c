@@ -21,9 +21,12 @@ static long refused;
 static void is_refused(int got, const char *what)
 {
     struct inroot_error why = {0};
+    char text[128] = "";
     gives(got, -ENOSYS, "system call %ld by %d, %s", refused, error, what);
     gives(inroot_last_error(&why), 0, "system call %ld by %d, %s: its last error", refused, error, what);
     gives_text(why.step, "Kernel", "system call %ld by %d, %s: its step", refused, error, what);
+    inroot_last_error_text(text, sizeof text);
+    gives_text(text, "the kernel lacks openat2(2) or the number of mounts, or a filter refuses them (ENOSYS)", "%s", what);
 }
 
 /* What the kernel's walk alone can't do. */

@@ -1,35 +1,18 @@
 /*
  * fuzz_calls: the proved library's functions with any request, any answers and any size of room. A program that hands in
  * whatever it likes is told steps that can be made, closes each handle once, and comes to a reply with nothing left open.
- * And which paths the kernel may walk, and of which a missing name is the call's error, is as plain C says it.
  *
  * For libFuzzer, or with fuzz_main.c for stored cases. A case is bytes: the operation, flags, sizes, texts, and the answers.
  */
 #define _GNU_SOURCE
 #include "../calls.h"
+#include "fuzz_input.h"
 
 #include <errno.h>
 #include <limits.h>
-#include <stdio.h>
-#include <stdlib.h>
 #include <string.h>
 
 enum { ROOT = 7, MOST_OPEN = 4096, ROOM = 2 * PATH_MAX + 2 * (NAME_MAX + 1) };
-
-int LLVMFuzzerTestOneInput(const uint8_t *data, size_t size);
-
-struct input {
-    const uint8_t *at;
-    size_t left;
-};
-
-static unsigned char byte(struct input *in)
-{
-    if (in->left == 0)
-        return 0;
-    in->left--;
-    return *in->at++;
-}
 
 /* A text in a block of its own, so that a step over its end is seen. */
 static unsigned char *text(struct input *in, size_t *length)
@@ -48,8 +31,6 @@ static unsigned char *text(struct input *in, size_t *length)
     *length = part * times;
     return copy;
 }
-
-#define MUST(holds) ((holds) ? (void)0 : (fprintf(stderr, "not so: %s\n", #holds), abort()))
 
 static uint64_t open_handles[MOST_OPEN];
 static size_t open_count;
@@ -137,63 +118,6 @@ static void converse(struct input *in, struct inroot_kept *kept, struct inroot_t
     }
 }
 
-/* Whether these are names with one slash before each, as the C library's own functions see it. */
-static bool is_place(const unsigned char *place, size_t length)
-{
-    if (length == 0 || place[0] != '/' || place[length - 1] == '/' || memchr(place, 0, length) != NULL)
-        return false;
-    for (size_t at = 1, name; at < length; at += name + 1) {
-        const unsigned char *slash = memchr(place + at, '/', length - at);
-        name = slash == NULL ? length - at : (size_t)(slash - place) - at;
-        if (name == 0 || name > NAME_MAX || (place[at] == '.' && (name == 1 || (name == 2 && place[at + 1] == '.'))))
-            return false;
-    }
-    return true;
-}
-
-static bool resolves(const struct inroot_asked *asked)
-{
-    return asked->op == INROOT_ASK_RESOLVE || asked->op == INROOT_ASK_RESOLVE_NOFOLLOW;
-}
-
-/* The path where it stands itself, with a slash before it or not; and at any place. */
-static void misses(const struct inroot_asked *asked, const unsigned char *path, size_t length, const unsigned char *place,
-                   size_t place_length)
-{
-    unsigned char *own = malloc(length + 1);
-    if (own == NULL)
-        abort();
-    own[0] = '/';
-    memcpy(own + 1, path, length);
-    const bool may = resolves(asked) && length >= 1 && length < PATH_MAX && (!asked->beneath || path[0] != '/');
-    MUST(inroot_misses_at_once(asked, path, length, own, length + 1) == (may && is_place(own, length + 1)));
-    MUST(inroot_misses_at_once(asked, path, length, path, length) == (may && is_place(path, length)));
-    if (inroot_misses_at_once(asked, path, length, place, place_length))
-        MUST(may && is_place(place, place_length) && place_length - length <= 1 &&
-             memcmp(place + (place_length - length), path, length) == 0);
-    free(own);
-}
-
-/* Whether each part of a path is short enough for a name. */
-static bool has_short_parts(const unsigned char *path, size_t length)
-{
-    size_t part = 0;
-    for (size_t at = 0; at < length; at++) {
-        part = path[at] == '/' ? 0 : part + 1;
-        if (part > NAME_MAX)
-            return false;
-    }
-    return true;
-}
-
-/* The path as the kernel may walk it. */
-static void walked(const struct inroot_asked *asked, const unsigned char *path, size_t length)
-{
-    bool is_path = length >= 1 && length < PATH_MAX && memchr(path, 0, length) == NULL && has_short_parts(path, length);
-    bool may = is_path && !(asked->beneath && path[0] == '/');
-    MUST(inroot_follows_at_once(asked->beneath, asked->no_links, path, length) == may);
-}
-
 int LLVMFuzzerTestOneInput(const uint8_t *data, size_t size)
 {
     static const size_t rooms[] = {ROOM, ROOM, ROOM, 0, 1, 2, 16, 300};
@@ -209,8 +133,6 @@ int LLVMFuzzerTestOneInput(const uint8_t *data, size_t size)
     if (room == NULL)
         abort();
     open_count = 0;
-    misses(&asked, first, first_length, second, second_length);
-    walked(&asked, first, first_length);
     inroot_begin(&asked, first, first_length, second, second_length, &kept, &told, room, room_size);
     converse(&in, &kept, &told, room, room_size);
     MUST(told.what <= INROOT_REPLY_FAULT);

@@ -1,119 +1,22 @@
 /*
- * fuzz_objects: the proved library's functions that say which system call comes next as an entry is given that was made, as a place
- * is asked for, and as much of a path as is there; with any answers. What a program is asked for can be done: what is looked at is
- * open, and what is closed. In the end nothing is open but what is given. What is given was seen to be it. An error is a system call's
- * own, or has its reason. There are no more exchanges than there may be.
+ * fuzz_objects: the proved library's functions that say which system call comes next as a place is asked for, and as much of a path
+ * as is there; with any answers. What a program is asked for can be done: what is looked at is open, and what is closed. In the end
+ * nothing is open but what is given. An error is a system call's own, or has its reason. There are no more exchanges than there may
+ * be.
  *
- * For libFuzzer, or with fuzz_main.c for stored cases. A case is bytes: which of the three, what is known, and the answers.
+ * For libFuzzer, or with fuzz_main.c for stored cases. A case is bytes: which of the two, what is known, and the answers.
  */
 #define _GNU_SOURCE
 #include "../calls.h"
 #include "fuzz_input.h"
 
 #include <errno.h>
-#include <sys/stat.h>
 
 /* Behind the last byte each system call fails. */
 static uint32_t some_error(struct input *in)
 {
     static const uint32_t errors[] = {0, 0, 0, 0, 0, 0, EINTR, ENOENT, ENOTDIR, EAGAIN, EACCES, 200, ELOOP, EXDEV};
     return in->left == 0 ? EIO : errors[byte(in) % (sizeof errors / sizeof *errors)];
-}
-
-/* Few, so that two are often the same. */
-static struct inroot_object some_object(struct input *in)
-{
-    unsigned bits = byte(in);
-    return (struct inroot_object){.device = bits & 1, .inode = bits >> 1 & 3, .mount = bits >> 3 & 1};
-}
-
-static bool is_same(const struct inroot_object *one, const struct inroot_object *other)
-{
-    return one->device == other->device && one->inode == other->inode && one->mount == other->mount;
-}
-
-static uint32_t some_mode(struct input *in)
-{
-    static const uint32_t modes[] = {S_IFDIR | 0700, S_IFREG | 0644, S_IFLNK | 0777, S_IFCHR | 0600, S_IFBLK, S_IFIFO, 0xffffffff};
-    return modes[byte(in) % (sizeof modes / sizeof *modes)];
-}
-
-/* ---- an entry that was made */
-
-struct given {
-    struct inroot_giving_facts facts;
-    struct inroot_giving_answer answer;
-    struct inroot_object object;
-    bool is_open, held, kind_fits, same, text_fits;
-    uint32_t error;                /* the last that was met, or EAGAIN where something doesn't fit */
-    unsigned exchanges, signals;
-};
-
-static bool is_kind(const struct inroot_giving_facts *facts, const struct inroot_giving_answer *answer)
-{
-    bool is_device = S_ISCHR(answer->mode) || S_ISBLK(answer->mode);
-    return facts->linked || ((answer->mode & S_IFMT) == (facts->mode & S_IFMT) && (!is_device || answer->device == facts->device));
-}
-
-/* Answers what comes next, if that can be asked. The text that is read is one of two bytes. */
-static void answer_giving(struct input *in, const struct inroot_giving *now, struct given *g, char *read)
-{
-    const bool closes = now->next == INROOT_GIVING_CLOSE || now->next == INROOT_GIVING_CLOSE_MADE;
-    const uint32_t error = g->answer.error = some_error(in);
-    bool fits = true;
-    g->exchanges++;
-    g->signals += !closes && error == EINTR;
-    MUST(g->is_open == (now->next != INROOT_GIVING_OPEN && !(now->next == INROOT_GIVING_CLOSE_MADE && now->error != 0)));
-    g->answer.object = some_object(in);
-    switch (now->next) {
-    case INROOT_GIVING_OPEN:
-        g->is_open = error == 0;
-        g->kind_fits = g->same = g->text_fits = false;
-        break;
-    case INROOT_GIVING_LOOK:
-        g->answer.mode = some_mode(in);
-        g->answer.device = byte(in) % 2;
-        g->object = g->answer.object;
-        g->kind_fits = fits = is_kind(&g->facts, &g->answer);
-        break;
-    case INROOT_GIVING_COMPARE:
-        MUST(g->facts.linked || g->held);
-        g->same = fits = is_same(&g->object, &g->answer.object);
-        break;
-    case INROOT_GIVING_READ:
-        MUST(!g->facts.linked && !g->facts.made);
-        *read = "ab"[byte(in) % 2];
-        g->text_fits = fits = *read == 'a';
-        break;
-    case INROOT_GIVING_CLOSE: g->is_open = false; break;
-    default:
-        MUST(now->next == INROOT_GIVING_CLOSE_MADE && g->held);
-        g->held = false;
-    }
-    if (!closes && error != EINTR)
-        g->error = error == 0 ? (fits ? 0 : EAGAIN) : now->next == INROOT_GIVING_OPEN && error == ENOENT ? EAGAIN : error;
-}
-
-static void give(struct input *in)
-{
-    struct given g = {.answer.error = 0};
-    struct inroot_giving now;
-    char read = 0;
-    unsigned what = byte(in);
-    g.facts = (struct inroot_giving_facts){.device = what & 1, .linked = what & 2, .made = what & 4, .mode = some_mode(in)};
-    g.held = g.facts.made;
-    inroot_giving_begin(&now);
-    while (now.next < INROOT_GIVING_GIVES) {
-        answer_giving(in, &now, &g, &read);
-        inroot_giving_next(&now, &g.facts, &g.answer, (const unsigned char *)&read, 1, (const unsigned char *)"a", 1);
-    }
-    const bool is_known = g.facts.linked || g.facts.made;
-    MUST(!g.held && g.exchanges <= g.signals + 5 && now.error == g.error);
-    MUST(g.is_open == (now.next == INROOT_GIVING_GIVES) && (now.error == 0) == g.is_open);
-    MUST(!g.is_open || (g.kind_fits && (!is_known || g.same) && (is_known || !S_ISLNK(g.facts.mode) || g.text_fits)));
-    const struct inroot_giving end = now;
-    inroot_giving_next(&now, &g.facts, &g.answer, (const unsigned char *)&read, 1, (const unsigned char *)"a", 1);
-    MUST(now.next == end.next && now.error == end.error);
 }
 
 /* ---- a place */
@@ -260,10 +163,9 @@ static void search(struct input *in)
 int LLVMFuzzerTestOneInput(const uint8_t *data, size_t size)
 {
     struct input in = {data, size};
-    switch (byte(&in) % 3) {
-    case 0: give(&in); break;
-    case 1: place(&in); break;
-    default: search(&in);
-    }
+    if (byte(&in) % 2)
+        place(&in);
+    else
+        search(&in);
     return 0;
 }

@@ -22,7 +22,7 @@ static char made[1024];
 static uint64_t resolved;
 static int looks, rooted, failing, error;
 static bool counting;
-/* So many calls of fstat(2) fail. */
+/* So many calls of statx(2) fail. */
 static int untold;
 
 static void note(const char *name)
@@ -48,13 +48,14 @@ NOTED(int, unlinkat, (int dir, const char *name, int flags), (dir, name, flags))
 NOTED(ssize_t, readlinkat, (int dir, const char *name, char *text, size_t size), (dir, name, text, size))
 NOTED(void *, malloc, (size_t size), (size))
 
-int __real_fstat(int fd, struct stat *about);
-int __wrap_fstat(int fd, struct stat *about);
-int __wrap_fstat(int fd, struct stat *about)
+NOTED(int, fstat, (int fd, struct stat *about), (fd, about))
+
+int __real_statx(int dir, const char *name, int flags, unsigned what, struct statx *about);
+int __wrap_statx(int dir, const char *name, int flags, unsigned what, struct statx *about);
+int __wrap_statx(int dir, const char *name, int flags, unsigned what, struct statx *about)
 {
-    note("fstat");
     if (!counting || untold == 0)
-        return __real_fstat(fd, about);
+        return __real_statx(dir, name, flags, what, about);
     untold--;
     errno = EIO;
     return -1;

@@ -30,7 +30,9 @@ static struct inroot_listing listing;
 static struct inroot_making making;
 static struct inroot_opening opening;
 static struct inroot_course course;
-static struct inroot_mounting mounting;
+static struct inroot_demand demand = {.what = INROOT_DO_HAS_FLOOR, .gives = true};
+static struct inroot_gave gave;
+static struct inroot_due due;
 
 static void begin(void)
 {
@@ -115,13 +117,19 @@ static void open_no_kind(void) { answer_opened(0, 0); }
 static void open_by_an_error(void) { answer_opened(INROOT_KIND_DIR, ENOENT); }
 static void open_a_directory(void) { answer_opened(INROOT_KIND_DIR, 0); }
 
-
-static void hand_in_unseen(void)
+/* One answer, as what was due WHAT gave it. */
+static void turn(const char *first, uint8_t what, struct inroot_gave given)
 {
-    inroot_mounting_begin(false, &mounting);
-    mounting.next = INROOT_MOUNTING_HAND_IN;
-    inroot_mounting_next(&mounting, &(struct inroot_mounting_answer){.error = 0});
+    due.what = what;
+    gave = given;
+    inroot_turn(&demand, (const unsigned char *)first, strlen(first), text, 1, text, sizeof text, &gave, 1, &due, room, ROOM);
 }
+static void turn_to_a_closed_one(void) { turn("/", INROOT_DUE_OPENAT2, (struct inroot_gave){.value = INT_MAX}); }
+static void turn_to_an_open_one(void) { turn("/", INROOT_DUE_OPENAT2, (struct inroot_gave){.value = STDOUT_FILENO}); }
+static void turn_to_no_kind(void) { turn("/", INROOT_DUE_STATX, (struct inroot_gave){.mode = 0644}); }
+static void turn_to_a_negative(void) { turn("/", INROOT_DUE_OPENAT2, (struct inroot_gave){.error = (uint32_t)-ENOENT}); }
+static void turn_without_a_slash(void) { turn("a", INROOT_DUE_OPENAT2, (struct inroot_gave){.error = ENOENT}); }
+static void turn_oddly(void) { memset(&gave.has_mount, 2, 1); turn("/", INROOT_DUE_STATX, gave); }
 
 /* Whether the call ends its process, in a child, whose words aren't shown. */
 static bool is_refused(void (*call)(void))
@@ -173,7 +181,12 @@ static const struct {
     {"an object of no kind", open_no_kind, true},
     {"an object, and an error", open_by_an_error, true},
     {"an object", open_a_directory, false},
-    {"a private proc(5) that isn't left alone", hand_in_unseen, true},
+    {"a system call that opened what isn't open", turn_to_a_closed_one, true},
+    {"one that opened something", turn_to_an_open_one, false},
+    {"one that looked at an object of no kind", turn_to_no_kind, true},
+    {"one with a negative error", turn_to_a_negative, true},
+    {"one with a bool that is none", turn_oddly, true},
+    {"a text without a slash before it", turn_without_a_slash, true},
 };
 
 int main(void)

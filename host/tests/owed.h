@@ -91,6 +91,18 @@ static bool is_open(uint64_t fd)
     return is;
 }
 
+/* Whether what was due was answered by no error. */
+static bool is_answered(const struct inroot_due *due, const struct inroot_gave *answers, size_t count)
+{
+    return count > 0 && due->what < INROOT_DUE_VALUE && answers[count - 1].error == 0;
+}
+
+static bool opens(uint8_t what)
+{
+    return what == INROOT_DUE_OPENAT2 || what == INROOT_DUE_OPENAT || what == INROOT_DUE_DUPFD || what == INROOT_DUE_FSOPEN ||
+           what == INROOT_DUE_FSMOUNT || what == INROOT_DUE_OPEN_TREE;
+}
+
 /* ---- what is left alone between two turns */
 
 /* By its address. Two may fall together: then nothing is known of the older one. */

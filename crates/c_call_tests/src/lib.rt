@@ -8,8 +8,12 @@ mod c_turns;
 #[cfg(test)]
 mod callings;
 #[cfg(test)]
+mod kernel_calls;
+#[cfg(test)]
 mod laws;
 #[cfg(test)]
 mod machine_calls;
+#[cfg(test)]
+mod step_dialogues;
 #[cfg(test)]
 mod steps;

@@ -43,10 +43,15 @@ fn gave(value: u32, error: u32, mode: u16, links: u32, file_system: u64) -> Answ
     Answer {
         file_system,
         flags: 0,
+        device: 0,
+        inode: 0,
+        mount: 0,
+        node: 0,
         value,
         error,
         links,
         mode,
+        has_mount: false,
     }
 }
 

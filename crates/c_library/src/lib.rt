@@ -1,7 +1,6 @@
-//! The functions by which a C program makes calls: a static library of the exports of `c_protocol`, `kernel_walks`,
+//! The functions by which a C program makes calls: a static library of the exports of `linux_call`, `c_protocol`,
 //! `step_calls`, `place_protocol`, `open_or_make`, `make_through_links`, `remove_by_calls`, `list_directory`,
-//! `call_course`, `ask_place`, `give_entry`, `find_proc`, `private_proc`, `open_partial`, `kernel_text` and
-//! `system_calls`.
+//! `call_course`, `ask_place`, `open_partial`, `kernel_text` and `system_calls`.
 //!
 //! Each export is the function of that name of one of these, with its clauses. What a C program owes is said in
 //! `host/calls.h`: what is kept is empty (zero) before the first call, and is left alone between two turns.
@@ -9,10 +8,8 @@
 
 ghost use Rattle.std.specs.Prelude.{◌≡◌, ◌≤◌, ◌∷◌, [], ℕ, List, true, false, length, take, IfSome, IsSome};
 ghost use Rattle.root_ops.specs.declared.call.CallTurn.{CallTurn};
-ghost use Rattle.c_protocol.specs.AtOnce.{misses_at_once};
 ghost use Rattle.c_protocol.specs.Split.{IsParted};
 ghost use Rattle.c_protocol.specs.Turns.{call_of, IsBegun, IsNext, IsTold};
-ghost use Rattle.kernel_walks.specs.Followed.{follows_at_once};
 ghost use Rattle.place_protocol.specs.Held.{before_questions, behind_look_up};
 ghost use Rattle.place_protocol.specs.Told.{begun, next_told, question_of};
 ghost use Rattle.place_protocol.specs.Texts.{texts_of};
@@ -24,24 +21,36 @@ ghost use Rattle.make_through_links.specs.History.{asked_of as making_asked, is_
 ghost use Rattle.make_through_links.specs.Closing.{closed};
 ghost use Rattle.make_through_links.specs.Making.{exchange as making_exchange, IsAt as IsMakingAt, IsWithin};
 ghost use Rattle.system_calls.specs.Objects.{is_node, is_same_object, kind_of};
-ghost use Rattle.system_calls.specs.Opening.{opening_of, reopen_flags};
+ghost use Rattle.system_calls.specs.Opening.{opening_of};
 ghost use Rattle.system_calls.specs.Uses.{use_of};
 
 mod askings;
 mod calls;
 mod entries;
 mod listings;
-mod procs;
 mod removals;
 mod steps;
 
 use c_protocol::{Answered, Asked, Kept, Parted, Told};
 use make_through_links::{Making, Outcome};
 use open_or_make::{Course, Request};
-use path_text::Flags;
 use place_protocol::{Answer, Facts, Held};
 use std::alloc::Global;
 use system_calls::{MachineFlags, Object, Opening, Use};
+
+/// What is due of a call by the kernel's walk, or by a descriptor: `linux_call::turn`.
+#[unsafe(no_mangle)]
+pub extern "C" fn inroot_turn(
+    demand: &linux_call::Request,
+    first: &[u8],
+    second: &[u8],
+    read: &[u8],
+    answers: &[dialogue::Answer],
+    due: &mut linux_call::Due,
+    room: &mut [u8],
+) {
+    linux_call::turn(demand, first, second, read, answers, due, room);
+}
 
 /// Begins a call, and tells its first step or its reply: `c_protocol::begin`.
 #[unsafe(no_mangle)]
@@ -78,23 +87,6 @@ pub extern "C" fn inroot_next(
     c_protocol::next(alloc, kept, answered, bytes, told, room);
 }
 
-/// Whether a call whose names are looked up at once fails where one is missing: `c_protocol::misses_at_once`.
-#[unsafe(no_mangle)]
-pub extern "C" fn inroot_misses_at_once(asked: &Asked, path: &[u8], place: &[u8]) -> bool
-    ensures { result ≡ misses_at_once asked.now path.now place.now }
-{
-    c_protocol::misses_at_once(asked, path, place)
-}
-
-/// Whether one system call may walk a path as a whole, through links: `kernel_walks::follows_at_once`. `beneath` is
-/// RESOLVE_BENEATH, `no_links` RESOLVE_NO_SYMLINKS.
-#[unsafe(no_mangle)]
-pub extern "C" fn inroot_follows_at_once(beneath: bool, no_links: bool, path: &[u8]) -> bool
-    ensures { result ≡ follows_at_once (record { beneath = beneath; no_links = no_links }) path.now }
-{
-    kernel_walks::follows_at_once(Flags { beneath, no_links }, path)
-}
-
 /// Where the last name of a path stands in it, or why it has none: `c_protocol::split`.
 #[unsafe(no_mangle)]
 pub extern "C" fn inroot_split(path: &[u8], takes_slash: bool, parted: &mut Parted)
@@ -122,14 +114,6 @@ pub extern "C" fn inroot_use_of(opening: &Opening, kind: u8, found: &mut Use)
     ensures { found.new ≡ use_of opening.now kind }
 {
     *found = system_calls::use_of(opening, kind);
-}
-
-/// The flags by which what is open is opened once more, or 0: `system_calls::reopen_flags`.
-#[unsafe(no_mangle)]
-pub extern "C" fn inroot_reopen_flags(machine: &MachineFlags, flags: u32) -> u32
-    ensures { result ≡ reopen_flags machine.now flags }
-{
-    system_calls::reopen_flags(machine, flags)
 }
 
 /// Whether two answers are about the same object: `system_calls::is_same_object`.

@@ -7,8 +7,6 @@ mod askings;
 #[cfg(test)]
 mod courses;
 #[cfg(test)]
-mod findings;
-#[cfg(test)]
 mod givings;
 #[cfg(test)]
 mod held;
@@ -19,15 +17,13 @@ mod listings;
 #[cfg(test)]
 mod makings;
 #[cfg(test)]
-mod mounts;
-#[cfg(test)]
 mod objects;
 #[cfg(test)]
 mod openings;
 #[cfg(test)]
-mod ownings;
-#[cfg(test)]
 mod places;
+#[cfg(test)]
+mod procs;
 #[cfg(test)]
 mod protocol;
 #[cfg(test)]
