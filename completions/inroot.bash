@@ -1,13 +1,17 @@
 # Completion of inroot(1) for bash.
 _inroot() {
-    local word=${COMP_WORDS[COMP_CWORD]} words=
-    # A script comes by a redirection. Nothing else is a file's name.
-    if [ "${COMP_WORDS[COMP_CWORD - 1]}" = '<' ]; then
+    local word=${COMP_WORDS[COMP_CWORD]} before=${COMP_WORDS[COMP_CWORD - 1]} words=
+    local commands='walk replay draw run explore help'
+    # A script comes by a redirection. Nothing else is a file's name: as an argument `-q` is an option.
+    if [ "$before" = '<' ]; then
         compopt -o default
         return
     fi
+    # An equals sign is a word of its own.
+    [ "$word" != '=' ] || word=
+    [ "$before" != '=' ] || before=${COMP_WORDS[COMP_CWORD - 2]}
     if [ "$COMP_CWORD" -eq 1 ]; then
-        words='walk replay draw run explore help --help --version'
+        words="$commands --help --version"
     else
         case ${COMP_WORDS[1]} in
         walk) words='--beneath --no-links --strict --help' ;;
@@ -15,8 +19,14 @@ _inroot() {
         draw) words='--svg --html --all --width --color --schedule --strict --help' ;;
         run) words='--workers --strict --help' ;;
         explore) words='--actor --cuts --begin --html --part --merge --states --memory --outside --when --never --always --strict --help' ;;
+        help) words=$commands ;;
         esac
     fi
+    case $before in
+    --color) words='never auto always' ;;
+    --workers) words='1 2 3 4 5 6 7 8' ;;
+    --width | --schedule | --actor | --cuts | --begin | --states | --memory | --when | --never | --always) words= ;;
+    esac
     mapfile -t COMPREPLY < <(compgen -W "$words" -- "$word")
 }
 complete -F _inroot inroot

@@ -7,6 +7,7 @@ complete -c inroot -n "not __fish_seen_subcommand_from $commands" -a draw -d 'Pl
 complete -c inroot -n "not __fish_seen_subcommand_from $commands" -a run -d 'Let threads make the calls'
 complete -c inroot -n "not __fish_seen_subcommand_from $commands" -a explore -d 'Play a script by every schedule'
 complete -c inroot -n "not __fish_seen_subcommand_from $commands" -a help -d 'Print help'
+complete -c inroot -n '__fish_seen_subcommand_from help' -a 'walk replay draw run explore'
 complete -c inroot -s h -l help -d 'Print help'
 complete -c inroot -n "not __fish_seen_subcommand_from $commands" -s V -l version -d 'Print the version'
 complete -c inroot -n '__fish_seen_subcommand_from walk' -l beneath -d 'Refuse what leads out of the root'

@@ -40,6 +40,7 @@ type Cause struct {
 	Err  syscall.Errno
 	Step string // the last step that the call made, as Open; empty where it failed before the first
 	Name string // the name that the step was about, or empty
+	Text string // all of it in one sentence, in one line
 }
 
 // LastError returns why the last call of this thread failed, and whether one has. A goroutine may go on in another
@@ -50,5 +51,7 @@ func LastError() (Cause, bool) {
 	if C.inroot_last_error(&told) != 0 {
 		return Cause{}, false
 	}
-	return Cause{syscall.Errno(told.error), C.GoString(told.step), C.GoString(&told.name[0])}, true
+	var text [2048]C.char
+	C.inroot_last_error_text(&text[0], C.size_t(len(text)))
+	return Cause{syscall.Errno(told.error), C.GoString(told.step), C.GoString(&told.name[0]), C.GoString(&text[0])}, true
 }

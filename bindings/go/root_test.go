@@ -337,7 +337,8 @@ func TestLastError(t *testing.T) {
 	_, err := root.Open("in/none/x")
 	fails(t, err, fs.ErrNotExist)
 	cause, is := LastError()
-	if wanted := (Cause{syscall.ENOENT, "Open", "none"}); !is || cause != wanted {
+	text := "can't look up \"none\": No such file or directory (ENOENT)"
+	if wanted := (Cause{syscall.ENOENT, "Open", "none", text}); !is || cause != wanted {
 		t.Errorf("%v, and not %v", cause, wanted)
 	}
 }

@@ -8,7 +8,7 @@ path and an absolute link begin at the root, and `..` at the root is the root, w
         root.write_text("var/log/first", "begun")
 
 A path is a str, bytes or an os.PathLike, and becomes bytes as by os.fsencode(). One with a NUL is a ValueError. A call
-that fails raises an OSError with the kernel's number and the path as it was given. A call that a signal interrupts is
+that fails raises an OSError with the kernel's number, why it failed, and the path as it was given. A call that a signal interrupts is
 not made again (InterruptedError).
 
 The library is found as libinroot.so.0.2 where the loader looks, or is the file that INROOT_LIBRARY_PATH names.
@@ -51,6 +51,7 @@ def _load():
     number, text, long = ctypes.c_int, ctypes.c_char_p, ctypes.c_ssize_t
     for name, given, taken in (
         ("version", text, ()),
+        ("last_error_text", number, (text, ctypes.c_size_t)),
         ("open", number, (number, text, number)),
         ("openat", number, (number, text, number, ctypes.c_uint, number)),
         ("readlink", long, (number, text, number, text, ctypes.c_size_t)),
@@ -86,10 +87,12 @@ def _bytes(path):
 
 
 def _checked(result, path, second=None):
-    """What a call gave; an OSError of the class that its number has where it failed."""
+    """What a call gave; an OSError of the class that its number has where it failed, with the library's sentence."""
     if result >= 0:
         return result
-    raise OSError(-result, os.strerror(-result), path, None, second)
+    why = ctypes.create_string_buffer(2048)
+    _library.last_error_text(why, len(why))
+    raise OSError(-result, why.value.decode(), path, None, second)
 
 
 class Root:

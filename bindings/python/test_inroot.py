@@ -260,7 +260,8 @@ class Hostile(Room):
     def test_errors_name_their_paths(self):
         error = self.fails(errno.ENOENT, self.root.stat, "in/none")
         self.assertIsInstance(error, FileNotFoundError)
-        self.assertEqual((error.filename, error.strerror), ("in/none", os.strerror(errno.ENOENT)))
+        why = f'can\'t look up "none": {os.strerror(errno.ENOENT)} (ENOENT)'
+        self.assertEqual((error.filename, error.strerror), ("in/none", why))
         self.assertEqual(self.fails(errno.ENOENT, self.root.open, b"none").filename, b"none")
         self.assertEqual(self.fails(errno.EISDIR, self.root.open, "a").filename, "a")
         error = self.fails(errno.ENOENT, self.root.rename, "none", "a")

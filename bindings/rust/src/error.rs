@@ -19,6 +19,8 @@ pub struct Cause {
     pub step: String,
     /// The name that the step was about, or empty.
     pub name: OsString,
+    /// All of it in one sentence, in one line.
+    pub text: String,
 }
 
 /// Why the thread's last call failed, where one has. After a call that succeeded it says nothing of that call.
@@ -29,20 +31,24 @@ pub struct Cause {
 /// assert!(root.open("link/conf").is_err());
 /// let cause = inroot::last_error().unwrap();
 /// assert_eq!((cause.step.as_str(), cause.name.to_str()), ("Open", Some("none")));
+/// assert_eq!(cause.text, "can't look up \"none\": No such file or directory (ENOENT)");
 /// # Ok::<(), std::io::Error>(())
 /// ```
 pub fn last_error() -> Option<Cause> {
     let mut told = MaybeUninit::<ffi::Error>::uninit();
+    let mut text = [0; 2048];
     // SAFETY: the library writes the whole structure where it gives 0, and its texts end with a NUL.
     unsafe {
         if ffi::inroot_last_error(told.as_mut_ptr()) != 0 {
             return None;
         }
+        ffi::inroot_last_error_text(text.as_mut_ptr(), text.len());
         let told = &*told.as_ptr();
         Some(Cause {
             error: told.error,
             step: CStr::from_ptr(told.step).to_string_lossy().into_owned(),
             name: text_of(told.name.as_ptr()),
+            text: CStr::from_ptr(text.as_ptr()).to_string_lossy().into_owned(),
         })
     }
 }

@@ -25,6 +25,7 @@ extern "C" {
     pub fn inroot_proc_readlink(base: c_int, path: *const c_char, text: *mut c_char, size: usize) -> isize;
     pub fn inroot_version() -> *const c_char;
     pub fn inroot_last_error(error: *mut Error) -> c_int;
+    pub fn inroot_last_error_text(text: *mut c_char, size: usize) -> c_int;
     pub fn inroot_open(root: c_int, path: *const c_char, flags: c_int) -> c_int;
     pub fn inroot_openat(root: c_int, path: *const c_char, open_flags: c_int, mode: c_uint, flags: c_int) -> c_int;
     pub fn inroot_reopen(fd: c_int, open_flags: c_int) -> c_int;
