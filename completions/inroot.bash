@@ -1,8 +1,7 @@
 # Completion of inroot(1) for bash.
 _inroot() {
     local word=${COMP_WORDS[COMP_CWORD]} before=${COMP_WORDS[COMP_CWORD - 1]} words=
-    local commands='walk replay draw run explore help'
-    # A script comes by a redirection. Nothing else is a file's name: as an argument `-q` is an option.
+    local commands='walk replay draw run explore help' arguments=0 at
     if [ "$before" = '<' ]; then
         compopt -o default
         return
@@ -26,6 +25,18 @@ _inroot() {
     --color) words='never auto always' ;;
     --workers) words='1 2 3 4 5 6 7 8' ;;
     --width | --schedule | --actor | --cuts | --begin | --states | --memory | --when | --never | --always) words= ;;
+    *)
+        # The last argument is a script's file; of walk a path stands before it. A name is completed once it is begun,
+        # since `-q` as an argument is an option.
+        for ((at = 2; at < COMP_CWORD; at++)); do
+            [[ ${COMP_WORDS[at]} == -* ]] || arguments=$((arguments + 1))
+        done
+        if [[ $word == [!-]* && ${COMP_WORDS[1]} != help && $COMP_CWORD -gt 1 &&
+            (${COMP_WORDS[1]} != walk || $arguments -gt 0) ]]; then
+            compopt -o default
+            return
+        fi
+        ;;
     esac
     mapfile -t COMPREPLY < <(compgen -W "$words" -- "$word")
 }

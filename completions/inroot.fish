@@ -1,6 +1,10 @@
 # Completion of inroot(1) for fish.
 complete -c inroot -f
 set -l commands walk replay draw run explore help
+# The last argument is a script's file; of walk a path stands before it. Its name is completed once it is begun, since `-q`
+# as an argument is an option.
+complete -c inroot -n '__fish_seen_subcommand_from replay draw run explore; and test -n (commandline -ct)""' -F
+complete -c inroot -n '__fish_seen_subcommand_from walk; and test -n (commandline -ct)"" -a (commandline -opc | string match -v -- "-*" | count) -gt 2' -F
 complete -c inroot -n "not __fish_seen_subcommand_from $commands" -a walk -d 'Resolve a path over a script'
 complete -c inroot -n "not __fish_seen_subcommand_from $commands" -a replay -d 'Play a script, and print each event'
 complete -c inroot -n "not __fish_seen_subcommand_from $commands" -a draw -d 'Play a script, and draw it'
@@ -10,8 +14,8 @@ complete -c inroot -n "not __fish_seen_subcommand_from $commands" -a help -d 'Pr
 complete -c inroot -n '__fish_seen_subcommand_from help' -a 'walk replay draw run explore'
 complete -c inroot -s h -l help -d 'Print help'
 complete -c inroot -n "not __fish_seen_subcommand_from $commands" -s V -l version -d 'Print the version'
-complete -c inroot -n '__fish_seen_subcommand_from walk' -l beneath -d 'Refuse what leads out of the root'
-complete -c inroot -n '__fish_seen_subcommand_from walk' -l no-links -d 'Follow no link'
+complete -c inroot -n '__fish_seen_subcommand_from walk' -s b -l beneath -d 'Refuse what leads out of the root'
+complete -c inroot -n '__fish_seen_subcommand_from walk' -s L -l no-links -d 'Follow no link'
 complete -c inroot -n '__fish_seen_subcommand_from replay draw' -l schedule -x -d 'Take these turns'
 complete -c inroot -n '__fish_seen_subcommand_from draw' -l svg -d 'Draw as SVG'
 complete -c inroot -n '__fish_seen_subcommand_from replay' -l json -d 'Print JSON'

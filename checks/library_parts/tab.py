@@ -143,10 +143,13 @@ def root_cases(shell):
 
 
 def script_cases(_):
-    """Lines of inroot, to which a file comes behind < alone."""
+    """Lines of inroot, to which a file comes as the last argument or behind <."""
     yield "inroot rep\t", ["replay"]
     yield "inroot walk --str\t a", ["walk", "--strict", "a"]
     yield "inroot walk x\t", ["walk", "x"]
+    yield "inroot walk a z\t", ["walk", "a", f"z$({RUNS})"]
+    yield "inroot replay z\t", ["replay", f"z$({RUNS})"]
+    yield "inroot explore --html z\t", ["explore", "--html", f"z$({RUNS})"]
     yield "inroot replay < x\t", ["replay", "text"]
     yield "inroot replay < z\t", ["replay", "text"]
     yield "inroot draw --color al\t", ["draw", "--color", "always"]

@@ -1,6 +1,6 @@
 -- What a command line asks for.
 use Rattle.std.specs.Borrow.{Bor}
-use Rattle.std.specs.Prelude.{◌≡◌, ◌≢◌, ◌<◌, ◌≤◌, ◌⊎◌, ℕ, List, [], Bool, true, false, Option, Some, None, option_map, unwrap_or, codes}
+use Rattle.std.specs.Prelude.{◌≡◌, ◌≢◌, ◌<◌, ◌≤◌, ◌⊎◌, ℕ, List, [], Bool, true, false, Option, Some, None, option_map, is_some, unwrap_or, codes}
 use Rattle.std.specs.Str.Parse.{digits_value, without_leading_plus}
 use Rattle.clap.specs.Matches.{found_of, first_value, has_subcommand, matched_of, one_text, raw_values, subcommand_name_of}
 use Rattle.clap.specs.Simple.{subcommand_rows_of}
@@ -127,6 +127,17 @@ IsRequest matches (Some request.Merge) =
 IsRequest matches None =
     (subcommand_name_of matches ≢ Some (codes "replay")) × (subcommand_name_of matches ≢ Some (codes "draw"))
     × (subcommand_name_of matches ≢ Some (codes "explore"))
+
+-- the file that the arguments of a command name, if they name one
+abbrev pub IsFile : ArgMatches → Option (Bor (List ℕ)) → Type 0
+IsFile matches (Some text) = first_value (found_of matches) (codes "SCRIPT") ≡ Some text.now
+IsFile matches None = first_value (found_of matches) (codes "SCRIPT") ≡ None
+
+-- the script's file is that of the command that was named; where none was named, there is none
+abbrev pub IsScript : ArgMatches → Option (Bor (List ℕ)) → Type 0
+IsScript matches named =
+    ((own : ArgMatches) × (AreGiven matches own × IsFile own named))
+    ⊎ ((has_subcommand matches ≡ false) × (is_some named ≡ false))
 
 -- whether the command that was named was given `--strict`; where none was named, it is false
 abbrev pub IsStrict : ArgMatches → Bool → Type 0

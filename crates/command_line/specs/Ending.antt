@@ -1,17 +1,20 @@
 -- The statuses that the program ends with: these five, and no other.
 use Rattle.std.specs.Borrow.{Bor}
-use Rattle.std.specs.Prelude.{⊤, ℕ, List, Option, Some, None, Result, Ok, Err}
+use Rattle.std.specs.Prelude.{⊤, ℕ, List, Bool, if◌then◌else◌, slice_get, codes, is_some, Option, Some, None, option_and_then, Result, Ok, Err}
+use Rattle.serde_json.specs.Data.{Data}
+use Rattle.serde_json.specs.Find.{get, at}
 use Rattle.scripts.specs.declared.fault.RunFault.TheVariants.{Script, ReadFailed, WriteFailed, NoMemory, BookFull}
 use Rattle.scripts.specs.declared.fault.ScriptFault.TheVariants.{Turn, TooManyTurns}
 use Rattle.outcome_text.specs.declared.merging.MergeFault.{MergeFault}
 use Rattle.outcome_text.specs.declared.merging.MergeFault.TheVariants as merge
 use Rattle.command_line.specs.declared.ending.Fault.{Fault}
-use Rattle.command_line.specs.declared.ending.Fault.TheVariants.{Usage, NotUtf8, Schedule, AskedTurn, AskedTurns, Width, Color, NoRequest, Run, Options, PropertyFails, Explore, Merge, DrawActors, DrawLines, ReplayEvents, Service}
+use Rattle.command_line.specs.declared.ending.Fault.TheVariants.{Usage, NotUtf8, Schedule, AskedTurn, AskedTurns, BeginTurn, Width, Color, NoScript, NoRequest, Run, Options, PropertyFails, Explore, Merge, DrawActors, DrawLines, ReplayEvents, Service}
 use Rattle.draw_command.specs.declared.drawing.DrawFault.{DrawFault}
 use Rattle.draw_command.specs.declared.page.JsonFault.{JsonFault}
 use Rattle.draw_command.specs.declared.page.JsonFault.TheVariants as json
 use Rattle.run_command.specs.declared.jobs.JobsFault.{JobsFault}
 use Rattle.run_command.specs.declared.jobs.JobsFault.TheVariants as jobs
+use Rattle.schedule_graph.specs.declared.fault.SearchFault.TheVariants.{NotBusy}
 use Rattle.scripts.specs.declared.turns.TurnOrder.{TurnOrder}
 use Rattle.scripts.specs.declared.turns.TurnOrder.TheVariants.{OfScript, Asked}
 use Rattle.scripts.specs.declared.turns.Turns.{Turns}
@@ -44,8 +47,10 @@ status_of (Err NotUtf8) = USAGE
 status_of (Err Schedule) = USAGE
 status_of (Err (AskedTurn at)) = USAGE
 status_of (Err AskedTurns) = USAGE
+status_of (Err (BeginTurn at)) = USAGE
 status_of (Err Width) = USAGE
 status_of (Err Color) = USAGE
+status_of (Err NoScript) = FAILED
 status_of (Err NoRequest) = FAILED
 status_of (Err (Run (Script fault))) = SCRIPT_REFUSED
 status_of (Err (Run ReadFailed)) = FAILED
@@ -55,6 +60,8 @@ status_of (Err (Run BookFull)) = FAILED
 status_of (Err PropertyFails) = PROPERTY_FAILS
 status_of (Err (Options option.NoMemory)) = FAILED
 status_of (Err (Options other)) = USAGE
+status_of (Err (Explore (explore.NoSuchActor actor))) = USAGE
+status_of (Err (Explore (explore.NoSuchLine place))) = USAGE
 status_of (Err (Explore fault)) = FAILED
 status_of (Err (Merge fault)) = FAILED
 status_of (Err DrawActors) = FAILED
@@ -112,3 +119,18 @@ blamed_of OfScript fault = fault
 blamed_of (Asked turns) (Run (Script (Turn at))) = AskedTurn at
 blamed_of (Asked turns) (Run (Script TooManyTurns)) = AskedTurns
 blamed_of (Asked turns) other = other
+
+-- a script has an actor of that number
+abbrev pub is_actor : ℕ → Data → Bool
+is_actor actor script = is_some (option_and_then (at actor) (get (codes "actors") script))
+
+-- the turn of a beginning is no actor's
+abbrev pub begun_by : Option ℕ → ℕ → Data → Fault → Fault
+begun_by None place script fault = fault
+begun_by (Some actor) place script fault = if is_actor actor script then fault else BeginTurn place
+
+-- where a beginning has a turn of no actor, the option is at fault
+abbrev pub begun_of : List ℕ → Data → Fault → Fault
+begun_of begin script (Explore (explore.Search (NotBusy place))) =
+    begun_by (slice_get begin place) place script (Explore (explore.Search (NotBusy place)))
+begun_of begin script other = other

@@ -1,5 +1,9 @@
 pub mod Advice
 pub mod Command
+pub mod Cut
 pub mod Ending
 pub mod Entry
+pub mod NoJson
+pub mod Reason
+pub mod Rows
 pub mod Style

@@ -1,7 +1,7 @@
 //! What is told in the line after a fault: the limit that was met, and what helps.
-ghost use Rattle.std.specs.Prelude.{◌++◌, decimal};
+ghost use Rattle.std.specs.Prelude.{◌≡◌, ◌++◌, decimal};
 ghost use Rattle.step_text.specs.Output.{Gains};
-ghost use Rattle.command_line.specs.Advice.{memory_advice, states_advice, turn_advice, actor_advice, search_advice, explore_advice, advice_of};
+ghost use Rattle.command_line.specs.Advice.{memory_advice, states_advice, turn_advice, actor_advice, line_hint, line_advice, search_advice, explore_advice, advice_of};
 
 use crate::ending::Fault;
 use outcome_text::{ExploreFault, SearchFault};
@@ -15,8 +15,13 @@ const MEMORY_MAX: u32 = 1_000_000;
 /// The most states that may be asked for.
 const STATES_MAX: u64 = 10_000_000;
 
-// Adds a number between two texts.
-fn add_number(out: &mut Output, before: &str, number: u64, after: &str) -> Result<(), NoMemory>
+/// Adds a number between two texts.
+pub(crate) fn add_number(
+    out: &mut Output,
+    before: &str,
+    number: u64,
+    after: &str,
+) -> Result<(), NoMemory>
     ensures { Gains out.old out.new (before.now ++ (decimal number ++ after.now)) result }
 {
     out.text(before)?;
@@ -108,15 +113,55 @@ fn advise_search(out: &mut Output, fault: SearchFault, states: u64) -> Result<()
     }
 }
 
+// Which words a line has.
+fn line_hint(line: &[u8]) -> &'static str
+    ensures { result.now ≡ line_hint line.now }
+{
+    if line.starts_with(b"reply") {
+        "after reply ACTOR CALL comes opened, text, done, count, stepped or fault ERROR"
+    } else if line.starts_with(b"row") {
+        "after row comes the number or the path of a directory, and then a name that the script has"
+    } else {
+        "after held or outside comes the number of an actor"
+    }
+}
+
+// Adds bytes between two texts, and another text.
+fn add_between(
+    out: &mut Output,
+    before: &str,
+    bytes: &[u8],
+    after: &str,
+    last: &str,
+) -> Result<(), NoMemory>
+    ensures { Gains out.old out.new (before.now ++ (bytes.now ++ (after.now ++ last.now))) result }
+{
+    out.text(before)?;
+    out.bytes(bytes)?;
+    out.text(after)?;
+    out.text(last)
+}
+
+// Adds what is told of a line that no report can have.
+fn add_line(out: &mut Output, line: &[u8]) -> Result<(), NoMemory>
+    ensures { Gains out.old out.new (line_advice line.now) result }
+{
+    let before = "no report of the script has a line with '";
+    add_between(out, before, line, "': ", line_hint(line))
+}
+
 // Adds what is told of an exploration that gives no answer.
-fn advise_explore(out: &mut Output, fault: ExploreFault, states: u64) -> Result<(), NoMemory>
-    ensures { Gains out.old out.new (explore_advice fault states) result }
+fn advise_explore(
+    out: &mut Output,
+    fault: ExploreFault,
+    states: u64,
+    line: &[u8],
+) -> Result<(), NoMemory>
+    ensures { Gains out.old out.new (explore_advice fault states line.now) result }
 {
     match fault {
         ExploreFault::NoSuchActor(actor) => add_actor(out, actor),
-        ExploreFault::NoSuchLine(_) => out.text(
-            "no report of the script has such a line; properties count from 0, those of --when first, then those of --never",
-        ),
+        ExploreFault::NoSuchLine(_) => add_line(out, line),
         ExploreFault::Search(fault) => advise_search(out, fault, states),
         ExploreFault::TooMuchMemory(most) => add_memory(out, most),
         ExploreFault::NoGauge => {
@@ -127,14 +172,17 @@ fn advise_explore(out: &mut Output, fault: ExploreFault, states: u64) -> Result<
 }
 
 /// Adds what is told in the line after a fault, without the line's end, and nothing where there is no more to tell.
-/// `states` is how many states a search may go through. NoMemory where room was refused.
-pub fn advise(out: &mut Output, fault: Fault, states: u64) -> Result<(), NoMemory>
-    ensures { Gains out.old out.new (advice_of fault states) result }
+/// `states` is how many states a search may go through, and `line` the text of a property for which no report can have
+/// a line. NoMemory where room was refused.
+pub fn advise(out: &mut Output, fault: Fault, states: u64, line: &[u8]) -> Result<(), NoMemory>
+    ensures { Gains out.old out.new (advice_of fault states line.now) result }
 {
     match fault {
-        Fault::AskedTurn(_) => out.text("a turn is an actor's number, counted from 0"),
+        Fault::AskedTurn(_) | Fault::BeginTurn(_) => out.text(
+            "a turn is an actor's number, counted from 0",
+        ),
         Fault::AskedTurns => out.text("a schedule has at most 100000 turns"),
-        Fault::Explore(fault) => advise_explore(out, fault, states),
+        Fault::Explore(fault) => advise_explore(out, fault, states, line),
         Fault::DrawActors => out.text("a picture has at most 4 actors"),
         Fault::DrawLines => out.text("a picture has at most 2000 lines, and its run 2000 events"),
         Fault::ReplayEvents => out.text("a report as JSON has at most 2000 events"),

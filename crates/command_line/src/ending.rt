@@ -29,10 +29,16 @@ pub enum Fault {
     /// More turns are asked for than a schedule may have.
     #[error("--schedule: too many turns")]
     AskedTurns,
+    /// The first turn of a beginning that is no actor's, by its place, counted from 0.
+    #[error("--begin: turn {0} is no actor's")]
+    BeginTurn(usize),
     #[error("--width is a number from 40 to 10000")]
     Width,
     #[error("--color is never, auto or always")]
     Color,
+    /// The script's file can't be opened. Why was told with its name.
+    #[error("no script")]
+    NoScript,
     /// A command line that was taken, and has no command with its path: the table of the options is wrong.
     #[error("the command line has no request")]
     NoRequest,
@@ -167,8 +173,10 @@ pub fn status(ended: &Result<(), Fault>) -> u8
         Ok(()) => 0,
         Err(Fault::PropertyFails) => 1,
         Err(Fault::Run(RunFault::Script(_))) => 3,
+        Err(Fault::Explore(ExploreFault::NoSuchActor(_) | ExploreFault::NoSuchLine(_))) => 2,
         Err(
-            Fault::NoRequest
+            Fault::NoScript
+            | Fault::NoRequest
             | Fault::Run(_)
             | Fault::Options(OptionFault::NoMemory)
             | Fault::Explore(_)
@@ -184,6 +192,7 @@ pub fn status(ended: &Result<(), Fault>) -> u8
             | Fault::Schedule
             | Fault::AskedTurn(_)
             | Fault::AskedTurns
+            | Fault::BeginTurn(_)
             | Fault::Width
             | Fault::Color
             | Fault::Options(_),

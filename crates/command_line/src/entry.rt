@@ -51,7 +51,7 @@ pub fn entry_of(script: &Value, fault: ScriptFault) -> Option<&Value>
 }
 
 // Adds a byte, or where it isn't printed `\x` and two hexadecimal digits.
-fn add_byte(out: &mut Output, byte: u8) -> Result<(), NoMemory>
+pub(crate) fn add_byte(out: &mut Output, byte: u8) -> Result<(), NoMemory>
     ensures { Gains out.old out.new (printed_byte byte) result }
 {
     match byte {
@@ -62,7 +62,7 @@ fn add_byte(out: &mut Output, byte: u8) -> Result<(), NoMemory>
 }
 
 // Adds a text as it is printed.
-fn add_printed(out: &mut Output, text: &[u8]) -> Result<(), NoMemory>
+pub(crate) fn add_printed(out: &mut Output, text: &[u8]) -> Result<(), NoMemory>
     ensures { Gains out.old out.new (printed text.now) result }
 {
     for byte in text {

@@ -1,9 +1,12 @@
 //! The turns that a command line asks for in place of a script's.
 ghost use Rattle.std.specs.Prelude.{◌≡◌};
-ghost use Rattle.command_line.specs.Ending.{IsOrder, blamed_of};
+ghost use Rattle.serde_json.specs.View.{view};
+ghost use Rattle.command_line.specs.Ending.{IsOrder, blamed_of, begun_of, is_actor};
 
 use crate::ending::Fault;
+use outcome_text::{ExploreFault, SearchFault};
 use scripts::{RunFault, ScriptFault, TurnOrder, read_turns};
+use serde_json::Value;
 use std::alloc::Global;
 
 /// The order of turns that a command line asks for. Errors: `Schedule` where they have another form; `NoMemory`.
@@ -32,5 +35,29 @@ pub fn blamed(order: &TurnOrder, fault: Fault) -> Fault
             Fault::AskedTurns
         }
         (_, other) => other,
+    }
+}
+
+// Whether a script has an actor of that number.
+fn is_actor(script: &Value, actor: u32) -> bool
+    ensures { result ≡ is_actor actor (view script.now) }
+{
+    match script.get("actors") {
+        Some(actors) => actors.get(actor as usize).is_some(),
+        None => false,
+    }
+}
+
+/// The fault that is told where the search of a script with this beginning has that one: a turn of no actor is the
+/// command line's fault, and no turn of one who has nothing left to do.
+pub fn begun(begin: &[u32], script: &Value, fault: Fault) -> Fault
+    ensures { result ≡ begun_of begin.now (view script.now) fault }
+{
+    let Fault::Explore(ExploreFault::Search(SearchFault::NotBusy(at))) = fault else {
+        return fault;
+    };
+    match begin.get(at) {
+        Some(actor) if !is_actor(script, *actor) => Fault::BeginTurn(at),
+        _ => fault,
     }
 }

@@ -1,17 +1,14 @@
 //! The statuses, and what a command line asks for.
 use command_line::{
-    Drawing, Fault, Request, Screen, advise, asked, blamed, command, entry_text, is_strict,
-    order_of, status, style_of,
+    Drawing, Fault, Request, Screen, asked, blamed, command, is_strict, order_of, script_named,
+    status, style_of,
 };
 use draw_command::Form;
 use drawings::{Closes, Colours, Legend};
 use outcome_text::{ExploreFault, OptionFault, Options, SearchFault};
-use path_text::Errno;
 use run_command::ServiceFault;
-use scripts::{Cause, RunFault, ScriptFault, TurnOrder};
-use serde_json::Value;
+use scripts::{RunFault, ScriptFault, TurnOrder};
 use std::alloc::Global;
-use step_text::Output;
 
 /// The fault of a search that gives nothing.
 fn searched(fault: SearchFault) -> Fault {
@@ -26,8 +23,8 @@ fn ends_with_its_statuses(rt: HostRuntime) {
         (Err(Fault::Options(OptionFault::Cuts)), 2),
         (Err(Fault::Options(OptionFault::Begin)), 2),
         (Err(Fault::Options(OptionFault::NoMemory)), 4),
-        (Err(Fault::Explore(ExploreFault::NoSuchActor(0))), 4),
-        (Err(Fault::Explore(ExploreFault::NoSuchLine(0))), 4),
+        (Err(Fault::Explore(ExploreFault::NoSuchActor(0))), 2),
+        (Err(Fault::Explore(ExploreFault::NoSuchLine(0))), 2),
         (Err(searched(SearchFault::TooManyStates)), 4),
         (Err(searched(SearchFault::TooManyTurns)), 4),
         (Err(searched(SearchFault::NotBusy(0))), 4),
@@ -37,8 +34,10 @@ fn ends_with_its_statuses(rt: HostRuntime) {
         (Err(Fault::Schedule), 2),
         (Err(Fault::AskedTurn(3)), 2),
         (Err(Fault::AskedTurns), 2),
+        (Err(Fault::BeginTurn(0)), 2),
         (Err(Fault::Width), 2),
         (Err(Fault::Color), 2),
+        (Err(Fault::NoScript), 4),
         (Err(Fault::NoRequest), 4),
         (Err(Fault::Run(RunFault::Script(ScriptFault::TooLong))), 3),
         (Err(Fault::Run(RunFault::ReadFailed)), 4),
@@ -127,6 +126,8 @@ fn asks(alloc: Global, words: &[&str], path: &str, beneath: bool, no_links: bool
 fn reads_its_command_line(rt: HostRuntime) {
     let words = ["inroot", "walk", "--no-links", "--", "-a"];
     assert!(rt; asks(rt.alloc(), &words, "-a", false, true));
+    let words = ["inroot", "walk", "-b", "-L", "a", "file"];
+    assert!(rt; asks(rt.alloc(), &words, "a", true, true));
     for (words, want) in [
         (
             ["inroot", "replay"].as_slice(),
@@ -140,7 +141,11 @@ fn reads_its_command_line(rt: HostRuntime) {
             &["inroot", "replay", "--schedule=1", "--json"],
             Some((Some("1"), Written::Json, Closes::Hidden)),
         ),
-        (&["inroot", "replay", "a"], None),
+        (
+            &["inroot", "replay", "file"],
+            Some((None, Written::Text, Closes::Hidden)),
+        ),
+        (&["inroot", "replay", "file", "a"], None),
         (
             &["inroot", "draw", "--all"],
             Some((None, Written::Picture, Closes::Shown)),
@@ -291,6 +296,33 @@ fn reads_whether_it_is_strict(rt: HostRuntime) {
     }
 }
 
+/// Whether a command line names this file for its script, or none.
+fn names_script(alloc: Global, words: &[&str], want: Option<&str>) -> Option<bool> {
+    let matches = command(alloc).ok()?.try_get_matches_from(words).ok()?;
+    Some(script_named(&matches) == want)
+}
+
+#[test]
+fn reads_the_file_of_its_script(rt: HostRuntime) {
+    for (words, want) in [
+        (["inroot", "walk", "a"].as_slice(), None),
+        (&["inroot", "walk", "a", "file"], Some("file")),
+        (&["inroot", "replay", "file", "--json"], Some("file")),
+        (&["inroot", "draw", "--", "-file"], Some("-file")),
+        (&["inroot", "run", "--workers", "1", "file"], Some("file")),
+        (
+            &["inroot", "explore", "--never", "row", "file"],
+            Some("file"),
+        ),
+        (&["inroot", "explore", "--merge"], None),
+    ] {
+        assert!(rt;
+            names_script(rt.alloc(), words, want) == Some(true),
+            "{words:?}"
+        );
+    }
+}
+
 /// How a picture looks: its columns, its colours, and whether it is said that closes are left out; or why there is
 /// none.
 type Look = Result<(usize, Colours, Legend), Fault>;
@@ -420,68 +452,5 @@ fn blames_the_turns_that_are_asked_for(rt: HostRuntime) {
         (ScriptFault::Lines, script),
     ] {
         assert!(rt; blamed_for(rt.alloc(), "0*3,7", fault) == Ok(want));
-    }
-}
-
-/// Whether that is told in the line after a fault of a search that may go through so many states.
-fn is_advised(alloc: Global, fault: Fault, states: u64, want: &str) -> bool {
-    let mut out = Output::new(alloc);
-    advise(&mut out, fault, states).is_ok() && out.as_slice() == want.as_bytes()
-}
-
-#[test]
-fn tells_limits_and_what_helps(rt: HostRuntime) {
-    for (fault, states, want) in [
-        (
-            searched(SearchFault::TooManyStates),
-            7,
-            "more than 7 states; --states takes up to 10000000",
-        ),
-        (
-            searched(SearchFault::TooManyStates),
-            10_000_000,
-            "more than 10000000 states; --cuts and --begin leave fewer",
-        ),
-        (Fault::DrawActors, 0, "a picture has at most 4 actors"),
-        (Fault::Usage, 0, ""),
-    ] {
-        assert!(rt; is_advised(rt.alloc(), fault, states, want), "{want}");
-    }
-}
-
-const SCRIPT: &str =
-    "{\"tree\":[[\"dir\",\"/b c\"]],\"actors\":[{\"root\":\"\u{7f}\",\"calls\":[7]}],\"schedule\":[9]}";
-
-/// Whether that is shown of the script; none where nothing is.
-fn is_shown(alloc: Global, fault: ScriptFault, want: Option<&str>) -> Option<bool> {
-    let script = Value::from_str(alloc, SCRIPT).ok()?;
-    match entry_text(alloc, &script, fault).ok()? {
-        Some(text) => Some(want.map(|want| want.as_bytes()) == Some(text.as_slice())),
-        None => Some(want.is_none()),
-    }
-}
-
-#[test]
-fn shows_what_is_refused(rt: HostRuntime) {
-    for (fault, want) in [
-        (
-            ScriptFault::TreeEntry(0, Cause::Shape),
-            Some("[\"dir\",\"/b c\"]"),
-        ),
-        (ScriptFault::TreeEntry(1, Cause::Shape), None),
-        (
-            ScriptFault::Actor(0, Cause::Shape),
-            Some("{\"calls\":[7],\"root\":\"\\x7f\"}"),
-        ),
-        (
-            ScriptFault::Actor(0, Cause::Refused(Errno::NotFound)),
-            Some("\"\\x7f\""),
-        ),
-        (ScriptFault::Call(0, 0, None), Some("7")),
-        (ScriptFault::NoJob(0), Some("7")),
-        (ScriptFault::Turn(0), Some("9")),
-        (ScriptFault::Version, None),
-    ] {
-        assert!(rt; is_shown(rt.alloc(), fault, want) == Some(true), "{want:?}");
     }
 }

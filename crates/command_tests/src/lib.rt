@@ -1,11 +1,13 @@
 //! What command lines ask for, and the statuses that the program ends with; walks over both trees that no script makes,
-//! and faults that no script meets.
+//! faults that no script meets, and what is told of a fault.
 #![tactic(auto)]
 
 #[cfg(test)]
 mod commands;
 #[cfg(test)]
 mod faults;
+#[cfg(test)]
+mod messages;
 #[cfg(test)]
 mod reads;
 #[cfg(test)]

@@ -1,29 +1,31 @@
-//! The program: resolves paths below a root, over the tree that a script on standard input gives, replays, draws and
-//! explores scripts of calls that race, and lets workers make a script's calls.
+//! The program: resolves paths below a root, over the tree that a script gives, replays, draws and explores scripts of
+//! calls that race, and lets workers make a script's calls.
 //!
-//! It hands the words of its command line to `command_line`, and standard input and output to `walk_replay_command`,
-//! `draw_command`, `run_command`, `explore_command`, `explore_parts` and `explore_page_command`, where it is stated
-//! what a run writes; it ends with the status that `command_line` says of what happened.
+//! It hands the words of its command line to `command_line`, and the script and standard output to
+//! `walk_replay_command`, `draw_command`, `run_command`, `explore_command`, `explore_parts` and `explore_page_command`,
+//! where it is stated what a run writes; it ends with the status that `command_line` says of what happened.
 #![tactic(auto)]
 
 ghost use Rattle.std.specs.Prelude.{◌<◌, ◌≤◌};
 
+mod reading;
 mod taken;
 mod telling;
 mod waiting;
 
 use clap::ArgMatches;
 use command_line::{
-    Drawing, Fault, Request, Screen, Walking, asked, blamed, command, is_strict, order_of, status,
-    style_of,
+    Drawing, Fault, Request, Screen, Walking, asked, blamed, command, is_strict, order_of,
+    script_named, status, style_of,
 };
 use draw_command::{Style, draw, draw_page, replay_json};
 use drawings::Closes;
 use explore_command::{explore_part, explore_script};
 use explore_page_command::{ExplorePageFault, explore_page};
 use explore_parts::{Asked, merge_parts, read_asked};
+use reading::{number_rows, script_of, searched};
 use run_command::run_jobs;
-use scripts::{RunFault, TurnOrder, read_script, read_strictly};
+use scripts::{RunFault, TurnOrder, read_strictly};
 use std::alloc::Global;
 use std::io::{IsTerminal, Read};
 use std::process::ExitCode;
@@ -203,16 +205,16 @@ fn perform<R: Threads + Wait + Sync, S: Read>(
     Ok(())
 }
 
-/// How many states may be gone through.
-fn most_states(task: &Task<'_>) -> u64 {
+/// What is asked of a search, if there is to be one.
+fn search_of<'t>(task: &'t mut Task<'_>) -> Option<&'t mut Asked> {
     match task {
-        Task::Explore(asked) | Task::ExplorePage(asked) | Task::Part(asked) => asked.limits.states,
-        _ => 0,
+        Task::Explore(asked) | Task::ExplorePage(asked) | Task::Part(asked) => Some(asked),
+        _ => None,
     }
 }
 
-/// Reads the command line, and does what it asks for over the script on standard input. Where it asks for
-/// strictness, the whole script is read strictly first. Parts are no script, and are read as they come.
+/// Reads the command line, and does what it asks for over the script. Where it asks for strictness, the whole script is
+/// read strictly first. Parts are no script, and are read as they come.
 fn run<R: Threads + Wait + Sync>(
     rt: &HostRuntime,
     threads: &R,
@@ -224,17 +226,23 @@ fn run<R: Threads + Wait + Sync>(
         Ok(matches) => matches,
         Err(error) => return told_by(rt, &error),
     };
-    let task = task_of(rt, &matches)?;
-    told.states = most_states(&task);
-    let mut input = rt.stdin();
+    let mut task = task_of(rt, &matches)?;
     if let Task::Merge = task {
-        return perform(rt, threads, &task, &mut input);
+        return perform(rt, threads, &task, &mut rt.stdin());
     }
-    told.script = read_script(alloc, &mut input)?;
+    told.script = script_of(rt, script_named(&matches))?;
     if is_strict(&matches) {
         read_strictly(alloc, &mut told.script.as_slice())?;
     }
-    perform(rt, threads, &task, &mut told.script.as_slice())
+    if let Some(asked) = search_of(&mut task) {
+        told.states = asked.limits.states;
+        number_rows(alloc, asked, told)?;
+    }
+    let ended = perform(rt, threads, &task, &mut told.script.as_slice());
+    match (search_of(&mut task), ended) {
+        (Some(asked), Err(fault)) => Err(searched(alloc, asked, fault, told)),
+        (_, ended) => ended,
+    }
 }
 
 fn main(rt: HostRuntime) -> ExitCode {

@@ -1,6 +1,8 @@
 //! What is told of a fault on standard error.
-use command_line::{Fault, advise, entry_text};
-use scripts::{RunFault, ScriptFault, value_of};
+use command_line::{Fault, add_caret, add_excerpt, add_no_json, advise, entry_text, reason_of};
+use path_text::NoMemory;
+use scripts::{JsonFault, RunFault, ScriptFault, value_of};
+use serde_json::Value;
 use std::alloc::Global;
 use std::io::{self, Write};
 use step_text::Output;
@@ -10,6 +12,8 @@ use step_text::Output;
 pub struct Told {
     /// How many states may be gone through.
     pub states: u64,
+    /// The text of the property that no report can have a line for.
+    pub line: Vec<u8>,
     /// The script, once it is read.
     pub script: Vec<u8>,
 }
@@ -19,55 +23,80 @@ impl Told {
     pub fn new(alloc: Global) -> Told {
         Told {
             states: 0,
+            line: Vec::new(alloc),
             script: Vec::new(alloc),
         }
     }
 }
 
-/// Tells a line that ends in a text.
-fn tell_line(rt: &HostRuntime, text: &Output) -> io::Result<()> {
+/// Tells a line, unless there was no room for its text or it has none.
+fn tell_line(rt: &HostRuntime, added: Result<(), NoMemory>, text: &Output) -> io::Result<()> {
+    if added.is_err() || text.as_slice().is_empty() {
+        return Ok(());
+    }
+    eprint!(rt; "inroot: ")?;
     rt.stderr().write_all(text.as_slice())?;
     eprintln!(rt; "")
 }
 
+/// Tells why a script is no JSON text, and points to where.
+fn tell_no_json(rt: &HostRuntime, fault: JsonFault, script: &[u8]) -> io::Result<()> {
+    let mut reason = Output::new(rt.alloc());
+    let added = add_no_json(&mut reason, script, fault);
+    tell_line(rt, added, &reason)?;
+    let mut excerpt = Output::new(rt.alloc());
+    let added = add_excerpt(&mut excerpt, script, fault);
+    tell_line(rt, added, &excerpt)?;
+    let mut caret = Output::new(rt.alloc());
+    let added = add_caret(&mut caret, script, fault);
+    tell_line(rt, added, &caret)
+}
+
 /// Tells what a script has where it is refused, if that is one of its entries.
-fn tell_entry(rt: &HostRuntime, fault: ScriptFault, script: &[u8]) -> io::Result<()> {
-    let alloc = rt.alloc();
-    let Ok(value) = value_of(alloc, script) else {
-        return Ok(());
-    };
-    match entry_text(alloc, &value, fault) {
+fn tell_entry(rt: &HostRuntime, fault: ScriptFault, script: &Value) -> io::Result<()> {
+    match entry_text(rt.alloc(), script, fault) {
         Ok(Some(text)) => {
             eprint!(rt; "inroot: {fault}: ")?;
-            tell_line(rt, &text)
+            rt.stderr().write_all(text.as_slice())?;
+            eprintln!(rt; "")
         }
         _ => Ok(()),
     }
 }
 
-/// Tells the limit that was met, and what helps.
-fn tell_advice(rt: &HostRuntime, fault: Fault, states: u64) -> io::Result<()> {
-    let mut text = Output::new(rt.alloc());
-    if advise(&mut text, fault, states).is_err() || text.as_slice().is_empty() {
-        return Ok(());
+/// Tells what is wrong with a script, or else what was wanted, and what the script has there.
+fn tell_script(rt: &HostRuntime, fault: ScriptFault, script: &[u8]) -> io::Result<()> {
+    if let ScriptFault::NotJson(fault) = fault {
+        return tell_no_json(rt, fault, script);
     }
-    eprint!(rt; "inroot: ")?;
-    tell_line(rt, &text)
+    let value = value_of(rt.alloc(), script).ok();
+    let reason = match &value {
+        Some(value) => reason_of(value, fault),
+        None => None,
+    };
+    if let Some(reason) = reason {
+        eprintln!(rt; "inroot: {reason}")?;
+    } else if let Some(detail) = RunFault::Script(fault).detail() {
+        eprintln!(rt; "inroot: {detail}")?;
+    }
+    match &value {
+        Some(value) => tell_entry(rt, fault, value),
+        None => Ok(()),
+    }
 }
 
-/// Tells a fault on standard error, and more of it in the lines below: what was wanted of a script and what it has
-/// there, or the limit that was met. What clap or the answer has told isn't told again.
+/// Tells a fault on standard error, and more of it in the lines below: what is wrong with a script and what it has
+/// there, or the limit that was met. What was told where it was met, or by the answer, isn't told again.
 pub fn tell(rt: &HostRuntime, fault: Fault, told: &Told) -> io::Result<()> {
     match fault {
-        Fault::Usage | Fault::PropertyFails => return Ok(()),
+        Fault::Usage | Fault::PropertyFails | Fault::NoScript => return Ok(()),
         _ => {}
     }
     eprintln!(rt; "inroot: {fault}")?;
-    let Fault::Run(RunFault::Script(refused)) = fault else {
-        return tell_advice(rt, fault, told.states);
-    };
-    if let Some(detail) = RunFault::Script(refused).detail() {
-        eprintln!(rt; "inroot: {detail}")?;
+    if let Fault::Run(RunFault::Script(refused)) = fault {
+        return tell_script(rt, refused, told.script.as_slice());
     }
-    tell_entry(rt, refused, told.script.as_slice())
+    let mut advice = Output::new(rt.alloc());
+    let added = advise(&mut advice, fault, told.states, told.line.as_slice());
+    tell_line(rt, added, &advice)
 }

@@ -1,0 +1,12 @@
+use Rattle.std.proofs.Common.{◌==◌, rules, tests}
+use Rattle.std.proofs.lemmas.Iterator.Search.{any_from_yields_List}
+use Rattle.std.proofs.lemmas.Iterator.Splits.{YieldsList-from_slice_split}
+use Rattle.path_text.specs.declared.name.TheConstants.{SLASH}
+use Rattle.command_line.specs.Reason.{is_dots}
+use Rattle.command_line.proofs.reason.has_dots.Goals as goal
+
+pub returns : goal.returns
+returns c =
+    any_from_yields_List is_dots _ _ c.any.result c.any.ensures.ran
+    (YieldsList-from_slice_split _ (λ b. b == SLASH) c.args.names.now c.split.ensures.rest c.split.ensures.done c.split.ensures.closure (λ x b q k. search (rules, tests)))
+    (λ x b q k. search (rules, tests))

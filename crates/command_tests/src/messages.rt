@@ -1,0 +1,332 @@
+//! What is told of a fault beside its own words.
+use command_line::{
+    Fault, add_caret, add_excerpt, add_no_json, advise, begun, can_be_named, entry_text, reason_of,
+    row_line,
+};
+use outcome_text::{ExploreFault, SearchFault};
+use path_text::Errno;
+use scripts::{CallFault, Cause, Field, JsonFault, ScriptFault};
+use serde_json::Value;
+use std::alloc::Global;
+use step_text::Output;
+
+/// The fault of a search that gives nothing.
+fn searched(fault: SearchFault) -> Fault {
+    Fault::from(ExploreFault::from(fault))
+}
+
+/// Whether that is told in the line after a fault of a search that may go through so many states.
+fn is_advised(alloc: Global, fault: Fault, states: u64, line: &str, want: &str) -> bool {
+    let mut out = Output::new(alloc);
+    advise(&mut out, fault, states, line.as_bytes()).is_ok() && out.as_slice() == want.as_bytes()
+}
+
+#[test]
+fn tells_limits_and_what_helps(rt: HostRuntime) {
+    for (fault, states, line, want) in [
+        (
+            searched(SearchFault::TooManyStates),
+            7,
+            "",
+            "more than 7 states; --states takes up to 10000000",
+        ),
+        (
+            searched(SearchFault::TooManyStates),
+            10_000_000,
+            "",
+            "more than 10000000 states; --cuts and --begin leave fewer",
+        ),
+        (
+            Fault::Explore(ExploreFault::NoSuchLine(1)),
+            0,
+            "reply 0 0 EAGAIN",
+            "no report of the script has a line with 'reply 0 0 EAGAIN': after reply ACTOR CALL comes opened, text, done, count, stepped or fault ERROR",
+        ),
+        (
+            Fault::Explore(ExploreFault::NoSuchLine(0)),
+            0,
+            "row /none",
+            "no report of the script has a line with 'row /none': after row comes the number or the path of a directory, and then a name that the script has",
+        ),
+        (
+            Fault::BeginTurn(0),
+            0,
+            "",
+            "a turn is an actor's number, counted from 0",
+        ),
+        (Fault::DrawActors, 0, "", "a picture has at most 4 actors"),
+        (Fault::Usage, 0, "", ""),
+    ] {
+        assert!(rt; is_advised(rt.alloc(), fault, states, line, want), "{want}");
+    }
+}
+
+const SCRIPT: &str =
+    "{\"tree\":[[\"dir\",\"/b c\"]],\"actors\":[{\"root\":\"\u{7f}\",\"calls\":[7]}],\"schedule\":[9]}";
+
+/// Whether that is shown of the script; none where nothing is.
+fn is_shown(alloc: Global, fault: ScriptFault, want: Option<&str>) -> Option<bool> {
+    let script = Value::from_str(alloc, SCRIPT).ok()?;
+    match entry_text(alloc, &script, fault).ok()? {
+        Some(text) => Some(want.map(|want| want.as_bytes()) == Some(text.as_slice())),
+        None => Some(want.is_none()),
+    }
+}
+
+#[test]
+fn shows_what_is_refused(rt: HostRuntime) {
+    for (fault, want) in [
+        (
+            ScriptFault::TreeEntry(0, Cause::Shape),
+            Some("[\"dir\",\"/b c\"]"),
+        ),
+        (ScriptFault::TreeEntry(1, Cause::Shape), None),
+        (
+            ScriptFault::Actor(0, Cause::Shape),
+            Some("{\"calls\":[7],\"root\":\"\\x7f\"}"),
+        ),
+        (
+            ScriptFault::Actor(0, Cause::Refused(Errno::NotFound)),
+            Some("\"\\x7f\""),
+        ),
+        (ScriptFault::Call(0, 0, None), Some("7")),
+        (ScriptFault::NoJob(0), Some("7")),
+        (ScriptFault::Turn(0), Some("9")),
+        (ScriptFault::Version, None),
+    ] {
+        assert!(rt; is_shown(rt.alloc(), fault, want) == Some(true), "{want:?}");
+    }
+}
+
+/// Whether that is what is wrong with a script.
+fn is_reason(alloc: Global, script: &str, fault: ScriptFault, want: Option<&str>) -> Option<bool> {
+    let script = Value::from_str(alloc, script).ok()?;
+    Some(reason_of(&script, fault) == want)
+}
+
+#[test]
+fn says_what_is_wrong_with_an_entry(rt: HostRuntime) {
+    let shape = ScriptFault::TreeEntry(0, Cause::Shape);
+    let missing = ScriptFault::TreeEntry(0, Cause::Refused(Errno::NotFound));
+    for (script, fault, want) in [
+        (
+            r#"{"tree":[["dir","/a/.."]]}"#,
+            shape,
+            Some(". and .. are no names"),
+        ),
+        (
+            r#"{"tree":[["dir","/a/"]]}"#,
+            shape,
+            Some("a path has one slash before each name, and none at its end"),
+        ),
+        (r#"{"tree":[["dir","/a"]]}"#, shape, None),
+        (
+            r#"{"tree":[["link","/a",""]]}"#,
+            missing,
+            Some("ENOENT: its link text is empty"),
+        ),
+        (
+            r#"{"tree":[["dir","/a/b"]]}"#,
+            missing,
+            Some("ENOENT: its directory is no entry before it"),
+        ),
+        (r#"{"tree":[]}"#, missing, None),
+        (
+            r#"{"tree":[["dir","/a"]]}"#,
+            ScriptFault::TreeEntry(0, Cause::Refused(Errno::Exists)),
+            None,
+        ),
+    ] {
+        assert!(rt;
+            is_reason(rt.alloc(), script, fault, want) == Some(true),
+            "{script}"
+        );
+    }
+}
+
+#[test]
+fn says_what_is_wrong_with_an_actor(rt: HostRuntime) {
+    let shape = ScriptFault::Actor(0, Cause::Shape);
+    for (script, want) in [
+        (
+            r#"{"actors":[{"root":"/"}]}"#,
+            Some("\"calls\" is missing, a list that may be empty; walk alone does without"),
+        ),
+        (
+            r#"{"actors":[{"root":"c"}]}"#,
+            Some("a path begins with a slash"),
+        ),
+        (
+            r#"{"actors":[{"root":7,"calls":[]}]}"#,
+            Some("\"root\" is no text"),
+        ),
+        (r#"{"actors":[{"root":"/c","calls":[]}]}"#, None),
+    ] {
+        assert!(rt;
+            is_reason(rt.alloc(), script, shape, want) == Some(true),
+            "{script}"
+        );
+    }
+}
+
+#[test]
+fn says_what_is_wrong_with_a_call(rt: HostRuntime) {
+    for (script, fault, want) in [
+        (
+            r#"{"actors":[{"calls":[["resolve","a"]]}]}"#,
+            CallFault::Missing(Field::Op),
+            Some("a call is an object, as {\"op\":\"resolve\",\"path\":\"a\"}"),
+        ),
+        (
+            r#"{"actors":[{"calls":[{"op":"unlink"}]}]}"#,
+            CallFault::Unknown(Field::Op),
+            Some("\"unlink\" is no operation: \"remove_file\" removes a file or a link"),
+        ),
+        (
+            r#"{"actors":[{"calls":[{"op":"resolve"}]}]}"#,
+            CallFault::Missing(Field::Path),
+            None,
+        ),
+    ] {
+        let fault = ScriptFault::Call(0, 0, Some(fault));
+        assert!(rt;
+            is_reason(rt.alloc(), script, fault, want) == Some(true),
+            "{script}"
+        );
+    }
+}
+
+/// Whether these lines are told of a text that is no JSON.
+fn is_pointed(
+    alloc: Global,
+    script: &[u8],
+    (line, column): (usize, usize),
+    want: (&str, &str, &str),
+) -> bool {
+    let fault = JsonFault {
+        is_cut_short: false,
+        line,
+        column,
+    };
+    let (mut reason, mut excerpt) = (Output::new(alloc), Output::new(alloc));
+    let mut caret = Output::new(alloc);
+    add_no_json(&mut reason, script, fault).is_ok()
+        && add_excerpt(&mut excerpt, script, fault).is_ok()
+        && add_caret(&mut caret, script, fault).is_ok()
+        && reason.as_slice() == want.0.as_bytes()
+        && excerpt.as_slice() == want.1.as_bytes()
+        && caret.as_slice() == want.2.as_bytes()
+}
+
+#[test]
+fn points_to_what_is_no_json(rt: HostRuntime) {
+    for (script, place, want) in [
+        (
+            b"{\n[1,]}\n".as_slice(),
+            (2, 4),
+            (
+                "not valid JSON at line 2, column 4: unexpected ']'",
+                "[1,]}",
+                "   ^",
+            ),
+        ),
+        (
+            b"\"\xc3\xa9\\\"x",
+            (1, 6),
+            (
+                "not valid JSON at line 1, column 6: unexpected 'x'",
+                "\"\\xc3\\xa9\\\"x",
+                "           ^",
+            ),
+        ),
+        (
+            b"[]\n]",
+            (1, 9),
+            ("not valid JSON at line 1, column 9", "", ""),
+        ),
+        (
+            b" \n\t",
+            (2, 1),
+            (
+                "the script is empty: name its file, or give the script on standard input",
+                "\\x09",
+                "^",
+            ),
+        ),
+        (
+            b"[\"\xff\"]",
+            (1, 9),
+            ("not UTF-8 after byte 2 of the script", "", ""),
+        ),
+    ] {
+        assert!(rt; is_pointed(rt.alloc(), script, place, want), "{want:?}");
+    }
+}
+
+/// The line that a property's text stands for in a script with two directories.
+fn is_line(alloc: Global, text: &str, want: Option<&str>) -> Option<bool> {
+    let script = r#"{"tree":[["file","/f"],["dir","/c"],["dir","/c/a"]]}"#;
+    let script = Value::from_str(alloc, script).ok()?;
+    match row_line(alloc, &script, text.as_bytes()).ok()? {
+        Some(line) => Some(Some(line.as_slice()) == want.map(|want| want.as_bytes())),
+        None => Some(want.is_none()),
+    }
+}
+
+#[test]
+fn takes_paths_of_directories(rt: HostRuntime) {
+    for (text, want) in [
+        ("row /", Some("row 0")),
+        ("row /c", Some("row 2")),
+        ("row /c/a made 7 dir", Some("row 3 made 7 dir")),
+        ("row 9 made", Some("row 9 made")),
+        ("row", Some("row")),
+        (
+            "reply 0 0 opened dir 2 /c",
+            Some("reply 0 0 opened dir 2 /c"),
+        ),
+        ("row /f", None),
+        ("row /c/", None),
+        ("row /none made", None),
+    ] {
+        assert!(rt; is_line(rt.alloc(), text, want) == Some(true), "{text}");
+    }
+}
+
+#[test]
+fn knows_names_that_nothing_has(rt: HostRuntime) {
+    for (script, text, want) in [
+        ("[\"/c/made\"]", "row 1 made", true),
+        ("[\"/c/made\"]", "row /c made 7", true),
+        ("[\"/c/made\"]", "row 1 nonsense", false),
+        ("[\"/c/made\"]", "row 1", true),
+        ("[\"/c/made\"]", "held 1 nonsense", true),
+        ("[\"/c/made\"]", "row 1 a\\x20b", true),
+        ("[\"\\u0061\"]", "row 1 nonsense", true),
+    ] {
+        let can = can_be_named(script.as_bytes(), text.as_bytes());
+        assert!(rt; can == want, "{script} {text}");
+    }
+}
+
+fn idle(at: usize) -> Fault {
+    searched(SearchFault::NotBusy(at))
+}
+
+/// The fault that is told of a script with one actor where a search has that one.
+fn begun_for(alloc: Global, begin: &[u32], fault: Fault) -> Option<Fault> {
+    let script = Value::from_str(alloc, r#"{"actors":[{"root":"/"}]}"#).ok()?;
+    Some(begun(begin, &script, fault))
+}
+
+#[test]
+fn blames_a_beginning_for_turns_of_no_actor(rt: HostRuntime) {
+    for (fault, want) in [
+        (idle(1), Fault::BeginTurn(1)),
+        (idle(0), idle(0)),
+        (idle(2), idle(2)),
+        (Fault::DrawLines, Fault::DrawLines),
+    ] {
+        assert!(rt; begun_for(rt.alloc(), &[0, 9], fault) == Some(want));
+    }
+}
