@@ -102,6 +102,18 @@ def explored():
 # ---- pictures
 
 
+def columns_of(drawing):
+    """What each actor's column has, with its rows joined."""
+    rows = [line[:-2].split(" | ")[1:] for line in drawing.partition("\n\n")[2].splitlines()[1:]]
+    return ["".join(cell.rstrip() for cell in column) for column in zip(*rows)]
+
+
+def fits_and_is_whole(path, width):
+    """No row is wider than that, and the rows have all that a wide picture has."""
+    narrow, wide = (run("draw", "--color", "never", "--width", str(it), given=read(path)).out for it in (width, 10000))
+    return max(map(len, narrow.splitlines())) <= width and columns_of(narrow) == columns_of(wide) != []
+
+
 def drawn():
     script, picture = read("examples/attacks/moved-out.json"), read("examples/attacks/moved-out.txt")
     verdict(run("draw", given=script)[:2] == (0, picture), "a picture as text")
@@ -109,6 +121,9 @@ def drawn():
         attack = os.path.basename(path)[:-5]
         wanted = (0, read(f"docs/attacks/{attack}.svg"))
         verdict(run("draw", "--svg", given=read(path))[:2] == wanted, f"a picture as SVG of {attack}")
+    for path in ATTACKS + ["checks/cases/marked.json", "checks/cases/three-at-once.json"]:
+        for width in (40, 60, 80):
+            verdict(fits_and_is_whole(path, width), f"in {width} columns: {path}")
     # With all steps it has a line more for each handle that is closed, and all else as it was.
     whole = run("draw", "--all", given=script).out
     closes = r"^.*[|] close [^ ]+ = done .*\n"

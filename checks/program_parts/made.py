@@ -189,10 +189,19 @@ def answers_on_a_clean_line():
     return re.search(progress, told) and answer.startswith("schedules ") and "schedules" not in before
 
 
+def waits_for_a_script():
+    """Without a script's file a terminal is told that it is read, and not with one."""
+    waits = "inroot: waits for a script on this terminal, up to Control-D; to read a file, name it as the last argument"
+    told = started(["script", "-qec", f"{shlex.quote(PROGRAM)} walk a/b/f", "/dev/null"], "\n").out.replace("\r", "")
+    named = typed("walk a/b/f examples/base.json").replace("\r", "")
+    return waits in told.split("\n") and "the script is empty" in told and named == "opened file 4 /a/b/f\n"
+
+
 def on_a_terminal():
     """A picture has the terminal's width and colours."""
     if lacks("script", "what is seen on a terminal"):
         return
+    verdict(waits_for_a_script(), "a script from a terminal")
     verdict(answers_on_a_clean_line(), "the answer on a terminal")
     moved_out = "    10 | {}open .. of /secret/b = dir 9     {} |                                   |"
     for name, line, *words in (

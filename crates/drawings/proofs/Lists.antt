@@ -1,15 +1,17 @@
 -- Lists that are gone through from the front, with what is left of them.
-use Rattle.std.proofs.Common.{◌≡◌, ℕ, suc, ◌+◌, List, ◌++◌, drop, sym, ap, ◌∙◌, add-one}
-use Rattle.std.specs.Prelude.{Some, Result, Ok, Err, OnOk, slice_get, codes}
+use Rattle.std.proofs.Common.{◌≡◌, true, ℕ, suc, ◌+◌, ◌-◌, ◌<◌, List, [], ◌∷◌, ◌++◌, length, take, drop, sym, ap, ◌∙◌, add-one, arith}
+use Rattle.std.specs.Prelude.{Some, Result, Ok, Err, OnOk, slice_get, nat_lt, if◌then◌else◌, codes}
 use Rattle.std.specs.List.{flat_map}
 use Rattle.std.proofs.lemmas.List.{append_assoc}
 use Rattle.report_text.proofs.AddedLines.{next_left}
+use Rattle.report_text.specs.Report.{numbered}
 use Rattle.tree_model.specs.declared.answer.Event.{Event}
 use Rattle.tree_model.specs.History.{after_event}
 use Rattle.tree_model.specs.State.{State}
 use Rattle.step_text.specs.Output.{escaped, Gains}
 use Rattle.drawings.specs.declared.picture.Closes.{Closes}
 use Rattle.drawings.specs.declared.picture.Line.{Line}
+use Rattle.drawings.specs.Cells.{row_end, pieces}
 use Rattle.drawings.specs.Events.{spaced}
 use Rattle.drawings.specs.Picture.{moment_lines, lines_from}
 
@@ -50,3 +52,21 @@ moment_more closes actors opening s t events at event before after whole found l
     ∙ ap (λ u. after ++ lines_from closes actors opening u (suc at) (drop (suc at) events)) led
     ∙ ap (λ lines. lines ++ rest) is_after ∙ append_assoc before (moment_lines closes actors opening s at event) rest
     ∙ ap (λ left. before ++ lines_from closes actors opening s at left) (sym (next_left events at event found)) ∙ h
+
+-- one more row of a text is written
+pub row_more : (row : ℕ → List ℕ → List ℕ) (width most at end : ℕ) (rest next before after whole : List ℕ) → at < most → nat_lt 0 (length rest) ≡ true → end ≡ row_end width rest → next ≡ drop end rest
+    → after ≡ before ++ row at (take end rest) → before ++ numbered row at (pieces (most - at) width rest) ≡ whole
+    → after ++ numbered row (at + 1) (pieces (most - (at + 1)) width next) ≡ whole
+row_more row width most at end rest next before after whole within some is_end is_next is_after h =
+    let left = most - (at + 1) in
+    let split : pieces (suc left) width rest ≡ take (row_end width rest) rest ∷ pieces left width (drop (row_end width rest) rest) =
+    ap (λ t. if t then take (row_end width rest) rest ∷ pieces left width (drop (row_end width rest) rest) else []) some in
+    let turns : most - at ≡ suc left = omega (arith, within) in
+    let piece = take end rest in
+    let others = pieces left width (drop end rest) in
+    let parts : pieces (most - at) width rest ≡ piece ∷ others =
+    ap (λ n. pieces n width rest) turns ∙ split ∙ ap (λ n. take n rest ∷ pieces left width (drop n rest)) (sym is_end) in
+    ap (λ n. after ++ numbered row n (pieces left width next)) (add-one at)
+    ∙ ap (λ bs. after ++ numbered row (suc at) (pieces left width bs)) is_next
+    ∙ ap (λ bs. bs ++ numbered row (suc at) others) is_after ∙ append_assoc before (row at piece) (numbered row (suc at) others)
+    ∙ ap (λ ps. before ++ numbered row at ps) (sym parts) ∙ h

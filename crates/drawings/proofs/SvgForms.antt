@@ -220,7 +220,8 @@ about_then : (others : List ℕ) → IsContent others → IsContent (about ++ ot
 unfolding about
 about_then others h =
     simp append_assoc (told_then (codes "title") (codes "A run of calls below a root") _ refl refl
-    (told_then (codes "desc") (codes "A column for each actor, and a line for each step at its moment. Red: what is outside of the root is opened or held, or a check says no. Green: a check says yes, or a call did what it was to do. Brown: a call failed. Where a moment is missing, an actor closed a handle.") others refl refl h))
+    (told_then (codes "desc") (codes "A column for each actor, and a line for each step at its moment. Red: what is outside of the root is opened or held, or a check says no. Green: a check says yes, or a call did what it was to do. Brown: a call failed. Where a moment is missing, an actor closed a handle.") _ refl refl
+    (told_then (codes "style") (codes "text{white-space:pre}") others refl refl h)))
 
 pub svg_is_well_formed : SvgIsWellFormed
 unfolding svg_head

@@ -1,5 +1,6 @@
 -- What holds of drawings: statements of laws.
-use Rattle.std.specs.Prelude.{◌<◌, ◌≤◌, ◌+◌, ◌^◌, ℕ, Some, IfSome, List, length, All, codes}
+use Rattle.std.specs.Prelude.{◌≡◌, ◌<◌, ◌≤◌, ◌+◌, ◌^◌, ℕ, Some, IfSome, List, length, All, codes}
+use Rattle.std.specs.List.{flat_map}
 use Rattle.drawings.specs.declared.picture.TheConstants.{ACTORS_MAX}
 use Rattle.drawings.specs.declared.picture.Head.{Head}
 use Rattle.drawings.specs.declared.picture.Line.{Line}
@@ -8,7 +9,7 @@ use Rattle.drawings.specs.declared.look.Legend.{Legend}
 use Rattle.drawings.specs.declared.look.TheConstants.{COLUMNS_MIN}
 use Rattle.drawings.specs.declared.text.TheConstants.{MARK_COLUMNS}
 use Rattle.drawings.specs.declared.picture.Tone.{Tone}
-use Rattle.drawings.specs.Cells.{mark_of}
+use Rattle.drawings.specs.Cells.{pieces, mark_of}
 use Rattle.drawings.specs.Picture.{Drawn, CanBeDrawn}
 use Rattle.drawings.specs.Svg.{xml_text, svg_of}
 use Rattle.drawings.specs.Text.{row, heading_row, legend_text}
@@ -47,7 +48,16 @@ RowsFit = (actors : ℕ) → 0 < actors → actors ≤ ACTORS_MAX → (columns :
     → (mark : List ℕ) → length mark ≤ MARK_COLUMNS → (tone : ℕ → Tone) (shown : ℕ → List ℕ)
     → length (row actors columns Off mark tone shown) ≤ columns + 1
 
--- nor is a line of the heading
+-- the rows of a text have all of it, in order, and each has room in its cell, so that none is cut
+abbrev pub NothingIsCut : Type 0
+NothingIsCut = (width : ℕ) → 0 < width → (text : List ℕ)
+    → flat_map (λ piece. piece) (pieces (length text) width text) ≡ text
+
+abbrev pub PiecesFit : Type 0
+PiecesFit = (width most : ℕ) (text : List ℕ)
+    → All (λ piece. length piece ≤ width) (pieces most width text)
+
+-- no line of the heading is wider, either
 abbrev pub HeadingFits : Type 0
 HeadingFits = (columns : ℕ) → COLUMNS_MIN ≤ columns → (head : Head)
     → length (heading_row columns Off head) ≤ columns + 1

@@ -35,7 +35,7 @@ step_text s i (Dup handle) = with_place s i (codes "open ") handle ++ codes " ag
 step_text s i (Parent handle) = with_place s i (codes "open .. of ") handle
 step_text s i (ReadLink handle) = with_place s i (codes "read_link ") handle
 step_text s i (NameBelow root handle) =
-    with_place s i (codes "CHECK ") handle ++ (with_place s i (codes " below ") root ++ codes "?")
+    with_place s i (codes "CHECK ") handle ++ with_place s i (codes " below ") root
 step_text s i (ListNames handle) = with_place s i (codes "list ") handle
 step_text s i (Close handle) = with_place s i (codes "close ") handle
 step_text s i (MakeDir dir name) = with_entry s i (codes "make_dir ") dir name
@@ -50,15 +50,22 @@ step_text s i (Rename from old to new mode) =
 abbrev pub spaced : List ℕ → List ℕ
 spaced name = codes " " ++ escaped name
 
--- what it was answered; names that were asked for come of a check
+-- what a check said, which stands before all else
+abbrev pub verdict_words : Answer → List ℕ
+verdict_words (Names names) = codes "yes: "
+verdict_words NotBelow = codes "NO: "
+verdict_words other = []
+
+-- what a step was answered; names that were asked for come of a check
 abbrev pub answer_text : Answer → List ℕ
 answer_text (Opened handle node kind) = codes " = " ++ (kind_word kind ++ (codes " " ++ decimal node))
 answer_text (Text text) = codes " = " ++ escaped text
-answer_text (Names names) = codes " yes: " ++ escaped (printed names)
-answer_text NotBelow = codes " NO: not below"
+answer_text (Names names) = codes " = " ++ escaped (printed names)
+answer_text NotBelow = []
 answer_text (Listed names) = codes " =" ++ flat_map spaced names
 answer_text Done = codes " = done"
 answer_text (Refused error) = codes " = " ++ name_of error
 
 abbrev pub event_text : State → Event → List ℕ
-event_text s event = step_text s event.actor event.step ++ answer_text event.answer
+event_text s event =
+    verdict_words event.answer ++ (step_text s event.actor event.step ++ answer_text event.answer)

@@ -128,11 +128,12 @@ svg_head width height =
     (codes "' width='")
     ++ tag [] width (codes "' height='") height (codes "'>\n")
 
--- what the picture is, and what its colours say
+-- what the picture is, what its colours say, and that blanks count for browsers, which read no xml:space above
 unfoldable pub about : List ℕ
 about =
     codes "<title>A run of calls below a root</title>\n"
-    ++ codes "<desc>A column for each actor, and a line for each step at its moment. Red: what is outside of the root is opened or held, or a check says no. Green: a check says yes, or a call did what it was to do. Brown: a call failed. Where a moment is missing, an actor closed a handle.</desc>\n"
+    ++ (codes "<desc>A column for each actor, and a line for each step at its moment. Red: what is outside of the root is opened or held, or a check says no. Green: a check says yes, or a call did what it was to do. Brown: a call failed. Where a moment is missing, an actor closed a handle.</desc>\n"
+    ++ codes "<style>text{white-space:pre}</style>\n")
 
 abbrev pub svg_of : Drawn → List ℕ
 svg_of picture =

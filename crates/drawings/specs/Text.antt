@@ -1,6 +1,7 @@
--- A picture as text: its heading, and a table with a row for each line and a column for each actor.
-use Rattle.std.specs.Prelude.{ℕ, zero, suc, ◌-◌, ◌/◌, ◌==◌, List, [], ◌∷◌, ◌++◌, if◌then◌else◌, codes}
+-- A picture as text: its heading, and a table with rows for each line and a column for each actor.
+use Rattle.std.specs.Prelude.{ℕ, zero, suc, ◌-◌, ◌/◌, ◌==◌, List, [], ◌∷◌, ◌++◌, length, if◌then◌else◌, Option, codes}
 use Rattle.std.specs.List.{flat_map}
+use Rattle.report_text.specs.Report.{numbered}
 use Rattle.drawings.specs.declared.look.Colours.{Colours}
 use Rattle.drawings.specs.declared.look.Colours.TheVariants.{Off, On}
 use Rattle.drawings.specs.declared.look.Legend.{Legend}
@@ -11,7 +12,7 @@ use Rattle.drawings.specs.declared.picture.Line.{Line}
 use Rattle.drawings.specs.declared.picture.Tone.{Tone}
 use Rattle.drawings.specs.declared.picture.Tone.TheVariants.{Plain, Good, Failed, Bad}
 use Rattle.drawings.specs.declared.text.TheConstants.{MARK_COLUMNS}
-use Rattle.drawings.specs.Cells.{cut, fitted, to_right, mark_of, actor_name}
+use Rattle.drawings.specs.Cells.{cut, fitted, to_right, pieces, mark_of, actor_name}
 use Rattle.drawings.specs.Picture.{Drawn}
 
 -- the mark and the last bar take 8 columns, and the bar before a cell 3
@@ -56,16 +57,26 @@ no_tone actor = Plain
 abbrev pub head_row : ℕ → ℕ → List ℕ
 head_row actors columns = row actors columns Off [] no_tone actor_name
 
--- a line's text in the column of its actor
-abbrev pub shown : Line → ℕ → List ℕ
-shown line actor = if actor == line.actor then line.text else []
+-- a piece of a line's text in the column of its actor
+abbrev pub shown : Line → List ℕ → ℕ → List ℕ
+shown line piece actor = if actor == line.actor then piece else []
 
 abbrev pub tone_shown : Line → ℕ → Tone
 tone_shown line actor = if actor == line.actor then line.tone else Plain
 
-abbrev pub line_row : ℕ → ℕ → Colours → Line → List ℕ
-line_row actors columns colours line =
-    row actors columns colours (mark_of line.moment) (tone_shown line) (shown line)
+-- a line's moment, in the first of its rows
+abbrev pub mark_at : Option ℕ → ℕ → List ℕ
+mark_at moment at = if at == 0 then mark_of moment else []
+
+abbrev pub line_row : ℕ → ℕ → Colours → Line → ℕ → List ℕ → List ℕ
+line_row actors columns colours line at piece =
+    row actors columns colours (mark_at line.moment at) (tone_shown line) (shown line piece)
+
+-- the rows of a line, of which each has a byte of its text at least
+abbrev pub line_rows : ℕ → ℕ → Colours → Line → List ℕ
+line_rows actors columns colours line =
+    numbered (line_row actors columns colours line) 0
+    (pieces (length line.text) (cell_width actors columns) line.text)
 
 -- a line of the heading
 abbrev pub heading_row : ℕ → Colours → Head → List ℕ
@@ -79,7 +90,7 @@ legend_text legend.NoCloses = codes "closes are left out (--all shows them)\n"
 
 abbrev pub table : ℕ → Colours → Drawn → List ℕ
 table columns colours picture =
-    head_row picture.actors columns ++ flat_map (line_row picture.actors columns colours) picture.lines
+    head_row picture.actors columns ++ flat_map (line_rows picture.actors columns colours) picture.lines
 
 -- an empty line stands between the heading and the table
 abbrev pub text_of : Look → Drawn → List ℕ

@@ -1,8 +1,8 @@
 //! What a place of a picture shows of a text.
-ghost use Rattle.std.specs.Prelude.{◌≡◌, ◌<◌, ◌^◌, replicate, IfOk, IfSome};
+ghost use Rattle.std.specs.Prelude.{◌≡◌, ◌<◌, ◌≤◌, ◌^◌, length, replicate, IfOk, IfSome};
 ghost use Rattle.step_text.specs.Output.{Gains};
 ghost use Rattle.step_text.specs.Words.{BLANK};
-ghost use Rattle.drawings.specs.Cells.{cut, fitted, to_right, mark_of, actor_name};
+ghost use Rattle.drawings.specs.Cells.{cut, fitted, to_right, is_blank, last_blank, row_end, mark_of, actor_name};
 
 use path_text::NoMemory;
 use std::alloc::Global;
@@ -45,6 +45,46 @@ pub(crate) fn to_right(out: &mut Output, width: usize, text: &[u8]) -> Result<()
 {
     blanks(out, width.saturating_sub(text.len()))?;
     out.bytes(text)
+}
+
+// Whether a text has a blank at that place.
+fn is_blank(text: &[u8], at: usize) -> bool
+    ensures { result ≡ is_blank text.now at }
+{
+    match text.get(at) {
+        Some(byte) => *byte == b' ',
+        None => false,
+    }
+}
+
+// The last place up to that one where a text has a blank, but not its beginning; that one where there is none.
+fn last_blank(text: &[u8], last: usize) -> usize
+    requires some { 0 < last }
+    requires within { last < length text.now }
+    ensures place { result ≡ last_blank last text.now last }
+    ensures some { 0 < result }
+    ensures within { result ≤ last }
+{
+    let mut found = last;
+    for at in 0..last {
+        if is_blank(text, at + 1) {
+            found = at + 1;
+        }
+    }
+    found
+}
+
+/// How much of a text stands in a row of that width: all of it; or where that is too wide, what stands before the last
+/// blank that leaves room, which the next row begins with; or where there is no blank, as much as has room.
+pub(crate) fn row_end(width: usize, text: &[u8]) -> usize
+    requires { 0 < width }
+    ensures end { result ≡ row_end width text.now }
+    ensures within { result ≤ length text.now }
+{
+    if text.len() <= width {
+        return text.len();
+    }
+    last_blank(text, width)
 }
 
 /// What stands for a moment: its number, and nothing where there is none.

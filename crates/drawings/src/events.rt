@@ -2,7 +2,7 @@
 ghost use Rattle.std.specs.Prelude.{◌≡◌};
 ghost use Rattle.std.specs.List.{flat_map};
 ghost use Rattle.step_text.specs.Output.{Gains};
-ghost use Rattle.drawings.specs.Events.{with_place, with_entry, mode_words, spaced, step_text, answer_text, event_text};
+ghost use Rattle.drawings.specs.Events.{with_place, with_entry, mode_words, spaced, step_text, verdict_words, answer_text, event_text};
 
 use crate::places::{add_entry, add_place, way_of};
 use path_text::{Name, Names, NoMemory};
@@ -78,8 +78,7 @@ fn add_step(
         StepOf::ReadLink(handle) => with_place(alloc, out, tree, actor, "read_link ", *handle),
         StepOf::NameBelow(root, handle) => {
             with_place(alloc, out, tree, actor, "CHECK ", *handle)?;
-            with_place(alloc, out, tree, actor, " below ", *root)?;
-            out.text("?")
+            with_place(alloc, out, tree, actor, " below ", *root)
         }
         StepOf::List(handle) => with_place(alloc, out, tree, actor, "list ", *handle),
         StepOf::Close(handle) => with_place(alloc, out, tree, actor, "close ", *handle),
@@ -117,6 +116,17 @@ fn add_names(out: &mut Output, names: &Names) -> Result<(), NoMemory>
     Ok(())
 }
 
+// What a check said, which stands before all else.
+fn verdict_words(answer: &Answer) -> &'static str
+    ensures { result.now ≡ verdict_words answer.now }
+{
+    match answer {
+        Answer::Names(_) => "yes: ",
+        Answer::NotBelow => "NO: ",
+        _ => "",
+    }
+}
+
 // Adds what a step was answered.
 fn add_answer(alloc: Global, out: &mut Output, answer: &Answer) -> Result<(), NoMemory>
     ensures { Gains out.old out.new (answer_text answer.now) result }
@@ -133,10 +143,10 @@ fn add_answer(alloc: Global, out: &mut Output, answer: &Answer) -> Result<(), No
             out.escaped(text.as_slice())
         }
         Answer::Names(names) => {
-            out.text(" yes: ")?;
+            out.text(" = ")?;
             out.escaped(&names.print(alloc)?)
         }
-        Answer::NotBelow => out.text(" NO: not below"),
+        Answer::NotBelow => Ok(()),
         Answer::Listed(names) => {
             out.text(" =")?;
             add_names(out, names)
@@ -158,6 +168,7 @@ pub(crate) fn event_text(
 ) -> Result<(), NoMemory>
     ensures { Gains out.old out.new (event_text tree.now event.now) result }
 {
+    out.text(verdict_words(&event.answer))?;
     add_step(alloc, out, tree, event.actor, &event.step)?;
     add_answer(alloc, out, &event.answer)
 }

@@ -4,7 +4,7 @@ ghost use Rattle.drawings.specs.declared.look.TheConstants.{COLUMNS, COLUMNS_MIN
 ghost use Rattle.drawings.specs.declared.picture.TheConstants.{ACTORS_MAX, LINES_MAX};
 ghost use Rattle.drawings.specs.declared.svg.TheConstants.{SHOWN_MAX, HEAD_MAX};
 ghost use Rattle.drawings.specs.declared.text.TheConstants.{MARK_COLUMNS};
-ghost use Rattle.drawings.specs.DrawingLaws.{XmlTextIsPlain, SvgIsWellFormed, RowsFit, MarksFit, HeadingFits, LegendFits};
+ghost use Rattle.drawings.specs.DrawingLaws.{XmlTextIsPlain, SvgIsWellFormed, RowsFit, NothingIsCut, PiecesFit, MarksFit, HeadingFits, LegendFits};
 
 /// In SVG no byte of a name, a path or a link's text stands as markup, whatever it is: what is shown of any text has
 /// printed bytes and blanks alone, and `&`, `<`, `>` and the quotation marks only as entities.
@@ -19,9 +19,11 @@ pub fn svg_is_well_formed()
 {}
 
 /// As text no line is wider than the columns that it may have, but for what begins and ends a colour, and each moment
-/// has room.
+/// has room. The rows of a line have all of its text, in order.
 pub fn rows_fit()
     ensures rows { RowsFit }
+    ensures whole { NothingIsCut }
+    ensures pieces { PiecesFit }
     ensures marks { MarksFit }
     ensures heading { HeadingFits }
     ensures legend { LegendFits }

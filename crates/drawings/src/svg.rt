@@ -307,7 +307,7 @@ fn head(out: &mut Output, width: u64, height: u64) -> Result<(), NoMemory>
     tag(out, "", width, "' height='", height, "'>\n")
 }
 
-// Adds what the picture is, and what its colours say.
+// Adds what the picture is, what its colours say, and that blanks count for browsers, which read no xml:space above.
 #[tactic(auto, unfolding(crate::specs::Svg::about))]
 fn about(out: &mut Output) -> Result<(), NoMemory>
     ensures { Gains out.old out.new about result }
@@ -315,7 +315,8 @@ fn about(out: &mut Output) -> Result<(), NoMemory>
     out.text("<title>A run of calls below a root</title>\n")?;
     out.text(
         "<desc>A column for each actor, and a line for each step at its moment. Red: what is outside of the root is opened or held, or a check says no. Green: a check says yes, or a call did what it was to do. Brown: a call failed. Where a moment is missing, an actor closed a handle.</desc>\n",
-    )
+    )?;
+    out.text("<style>text{white-space:pre}</style>\n")
 }
 
 impl Picture {

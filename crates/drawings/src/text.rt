@@ -1,13 +1,13 @@
 //! A picture as text.
-ghost use Rattle.std.specs.Prelude.{◌≡◌, ◌<◌, ◌≤◌};
+ghost use Rattle.std.specs.Prelude.{◌≡◌, ◌<◌, ◌≤◌, IfOk};
 ghost use Rattle.std.specs.List.{flat_map};
 ghost use Rattle.step_text.specs.Output.{Gains};
 ghost use Rattle.drawings.specs.declared.look.TheConstants.{COLUMNS_MIN};
 ghost use Rattle.drawings.specs.declared.look.Colours.TheVariants.{Off};
 ghost use Rattle.drawings.specs.Cells.{actor_name};
-ghost use Rattle.drawings.specs.Text.{cell_width, tone_begin, tone_end, cell, no_tone, shown, tone_shown, cells, head_row, line_row, heading_row, legend_text, table, text_of};
+ghost use Rattle.drawings.specs.Text.{cell_width, tone_begin, tone_end, cell, no_tone, shown, tone_shown, cells, head_row, mark_at, line_row, line_rows, heading_row, legend_text, table, text_of};
 
-use crate::cells::{actor_name, cut, fitted, mark_of, to_right};
+use crate::cells::{actor_name, cut, fitted, mark_of, row_end, to_right};
 use crate::look::{Colours, Legend, Look};
 use crate::picture::{ACTORS_MAX, Head, Line, Picture, Tone};
 use path_text::NoMemory;
@@ -79,15 +79,11 @@ fn names(alloc: Global, out: &mut Output, actors: u64, width: usize) -> Result<(
     Ok(())
 }
 
-// What the column of an actor shows of a line: its text where it is the actor's.
-fn shown(line: &Line, actor: u64) -> &[u8]
-    ensures { result.now ≡ shown line.now actor }
+// What the column of an actor shows of a line: a piece of its text where the line is the actor's.
+fn shown<'a>(line: &Line, piece: &'a [u8], actor: u64) -> &'a [u8]
+    ensures { result.now ≡ shown line.now piece.now actor }
 {
-    if actor == line.actor {
-        line.text.as_slice()
-    } else {
-        &[]
-    }
+    if actor == line.actor { piece } else { &[] }
 }
 
 // How it looks.
@@ -101,20 +97,22 @@ fn tone_shown(line: &Line, actor: u64) -> Tone
     }
 }
 
-// Adds a line's cell of each actor.
+// Adds each actor's cell of a row.
 fn cells(
     out: &mut Output,
     actors: u64,
     width: usize,
     colours: Colours,
     line: &Line,
+    piece: &[u8],
 ) -> Result<(), NoMemory>
     requires { 0 < width }
-    ensures { Gains out.old out.new (cells actors width colours (tone_shown line.now) (shown line.now)) result }
+    ensures { Gains out.old out.new
+        (cells actors width colours (tone_shown line.now) (shown line.now piece.now)) result }
 {
     for actor in 0..actors {
         let tone = tone_shown(line, actor);
-        cell(out, width, colours, tone, shown(line, actor))?;
+        cell(out, width, colours, tone, shown(line, piece, actor))?;
     }
     Ok(())
 }
@@ -131,8 +129,44 @@ fn head_row(alloc: Global, out: &mut Output, actors: u64, columns: usize) -> Res
     out.text(" |\n")
 }
 
-// Adds a line.
+// What stands for a moment in the row of that number.
+fn mark_at(alloc: Global, moment: Option<u64>, at: usize) -> Result<Output, NoMemory>
+    ensures { IfOk result (λ mark. mark ≡ mark_at moment at) }
+{
+    mark_of(alloc, if at == 0 { moment } else { None })
+}
+
+// Adds the row of that number of a line, which shows a piece of the line's text.
 fn line_row(
+    alloc: Global,
+    out: &mut Output,
+    actors: u64,
+    columns: usize,
+    colours: Colours,
+    line: &Line,
+    at: usize,
+    piece: &[u8],
+) -> Result<(), NoMemory>
+    requires some { 0 < actors }
+    requires few { actors ≤ ACTORS_MAX }
+    requires enough { COLUMNS_MIN ≤ columns }
+    ensures { Gains out.old out.new (line_row actors columns colours line.now at piece.now) result }
+{
+    let mark = mark_at(alloc, line.moment, at)?;
+    to_right(out, MARK_COLUMNS, mark.as_slice())?;
+    cells(
+        out,
+        actors,
+        cell_width(actors, columns),
+        colours,
+        line,
+        piece,
+    )?;
+    out.text(" |\n")
+}
+
+// Adds the rows of a line: as many as its text needs.
+fn line_rows(
     alloc: Global,
     out: &mut Output,
     actors: u64,
@@ -143,16 +177,23 @@ fn line_row(
     requires some { 0 < actors }
     requires few { actors ≤ ACTORS_MAX }
     requires enough { COLUMNS_MIN ≤ columns }
-    ensures { Gains out.old out.new (line_row actors columns colours line.now) result }
+    ensures { Gains out.old out.new (line_rows actors columns colours line.now) result }
 {
-    let mark = mark_of(alloc, line.moment)?;
-    to_right(out, MARK_COLUMNS, mark.as_slice())?;
-    cells(out, actors, cell_width(actors, columns), colours, line)?;
-    out.text(" |\n")
+    let text = line.text.as_slice();
+    let mut rest = text;
+    for at in 0..text.len() {
+        if rest.is_empty() {
+            break;
+        }
+        let end = row_end(cell_width(actors, columns), rest);
+        line_row(alloc, out, actors, columns, colours, line, at, &rest[..end])?;
+        rest = &rest[end..];
+    }
+    Ok(())
 }
 
 // Adds all lines.
-fn line_rows(
+fn all_rows(
     alloc: Global,
     out: &mut Output,
     actors: u64,
@@ -163,10 +204,10 @@ fn line_rows(
     requires some { 0 < actors }
     requires few { actors ≤ ACTORS_MAX }
     requires enough { COLUMNS_MIN ≤ columns }
-    ensures { Gains out.old out.new (flat_map (line_row actors columns colours) lines.now) result }
+    ensures { Gains out.old out.new (flat_map (line_rows actors columns colours) lines.now) result }
 {
     for line in lines {
-        line_row(alloc, out, actors, columns, colours, line)?;
+        line_rows(alloc, out, actors, columns, colours, line)?;
     }
     Ok(())
 }
@@ -226,14 +267,14 @@ impl Picture {
         ensures { Gains out.old out.new (table columns colours self.now) result }
     {
         head_row(alloc, out, self.actors, columns)?;
-        line_rows(alloc, out, self.actors, columns, colours, &self.lines)
+        all_rows(alloc, out, self.actors, columns, colours, &self.lines)
     }
 
     /// Adds the picture as text: its heading, an empty line, and a table: the columns' names, and then each line,
     /// with its moment and a column for each actor. No line is wider than the columns that `look` has: a text that is
-    /// too wide is cut, and ends in a tilde. With colours what begins and ends one stands around a line of the heading
-    /// and a cell: what is well is green, what failed is yellow, and what stands outside is red. NoMemory where its
-    /// room was refused.
+    /// too wide for its column goes on in the next row, and in the heading it is cut, and ends in a tilde. With colours
+    /// what begins and ends one stands around a line of the heading and a cell: what is well is green, what failed is
+    /// yellow, and what stands outside is red. NoMemory where its room was refused.
     pub fn text(&self, alloc: Global, out: &mut Output, look: Look) -> Result<(), NoMemory>
         ensures { Gains out.old out.new (text_of look self.now) result }
     {

@@ -10,33 +10,56 @@ pub const BEGINNING: &str = "<!doctype html>
  content=\"default-src 'none'; script-src 'unsafe-inline'; style-src 'unsafe-inline'\">
 <title>Calls below a root</title>
 <style>
-:root { color-scheme: light; --line: #8a93a5; --shade: #e3e0d8; --now: #fff3bf; }
-body { margin: 1rem; background: #fff; color: #1c1f26; font: 14px/1.45 system-ui, sans-serif; }
+:root {
+  color-scheme: light dark;
+  --paper: #fff; --ink: #1c1f26; --faint: #565d6b; --line: #8a93a5; --shade: #e3e0d8; --now: #fff3bf;
+  --focus: #0b57d0; --frame: #b08900; --good: #1a7f37; --failed: #8a5a00; --bad: #c0182b;
+  --actor0: #0b57d0; --actor1: #a8430a; --actor2: #6a1b9a; --actor3: #00695c;
+}
+@media screen and (prefers-color-scheme: dark) {
+  :root {
+    --paper: #14171c; --ink: #e4e7ec; --faint: #a8b0bd; --line: #667085; --shade: #2b2f37; --now: #453a10;
+    --focus: #8ab4ff; --frame: #d4a72c; --good: #57d079; --failed: #e0b341; --bad: #ff8f87;
+    --actor0: #8ab4ff; --actor1: #ffa970; --actor2: #d9b3ff; --actor3: #5fd7c0;
+  }
+}
+body { margin: 1rem; background: var(--paper); color: var(--ink); font: 14px/1.45 system-ui, sans-serif; }
 h1 { font-size: 1.25rem; margin: 0 0 .5rem; }
 h2 { font-size: 1rem; margin: .75rem 0 .25rem; }
 pre, td, th, li, output { font-family: ui-monospace, monospace; overflow-wrap: anywhere; }
 pre { white-space: pre-wrap; font-size: 12px; }
 ul { list-style: none; margin: 0; padding: 0; }
 [hidden] { display: none; }
-:focus-visible { outline: 3px solid #0b57d0; outline-offset: 2px; }
+:focus-visible { outline: 3px solid var(--focus); outline-offset: 2px; }
+button { font: inherit; min-width: 2.75rem; padding: .2rem .6rem; }
+kbd { border: 1px solid var(--line); border-radius: .2rem; padding: 0 .3rem; font-family: ui-monospace, monospace; }
+#legend { margin: .5rem 0; }
+#legend ul { list-style: disc; padding: .2rem 0 .2rem 1.2rem; }
+#legend li { font-family: inherit; }
+#buttons { display: flex; flex-wrap: wrap; gap: .3rem; }
 #controls { display: flex; flex-wrap: wrap; gap: .5rem 1rem; align-items: center; margin: .5rem 0; }
-#moment { flex: 1 1 20rem; min-width: 12rem; }
+#moment { flex: 1 1 14rem; min-width: 10rem; }
 #now { flex: 1 1 100%; min-height: 1.45em; }
 #panes { display: grid; grid-template-columns: minmax(0, 3fr) minmax(0, 2fr); gap: 1rem; }
 @media (max-width: 50rem) { #panes { grid-template-columns: minmax(0, 1fr); } }
 .pane { overflow: auto; max-height: 75vh; border: 1px solid var(--line); }
 table { border-collapse: collapse; width: 100%; table-layout: fixed; }
 th, td { border-left: 1px solid var(--line); padding: .1rem .4rem; text-align: left; vertical-align: top; }
-th { position: sticky; top: 0; background: #fff; border-bottom: 1px solid var(--line); }
+td a { color: inherit; text-decoration: none; }
+td a:hover { text-decoration: underline; }
+th { position: sticky; top: 0; background: var(--paper); border-bottom: 1px solid var(--line); }
 th:first-child, td:first-child { border-left: 0; width: 3.5rem; text-align: right; }
+@media (max-width: 30rem) {
+  #steps { font-size: 12px; }
+  th:first-child, td:first-child { width: 2.4rem; }
+}
 tbody tr { cursor: pointer; }
-tr.later { color: #6b7280; }
-tr.later td { font-style: italic; }
-tr.now td { background: var(--now); }
+.later { color: var(--faint); font-style: italic; }
+tr.now td, #legend .now { background: var(--now); }
 tr.now td:first-child::before { content: \"> \"; }
-.good { color: #1a7f37; }
-.failed { color: #9a6700; }
-.bad { color: #c0182b; font-weight: bold; }
+.good { color: var(--good); }
+.failed { color: var(--failed); }
+.bad { color: var(--bad); font-weight: bold; }
 #heading-pane { max-height: 25vh; padding: .2rem .4rem; }
 #heading li, #outcomes li li { white-space: pre-wrap; }
 #numbers li { display: inline-block; margin-right: 1.5rem; }
@@ -44,24 +67,25 @@ tr.now td:first-child::before { content: \"> \"; }
 #outcomes > li { padding: .1rem .4rem; }
 #outcomes > li + li { border-top: 1px solid var(--line); }
 #outcomes > li.chosen { background: var(--now); }
-#outcomes li li { padding-left: 1.9rem; font-size: .86em; color: #444b59; }
+#outcomes li li { padding-left: 1.9rem; font-size: .86em; color: var(--faint); }
 #tree li, #gone li { border-left: 4px solid transparent; padding: .05rem .4rem .05rem calc(.4rem + var(--depth, 0) * 1.25rem); }
-#tree li.outside { background: var(--shade); border-left: 4px double var(--line); }
-li.changed .name { background: var(--now); outline: 1px solid #b08900; }
-.node { color: #5b6270; font-size: .86em; }
-.mark { border: 1px solid currentColor; border-radius: .6rem; padding: 0 .4rem; margin-left: .4rem; font-size: .86em; }
-.actor0 { color: #0b57d0; } .actor1 { color: #a8430a; } .actor2 { color: #6a1b9a; } .actor3 { color: #00695c; }
+#tree li.outside, #legend .outside { background: var(--shade); border-left: 4px double var(--line); }
+.changed .name { background: var(--now); outline: 1px solid var(--frame); }
+.node { color: var(--faint); font-size: .86em; }
+.mark { display: inline-block; border: 1px solid currentColor; border-radius: .6rem; padding: 0 .4rem; margin-left: .4rem; font-size: .86em; }
+.actor0 { color: var(--actor0); } .actor1 { color: var(--actor1); }
+.actor2 { color: var(--actor2); } .actor3 { color: var(--actor3); }
 .unseen { position: absolute; width: 1px; height: 1px; overflow: hidden; clip-path: inset(50%); }
 @media print {
+  :root { color-scheme: light; }
   body { margin: 0; font-size: 11px; }
-  #controls label, #controls input, #controls select { display: none; }
+  #controls label, #controls input, #controls select, #buttons { display: none; }
   .pane, #heading-pane, #outcomes-pane { overflow: visible; max-height: none; }
   #properties button { display: none; }
   #panes { display: block; }
   tr, li { break-inside: avoid; }
   th { position: static; }
-  tr.later { color: inherit; }
-  tr.later td { font-style: normal; }
+  tr.later { color: inherit; font-style: normal; }
   * { print-color-adjust: exact; -webkit-print-color-adjust: exact; }
 }
 </style>
@@ -69,6 +93,22 @@ li.changed .name { background: var(--now); outline: 1px solid #b08900; }
 <body>
 <main>
 <h1>Calls below a root</h1>
+<details id=\"legend\" hidden>
+<summary>Legend and keys</summary>
+<ul>
+<li><span class=\"good\">A check says yes, or a call did what it was to do.</span> <span class=\"failed\">A call failed.</span>
+<span class=\"bad\">What is outside of the actor's root is opened or held, or a check says no.</span></li>
+<li><span class=\"now\">&gt; The event that is shown.</span> <span class=\"later\">An event after it.</span> A line without a
+number says where what the actor holds stands by then. Where a number is missing, an actor closed a handle.</li>
+<li><span class=\"outside\">Outside of the root that you choose.</span> <span class=\"changed\"><span class=\"name\">Changed by the
+event.</span></span> <span class=\"mark actor0\">actor 0 handle 4</span> An open handle.</li>
+<li>Keys: <kbd>&larr;</kbd> <kbd>&rarr;</kbd> the event before or after, <kbd>Home</kbd> the beginning, <kbd>End</kbd>
+the last event, <kbd>p</kbd> plays or pauses<span id=\"outcome-keys\" hidden>, <kbd>o</kbd> <kbd>O</kbd> the next or the
+previous outcome</span>. <kbd>Tab</kbd> goes from part to part.</li>
+<li>Links: an address that ends in <code id=\"link-form\">#12</code> shows the page <span id=\"link-meaning\">after event
+12</span>. Each number links to its event.</li>
+</ul>
+</details>
 <section id=\"survey\" aria-labelledby=\"survey-name\" hidden>
 <h2 id=\"survey-name\">What all schedules come to</h2>
 <ul id=\"numbers\"></ul>
@@ -85,8 +125,15 @@ li.changed .name { background: var(--now); outline: 1px solid #b08900; }
 <ul id=\"heading\"></ul>
 </div>
 <div id=\"controls\">
-<label for=\"moment\">Moment</label>
-<input id=\"moment\" type=\"range\" min=\"0\" value=\"0\" step=\"1\">
+<label for=\"moment\">Event</label>
+<input id=\"moment\" type=\"range\" min=\"-1\" value=\"-1\" step=\"1\">
+<div id=\"buttons\" role=\"group\" aria-label=\"Steps\">
+<button id=\"first\" aria-keyshortcuts=\"Home\">First</button>
+<button id=\"previous\" aria-keyshortcuts=\"ArrowLeft\">Previous</button>
+<button id=\"play\" aria-keyshortcuts=\"p\">Play</button>
+<button id=\"next\" aria-keyshortcuts=\"ArrowRight\">Next</button>
+<button id=\"last\" aria-keyshortcuts=\"End\">Last</button>
+</div>
 <label for=\"root\">Shade what is outside of the root of</label>
 <select id=\"root\"></select>
 <output id=\"now\" for=\"moment\" aria-live=\"polite\"></output>
@@ -97,7 +144,7 @@ li.changed .name { background: var(--now); outline: 1px solid #b08900; }
 <div class=\"pane\" id=\"steps\" tabindex=\"0\" role=\"region\" aria-labelledby=\"steps-name\"></div>
 </section>
 <section aria-labelledby=\"tree-name\">
-<h2 id=\"tree-name\">The tree at this moment</h2>
+<h2 id=\"tree-name\">The tree after this event</h2>
 <div class=\"pane\" id=\"tree-pane\" tabindex=\"0\" role=\"region\" aria-labelledby=\"tree-name\">
 <ul id=\"tree\"></ul>
 <div id=\"gone-part\"><h2>Held, and standing nowhere any more</h2><ul id=\"gone\"></ul></div>
@@ -135,10 +182,19 @@ pub const END: &str = "<script>
   'use strict';
   const find = (id) => document.getElementById(id);
 
-  // The run that is shown: its report, its picture, and the nodes of the actors' roots.
+  // The report as text, and whether that is what explore prints.
+  const text = find('text').querySelector('pre').textContent;
+  const isSurvey = text.startsWith('schedules ');
+
+  // The run that is shown: its place among the runs, its report, its picture, and the nodes of the actors' roots.
+  let chosen = 0;
   let report;
   let picture;
   let roots;
+
+  // What plays the run, and what writes the address, while there is such a timer.
+  let player;
+  let writer;
 
   // An element with a text, which is never read as markup.
   const make = (tag, text, name) => {
@@ -148,11 +204,11 @@ pub const END: &str = "<script>
     return it;
   };
 
-  // The tree at a moment: that of the beginning, and what each event before the moment changed.
-  const treeAt = (moment) => {
+  // The tree after an event: that of the beginning, which is event -1, and what each event up to that one changed.
+  const treeAfter = (number) => {
     const nodes = new Map();
     const handles = new Map();
-    for (const change of [report, ...report.events.slice(0, moment)]) {
+    for (const change of [report, ...report.events.slice(0, number + 1)]) {
       for (const [node, kind, parent, name] of change.nodes) {
         nodes.set(node, { kind, parent, name });
       }
@@ -229,11 +285,11 @@ pub const END: &str = "<script>
     return held;
   };
 
-  const showTree = (moment, actor) => {
-    const tree = treeAt(moment);
+  const showTree = (number, actor) => {
+    const tree = treeAfter(number);
     const held = heldIn(tree);
-    const event = moment > 0 ? report.events[moment - 1] : { nodes: [] };
-    const changed = new Set(event.nodes.map(([node]) => node));
+    const { nodes } = report.events[number] || { nodes: [] };
+    const changed = new Set(nodes.map(([node]) => node));
     const rows = standing(tree.nodes, roots[actor]);
     const seen = new Set(rows.map((row) => row.node));
     find('tree').replaceChildren(...rows.map(({ node, depth, inside }) => {
@@ -251,51 +307,118 @@ pub const END: &str = "<script>
     find('gone-part').hidden = gone.length === 0;
   };
 
-  const showMoment = (moment) => {
+  // The number of the last event.
+  const last = () => report.events.length - 1;
+
+  // An event in words: those of its line, or of the report where a handle was closed.
+  const toldOf = (number) => {
+    if (number < 0) {
+      return 'as the run begins';
+    }
+    const { actor, step, answer } = report.events[number];
+    const { text: words } = picture.lines.find(({ moment }) => moment === number) || { text: `${step} = ${answer}` };
+    return `event ${number} of ${last()}: actor ${actor}: ${words}`;
+  };
+
+  // The last event up to that one which has a row.
+  const rowOf = (number) => {
+    const rows = picture.lines.map(({ moment }) => moment ?? -1);
+    return Math.max(-1, ...rows.filter((it) => it <= number));
+  };
+
+  const showEvent = (number) => {
+    const shown = rowOf(number);
     for (const row of document.querySelectorAll('#steps tbody tr')) {
-      const at = Number(row.dataset.moment);
-      row.classList.toggle('now', at === moment - 1);
-      row.classList.toggle('later', at >= moment);
-      if (at === moment - 1) {
+      const at = Number(row.dataset.event);
+      row.classList.toggle('now', at === shown);
+      row.classList.toggle('later', at > number);
+      if (at === shown) {
         row.setAttribute('aria-current', 'step');
         row.scrollIntoView({ block: 'nearest' });
       } else {
         row.removeAttribute('aria-current');
       }
     }
-    const { actor, step, answer } = report.events[moment - 1] || {};
-    const told = moment > 0 ? `after event ${moment - 1}: actor ${actor} ${step} = ${answer}` : 'as the run begins';
-    find('now').textContent = `moment ${moment} of ${report.events.length}, ${told}`;
+    find('now').textContent = toldOf(number);
     find('moment').setAttribute('aria-valuetext', find('now').textContent);
   };
 
+  // The address of an event: its number, or `begin`; in an exploration behind that of the outcome.
+  const addressOf = (number) => `#${isSurvey ? `${chosen}/` : ''}${number < 0 ? 'begin' : number}`;
+
+  const current = () => Number(find('moment').value);
+
+  // The address follows when no other event is shown for a while: browsers refuse many addresses at once.
   const show = () => {
-    const moment = Number(find('moment').value);
-    showMoment(moment);
-    showTree(moment, Number(find('root').value));
+    showEvent(current());
+    showTree(current(), Number(find('root').value));
+    clearTimeout(writer);
+    writer = setTimeout(() => history.replaceState(null, '', addressOf(current())), 300);
+  };
+
+  // Shows an event, or the nearest one that there is.
+  const goTo = (number) => {
+    find('moment').value = number;
+    show();
+  };
+
+  const pause = () => {
+    clearInterval(player);
+    player = undefined;
+    find('play').textContent = 'Play';
+  };
+
+  const playOn = () => {
+    goTo(current() + 1);
+    if (current() === last()) {
+      pause();
+    }
+  };
+
+  const playOrPause = () => {
+    if (player !== undefined) {
+      pause();
+      return;
+    }
+    if (current() === last()) {
+      goTo(-1);
+    }
+    player = setInterval(playOn, 800);
+    find('play').textContent = 'Pause';
+  };
+
+  // The number of an event, which links to it. Its row has keys of its own, so Tab passes the link by.
+  const numberCell = (number) => {
+    const cell = make('td', '');
+    if (number !== null) {
+      const link = make('a', number);
+      link.href = addressOf(number);
+      link.tabIndex = -1;
+      cell.append(link);
+    }
+    return cell;
   };
 
   // A row for each line of the picture. A line without a moment is a note on the event before it.
   const stepRows = () => {
-    let last = -1;
+    let event = -1;
     return picture.lines.map((line) => {
-      last = line.moment === null ? last : line.moment;
+      event = line.moment ?? event;
       const row = make('tr', '');
-      row.dataset.moment = last;
-      row.append(make('td', line.moment === null ? '' : line.moment));
+      row.dataset.event = event;
+      row.append(numberCell(line.moment));
       for (let actor = 0; actor < picture.actors; actor += 1) {
         row.append(make('td', actor === line.actor ? line.text : '', actor === line.actor ? line.tone : ''));
       }
-      row.addEventListener('click', () => {
-        find('moment').value = Number(row.dataset.moment) + 1;
-        show();
-      });
+      row.addEventListener('click', () => goTo(Number(row.dataset.event)));
       return row;
     });
   };
 
   // The columns, the heading and the controls of a run, at its end.
-  const play = (at) => {
+  const openRun = (at) => {
+    pause();
+    chosen = at;
     report = JSON.parse(document.querySelectorAll('script.report')[at].textContent);
     picture = JSON.parse(document.querySelectorAll('script.picture')[at].textContent);
     roots = report.handles.slice(0, picture.actors).map(([, , node]) => node);
@@ -319,13 +442,12 @@ pub const END: &str = "<script>
     table.append(head, body);
     find('steps').replaceChildren(table);
     find('heading').replaceChildren(...picture.heading.map(({ tone, text }) => make('li', text, tone)));
-    find('moment').max = report.events.length;
-    find('moment').value = report.events.length;
-    show();
+    find('moment').max = last();
+    goTo(last());
   };
 
   // What explore prints: numbers, a block for each outcome, and the lines of conditions and of properties.
-  const surveyed = (text) => {
+  const surveyed = () => {
     const survey = { numbers: [], outcomes: [], properties: [] };
     for (const line of text.split('\\n').filter((it) => it !== '')) {
       const [, told, schedule] = line.match(/^outcome (\\d+ schedules .* schedule (\\S+))$/) || [];
@@ -347,7 +469,52 @@ pub const END: &str = "<script>
       li.classList.toggle('chosen', k === at);
       li.querySelector('input').checked = k === at;
     }
-    play(at);
+    openRun(at);
+  };
+
+  // Chooses the outcome so many places on, if there is one that is played.
+  const chooseBy = (step) => {
+    const radio = document.querySelectorAll('#outcomes input:enabled')[chosen + step];
+    if (radio) {
+      choose(chosen + step);
+      radio.focus();
+    }
+  };
+
+  // Shows what the address says, if it says anything: `#12`, or `#3/12` in an exploration.
+  const follow = () => {
+    const [, outcome, number] = location.hash.match(/^#(?:(\\d+)\\/)?(\\d+|begin)$/) || [];
+    const at = Number(outcome || 0);
+    if (number === undefined || at >= document.querySelectorAll('script.report').length) {
+      return;
+    }
+    if (at !== chosen) {
+      choose(at);
+    }
+    goTo(number === 'begin' ? -1 : Number(number));
+  };
+
+  const steps = {
+    first: () => goTo(-1),
+    previous: () => goTo(current() - 1),
+    play: playOrPause,
+    next: () => goTo(current() + 1),
+    last: () => goTo(last()),
+  };
+
+  const keys = {
+    Home: steps.first, ArrowLeft: steps.previous, p: playOrPause, ArrowRight: steps.next, End: steps.last,
+    o: () => chooseBy(1), O: () => chooseBy(-1),
+  };
+
+  // A control that has a meaning of its own for a key keeps it.
+  const onKey = (event) => {
+    const own = event.key.startsWith('Arrow') ? 'select, input' : 'select';
+    const isOwn = event.ctrlKey || event.altKey || event.metaKey || event.target.matches(own);
+    if (!isOwn && Object.hasOwn(keys, event.key)) {
+      event.preventDefault();
+      keys[event.key]();
+    }
   };
 
   // An outcome of the list. One that isn't played can't be chosen.
@@ -379,8 +546,8 @@ pub const END: &str = "<script>
     return li;
   };
 
-  const beginSurvey = (text, played) => {
-    const { numbers, outcomes, properties } = surveyed(text);
+  const beginSurvey = (played) => {
+    const { numbers, outcomes, properties } = surveyed();
     find('numbers').append(...numbers.map((line) => make('li', line)));
     find('properties').append(...properties.map((line) => propertyItem(line, outcomes, played)));
     find('outcomes').append(...outcomes.map((outcome, at) => outcomeItem(outcome, at, played)));
@@ -390,25 +557,36 @@ pub const END: &str = "<script>
       find('unplayed').hidden = false;
     }
     find('survey').hidden = false;
+    find('outcome-keys').hidden = false;
+    find('link-form').textContent = '#3/12';
+    find('link-meaning').textContent = 'after event 12 of outcome 3';
     if (played > 0) {
       choose(0);
     }
   };
 
   const begin = () => {
-    const text = find('text').querySelector('pre').textContent;
-    const isSurvey = text.startsWith('schedules ');
     const played = document.querySelectorAll('script.report').length;
     document.title = isSurvey ? 'All schedules of calls below a root' : 'A run of calls below a root';
     document.querySelector('h1').textContent = document.title;
     find('moment').addEventListener('input', show);
     find('root').addEventListener('change', show);
     find('text').open = false;
+    find('legend').hidden = played === 0;
+    find('legend').open = !isSurvey && matchMedia('(min-width: 50rem)').matches;
     find('shown').hidden = played === 0;
     if (isSurvey) {
-      beginSurvey(text, played);
+      beginSurvey(played);
     } else {
-      play(0);
+      openRun(0);
+    }
+    if (played > 0) {
+      for (const [name, step] of Object.entries(steps)) {
+        find(name).addEventListener('click', step);
+      }
+      document.addEventListener('keydown', onKey);
+      window.addEventListener('hashchange', follow);
+      follow();
     }
     (document.querySelector('#outcomes input') || find('moment')).focus();
   };
