@@ -9,7 +9,7 @@
 
 static _Thread_local struct inroot_error last = {.step = ""};
 
-/* A step; what a call can't do that fails there; and to what, where the step was about no name. */
+/* A step, by its number (crates/linux_call/src/steps.rt); what a call can't do that fails there; and to what, if no name is told. */
 static const struct {
     const char *name, *act, *object;
 } steps[] = {
@@ -57,8 +57,6 @@ static const struct {
 
 enum { STEPS = sizeof steps / sizeof *steps, MEANINGS = sizeof meanings / sizeof *meanings };
 
-_Static_assert(STEPS == INROOT_STEP_PROC + 2, "each step has its name, and behind them is one without a number");
-
 /* The proved library compares errors with these numbers. */
 _Static_assert(EPERM == 1 && ENOENT == 2 && EINTR == 4 && EIO == 5 && EBADF == 9 && EAGAIN == 11 && ENOMEM == 12 &&
                EACCES == 13 && EBUSY == 16 && EEXIST == 17 && EXDEV == 18 && ENOTDIR == 20 && EISDIR == 21 &&
@@ -66,45 +64,14 @@ _Static_assert(EPERM == 1 && ENOENT == 2 && EINTR == 4 && EIO == 5 && EBADF == 9
                ENOTEMPTY == 39 && ELOOP == 40 && EOPNOTSUPP == 95 && ESTALE == 116,
                "the numbers of crates/system_calls");
 
-const char *inroot_step_name(unsigned step)
-{
-    return steps[step <= INROOT_STEP_PROC ? step : 0].name;
-}
-
 /* As much of the name as fits. */
-static void keep(int error, const char *step, const char *name, size_t length)
+void inroot_error_keep(int error, unsigned step, const char *name)
 {
+    const size_t length = strnlen(name, sizeof last.name - 1);
     last.error = error;
-    last.step = step;
-    length = length < sizeof last.name ? length : sizeof last.name - 1;
+    last.step = steps[step < STEPS ? step : 0].name;
     memcpy(last.name, name, length);
     last.name[length] = 0;
-}
-
-void inroot_error_keep(int error, const char *step, const char *name)
-{
-    keep(error, step, name, strlen(name));
-}
-
-int inroot_error_alone(int error, const char *step, const char *name)
-{
-    const bool lacks = error == ENOSYS && !inroot_has_floor();
-    keep(error, lacks ? inroot_step_name(INROOT_STEP_KERNEL) : step, name, strlen(name));
-    return -error;
-}
-
-void inroot_error_note(struct inroot_driver *d, const struct inroot_told *step, const char *room)
-{
-    bool on_name = step->what == INROOT_STEP_OPEN || step->what >= INROOT_STEP_MAKE_DIR;
-    size_t length = on_name ? step->first : 0;
-    d->step = step->what;
-    d->name_length = length < sizeof d->step_name ? length : sizeof d->step_name;
-    memcpy(d->step_name, room, d->name_length);
-}
-
-void inroot_error_of(const struct inroot_driver *d, int error)
-{
-    keep(error, inroot_step_name(d->step), d->step_name, d->name_length);
 }
 
 int inroot_last_error(struct inroot_error *error)

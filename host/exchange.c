@@ -9,7 +9,8 @@
 
 #include <errno.h>
 #include <fcntl.h>
-#include <stddef.h>
+#include <limits.h>
+#include <pthread.h>
 #include <string.h>
 #include <sys/stat.h>
 #include <sys/syscall.h>
@@ -25,19 +26,29 @@ enum { FSOPEN_CLOSES = 1, FSMOUNT_CLOSES = 1, TREE_CLONES = 1, SETS_STRING = 1, 
 /* MOUNT_ATTR_NOSUID, MOUNT_ATTR_NODEV and MOUNT_ATTR_NOEXEC. */
 enum { ATTRIBUTES = 2 | 4 | 8 };
 
-/* More than a call asks for. */
-enum { ANSWERS = 128 };
+/* More answers than a call asks for one after another, and than the library lays by itself; and what a system call may read. */
+enum { ANSWERS = 128, AHEAD = 4, READ = PATH_MAX + 256 };
 
 static const struct inroot_machine_flags machine = {
     .directory = O_DIRECTORY, .nofollow = O_NOFOLLOW, .direct = O_DIRECT, .largefile = O_LARGEFILE,
 };
 
+/* The proved library has the numbers of the other flags, of errors and of texts' lengths. */
+_Static_assert(O_RDONLY == 0 && O_WRONLY == 01 && O_RDWR == 02 && O_CREAT == 0100 && O_EXCL == 0200 &&
+               O_NOCTTY == 0400 && O_TRUNC == 01000 && O_APPEND == 02000 && O_NONBLOCK == 04000 && O_DSYNC == 010000 &&
+               O_NOATIME == 01000000 && O_CLOEXEC == 02000000 && O_SYNC == 04010000 && O_PATH == 010000000 &&
+               O_TMPFILE == (020000000 | O_DIRECTORY) && PATH_MAX == 4096 && NAME_MAX == 255,
+               "the numbers of crates/system_calls");
+
 /* A call under way. */
 struct exchange {
-    const struct inroot_call *call;
+    struct inroot_call *call;
     struct inroot_due due;
+    struct inroot_state state;
     struct inroot_gave answers[ANSWERS];
-    unsigned char room[INROOT_ROOM];
+    size_t ready;
+    unsigned char first[PATH_MAX + 2], second[PATH_MAX + 2], room[INROOT_ROOM];
+    _Alignas(8) unsigned char read[READ];
 };
 
 /* ---- what is asked of a file */
@@ -66,12 +77,6 @@ static long ask_file_system(const struct inroot_due *due, struct inroot_gave *ga
     gave->file_system = (uint64_t)about.f_type;
     gave->flags = (uint64_t)about.f_flags;
     return result;
-}
-
-static long read_entries(const struct inroot_due *due)
-{
-    char records[512];
-    return syscall(SYS_getdents64, (int)due->fd, records, sizeof records);
 }
 
 /* ---- extended attributes */
@@ -141,7 +146,7 @@ static long make_entry(const struct exchange *x, const char *text, const char *o
 }
 
 /* The rest; what is no system call fails by its error. */
-static long make_other(const struct exchange *x, const char *text)
+static long make_other(struct exchange *x, const char *text)
 {
     const struct inroot_due *due = &x->due;
     const int fd = (int)due->fd;
@@ -149,7 +154,9 @@ static long make_other(const struct exchange *x, const char *text)
     case INROOT_DUE_CLOSE: return close(fd);
     case INROOT_DUE_GETFD: return fcntl(fd, F_GETFD);
     case INROOT_DUE_DUPFD: return fcntl(fd, F_DUPFD_CLOEXEC, STDERR_FILENO + 1);
-    case INROOT_DUE_GETDENTS: return read_entries(due);
+    case INROOT_DUE_GETDENTS: return syscall(SYS_getdents64, fd, x->read, sizeof x->read);
+    case INROOT_DUE_READLINKAT: return readlinkat(fd, text, (char *)x->read, sizeof x->read);
+    case INROOT_DUE_FSTAT: return fstat(fd, x->call->about);
     case INROOT_DUE_XATTR_AT: return act_at(x->call, due, text);
     case INROOT_DUE_XATTR: return act_by_path(x->call, due, text);
     case INROOT_DUE_FSOPEN: return syscall(FSOPEN, "proc", FSOPEN_CLOSES);
@@ -168,7 +175,6 @@ static long make(struct exchange *x, struct inroot_gave *gave)
     switch (due->what) {
     case INROOT_DUE_STATX: return ask_object(due, text, gave);
     case INROOT_DUE_FSTATFS: return ask_file_system(due, gave);
-    case INROOT_DUE_READLINKAT: return readlinkat((int)due->fd, text, x->call->text, x->call->size);
     case INROOT_DUE_OPENAT2: case INROOT_DUE_OPENAT: case INROOT_DUE_MKDIRAT: case INROOT_DUE_MKNODAT:
     case INROOT_DUE_SYMLINKAT: case INROOT_DUE_LINKAT: case INROOT_DUE_UNLINKAT: case INROOT_DUE_RENAMEAT2:
     case INROOT_DUE_FCHMODAT: case INROOT_DUE_FCHOWNAT: case INROOT_DUE_UTIMENSAT: return make_entry(x, text, other);
@@ -183,77 +189,74 @@ static void answer(struct exchange *x, struct inroot_gave *gave)
     do
         given = make(x, gave);
     while (given < 0 && errno == EINTR && x->due.again);
-    gave->error = inroot_errno_of(given);
+    gave->error = given < 0 ? (uint32_t)errno : 0;
     gave->value = given < 0 ? 0 : (uint32_t)given;
 }
 
 /* ---- a call */
 
-/* A slash stands before each text. */
-struct text {
-    const unsigned char *at;
-    size_t length;
-};
-
-static struct text slashed(const char *text)
+/* Reads a text once, since a program may change it meanwhile. A slash stands before it. One that is too long stays too long. */
+static size_t copy(unsigned char room[PATH_MAX + 2], const char *from)
 {
-    static const unsigned char none[] = "/";
-    return text == NULL ? (struct text){none, 1} : (struct text){(const unsigned char *)text - 1, strlen(text) + 1};
+    room[0] = '/';
+    room[PATH_MAX + 1] = 0;
+    const unsigned char *end = memccpy(room + 1, from == NULL ? "" : from, 0, PATH_MAX);
+    return end == NULL ? PATH_MAX : (size_t)(end - room) - 2;
 }
 
-static void turn(struct exchange *x, const struct text *first, const struct text *second, size_t count)
+/* Each answer is one, also if it wasn't given yet: so many are READY. */
+static void turn(struct exchange *x, size_t second)
 {
-    const struct inroot_call *call = x->call;
-    inroot_turn(&call->demand, first->at, first->length, second->at, second->length, (const unsigned char *)call->text,
-                call->size, x->answers, count, &x->due, x->room, sizeof x->room);
+    for (; x->ready < x->due.at + AHEAD && x->ready < ANSWERS; x->ready++)
+        x->answers[x->ready] = (struct inroot_gave){0};
+    inroot_turn(&x->call->demand, &x->state, x->first, sizeof x->first, x->second, second + 1, x->read, sizeof x->read, x->answers,
+                x->ready, &x->due, x->room, sizeof x->room);
 }
 
-/* A call that asked for more than there is room for would fail by EIO. */
+/* What a call gives. */
 static int64_t end(const struct exchange *x)
 {
-    const bool fails = x->due.what == INROOT_DUE_FAILS;
-    const int error = fails ? (int)x->due.number : EIO;
-    switch (x->due.what) {
-    case INROOT_DUE_VALUE: return (int64_t)x->due.number;
-    case INROOT_DUE_STEPS: return INROOT_STEPS;
-    default:
-        inroot_error_keep(error, inroot_step_name(fails ? x->due.step : 0), fails ? (const char *)x->room : "");
-        return -error;
+    const struct inroot_call *call = x->call;
+    const int64_t given = (int64_t)x->due.number;
+    if (x->due.closes > 0)
+        close((int)x->due.first_closed);
+    if (x->due.closes > 1)
+        close((int)x->due.second_closed);
+    if (x->due.what == INROOT_DUE_FAILS) {
+        inroot_error_keep((int)given, x->due.step, (const char *)x->room);
+        return -given;
     }
+    if (call->text != NULL)
+        memcpy(call->text, x->read, (size_t)given < call->size ? (size_t)given : call->size);
+    if (call->name != NULL)
+        memcpy(call->name, x->room, strlen((const char *)x->room) + 1);
+    return given;
 }
 
-int64_t inroot_exchange(struct inroot_call *call, char *name)
+static int64_t run(struct inroot_call *call)
 {
     struct exchange x;
-    size_t count = 0;
-    const struct text first = slashed(call->first), second = slashed(call->second);
-    INROOT_UNCANCELLED;
     x.call = call;
     x.due = (struct inroot_due){0};
+    x.state = (struct inroot_state){0};
+    x.ready = 0;
     call->demand.known.machine = machine;
     inroot_program_known(&call->demand.known);
-    for (turn(&x, &first, &second, 0); x.due.what < INROOT_DUE_VALUE && count < ANSWERS; turn(&x, &first, &second, count)) {
-        x.answers[count] = (struct inroot_gave){0};
-        answer(&x, &x.answers[count]);
-        count++;
+    call->demand.length = copy(x.first, call->first);
+    const size_t second = copy(x.second, call->second);
+    for (turn(&x, second); x.due.what < INROOT_DUE_VALUE; turn(&x, second)) {
+        struct inroot_gave *gave = &x.answers[x.due.at];
+        *gave = (struct inroot_gave){0};
+        answer(&x, gave);
     }
-    if (name != NULL && x.due.what == INROOT_DUE_VALUE)
-        memcpy(name, x.room, strlen((const char *)x.room) + 1);
     return end(&x);
 }
 
-int64_t inroot_exchange_alone(struct inroot_call *call)
+int64_t inroot_exchange(struct inroot_call *call)
 {
-    char text[INROOT_TEXT_MAX + 1];
-    call->text = text;
-    call->size = sizeof text;
-    return inroot_exchange(call, NULL);
-}
-
-int64_t inroot_exchange_numbers(struct inroot_call *call)
-{
-    char text[1] = "";
-    call->text = text;
-    call->size = sizeof text;
-    return inroot_exchange(call, NULL);
+    int state;
+    pthread_setcancelstate(PTHREAD_CANCEL_DISABLE, &state);
+    const int64_t result = run(call);
+    pthread_setcancelstate(state, NULL);
+    return result;
 }

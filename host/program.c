@@ -7,15 +7,16 @@
 #include "driver.h"
 
 #include <errno.h>
+#include <stdatomic.h>
 
 /*
  * Stand in place of the program's descriptor while another thread makes out which one it is. In a child that is made just then they
  * stay: so the second says that the program was handing one in.
  */
-enum { CLAIMED = -5, HANDED_IN = -6 };
+enum { NONE = -1, CLAIMED = -5, HANDED_IN = -6 };
 
 /* The program's descriptor. The others are written before it, once, by the thread that has claimed the place. */
-static atomic_int kept = INROOT_NONE;
+static atomic_int kept = NONE;
 static struct inroot_proc_file kept_file;
 static bool was_handed_in;
 
@@ -26,7 +27,7 @@ void inroot_program_known(struct inroot_known *known)
     const int now = atomic_load(&kept);
     known->kept = (struct inroot_proc_kept){
         .fd = (uint32_t)now, .there = now >= 0, .handed_in = now == HANDED_IN || (now >= 0 && was_handed_in),
-        .claimed = now != INROOT_NONE,
+        .claimed = now != NONE,
     };
     if (now >= 0)
         known->kept.file = kept_file;
@@ -35,7 +36,7 @@ void inroot_program_known(struct inroot_known *known)
 
 static long claim(int as)
 {
-    int nothing = INROOT_NONE;
+    int nothing = NONE;
     errno = EBUSY;
     return atomic_compare_exchange_strong(&kept, &nothing, as) ? 0 : -1;
 }
@@ -53,12 +54,7 @@ long inroot_program_does(const struct inroot_due *due)
     switch (due->what) {
     case INROOT_DUE_CLAIM: return claim(due->fd ? HANDED_IN : CLAIMED);
     case INROOT_DUE_KEEP: return keep(due);
-    case INROOT_DUE_RELEASE: atomic_store(&kept, INROOT_NONE); return 0;
+    case INROOT_DUE_RELEASE: atomic_store(&kept, NONE); return 0;
     default: has_floor = due->fd; return 0;
     }
-}
-
-void inroot_program_forgets(void)
-{
-    has_floor = false;
 }

@@ -129,13 +129,13 @@ arm_programs() {
     done < <(host/tests/build --fixed)
 }
 
-# Such programs, and what the library is asked and tells without the driver.
+# Such programs, and the stored cases of the library's turns without the driver.
 arm_tests() {
     local name argument
-    has 'conversations as arm64 are built' $arm-gcc -std=gnu11 -Wall -Wextra -Werror -O2 -static -o "$work/arm-test" \
-        host/tests/conversations.c host/heap.c "$arm_archive"
-    emulated "$emulator" arm ''
-    verdict $? "host/tests/conversations.c as arm64: $(tail -n 20 "$work/printed")"
+    has 'fuzz_exchange as arm64 is built' $arm-gcc -std=gnu11 -Wall -Wextra -Werror -O2 -static -o "$work/arm-test" \
+        host/tests/fuzz_exchange.c host/tests/fuzz_main.c host/heap.c "$arm_archive"
+    timeout 200 "$emulator" "$work/arm-test" host/tests/corpus/fuzz_exchange >"$work/printed" 2>&1
+    verdict $? "host/tests/fuzz_exchange.c as arm64: $(tail -n 20 "$work/printed")"
     if [[ $lacking == *openat2* ]]; then
         skip 'the other programs of host/tests as arm64' 'the emulator has no openat2(2)'
         return

@@ -22,7 +22,7 @@ static int led_out;
 static bool is_there(int dir, const char *name)
 {
     struct stat about;
-    return __real_fstatat(dir, name, &about, AT_SYMLINK_NOFOLLOW) == 0;
+    return fstatat(dir, name, &about, AT_SYMLINK_NOFOLLOW) == 0;
 }
 
 static void make_file_of(int dir, const char *name)
@@ -101,7 +101,7 @@ static struct stat outside[OUTSIDE];
 static void look_outside(struct stat now[OUTSIDE])
 {
     for (int one = 0; one < OUTSIDE; one++)
-        if (__real_fstatat(out, outside_names[one], &now[one], AT_SYMLINK_NOFOLLOW | AT_EMPTY_PATH) != 0)
+        if (fstatat(out, outside_names[one], &now[one], AT_SYMLINK_NOFOLLOW | AT_EMPTY_PATH) != 0)
             now[one] = (struct stat){.st_ino = 0};
 }
 
@@ -219,7 +219,7 @@ static void bring_outside(void)
 static void take_outside_back(void)
 {
     struct stat now;
-    if (__real_fstatat(out, "a/b", &now, 0) == 0 && now.st_ino != outside[2].st_ino)
+    if (fstatat(out, "a/b", &now, 0) == 0 && now.st_ino != outside[2].st_ino)
         sure((int)__real_syscall(SYS_renameat2, gone, "a/b", out, "a/b", RENAME_EXCHANGE), "a/b");
     look_outside(outside);
 }

@@ -99,8 +99,6 @@ static bool is_short(void)
         return failed;                                           \
     }
 
-int __real_fstat(int fd, struct stat *about);
-int __wrap_fstat(int fd, struct stat *about);
 int __wrap_fstat(int fd, struct stat *about)
 {
     int failed = ask() ? -1 : __real_fstat(fd, about);
@@ -109,10 +107,7 @@ int __wrap_fstat(int fd, struct stat *about)
     return failed;
 }
 
-BESIDE(int, fstatat, (int dir, const char *name, struct stat *about, int how), (dir, name, about, how))
 BESIDE(int, fstatfs, (int fd, struct statfs *about), (fd, about))
-int __real_statx(int dir, const char *name, int flags, unsigned what, struct statx *about);
-int __wrap_statx(int dir, const char *name, int flags, unsigned what, struct statx *about);
 int __wrap_statx(int dir, const char *name, int flags, unsigned what, struct statx *about)
 {
     int failed = ask() ? -1 : __real_statx(dir, name, flags, what, about);
@@ -136,8 +131,6 @@ static int my_fcntl(int fd, int what, int with)
 
 INSTEAD_OF_FCNTL(my_fcntl)
 
-int __real_close(int fd);
-int __wrap_close(int fd);
 int __wrap_close(int fd)
 {
     bool fails = ask();

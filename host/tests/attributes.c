@@ -32,8 +32,6 @@ static bool lacks_right, has_devices, may_give, has_trusted, has_user;
 static int refuses;
 static int by_number;
 
-long __wrap_syscall(long number, ...);
-
 /* How many system calls were made. */
 static volatile int made;
 COUNTED(int, fstat, (int fd, struct stat *about), (fd, about))
@@ -44,23 +42,18 @@ COUNTED(int, fchownat, (int dir, const char *name, uid_t user, gid_t group, int 
 COUNTED(int, utimensat, (int dir, const char *name, const struct timespec times[2], int flags), (dir, name, times, flags))
 COUNTED(ssize_t, getxattr, (const char *path, const char *name, void *value, size_t size), (path, name, value, size))
 
-/* Takes more words than were handed in. */
-__attribute__((no_sanitize("address"))) long __wrap_syscall(long number, ...)
+static long my_syscall(long number, const long *with)
 {
-    long with[6];
-    va_list more;
-    va_start(more, number);
-    for (int one = 0; one < 6; one++)
-        with[one] = va_arg(more, long);
-    va_end(more);
     made++;
     if (number >= SET_AT && number <= REMOVE_AT && refuses != 0) {
         errno = refuses;
         return -1;
     }
     by_number += number >= SET_AT && number <= REMOVE_AT;
-    return __real_syscall(number, with[0], with[1], with[2], with[3], with[4], with[5]);
+    return REAL_SYSCALL(number, with);
 }
+
+INSTEAD_OF_SYSCALL(my_syscall)
 
 static void make_tree(void)
 {

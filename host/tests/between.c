@@ -7,7 +7,8 @@
  */
 #define _GNU_SOURCE
 #include "../openat2.h"
-#include "questions.h"
+#include "support.h"
+#include "wraps.h"
 
 #include <errno.h>
 #include <fcntl.h>
@@ -15,8 +16,31 @@
 #include <sys/stat.h>
 #include <sys/syscall.h>
 
+/* The root, `box` in the directory of the test. */
+static int base, root;
+
 /* The kernel walks no path, so that the steps do. */
 static bool no_kernel_walk;
+
+/* What is done, before which question about a place from here on. */
+static void (*act)(void);
+static int questions;
+
+static void ask(void)
+{
+    if (act != NULL && --questions == 0) {
+        act();
+        act = NULL;
+    }
+}
+
+/* A link of /proc has a name; the link that a descriptor is has none. */
+ssize_t __wrap_readlinkat(int dir, const char *name, char *text, size_t size)
+{
+    if (name[0] != 0)
+        ask();
+    return __real_readlinkat(dir, name, text, size);
+}
 
 static long my_syscall(long number, const long *with)
 {
@@ -33,7 +57,18 @@ static long my_syscall(long number, const long *with)
 
 INSTEAD_OF_SYSCALL(my_syscall)
 
-/* What others do. The other root's name is this one's with a letter behind it, as the path of what is in it would be. */
+static void move(int from, const char *old, int to, const char *new)
+{
+    sure(renameat(from, old, to, new), old);
+}
+
+/* What others do, and undo. The other root's name is this one's with a letter behind it, as the path of what is in it would be. */
+static void move_file(void) { move(root, "2/f", base, "f"); }
+static void return_file(void) { move(base, "f", root, "2/f"); }
+static void remove_file(void) { sure(unlinkat(root, "2/f", 0), "2/f"); }
+static void make_file(void) { sure(mknodat(root, "2/f", S_IFREG | 0600, 0), "2/f"); }
+static void move_root(void) { move(base, "box", base, "moved"); }
+static void return_root(void) { move(base, "moved", base, "box"); }
 static void move_beside(void) { move(root, "2", base, "box2"); }
 static void move_back(void) { move(base, "box2", root, "2"); }
 static void move_out(void) { move(root, "2/d", base, "d"); }
@@ -76,20 +111,31 @@ static const struct {
 };
 
 /* One call of a row, whose path stands behind these words. */
-static void one(size_t row, const char *before, int flags, int wanted)
+static void one(size_t row, const char *before, int flags)
 {
+    const int wanted = rows[row].wanted;
     char path[16];
     snprintf(path, sizeof path, "%s%s", before, rows[row].path);
-    const struct disturbed how = {rows[row].questions, rows[row].done, rows[row].undone, wanted};
-    disturb(row, path, flags, &how);
+    act = rows[row].done;
+    questions = rows[row].questions;
+    int fd = inroot_open(root, path, flags | INROOT_NO_RETRY);
+    bool has_acted = act == NULL;
+    act = NULL;
+    gives(fd < 0 ? fd : 0, wanted, "row %zu, %s, flags %d", row, path, flags);
+    if (fd >= 0)
+        close(fd);
+    if (has_acted)
+        rows[row].undone();
+    else
+        expect(wanted == 0, "row %zu, %s, flags %d: the question before which somebody was to act didn't come", row, path, flags);
 }
 
 static void each(void)
 {
     for (size_t row = 0; row < sizeof rows / sizeof *rows; row++) {
-        one(row, "", INROOT_EXACT, rows[row].wanted);
-        one(row, "./", INROOT_EXACT, rows[row].wanted);
-        one(row, "/", INROOT_EXACT, rows[row].wanted);
+        one(row, "", INROOT_EXACT);
+        one(row, "./", INROOT_EXACT);
+        one(row, "/", INROOT_EXACT);
     }
 }
 
@@ -99,7 +145,7 @@ static void by_steps(void)
     no_kernel_walk = true;
     for (size_t row = 0; row < sizeof rows / sizeof *rows; row++)
         if (rows[row].questions == 1)
-            one(row, "", 0, rows[row].wanted);
+            one(row, "", 0);
     no_kernel_walk = false;
 }
 

@@ -3,7 +3,7 @@
  * call holds. They are removed whole; where others take the deep part away meanwhile, the call doesn't follow it; and where
  * the kernel refuses to remove the deepest, nothing stays open.
  * A directory in one whose names are held gets less room for its own. With INROOT_NO_XDEV what is mounted far below stays.
- * To be linked with --wrap=openat and --wrap=malloc.
+ * To be linked with --wrap=openat.
  *
  * usage: depths DIR. Exits 0 where that holds. 78: no right to be filtered or to mount, so that a part is left out.
  */
@@ -21,10 +21,10 @@
 #include <sys/stat.h>
 
 /*
- * More levels than calls go by the places and the moves of remove.c, twice over; more names than listing.c holds at once; the levels
+ * More levels than calls go by its places and moves, twice over; names of many parts of a listing; the levels
  * of one proved call; and more of these than moves to the first place.
  */
-enum { LEVELS = 9000, NAMES = 5000, ONE_CALL = 20, SOME_CALLS = 40 };
+enum { LEVELS = 9000, NAMES = 5000, PARTS = NAMES * 251 / 65536, ONE_CALL = 20, SOME_CALLS = 40 };
 
 static int root, before;
 static const char *where;
@@ -32,8 +32,12 @@ static const char *where;
 /* What is done as the call has come to its deepest directory. */
 static void (*act)(int deepest);
 
+/* So often a directory was opened to be read. */
+static int listings;
+
 static int my_openat(int dir, const char *name, int flags, mode_t mode)
 {
+    listings += flags & O_DIRECTORY && !(flags & O_PATH);
     int fd = __real_openat(dir, name, flags, mode);
     /* The next call begins there: it is opened by itself, and not to be read. */
     if (act != NULL && fd >= 0 && dir != root && flags & O_PATH && strcmp(name, ".") == 0) {
@@ -45,18 +49,6 @@ static int my_openat(int dir, const char *name, int flags, mode_t mode)
 }
 
 INSTEAD_OF_OPENAT(my_openat)
-
-/* So often a call asked for the memory of a directory of the largest part: its names, and what getdents64(2) gives. */
-static int largest_parts;
-
-void *__real_malloc(size_t size);
-void *__wrap_malloc(size_t size);
-
-void *__wrap_malloc(size_t size)
-{
-    largest_parts += size == (1 << 20) + 32768;
-    return __real_malloc(size);
-}
 
 /* Directories within one another, below `t`; each of those from this one on has a file, whose name comes first. */
 static void dig(int levels, int files_from)
@@ -100,10 +92,10 @@ static void large(void)
         sure(mknodat(root, name, S_IFREG | 0600, 0), name);
     }
     sure(mkdirat(root, "t/!", 0755), "t/!");
-    largest_parts = 0;
+    listings = 0;
     is_removed("a large directory", NAMES + 2);
     /* The names of the large one are held as the small one is listed. */
-    expect(largest_parts == 2, "a large directory in two parts: %d largest ones", largest_parts);
+    expect(listings > PARTS && listings < 2 * PARTS, "a large directory in parts: %d listings", listings);
 }
 
 /* How many levels it is below the root. */

@@ -5,7 +5,7 @@
  * of a mount that was taken off it is that top itself: nobody goes on there.
  *
  * usage: facts DIR. Exits 0 where that holds. 77: no openat2(2) here. 78: no right to do what it takes. To be linked with
- * --wrap=statx, --wrap=fstat and --wrap=openat.
+ * --wrap=statx, and --wrap=openat.
  */
 #define _GNU_SOURCE
 #include "filter.h"
@@ -24,14 +24,16 @@ static bool is_emulated;
 /* It does nothing, and says that it was made. */
 static bool is_unmade;
 
-int __real_statx(int dir, const char *name, int flags, unsigned what, struct statx *about);
-int __wrap_statx(int dir, const char *name, int flags, unsigned what, struct statx *about);
+/* A directory whose `..` is ENOENT, or -1; and whether it was asked for its links then. */
+static int without_parent = -1;
+static bool is_asked;
 
 /* What isn't told is left alone. That the mount's number is another one each time shows who reads it all the same. */
 int __wrap_statx(int dir, const char *name, int flags, unsigned what, struct statx *about)
 {
     static uint64_t left;
     struct stat told;
+    is_asked |= dir == without_parent;
     if (is_unmade)
         return 0;
     if (!is_emulated)
@@ -89,9 +91,6 @@ static void unmade(void)
 
 /* What somebody does right before `..` is opened, and right behind it. */
 static void (*act)(void), (*undo)(void);
-/* A directory whose `..` is ENOENT, or -1; and whether it was asked for its links then. */
-static int without_parent = -1;
-static bool is_asked;
 
 static int my_openat(int dir, const char *name, int flags, mode_t mode)
 {
@@ -111,15 +110,6 @@ static int my_openat(int dir, const char *name, int flags, mode_t mode)
 }
 
 INSTEAD_OF_OPENAT(my_openat)
-
-int __real_fstat(int fd, struct stat *about);
-int __wrap_fstat(int fd, struct stat *about);
-
-int __wrap_fstat(int fd, struct stat *about)
-{
-    is_asked |= fd == without_parent;
-    return __real_fstat(fd, about);
-}
 
 static void move_out(void)
 {

@@ -26,13 +26,6 @@ static bool fails(const char *name)
     return true;
 }
 
-int __real_mkdirat(int dir, const char *name, mode_t mode);
-int __wrap_mkdirat(int dir, const char *name, mode_t mode);
-int __real_mknodat(int dir, const char *name, mode_t mode, dev_t dev);
-int __wrap_mknodat(int dir, const char *name, mode_t mode, dev_t dev);
-int __real_unlinkat(int dir, const char *name, int flags);
-int __wrap_unlinkat(int dir, const char *name, int flags);
-
 static int my_openat(int dir, const char *name, int flags, mode_t mode)
 {
     return fails(name) ? -1 : __real_openat(dir, name, flags, mode);

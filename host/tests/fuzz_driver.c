@@ -17,7 +17,6 @@
 #include <pthread.h>
 #include <sched.h>
 #include <semaphore.h>
-#include <stdarg.h>
 #include <stdbool.h>
 #include <stdint.h>
 #include <stdio.h>
@@ -101,11 +100,6 @@ WRAP(int, statx, (int dir, const char *name, int flags, unsigned what, struct st
 WRAP(int, unlinkat, (int dir, const char *name, int flags), (dir, name, flags))
 WRAP(int, linkat, (int from, const char *old, int to, const char *new, int flags), (from, old, to, new, flags))
 
-int __real_open(const char *name, int flags, ...);
-int __wrap_open(const char *name, int flags, ...);
-int __real_close(int fd);
-int __wrap_close(int fd);
-
 static int counted(int fd)
 {
     opened_by_call += plan.armed && fd >= 0;
@@ -122,19 +116,6 @@ static int my_openat(int dir, const char *name, int flags, mode_t mode)
 }
 
 INSTEAD_OF_OPENAT(my_openat)
-
-int __wrap_open(const char *name, int flags, ...)
-{
-    va_list more;
-    va_start(more, flags);
-    mode_t mode = flags & O_CREAT ? va_arg(more, mode_t) : 0;
-    va_end(more);
-    int error = fails();
-    if (error == 0)
-        return counted(__real_open(name, flags, mode));
-    errno = error;
-    return -1;
-}
 
 static int my_fcntl(int fd, int what, int with)
 {

@@ -1,353 +1,447 @@
 /*
- * fuzz_exchange: the proved library's function that says which system call comes next of a call by the kernel's walk, or by a
- * descriptor; with any demand, any texts and any answers. It comes to an end soon. Each text ends. Nothing is asked of a
- * descriptor that isn't open, and what was opened is closed once, is kept or is the reply. The same answers give the same question.
- * Each look-up from the root stays in the root. Which paths the kernel may walk, and of which a missing name is the error, is as
- * plain C says it.
+ * fuzz_exchange: the proved library's function through whole calls: any call of inroot.h, with any flags, texts and answers, and
+ * with any bytes where a system call reads some. A call ends soon once its system calls fail. Each text that is due has an end.
+ * Nothing is asked of a descriptor that isn't open or handed in; what was opened is closed once, is kept or is the reply. Each
+ * look-up stays below its directory, or is of one name and follows no link; what changes an entry is given one name. Memory is given
+ * back, as the leak sanitizer says.
  *
  * For libFuzzer, or with fuzz_main.c for stored cases. A case is bytes: the demand, what is known, the texts, and the answers.
  */
 #define _GNU_SOURCE
-#include "../driver.h"
+#include "../calls.h"
+#include "../inroot.h"
 #include "../openat2.h"
-#include "fuzz_input.h"
 
+#include <dirent.h>
+#include <errno.h>
 #include <fcntl.h>
+#include <limits.h>
+#include <stdio.h>
+#include <stdlib.h>
 #include <string.h>
 #include <sys/stat.h>
 
-enum { ANSWERS = 128, NUMBERS = 512, ROOT = 7, OTHER, OBJECT, AT_HAND, FIRST = 100 };
-enum { PROC_TYPE = 0x9fa0, NO_LINKS_FOLLOWED = 0x2000 };
+int LLVMFuzzerTestOneInput(const uint8_t *data, size_t size);
+
+#define MUST(holds) ((holds) ? (void)0 : (fprintf(stderr, "not so: %s\n", #holds), abort()))
+
+enum { ANSWERS = 128, READ = PATH_MAX + 256, NUMBERS = 4096, ROOT = 7, OBJECT, AT_HAND, FIRST = 100 };
+enum { PROC_TYPE = 0x9fa0, NO_LINKS_FOLLOWED = 0x2000, RECORD = 19 };
+/* The library keeps a name behind that for itself. So many turns may come once each system call fails. */
+enum { KEPT_NAME = INROOT_ROOM - 256, SOON = 64 };
+/* The numbers of objects: the directory at the top, the root, and what was handed in. Each has three others below it. */
+enum { TOP = 0, ROOT_OBJECT = 3, OTHER_OBJECT = 11 };
 enum state { FREE, OPEN, CLOSED, KEPT };
 
 /* By the demand, what was due before and what is due: the library has no counters of its own. */
 __attribute__((section("__libfuzzer_extra_counters"))) static uint8_t seen[64 * 1024];
 
+struct input {
+    const uint8_t *at;
+    size_t left;
+};
+
+struct file {
+    uint64_t object;
+    uint8_t state;
+    bool is_root;
+};
+
 /* A call, and what it has open by its answers. */
 struct talk {
-    struct input *in;
+    struct input in;
     struct inroot_demand demand;
+    struct inroot_state state;
     struct inroot_due due;
     struct inroot_gave answers[ANSWERS];
-    size_t count;
-    unsigned char first[INROOT_TEXT_MAX + 2], second[INROOT_TEXT_MAX + 2], read[INROOT_TEXT_MAX + 1], room[INROOT_ROOM];
-    size_t first_length, second_length;
-    uint8_t numbers[NUMBERS];
+    unsigned char first[PATH_MAX + 2], second[PATH_MAX + 2], read[READ], room[INROOT_ROOM];
+    size_t second_length;
+    struct file files[NUMBERS];
     uint32_t next;
+    unsigned without_input;
     bool claims;
 };
 
+/* The next byte; 0 behind the last one. */
+static unsigned byte(struct input *in)
+{
+    if (in->left == 0)
+        return 0;
+    in->left--;
+    return *in->at++;
+}
+
 /* ---- the demand */
 
-/* A slash, and bytes of a few kinds; a long one has so many as a path may have, or more. */
+/* A slash, and bytes of a few kinds; a long one has so many as a path may have, or more. How many stand behind the slash. */
 static size_t some_text(struct input *in, unsigned char *text)
 {
-    static const char bytes[] = "aaab//./";
+    static const char bytes[] = "aabc//..";
     const unsigned wanted = byte(in);
-    const size_t length = wanted < 250 ? wanted % 32 : wanted < 253 ? 250U + wanted - 245U : INROOT_TEXT_MAX - 255U + wanted;
-    const unsigned mask = wanted < 250 ? 7 : 3;
+    const size_t length = wanted < 250 ? wanted % 32 : wanted < 253 ? 250U + wanted - 245U : PATH_MAX - 255U + wanted;
     text[0] = '/';
     for (size_t at = 1; at <= length; at++)
-        text[at] = (unsigned char)(wanted < 250 || at % 200 == 0 ? bytes[byte(in) & mask] : 'n');
+        text[at] = (unsigned char)(wanted < 250 || at % 200 == 0 ? bytes[byte(in) & 7] : 'n');
     for (size_t at = 200; wanted >= 253 && at <= length; at += 200)
         text[at] = '/';
-    return length + 1;
+    return length;
 }
 
 static struct inroot_known some_known(struct input *in)
 {
     const unsigned bits = byte(in);
     return (struct inroot_known){
-        .kept = {
-            .file = {.device = 1, .inode = 1, .mount = 1}, .fd = AT_HAND, .there = bits & 1, .handed_in = bits & 2,
-            .claimed = bits & 5,
-        },
+        .kept.file = {.device = 1, .inode = TOP, .mount = 1}, .kept.fd = AT_HAND, .kept.there = bits & 1, .kept.handed_in = bits & 2,
+        .kept.claimed = bits & 5, .has_floor = bits & 8,
         .machine = {.directory = O_DIRECTORY, .nofollow = O_NOFOLLOW, .direct = O_DIRECT, .largefile = O_LARGEFILE},
-        .has_floor = bits & 8,
     };
 }
 
 static struct inroot_demand some_demand(struct input *in)
 {
+    /* Those from INROOT_DO_OPEN_AT on stand one after another. */
+    static const uint8_t calls[] = {
+        INROOT_DO_RESOLVE, INROOT_DO_MKDIR, INROOT_DO_SYMLINK, INROOT_DO_UNLINK, INROOT_DO_RMDIR, INROOT_DO_RENAME,
+        INROOT_DO_REMOVE_ALL,
+    };
+    enum { FEW = sizeof calls, MORE = INROOT_DO_PROC_READ_LINK - INROOT_DO_OPEN_AT + 1 };
+    static const uint32_t flags[] = {
+        0, INROOT_BENEATH, INROOT_NO_LINKS, INROOT_NOFOLLOW, INROOT_NO_RETRY, INROOT_FOLLOW, INROOT_NO_XDEV, INROOT_GIVE,
+        INROOT_DIRECTORY, INROOT_EXACT, 0x20000,
+    };
     static const uint32_t objects[] = {
         OBJECT, OBJECT, OBJECT, AT_HAND, (uint32_t)-1, (uint32_t)INROOT_PROC_ROOT, (uint32_t)INROOT_PROC_SELF, 0x80000000,
     };
-    static const uint32_t modes[] = {S_IFREG | 0644, S_IFDIR | 0700, S_IFLNK, S_IFCHR | 0600, 0755, EACCES, ENOENT, 0x20000};
+    static const uint32_t modes[] = {S_IFREG | 0644, S_IFDIR | 0700, S_IFIFO | 0600, S_IFCHR | 0600, 0755, 0644, 0, 0x20000};
     static const uint64_t times[] = {0, UTIME_NOW, UTIME_OMIT, 1000000000};
-    static const uint32_t hows[] = {O_RDONLY, O_RDWR, O_PATH, O_PATH | O_NOFOLLOW, O_RDONLY | O_NOFOLLOW, O_DIRECTORY, 1, 2};
-    const unsigned bits = byte(in), more = byte(in), way = byte(in);
-    struct inroot_demand demand = {
-        .root = ROOT, .other = OTHER, .opens = bits & 2, .linked = bits & 4, .gives = bits & 8, .directory = bits & 16,
-        .surely = bits & 32, .asks_kind = bits & 64, .device = bits & 1, .accessed = times[more & 3],
-        .changed = times[more >> 2 & 3], .mode = modes[way >> 4 & 7],
-        .how = hows[way & 7] | (way & 8 || bits & 2 ? O_CLOEXEC : 0),
+    static const uint32_t hows[] = {
+        O_RDONLY, O_RDWR | O_CREAT, O_PATH, O_PATH | O_NOFOLLOW, O_RDWR | O_CREAT | O_EXCL, O_DIRECTORY, 1, 2,
+        O_RDWR | O_TMPFILE, O_WRONLY | O_TRUNC, O_RDONLY | O_CREAT, O_RDWR | O_CREAT | O_NOFOLLOW, O_RDONLY | O_NOFOLLOW,
     };
-    demand.known = some_known(in);
-    demand.what = (uint8_t)(byte(in) % 36);
-    demand.step = (uint8_t)(INROOT_STEP_CLOSE + byte(in) % 8);
-    demand.flags = byte(in) | (byte(in) % 8 == 7 ? INROOT_EXACT : 0U);
-    demand.fd = objects[more >> 4 & 7];
-    demand.size = (uint64_t)byte(in) << bits % 20;
-    return demand;
+    const unsigned what = byte(in), bits = byte(in), more = byte(in), way = byte(in), number = what % (FEW + MORE);
+    return (struct inroot_demand){
+        .what = (uint8_t)(number < FEW ? calls[number] : number - FEW + INROOT_DO_OPEN_AT),
+        .root = what == 255 ? UINT32_MAX : ROOT, .fd = objects[more >> 4 & 7],
+        .flags = flags[bits % 11] | (bits & 64 ? INROOT_EXACT : 0) | (bits & 128 ? flags[more % 9] : 0),
+        .how = hows[way % 13], .mode = modes[way >> 4 & 7], .above = 0755, .device = more == 255 ? UINT64_MAX : more & 1,
+        .size = (uint64_t)more << more % 20, .accessed = times[more & 3], .changed = times[more >> 2 & 3], .known = some_known(in),
+    };
+}
+
+/* ---- objects: a tree, in which each name that begins with the same letter leads to the same */
+
+static uint64_t below(uint64_t object, const char *name, size_t length)
+{
+    if (length == 0 || (length == 1 && name[0] == '.'))
+        return object;
+    if (length == 2 && name[0] == '.' && name[1] == '.')
+        return object == TOP ? TOP : (object - 1) / 3;
+    return 3 * object + 1 + (unsigned char)*name % 3;
+}
+
+static uint64_t walked(uint64_t object, const char *path)
+{
+    for (size_t length; *path != 0; path += length + (path[length] == '/')) {
+        length = strcspn(path, "/");
+        object = below(object, path, length);
+    }
+    return object;
+}
+
+/* The path of an object from the top, at the end of a room. */
+static const char *path_of(uint64_t object, char *room, size_t size)
+{
+    char *at = room + size - 1;
+    *at = 0;
+    for (; object != TOP; object = (object - 1) / 3) {
+        *--at = "cab"[(object - 1) % 3];
+        *--at = '/';
+    }
+    return *at == 0 ? "/" : at;
+}
+
+static const struct file *file_of(const struct talk *t, uint64_t fd)
+{
+    static const struct file none;
+    return fd < NUMBERS ? &t->files[fd] : &none;
+}
+
+/* It is open, and then isn't the call's any more. */
+static void take(struct talk *t, uint64_t fd, enum state as)
+{
+    MUST(fd < NUMBERS && t->files[fd].state == OPEN);
+    t->files[fd].state = (uint8_t)as;
 }
 
 /* ---- what is due */
 
-static void turn(struct talk *t, struct inroot_due *due, unsigned char *room)
-{
-    inroot_turn(&t->demand, t->first, t->first_length, t->second, t->second_length, t->read, sizeof t->read, t->answers, t->count,
-                due, room, INROOT_ROOM);
-}
+#define IS_ONE_OF(what, ...) (memchr((const uint8_t[]){__VA_ARGS__}, what, sizeof (const uint8_t[]){__VA_ARGS__}) != NULL)
 
-static bool is_of_two(uint8_t what)
+static bool opens(uint8_t what)
 {
-    return what == INROOT_DUE_SYMLINKAT || what == INROOT_DUE_LINKAT || what == INROOT_DUE_RENAMEAT2;
-}
-
-static bool is_same(const struct inroot_due *a, const struct inroot_due *b)
-{
-    return a->number == b->number && a->resolve == b->resolve && a->mount == b->mount && a->fd == b->fd && a->other == b->other &&
-           a->mode == b->mode && a->what == b->what && a->step == b->step && a->again == b->again;
-}
-
-/* Says what is due, twice: as each text that is due has an end, the same one. */
-static void next(struct talk *t)
-{
-    unsigned char again[INROOT_ROOM];
-    struct inroot_due due = {.what = 0};
-    const uint8_t before = t->count ? t->due.what : 0;
-    memset(t->room, '#', sizeof t->room);
-    memset(again, '$', sizeof again);
-    turn(t, &t->due, t->room);
-    turn(t, &due, again);
-    MUST(is_same(&t->due, &due));
-    seen[(t->demand.what % 64U << 10 | before % 32U << 5 | due.what % 32U) ^ due.what / 32U] = 1;
-    if (due.what == INROOT_DUE_STEPS)
-        return;
-    MUST(memchr(t->room, 0, INROOT_SECOND) && memchr(again, 0, INROOT_SECOND) && !strcmp((const char *)t->room, (char *)again));
-    if (is_of_two(due.what))
-        MUST(memchr(again + INROOT_SECOND, 0, INROOT_ROOM - INROOT_SECOND) &&
-             !strcmp((const char *)t->room + INROOT_SECOND, (char *)again + INROOT_SECOND));
-}
-
-/* What a demand names, or what an answer has opened. */
-static void must_be_there(const struct talk *t, uint32_t fd)
-{
-    const bool is_given = fd == ROOT || fd == OTHER || fd == t->demand.fd || fd == (uint32_t)AT_FDCWD || fd == UINT32_MAX;
-    const bool is_at_hand = fd == AT_HAND && t->demand.known.kept.there;
-    MUST(is_given || is_at_hand || (fd < NUMBERS && (t->numbers[fd] == OPEN || t->numbers[fd] == KEPT)));
+    return IS_ONE_OF(what, INROOT_DUE_OPENAT2, INROOT_DUE_OPENAT, INROOT_DUE_DUPFD, INROOT_DUE_FSOPEN, INROOT_DUE_FSMOUNT,
+                     INROOT_DUE_OPEN_TREE);
 }
 
 static bool has_descriptor(uint8_t what)
 {
-    switch (what) {
-    case INROOT_DUE_XATTR: case INROOT_DUE_FSOPEN: case INROOT_DUE_OPEN_TREE: case INROOT_DUE_NANOSLEEP: case INROOT_DUE_CLAIM:
-    case INROOT_DUE_RELEASE: case INROOT_DUE_KNOW: return false;
-    default: return true;
-    }
+    return !IS_ONE_OF(what, INROOT_DUE_XATTR, INROOT_DUE_FSOPEN, INROOT_DUE_OPEN_TREE, INROOT_DUE_NANOSLEEP, INROOT_DUE_CLAIM,
+                      INROOT_DUE_RELEASE, INROOT_DUE_KNOW);
 }
 
-static bool opens(uint8_t what)
+/* Says what is due. */
+static void next(struct talk *t)
 {
-    return what == INROOT_DUE_OPENAT2 || what == INROOT_DUE_OPENAT || what == INROOT_DUE_DUPFD || what == INROOT_DUE_FSOPEN ||
-           what == INROOT_DUE_FSMOUNT || what == INROOT_DUE_OPEN_TREE;
+    const unsigned before = t->due.what;
+    memset(t->room, '#', KEPT_NAME);
+    inroot_turn(&t->demand, &t->state, t->first, sizeof t->first, t->second, t->second_length, t->read, sizeof t->read, t->answers,
+                ANSWERS, &t->due, t->room, sizeof t->room);
+    const unsigned now = t->due.what;
+    uint8_t *const way = &seen[(t->demand.what * 40U + before) * 40U + now];
+    *way = (uint8_t)(*way + (*way < 255));
+    MUST(now >= INROOT_DUE_OPENAT2 && now <= INROOT_DUE_FAILS && t->due.at < ANSWERS);
+    MUST(memchr(t->room, 0, INROOT_SECOND));
+    MUST(!IS_ONE_OF(now, INROOT_DUE_SYMLINKAT, INROOT_DUE_LINKAT, INROOT_DUE_RENAMEAT2) ||
+         memchr(t->room + INROOT_SECOND, 0, KEPT_NAME - INROOT_SECOND));
+    t->without_input += t->in.left == 0;
+    MUST(t->without_input < SOON);
 }
 
-/* A link of this thread is the object's. */
-static void must_be_its_link(const struct talk *t)
+/* What a demand names, or what an answer has opened. */
+static void must_be_there(struct talk *t, uint32_t fd)
 {
-    static const char link[] = "thread-self/fd/", whole[] = "/proc/thread-self/fd/";
-    const bool is_whole = t->due.what == INROOT_DUE_XATTR;
-    const char *text = (const char *)t->room, *front = is_whole ? whole : link;
-    if (is_whole || !strncmp(text, front, strlen(front)))
-        MUST(!strncmp(text, front, strlen(front)) && strtoul(text + strlen(front), NULL, 10) == t->demand.fd);
+    const bool is_given = fd == ROOT || fd == t->demand.fd || fd == (uint32_t)AT_FDCWD || fd == UINT32_MAX;
+    const bool is_at_hand = fd == AT_HAND && t->demand.known.kept.there;
+    const uint8_t state = file_of(t, fd)->state;
+    MUST(is_given || is_at_hand || state == OPEN || state == KEPT);
 }
 
-/* By flags of the demand, but for the name of what was made. */
-static void must_stay(const struct talk *t)
+/* The descriptor of an object that is named in a /proc; or UINT32_MAX. */
+static uint32_t named(const char *text)
+{
+    static const char front[] = "thread-self/fd/";
+    text += strncmp(text, "/proc/", 6) == 0 ? 6 : 0;
+    return strncmp(text, front, sizeof front - 1) == 0 ? (uint32_t)strtoul(text + sizeof front - 1, NULL, 10) : UINT32_MAX;
+}
+
+static bool is_one_name(const char *text)
+{
+    return strchr(text, '/') == NULL && text[0] != 0;
+}
+
+/* Nothing leads out of the directory: but for `..` of one that isn't the root, by itself. */
+static void must_stay(struct talk *t, const char *text)
 {
     const struct inroot_due *due = &t->due;
-    const unsigned flags = t->demand.flags;
-    const uint64_t bits = RESOLVE_NO_MAGICLINKS | (flags & INROOT_BENEATH ? RESOLVE_BENEATH : RESOLVE_IN_ROOT) |
-                          (flags & INROOT_NO_XDEV ? RESOLVE_NO_XDEV : 0) | (flags & INROOT_NO_LINKS ? RESOLVE_NO_SYMLINKS : 0);
+    const bool is_kept = due->what == INROOT_DUE_OPENAT2 && due->resolve & (RESOLVE_IN_ROOT | RESOLVE_BENEATH);
+    const bool is_bare = due->number & (O_NOFOLLOW | O_EXCL) || strcmp(text, ".") == 0;
+    const bool is_found = due->what == INROOT_DUE_OPENAT && due->fd == (uint32_t)AT_FDCWD && strcmp(text, "/proc") == 0;
+    const bool is_of_proc = t->demand.what == INROOT_DO_PROC_OPEN || t->demand.what == INROOT_DO_PROC_READ_LINK;
     MUST(due->number & O_CLOEXEC);
-    if (due->fd == ROOT && !t->demand.gives && t->demand.what <= INROOT_DO_ENTRY)
-        MUST(due->resolve == bits || due->resolve == (bits | RESOLVE_NO_SYMLINKS));
+    MUST(is_kept || is_found || is_of_proc || named(text) != UINT32_MAX || (is_one_name(text) && is_bare));
+    MUST(is_kept || !file_of(t, due->fd)->is_root || strcmp(text, "..") != 0);
 }
 
-static void look_at(const struct talk *t)
+static bool is_entry(const char *text)
+{
+    const size_t length = strlen(text);
+    return length > 0 && length <= NAME_MAX && is_one_name(text) && strcmp(text, ".") != 0 && strcmp(text, "..") != 0;
+}
+
+static void must_be_entries(struct talk *t, const char *text, const char *other)
+{
+    MUST(is_entry(text) || !IS_ONE_OF(t->due.what, INROOT_DUE_MKDIRAT, INROOT_DUE_MKNODAT, INROOT_DUE_SYMLINKAT,
+                                      INROOT_DUE_UNLINKAT, INROOT_DUE_RENAMEAT2));
+    MUST(is_entry(other) || !IS_ONE_OF(t->due.what, INROOT_DUE_RENAMEAT2, INROOT_DUE_LINKAT));
+}
+
+static void look_at(struct talk *t)
 {
     const struct inroot_due *due = &t->due;
-    MUST(due->what >= INROOT_DUE_OPENAT2 && due->what <= INROOT_DUE_KNOW);
+    const char *text = (const char *)t->room, *other = (const char *)t->room + INROOT_SECOND;
     if (has_descriptor(due->what))
         must_be_there(t, due->fd);
     if (due->what == INROOT_DUE_LINKAT || due->what == INROOT_DUE_RENAMEAT2)
         must_be_there(t, due->other);
-    if (due->what == INROOT_DUE_CLOSE || due->what == INROOT_DUE_KEEP)
-        MUST(due->fd < NUMBERS && t->numbers[due->fd] == OPEN);
     if (due->what == INROOT_DUE_KEEP || due->what == INROOT_DUE_RELEASE)
         MUST(t->claims);
-    if (due->what == INROOT_DUE_OPENAT2)
-        must_stay(t);
-    if (due->what != INROOT_DUE_OPENAT2 && due->what != INROOT_DUE_STATX)
-        must_be_its_link(t);
+    if (due->what == INROOT_DUE_OPENAT2 || due->what == INROOT_DUE_OPENAT)
+        must_stay(t, text);
+    if (named(text) != UINT32_MAX)
+        must_be_there(t, named(text));
+    must_be_entries(t, text, other);
 }
 
 /* ---- answers */
 
-/* Behind the last byte each system call fails, but for those that are none. */
+/* Behind the last byte each system call fails. Of no descriptor nothing is given, though a filter may say so of openat2(2). */
 static uint32_t some_error(struct input *in, const struct inroot_due *due)
 {
     static const uint8_t errors[] = {
         EINTR, ENOENT, EAGAIN, EACCES, EPERM, ENOSYS, EMFILE, ENOMEM, EBADF, ELOOP, EXDEV, ENOTDIR, EEXIST, EINVAL, ESRCH, ERANGE,
-        EBUSY, 200,
+        EBUSY, EISDIR, ENOTEMPTY, 200,
     };
-    if (due->what == INROOT_DUE_KEEP || due->what == INROOT_DUE_RELEASE || due->what == INROOT_DUE_KNOW)
+    /* What C does by itself gives no error. */
+    if (IS_ONE_OF(due->what, INROOT_DUE_KEEP, INROOT_DUE_RELEASE, INROOT_DUE_KNOW))
         return 0;
-    const unsigned drawn = in->left == 0 ? 0 : byte(in), error = errors[drawn % sizeof errors];
-    return drawn > 90 ? 0 : in->left == 0 ? EIO : error == EINTR && due->again ? ENOENT : error;
+    if (in->left == 0)
+        return EIO;
+    const unsigned drawn = byte(in), error = errors[drawn % sizeof errors];
+    const bool is_of_none = has_descriptor(due->what) && due->fd > INT_MAX && due->fd != (uint32_t)AT_FDCWD;
+    if (drawn > 100)
+        return is_of_none && due->what != INROOT_DUE_OPENAT2 ? EBADF : 0;
+    return error == EINTR && due->again ? ENOENT : error;
 }
 
-/* A number that isn't open: now and then that of a standard file. */
+/* Opens a number that isn't open: now and then that of a standard file. */
 static uint32_t some_number(struct talk *t)
 {
-    const uint32_t low = byte(t->in) % 32;
-    const bool is_free = low < 3 && t->due.what != INROOT_DUE_DUPFD && t->numbers[low] != OPEN && t->numbers[low] != KEPT;
+    const char *text = (const char *)t->room;
+    const uint32_t low = byte(&t->in) % 32, from = named(text) != UINT32_MAX ? named(text) : t->due.fd;
+    const bool is_free = low < 3 && t->due.what != INROOT_DUE_DUPFD && t->files[low].state != OPEN && t->files[low].state != KEPT;
     const uint32_t fd = is_free ? low : t->next++;
-    t->numbers[fd] = OPEN;
+    const struct file *above = file_of(t, from);
+    MUST(fd < NUMBERS);
+    t->files[fd] = (struct file){
+        .object = named(text) == UINT32_MAX && t->due.what != INROOT_DUE_DUPFD ? walked(above->object, text) : above->object,
+        .state = OPEN, .is_root = above->is_root && strcmp(text, ".") == 0,
+    };
     return fd;
 }
 
-/* The text of a link that is read: the second text, or other bytes. */
-static uint32_t some_read(struct talk *t)
+static uint32_t read_text(struct talk *t, const char *text)
 {
-    const unsigned bits = byte(t->in);
-    const size_t length = bits & 1 ? t->second_length - 1 : bits;
+    const size_t length = strlen(text);
     memset(t->read, '?', sizeof t->read);
-    memcpy(t->read, t->second + 1, bits & 1 ? length : 0);
+    memcpy(t->read, text, length);
     return (uint32_t)length;
 }
 
-static struct inroot_gave some_look(struct input *in)
+/* The text of a link: the object's own path, the second text, or other bytes. */
+static uint32_t some_link(struct talk *t)
 {
-    static const uint16_t modes[] = {S_IFDIR | 0700, S_IFREG | 0644, S_IFLNK | 0777, S_IFCHR | 0600};
-    const unsigned bits = byte(in);
+    static const char *const texts[] = {"1/task/1", "a", "../a", "/a/b", "b/../c", "/a (deleted)", "", "(unreachable)/a"};
+    char path[256] = "";
+    const char *text = (const char *)t->room;
+    const unsigned bits = byte(&t->in);
+    if (strcmp(text, "thread-self") == 0 && bits < 128)
+        return read_text(t, "1/task/1");
+    if (named(text) != UINT32_MAX && bits < 128)
+        return read_text(t, path_of(file_of(t, named(text))->object, path, sizeof path));
+    if (bits < 160)
+        return read_text(t, (const char *)t->second + 1);
+    if (bits < 240)
+        return read_text(t, texts[bits % 8]);
+    memset(t->read, 'n', sizeof t->read);
+    return (uint32_t)(sizeof t->read - bits % 2 * 257);
+}
+
+/* A record of getdents64(2). Which bytes it has. */
+static size_t some_record(struct talk *t, unsigned char *record)
+{
+    static const char *const names[] = {".", "..", "a", "b", "c", "aa", "", "a/b"};
+    static const uint8_t kinds[] = {DT_DIR, DT_REG, DT_LNK, DT_UNKNOWN};
+    static char long_name[260];
+    memset(long_name, 'n', sizeof long_name);
+    const unsigned bits = byte(&t->in);
+    const size_t length = bits >= 252 ? 251 + bits % 8 : strlen(names[bits & 7]);
+    const unsigned short size = (unsigned short)((RECORD + length + 8) / 8 * 8);
+    memset(record, 0, size);
+    memcpy(record + 16, &size, sizeof size);
+    record[18] = kinds[bits >> 3 & 3];
+    memcpy(record + RECORD, bits >= 252 ? long_name : names[bits & 7], length);
+    return size;
+}
+
+/* Some, or none at a directory's end; now and then a byte of them is another one. */
+static uint32_t some_records(struct talk *t)
+{
+    size_t used = 0;
+    const unsigned bits = byte(&t->in);
+    for (unsigned count = bits % 4; count > 0; count--)
+        used += some_record(t, t->read + used);
+    if (bits > 200 && used > 0)
+        t->read[byte(&t->in) * 4U % used] = (unsigned char)byte(&t->in);
+    return (uint32_t)used;
+}
+
+/* What the tree says of the object, or something else. */
+static struct inroot_gave some_look(struct talk *t)
+{
+    static const uint16_t modes[] = {S_IFDIR | 0700, S_IFREG | 0644, S_IFLNK | 0777, S_IFCHR | 0600, S_IFSOCK, 0};
+    const unsigned bits = byte(&t->in);
+    const uint64_t object = walked(file_of(t, t->due.fd)->object, (const char *)t->room);
     return (struct inroot_gave){
-        .device = 1 + (bits & 1), .inode = 1 + (bits >> 1 & 1), .mount = 1 + (bits >> 2 & 1), .node = bits >> 3 & 1,
-        .links = bits >> 4 & 1, .mode = modes[bits >> 5 & 3], .has_mount = bits < 240,
+        .device = 1, .inode = bits & 8 ? object ^ 1 : object, .mount = 1 + (bits >> 4 & 1), .node = bits >> 5 & 1,
+        .links = bits & 64 ? 0 : 2, .mode = modes[(bits & 7) < 6 ? bits & 7 : object % 3 == 1 ? 2 : 0], .has_mount = bits < 250,
     };
 }
 
 static struct inroot_gave answer(struct talk *t)
 {
     const struct inroot_due *due = &t->due;
-    const uint32_t error = some_error(t->in, due);
-    struct inroot_gave gave = {.error = error};
-    if (due->what == INROOT_DUE_CLOSE)
-        t->numbers[due->fd] = CLOSED;
-    if (due->what == INROOT_DUE_KEEP)
-        t->numbers[due->fd] = KEPT;
+    const uint32_t error = some_error(&t->in, due);
+    if (due->what == INROOT_DUE_CLOSE || due->what == INROOT_DUE_KEEP)
+        take(t, due->fd, due->what == INROOT_DUE_KEEP ? KEPT : CLOSED);
     if (due->what == INROOT_DUE_CLAIM || due->what == INROOT_DUE_KEEP || due->what == INROOT_DUE_RELEASE)
         t->claims = due->what == INROOT_DUE_CLAIM && error == 0;
     if (error != 0)
-        return gave;
-    if (due->what == INROOT_DUE_STATX)
-        return some_look(t->in);
-    if (due->what == INROOT_DUE_FSTATFS) {
-        const unsigned bits = byte(t->in);
-        gave = (struct inroot_gave){.file_system = PROC_TYPE + bits / 128, .flags = bits & 64 ? NO_LINKS_FOLLOWED : 0};
+        return (struct inroot_gave){.error = error};
+    switch (due->what) {
+    case INROOT_DUE_STATX: return some_look(t);
+    case INROOT_DUE_GETDENTS: return (struct inroot_gave){.value = some_records(t)};
+    case INROOT_DUE_READLINKAT: return (struct inroot_gave){.value = some_link(t)};
+    case INROOT_DUE_XATTR: case INROOT_DUE_XATTR_AT: return (struct inroot_gave){.value = byte(&t->in)};
+    case INROOT_DUE_FSTATFS: {
+        const unsigned bits = byte(&t->in);
+        return (struct inroot_gave){.file_system = PROC_TYPE + bits / 128, .flags = bits & 64 ? NO_LINKS_FOLLOWED : 0};
     }
-    /* Of no directory nothing is opened, though a filter may say so. */
-    if (opens(due->what) && (due->what != INROOT_DUE_OPENAT2 || due->fd != UINT32_MAX))
-        gave.value = some_number(t);
-    if (due->what == INROOT_DUE_READLINKAT)
-        gave.value = some_read(t);
-    return gave;
-}
-
-/* ---- what plain C says of a path that is opened for use */
-
-/* Whether these are names with one slash before each. */
-static bool is_place(const unsigned char *place, size_t length)
-{
-    if (length == 0 || place[0] != '/' || place[length - 1] == '/')
-        return false;
-    for (size_t at = 1, name; at < length; at += name + 1) {
-        const unsigned char *slash = memchr(place + at, '/', length - at);
-        name = slash == NULL ? length - at : (size_t)(slash - place) - at;
-        if (name == 0 || name > NAME_MAX || (place[at] == '.' && (name == 1 || (name == 2 && place[at + 1] == '.'))))
-            return false;
+    default: return (struct inroot_gave){.value = opens(due->what) && due->fd != UINT32_MAX ? some_number(t) : 0};
     }
-    return true;
-}
-
-static bool may_walk(const struct talk *t)
-{
-    const unsigned char *path = t->first + 1;
-    const size_t length = t->first_length - 1;
-    size_t part = 0, names = 0;
-    for (size_t at = 0; at < length; at++) {
-        part = path[at] == '/' ? 0 : part + 1;
-        names += path[at] != '/';
-        if (part > NAME_MAX)
-            return false;
-    }
-    return names > 0 && length < INROOT_TEXT_MAX && !(t->demand.flags & INROOT_EXACT) &&
-           !(t->demand.flags & INROOT_BENEATH && path[0] == '/');
-}
-
-static void must_walk(const struct talk *t)
-{
-    const size_t from = t->first[1] == '/';
-    if (t->demand.what != INROOT_DO_OPEN || t->count > 1)
-        return;
-    if (t->count == 0)
-        MUST(t->due.what == (may_walk(t) ? INROOT_DUE_OPENAT2 : INROOT_DUE_STEPS));
-    else if (t->answers[0].error == ENOENT)
-        MUST((t->due.what == INROOT_DUE_OPENAT2 && t->due.resolve & RESOLVE_NO_SYMLINKS) ==
-             is_place(t->first + from, t->first_length - from));
 }
 
 /* ---- a call */
 
-/* Whether a call with this reply hands out a descriptor, which is open then, or the caller's own. */
+/* Whether a call with this reply hands out a descriptor, which is open then. */
 static bool hands_out(const struct talk *t)
 {
-    switch (t->demand.what) {
-    case INROOT_ASK_RESOLVE: case INROOT_ASK_RESOLVE_NOFOLLOW: case INROOT_ASK_MKDIR_ALL: case INROOT_DO_OPEN:
-    case INROOT_DO_REOPEN: case INROOT_DO_PROC_OPEN: return true;
-    case INROOT_DO_ENTRY: case INROOT_DO_FIND_PROC: return t->due.number >> 32;
-    default: return t->demand.gives && t->demand.what <= INROOT_DO_CHANGE;
-    }
+    if (IS_ONE_OF(t->demand.what, INROOT_DO_MKDIR, INROOT_DO_SYMLINK, INROOT_DO_MAKE_NODE, INROOT_DO_LINK, INROOT_DO_LINK_OBJECT))
+        return t->demand.flags & INROOT_GIVE;
+    return IS_ONE_OF(t->demand.what, INROOT_DO_RESOLVE, INROOT_DO_OPEN_AT, INROOT_DO_OPEN_PARENT, INROOT_DO_REOPEN,
+                     INROOT_DO_PROC_OPEN, INROOT_DO_MAKE_DIRECTORIES, INROOT_DO_MAKE_FILE);
 }
 
 static void must_end(struct talk *t)
 {
-    const uint32_t fd = (uint32_t)t->due.number;
-    MUST(t->due.what >= INROOT_DUE_VALUE && t->due.what <= INROOT_DUE_STEPS && !t->claims);
-    MUST(t->due.what != INROOT_DUE_FAILS || (t->due.number > 0 && t->due.number < 4096));
-    MUST(t->due.what != INROOT_DUE_VALUE || !hands_out(t) || (fd < NUMBERS && t->numbers[fd] == OPEN));
-    if (t->due.what == INROOT_DUE_VALUE && (hands_out(t) || t->demand.opens) && fd < NUMBERS && t->numbers[fd] == OPEN)
-        t->numbers[fd] = CLOSED;
+    const struct inroot_due *due = &t->due;
+    MUST(!t->claims && due->closes <= 2);
+    if (due->closes > 0)
+        take(t, due->first_closed, CLOSED);
+    if (due->closes > 1)
+        take(t, due->second_closed, CLOSED);
+    if (due->what == INROOT_DUE_FAILS)
+        MUST(due->number > 0 && due->number < 4096);
+    else if (hands_out(t))
+        take(t, due->number, CLOSED);
     for (size_t at = 0; at < NUMBERS; at++)
-        MUST(t->numbers[at] != OPEN);
+        MUST(t->files[at].state != OPEN);
 }
 
 int LLVMFuzzerTestOneInput(const uint8_t *data, size_t size)
 {
-    struct input in = {data, size};
     static struct talk t;
-    t = (struct talk){.in = &in, .demand = some_demand(&in), .next = FIRST};
-    t.first_length = some_text(&in, t.first);
-    t.second_length = some_text(&in, t.second);
+    memset(&t, 0, sizeof t);
+    t.in = (struct input){data, size};
+    t.demand = some_demand(&t.in);
+    t.next = FIRST;
+    t.files[ROOT] = (struct file){.object = ROOT_OBJECT, .is_root = true};
+    t.files[OBJECT] = (struct file){.object = OTHER_OBJECT};
+    t.demand.length = some_text(&t.in, t.first);
+    t.second_length = some_text(&t.in, t.second) + 1;
     for (next(&t); t.due.what < INROOT_DUE_VALUE; next(&t)) {
-        must_walk(&t);
         look_at(&t);
-        MUST(t.count < ANSWERS);
-        t.answers[t.count] = answer(&t);
-        t.count++;
+        t.answers[t.due.at] = answer(&t);
     }
-    must_walk(&t);
     must_end(&t);
     return 0;
 }

@@ -71,17 +71,12 @@ static bool is_refused(int fd)
 }
 
 #ifdef STATX_INO
-int __real_statx(int dir, const char *name, int flags, unsigned what, struct statx *about);
-int __wrap_statx(int dir, const char *name, int flags, unsigned what, struct statx *about);
 
 int __wrap_statx(int dir, const char *name, int flags, unsigned what, struct statx *about)
 {
     return is_refused(dir) ? -1 : __real_statx(dir, name, flags, what, about);
 }
 #endif
-
-int __real_fstat(int fd, struct stat *about);
-int __wrap_fstat(int fd, struct stat *about);
 
 int __wrap_fstat(int fd, struct stat *about)
 {

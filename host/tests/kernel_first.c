@@ -50,8 +50,6 @@ NOTED(void *, malloc, (size_t size), (size))
 
 NOTED(int, fstat, (int fd, struct stat *about), (fd, about))
 
-int __real_statx(int dir, const char *name, int flags, unsigned what, struct statx *about);
-int __wrap_statx(int dir, const char *name, int flags, unsigned what, struct statx *about);
 int __wrap_statx(int dir, const char *name, int flags, unsigned what, struct statx *about)
 {
     if (!counting || untold == 0)

@@ -7,10 +7,10 @@
  */
 #define _GNU_SOURCE
 #include "support.h"
+#include "wraps.h"
 
 #include <dirent.h>
 #include <limits.h>
-#include <stdarg.h>
 #include <string.h>
 #include <sys/stat.h>
 
@@ -31,15 +31,8 @@ static void let_others(void)
         meanwhile(turns++);
 }
 
-int __real_openat(int dir, const char *name, int flags, ...);
-int __wrap_openat(int dir, const char *name, int flags, ...);
-
-int __wrap_openat(int dir, const char *name, int flags, ...)
+static int my_openat(int dir, const char *name, int flags, mode_t mode)
 {
-    va_list more;
-    va_start(more, flags);
-    mode_t mode = flags & O_CREAT ? va_arg(more, mode_t) : 0;
-    va_end(more);
     if (flags & O_CREAT)
         let_others();
     creations += (flags & O_CREAT) != 0;
@@ -49,6 +42,8 @@ int __wrap_openat(int dir, const char *name, int flags, ...)
     }
     return __real_openat(dir, name, flags, mode);
 }
+
+INSTEAD_OF_OPENAT(my_openat)
 
 /* ---- a tree for each case */
 

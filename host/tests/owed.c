@@ -1,204 +1,179 @@
 /*
- * owed: that each call of the proved library is looked at for what it asks of C, by the functions that checks/owed writes. A wrong
- * call ends its process, and the same call as it is to be doesn't.
- *
- * usage: owed. Exits 0 where each is so.
+ * owed: looks, at each turn of a call, for what the proved library asks of C (../calls.h). This function stands between the driver
+ * and the library's own, which is called proved_turn then. Whoever owes something is told so, and ended by abort(3). It is for the
+ * address sanitizer.
  */
 #define _GNU_SOURCE
 #include "../calls.h"
 
 #include <errno.h>
+#include <fcntl.h>
 #include <limits.h>
-#include <signal.h>
+#include <sanitizer/asan_interface.h>
 #include <stdio.h>
+#include <stdlib.h>
 #include <string.h>
-#include <sys/wait.h>
-#include <unistd.h>
 
-enum { ROOM = 4096 };
+enum { PATH_SIZE = 4097, ERROR_MAX = 4095 };
 
-/* What a wrong call is made of. */
-static unsigned char room[ROOM + 1], text[] = "/a/b";
-static struct inroot_parted parted;
-static struct inroot_asked request = {.op = INROOT_ASK_RESOLVE};
-static struct inroot_told told;
-static struct inroot_kept kept;
-static struct inroot_step_facts facts = {.what = INROOT_STEP_OPEN};
-static const struct inroot_step_answer answer = {.error = ENOENT};
-static struct inroot_step step;
-static struct inroot_listing listing;
-static struct inroot_making making;
-static struct inroot_opening opening;
-static struct inroot_course course;
-static struct inroot_demand demand = {.what = INROOT_DO_HAS_FLOOR, .gives = true};
-static struct inroot_gave gave;
-static struct inroot_due due;
+void proved_turn(struct inroot_demand *demand, struct inroot_state *state, unsigned char *first, size_t first_size,
+                 const unsigned char *second, size_t second_length, unsigned char *read, size_t read_size,
+                 struct inroot_gave *answers, size_t count, struct inroot_due *due, unsigned char *room, size_t size);
 
-static void begin(void)
+static void must(bool holds, const char *what)
 {
-    inroot_begin(&request, text, 4, text, 0, &kept, &told, room, ROOM);
+    if (holds)
+        return;
+    fprintf(stderr, "inroot_turn: its caller owes this: %s\n", what);
+    abort();
 }
 
-static void next(void)
-{
-    const struct inroot_answered done = {.what = INROOT_ANSWER_REFUSED, .error = ENOMEM};
-    inroot_next(&kept, &done, text, 0, &told, room, ROOM);
-}
+/* ---- what the arguments point to */
 
-static void split_nothing(void) { inroot_split(NULL, 0, false, &parted); }
-static void split(void) { inroot_split(text, 4, false, &parted); }
-static void split_unset(void) { memset(&parted, 0xaa, sizeof parted); split(); }
-static void split_more(void) { inroot_split(text, sizeof text + 1, false, &parted); }
-static void split_into_its_path(void) { inroot_split((unsigned char *)&parted, 4, false, &parted); }
-static void split_askew(void) { inroot_split(text, 4, false, (void *)((char *)room + 1)); }
-static void ask_oddly(void) { memset(&request.beneath, 2, 1); begin(); }
-static void begin_again(void) { begin(); begin(); }
-static void begin_and_end(void) { begin(); while (told.what < INROOT_REPLY_OPENED) next(); begin(); }
-static void go_on_without_a_call(void) { next(); }
-static void change_the_call(void) { begin(); kept.at++; next(); }
-static void sort_in_place(void) { inroot_sort_names(room, 3, room + 2, 4, &(struct inroot_sorted){.error = 0}); }
-static void sort_beside(void) { inroot_sort_names(room, 3, room + 3, 4, &(struct inroot_sorted){.error = 0}); }
-
-static void list(size_t more)
-{
-    inroot_listing_begin(SIZE_MAX, &listing);
-    inroot_listing_next(&listing, 0, text, 0, room, listing.size + more);
-}
-static void list_elsewhere(void) { list(1); }
-static void list_there(void) { list(0); }
-
-static void make(size_t path, size_t size)
-{
-    inroot_making_begin(path, false, false, false, &making);
-    inroot_making_next(&making, &(struct inroot_outcome){.error = ENOENT}, text, 0, room, size);
-}
-static void make_in_little(void) { make(4, ROOM - 2); }
-static void make_what_is_longer(void) { make(ROOM + 1, ROOM); }
-static void make_all(void) { make(4, ROOM - 1); }
-
-static void open_path(size_t path, size_t size)
-{
-    inroot_course_begin(path, &opening, false, false, &course);
-    inroot_course_next(&course, ENOENT, text, 0, room, size);
-}
-static void open_in_little(void) { open_path(4, ROOM - 2); }
-static void open_what_is_longer(void) { open_path(ROOM, ROOM - 1); }
-static void open_one(void) { open_path(4, ROOM - 1); }
-
-static void take_step(void) { inroot_step_begin(&facts, &step); inroot_step_next(&facts, &answer, &step); }
-static void change_a_step(void) { inroot_step_begin(&facts, &step); step.next++; inroot_step_next(&facts, &answer, &step); }
-
-static void change_facts(void)
-{
-    inroot_step_begin(&facts, &step);
-    facts.mode++;
-    inroot_step_next(&facts, &answer, &step);
-}
-
-/* A descriptor that isn't open; the error as a system call of the kernel gives it. */
-static void try(uint32_t error, uint32_t descriptor)
-{
-    struct inroot_search search = {0};
-    inroot_search_begin(text, 4, &search);
-    inroot_search_next(&search, error, descriptor);
-}
-static void give_what_is_closed(void) { try(0, INT_MAX); }
-static void give_what_is_open(void) { try(0, STDOUT_FILENO); }
-static void give_no_number(void) { try((uint32_t)-ENOENT, 0); }
-static void give_an_error(void) { try(ENOENT, 0); }
-
-static void answer_opened(uint8_t kind, uint8_t error)
-{
-    const struct inroot_answered opened = {.what = INROOT_ANSWER_OPENED, .handle = 2, .node = 2, .kind = kind, .error = error};
-    begin();
-    inroot_next(&kept, &opened, text, 0, &told, room, ROOM);
-}
-static void open_no_kind(void) { answer_opened(0, 0); }
-static void open_by_an_error(void) { answer_opened(INROOT_KIND_DIR, ENOENT); }
-static void open_a_directory(void) { answer_opened(INROOT_KIND_DIR, 0); }
-
-/* One answer, as what was due WHAT gave it. */
-static void turn(const char *first, uint8_t what, struct inroot_gave given)
-{
-    due.what = what;
-    gave = given;
-    inroot_turn(&demand, (const unsigned char *)first, strlen(first), text, 1, text, sizeof text, &gave, 1, &due, room, ROOM);
-}
-static void turn_to_a_closed_one(void) { turn("/", INROOT_DUE_OPENAT2, (struct inroot_gave){.value = INT_MAX}); }
-static void turn_to_an_open_one(void) { turn("/", INROOT_DUE_OPENAT2, (struct inroot_gave){.value = STDOUT_FILENO}); }
-static void turn_to_no_kind(void) { turn("/", INROOT_DUE_STATX, (struct inroot_gave){.mode = 0644}); }
-static void turn_to_a_negative(void) { turn("/", INROOT_DUE_OPENAT2, (struct inroot_gave){.error = (uint32_t)-ENOENT}); }
-static void turn_without_a_slash(void) { turn("a", INROOT_DUE_OPENAT2, (struct inroot_gave){.error = ENOENT}); }
-static void turn_oddly(void) { memset(&gave.has_mount, 2, 1); turn("/", INROOT_DUE_STATX, gave); }
-
-/* Whether the call ends its process, in a child, whose words aren't shown. */
-static bool is_refused(void (*call)(void))
-{
-    int status = 0;
-    pid_t child = fork();
-    if (child == 0) {
-        close(STDERR_FILENO);
-        call();
-        _exit(0);
-    }
-    return waitpid(child, &status, 0) == child && WIFSIGNALED(status) && WTERMSIG(status) == SIGABRT;
-}
-
-static const struct {
-    const char *name;
-    void (*call)(void);
-    bool is_wrong;
-} calls[] = {
-    {"a pointer to nothing, of no bytes", split_nothing, true},
-    {"a path and its parts", split, false},
-    {"a bool that is none, where one is written", split_unset, true},
-    {"parts that are written to their path", split_into_its_path, true},
-    {"more bytes than are there", split_more, true},
-    {"a struct that isn't aligned", split_askew, true},
-    {"a bool that is none, where one is read", ask_oddly, true},
-    {"a call", begin, false},
-    {"a call where one is under way", begin_again, true},
-    {"a call behind one that ended", begin_and_end, false},
-    {"an answer without a call", go_on_without_a_call, true},
-    {"a call that isn't left alone", change_the_call, true},
-    {"a text that reaches into the room", sort_in_place, true},
-    {"one right before it", sort_beside, false},
-    {"a room of another size", list_elsewhere, true},
-    {"of that size", list_there, false},
-    {"a room for too little of a path that is made", make_in_little, true},
-    {"a path that is longer than the room", make_what_is_longer, true},
-    {"a path that is made", make_all, false},
-    {"a room for too little of a path that is opened", open_in_little, true},
-    {"a path that is opened, longer than the room", open_what_is_longer, true},
-    {"a path that is opened", open_one, false},
-    {"a step", take_step, false},
-    {"a step that isn't left alone", change_a_step, true},
-    {"facts that aren't those of the beginning", change_facts, true},
-    {"a descriptor that isn't open", give_what_is_closed, true},
-    {"one that is", give_what_is_open, false},
-    {"a negative error", give_no_number, true},
-    {"an error", give_an_error, false},
-    {"an object of no kind", open_no_kind, true},
-    {"an object, and an error", open_by_an_error, true},
-    {"an object", open_a_directory, false},
-    {"a system call that opened what isn't open", turn_to_a_closed_one, true},
-    {"one that opened something", turn_to_an_open_one, false},
-    {"one that looked at an object of no kind", turn_to_no_kind, true},
-    {"one with a negative error", turn_to_a_negative, true},
-    {"one with a bool that is none", turn_oddly, true},
-    {"a text without a slash before it", turn_without_a_slash, true},
+struct span {
+    const void *at;
+    size_t size, aligned;
+    bool is_written;
 };
 
-int main(void)
+/* An address of bytes that are none counts, too. */
+static bool is_apart(const struct span *one, const struct span *other)
 {
-    unsigned wrong = 0;
-    for (size_t one = 0; one < sizeof calls / sizeof *calls; one++) {
-        if (is_refused(calls[one].call) == calls[one].is_wrong)
-            continue;
-        wrong++;
-        fprintf(stderr, "owed: %s: %s\n", calls[one].name, calls[one].is_wrong ? "nobody saw it" : "it was refused");
+    const uintptr_t a = (uintptr_t)one->at, b = (uintptr_t)other->at;
+    return one->size == 0 || other->size == 0 || a + one->size <= b || b + other->size <= a;
+}
+
+/* The sanitizer knows which bytes are a variable's or a block's. */
+static bool is_there(const struct span *span)
+{
+    return span->at != NULL && (uintptr_t)span->at % span->aligned == 0 &&
+           (span->size == 0 || __asan_region_is_poisoned((void *)(uintptr_t)span->at, span->size) == NULL);
+}
+
+static void must_lie_apart(const struct span *spans, size_t count)
+{
+    for (size_t one = 0; one < count; one++) {
+        must(is_there(&spans[one]), "so many bytes at a place for them");
+        for (size_t other = 0; other < count; other++)
+            must(one == other || !spans[one].is_written || is_apart(&spans[one], &spans[other]),
+                 "what is written is no other argument's");
     }
-    if (wrong)
-        printf("owed: %u not as they are to be\n", wrong);
-    return wrong != 0;
+}
+
+static void must_be_bool(const void *at)
+{
+    unsigned char byte;
+    memcpy(&byte, at, sizeof byte);
+    must(byte <= 1, "a bool of 0 or 1");
+}
+
+/* checks/boundary looks whether these are all. */
+static void must_have_bools(const struct inroot_demand *demand, const struct inroot_due *due)
+{
+    must_be_bool(&demand->known.kept.there);
+    must_be_bool(&demand->known.kept.handed_in);
+    must_be_bool(&demand->known.kept.claimed);
+    must_be_bool(&demand->known.has_floor);
+    must_be_bool(&demand->opens);
+    must_be_bool(&demand->linked);
+    must_be_bool(&demand->gives);
+    must_be_bool(&demand->directory);
+    must_be_bool(&demand->asks_kind);
+    must_be_bool(&due->again);
+}
+
+/* ---- from one turn to the next */
+
+/* What the library has left of the calls that are under way in this thread. */
+enum { CALLS = 4 };
+
+static _Thread_local struct left {
+    const struct inroot_state *at;
+    struct inroot_state state;
+    struct inroot_demand demand;
+    struct inroot_due due;
+    unsigned char first[PATH_SIZE], room[INROOT_ROOM];
+} left[CALLS];
+
+static struct left *left_of(const struct inroot_state *state)
+{
+    for (size_t one = 0; one < CALLS; one++)
+        if (left[one].at == state)
+            return &left[one];
+    return NULL;
+}
+
+/* By a name that no test puts its own function in the place of. */
+static bool is_open(uint32_t fd)
+{
+    const int error = errno;
+    const bool is = fd <= INT_MAX && fcntl64((int)fd, F_GETFD) >= 0;
+    errno = error;
+    return is;
+}
+
+static bool opens(uint8_t what)
+{
+    return what == INROOT_DUE_OPENAT2 || what == INROOT_DUE_OPENAT || what == INROOT_DUE_DUPFD || what == INROOT_DUE_FSOPEN ||
+           what == INROOT_DUE_FSMOUNT || what == INROOT_DUE_OPEN_TREE;
+}
+
+static void must_go_on(const struct left *last, const struct inroot_demand *demand, const struct inroot_state *state,
+                       const unsigned char *first, const unsigned char *room)
+{
+    static const struct inroot_state begins;
+    if (memcmp(state, &begins, sizeof begins) == 0)
+        return;
+    must(last != NULL, "a state that is zero before the first turn");
+    must(memcmp(state, &last->state, sizeof *state) == 0 && memcmp(demand, &last->demand, sizeof *demand) == 0 &&
+             memcmp(first, last->first, sizeof last->first) == 0 && memcmp(room, last->room, sizeof last->room) == 0,
+         "what is left alone between two turns");
+}
+
+static void must_be_answered(const struct left *last, const struct inroot_gave *answers, size_t count)
+{
+    if (last == NULL)
+        return;
+    must(last->due.at < count, "as many answers as before");
+    const struct inroot_gave *gave = &answers[last->due.at];
+    must(gave->error <= ERROR_MAX, "an answer, with 0 or an error's number");
+    must(gave->error != 0 || !opens(last->due.what) || is_open(gave->value), "a descriptor that is open");
+}
+
+/* An error that is none stands where the answer is to lie. */
+static void leave(const struct inroot_demand *demand, const struct inroot_state *state, const unsigned char *first,
+                  struct inroot_gave *answers, size_t count, const struct inroot_due *due, const unsigned char *room)
+{
+    const bool is_over = due->what >= INROOT_DUE_VALUE;
+    struct left *place = left_of(state) != NULL ? left_of(state) : left_of(NULL);
+    must(place != NULL && due->at < count, "a call within few others, and room for each answer");
+    *place = (struct left){.at = is_over ? NULL : state, .state = *state, .due = *due};
+    memcpy(&place->demand, demand, sizeof *demand);
+    memcpy(place->first, first, sizeof place->first);
+    memcpy(place->room, room, sizeof place->room);
+    if (!is_over)
+        answers[due->at].error = UINT32_MAX;
+}
+
+void inroot_turn(struct inroot_demand *demand, struct inroot_state *state, unsigned char *first, size_t first_size,
+                 const unsigned char *second, size_t second_length, unsigned char *read, size_t read_size,
+                 struct inroot_gave *answers, size_t count, struct inroot_due *due, unsigned char *room, size_t size)
+{
+    const struct span spans[] = {
+        {demand, sizeof *demand, _Alignof(struct inroot_demand), true}, {state, sizeof *state, _Alignof(struct inroot_state), true},
+        {first, first_size, 1, true}, {second, second_length, 1, false}, {read, read_size, 1, true},
+        {answers, count * sizeof *answers, _Alignof(struct inroot_gave), true},
+        {due, sizeof *due, _Alignof(struct inroot_due), true}, {room, size, 1, true},
+    };
+    must_lie_apart(spans, sizeof spans / sizeof *spans);
+    must(first_size >= PATH_SIZE && read_size >= PATH_SIZE && size >= INROOT_ROOM && count > 0, "room enough");
+    must(demand->length < first_size && *first == '/' && second_length > 0 && *second == '/', "a slash before each text");
+    must_have_bools(demand, due);
+    for (size_t at = 0; at < count; at++)
+        must_be_bool(&answers[at].has_mount);
+    const struct left *last = left_of(state);
+    must_go_on(last, demand, state, first, room);
+    must_be_answered(last, answers, count);
+    proved_turn(demand, state, first, first_size, second, second_length, read, read_size, answers, count, due, room, size);
+    leave(demand, state, first, answers, count, due, room);
 }

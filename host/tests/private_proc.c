@@ -77,9 +77,6 @@ static long my_syscall(long number, const long *with)
 
 INSTEAD_OF_SYSCALL(my_syscall)
 
-int __real_statx(int dir, const char *name, int flags, unsigned int mask, struct statx *about);
-int __wrap_statx(int dir, const char *name, int flags, unsigned int mask, struct statx *about);
-
 int __wrap_statx(int dir, const char *name, int flags, unsigned int mask, struct statx *about)
 {
     void (*now)(void) = act;
@@ -461,6 +458,11 @@ static void put_text(int dir, const char *name, const char *text)
 
 int main(int count, char **words)
 {
+    /* In the place of none come those that fail. */
+    static void (*const parts[])(void) = {
+        ordinary, refused, control, whole, in_part, closed, forked_meanwhile, attribute, attribute_by_another, another, another_mount,
+        copied, NULL, signals, none_at_all, of_children,
+    };
     if (count != 2 || realpath(words[1], where) == NULL)
         return 2;
     int base = sure(open(where, O_PATH | O_DIRECTORY | O_CLOEXEC), where);
@@ -471,37 +473,9 @@ int main(int count, char **words)
     sure(symlinkat("none", box, "l"), "l");
     put_text(box, "a/f", "inside");
     put_text(base, "secret", "secret");
-    int skipped = apart(ordinary);
-    if (skipped == 0)
-        skipped = apart(refused);
-    if (skipped == 0)
-        skipped = apart(control);
-    if (skipped == 0)
-        skipped = apart(whole);
-    if (skipped == 0)
-        skipped = apart(in_part);
-    if (skipped == 0)
-        skipped = apart(closed);
-    if (skipped == 0)
-        skipped = apart(forked_meanwhile);
-    if (skipped == 0)
-        skipped = apart(attribute);
-    if (skipped == 0)
-        skipped = apart(attribute_by_another);
-    if (skipped == 0)
-        skipped = apart(another);
-    if (skipped == 0)
-        skipped = apart(another_mount);
-    if (skipped == 0)
-        skipped = apart(copied);
-    if (skipped == 0)
-        skipped = all_fail();
-    if (skipped == 0)
-        skipped = apart(signals);
-    if (skipped == 0)
-        skipped = apart(none_at_all);
-    if (skipped == 0)
-        skipped = apart(of_children);
+    int skipped = 0;
+    for (size_t one = 0; one < sizeof parts / sizeof *parts && skipped == 0; one++)
+        skipped = parts[one] == NULL ? all_fail() : apart(parts[one]);
     printf("private_proc: %d not as they are to be\n", wrong);
     return wrong != 0 ? 1 : skipped;
 }

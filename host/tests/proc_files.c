@@ -39,8 +39,6 @@ INSTEAD_OF_SYSCALL(my_syscall)
 static int unasked;
 
 #ifdef STATX_INO
-int __real_statx(int dir, const char *name, int flags, unsigned what, struct statx *about);
-int __wrap_statx(int dir, const char *name, int flags, unsigned what, struct statx *about);
 
 int __wrap_statx(int dir, const char *name, int flags, unsigned what, struct statx *about)
 {

@@ -8,7 +8,6 @@
 #define SLOW_KERNEL_H
 
 #include "../openat2.h"
-#include "halves.h"
 #include "support.h"
 #include "wraps.h"
 
@@ -17,6 +16,29 @@
 #include <string.h>
 #include <sys/stat.h>
 #include <sys/syscall.h>
+
+/*
+ * The text of a link in /proc in the two halves in which the kernel makes it (d_path() in fs/d_path.c): it looks whether the object
+ * is gone, and takes its names after that. What has that ending counts as gone.
+ */
+static const char deleted[] = " (deleted)";
+
+static bool is_called_gone(const char *text, ssize_t length)
+{
+    ssize_t tail = sizeof deleted - 1;
+    return length > tail && memcmp(text + length - tail, deleted, (size_t)tail) == 0;
+}
+
+/* Somebody acts between both halves. */
+static ssize_t read_in_halves(int dir, const char *name, char *text, size_t size, void (*acts)(void))
+{
+    bool was_gone = is_called_gone(text, __real_readlinkat(dir, name, text, size));
+    acts();
+    ssize_t length = __real_readlinkat(dir, name, text, size);
+    return !was_gone && is_called_gone(text, length) ? length - (ssize_t)(sizeof deleted - 1) : length;
+}
+
+/* ---- others */
 
 /* Where all this is; and /proc. */
 static char where[PATH_MAX];
@@ -71,8 +93,6 @@ static int my_openat(int dir, const char *name, int flags, mode_t mode)
 INSTEAD_OF_OPENAT(my_openat)
 
 #ifdef STATX_INO
-int __real_statx(int dir, const char *name, int flags, unsigned asked, struct statx *about);
-int __wrap_statx(int dir, const char *name, int flags, unsigned asked, struct statx *about);
 
 int __wrap_statx(int dir, const char *name, int flags, unsigned asked, struct statx *about)
 {

@@ -41,9 +41,6 @@ static long entries;
 static void (*before_directory)(void);
 static int refusal;
 
-int __real_unlinkat(int dir, const char *name, int flags);
-int __wrap_unlinkat(int dir, const char *name, int flags);
-
 int __wrap_unlinkat(int dir, const char *name, int flags)
 {
     if (refusal != 0 && flags == AT_REMOVEDIR) {

@@ -54,7 +54,7 @@ static void begin_try(void)
         }
     if (breaks_promise)
         sure(dup3(spare_root, root, O_CLOEXEC), "dup3");
-    sure(__real_fstatat(base, "out", &now, 0), "out");
+    sure(fstatat(base, "out", &now, 0), "out");
     if (now.st_ino != outside[0].st_ino)
         exchange_root();
     if (lies)

@@ -7,13 +7,22 @@
 
 #include <fcntl.h>
 #include <stdarg.h>
+#include <sys/stat.h>
 #include <sys/types.h>
 
 int __real_openat(int dir, const char *name, int flags, ...);
 int __real_fcntl(int fd, int what, ...);
 long __real_syscall(long number, ...);
-ssize_t __real_readlinkat(int dir, const char *name, char *text, size_t size);
-ssize_t __wrap_readlinkat(int dir, const char *name, char *text, size_t size);
+
+#define WRAPPED(type, name, ...) type __real_##name(__VA_ARGS__); type __wrap_##name(__VA_ARGS__)
+
+WRAPPED(int, close, int fd);
+WRAPPED(int, fstat, int fd, struct stat *about);
+WRAPPED(int, mkdirat, int dir, const char *name, mode_t mode);
+WRAPPED(int, mknodat, int dir, const char *name, mode_t mode, dev_t dev);
+WRAPPED(ssize_t, readlinkat, int dir, const char *name, char *text, size_t size);
+WRAPPED(int, statx, int dir, const char *name, int flags, unsigned what, struct statx *about);
+WRAPPED(int, unlinkat, int dir, const char *name, int flags);
 
 /* INSTEAD(dir, name, flags, mode) in the place of openat(2). What makes nothing has no mode. */
 #define INSTEAD_OF_OPENAT(INSTEAD)                                                        \

@@ -38,7 +38,7 @@ pub struct Answer {
     pub yes: bool,
 }
 
-/// How far it has come. C keeps it.
+/// How far it has come. The driver keeps it.
 #[repr(C)]
 #[derive(Clone, Copy, Debug, PartialEq, Eq)]
 pub struct Asking {

@@ -1,7 +1,7 @@
 //! Which system call comes next as a program asks where an object stands of which it has a descriptor, by what those
 //! before gave; and how often it asks.
 //!
-//! A C driver makes the calls, one at a time, and hands over what a call gave. No function makes a system call or takes
+//! A driver makes the calls, one at a time, and hands over what a call gave. No function makes a system call or takes
 //! memory.
 #![tactic(auto)]
 

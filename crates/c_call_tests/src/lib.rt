@@ -14,6 +14,10 @@ mod laws;
 #[cfg(test)]
 mod machine_calls;
 #[cfg(test)]
+mod single_steps;
+#[cfg(test)]
 mod step_dialogues;
 #[cfg(test)]
 mod steps;
+#[cfg(test)]
+mod talks;

@@ -90,7 +90,7 @@ pub struct Answer {
     pub owns_proc: bool,
 }
 
-/// How far a call has come. C keeps it.
+/// How far a call has come. The driver keeps it.
 #[repr(C)]
 #[derive(Clone, Copy, Debug, PartialEq, Eq)]
 pub struct Calling {

@@ -1,7 +1,7 @@
 //! Which one thing comes next as a call of the library goes from its beginning to its result, by what was before; and
 //! which descriptor it hands out.
 //!
-//! A C driver does these things, one at a time: it makes a try of the call, closes what was opened. It hands
+//! A driver does these things, one at a time: it makes a try of the call, closes what was opened. It hands
 //! over what a thing gave, and does what comes next. No function makes a system call or takes memory.
 #![tactic(auto)]
 

@@ -4,7 +4,7 @@ use Rattle.system_calls.specs.Errors.{EINTR}
 use Rattle.dialogue.specs.declared.calls.Answer.{Answer}
 use Rattle.dialogue.specs.declared.calls.How.{How}
 use Rattle.dialogue.specs.declared.calls.Question.{Question}
-use Rattle.dialogue.specs.declared.calls.Question.TheVariants.{OpenName, OpenSame, OpenAbove, LookUp, OpenPath, Open, OpenObject, Stat, StatName, FileSystem, ReadEntries, ReadLink, ReadObjectLink, ReadThread, Close, IsOpen, CopyAbove, MakeDirectory, MakeNode, MakeLink, Link, Remove, Rename, ChangeMode, ChangeOwner, ChangeTimes, AttributeAt, Attribute, NoAttribute, NewProc, Configure, Mount, CopyProc, Wait, Claim, Keep, Release, Know}
+use Rattle.dialogue.specs.declared.calls.Question.TheVariants.{OpenName, OpenSame, OpenAbove, LookUp, OpenPath, Open, OpenObject, Stat, StatName, FileSystem, Status, ReadEntries, ReadLink, ReadObjectLink, ReadThread, Close, IsOpen, CopyAbove, MakeDirectory, MakeNode, MakeLink, Link, Remove, Rename, ChangeMode, ChangeOwner, ChangeTimes, AttributeAt, Attribute, NoAttribute, NewProc, Configure, Mount, CopyProc, Wait, Claim, Keep, Release, Know, BySteps}
 
 -- ---- system calls
 
@@ -20,6 +20,7 @@ pub data SystemCall : Type 0 where
   stats : ℕ → SystemCall
   stats_name : ℕ → List ℕ → SystemCall
   stats_file_system : ℕ → SystemCall
+  reads_status : ℕ → SystemCall
   reads_entries : ℕ → SystemCall
   reads_link : ℕ → SystemCall
   reads_object_link : ℕ → ℕ → SystemCall
@@ -48,6 +49,7 @@ pub data SystemCall : Type 0 where
   keeps : ℕ → ℕ → ℕ → ℕ → Bool → SystemCall
   releases : SystemCall
   knows : Bool → SystemCall
+  by_steps : List ℕ → List ℕ → SystemCall
 
 abbrev pub asked_of : Question → SystemCall
 asked_of (OpenName dir name how) = open_name dir name.now how
@@ -60,6 +62,7 @@ asked_of (OpenObject proc fd flags) = opens_object proc fd flags
 asked_of (Stat fd) = stats fd
 asked_of (StatName dir name) = stats_name dir name.now
 asked_of (FileSystem fd) = stats_file_system fd
+asked_of (Status fd) = reads_status fd
 asked_of (ReadEntries fd) = reads_entries fd
 asked_of (ReadLink fd) = reads_link fd
 asked_of (ReadObjectLink proc fd) = reads_object_link proc fd
@@ -88,6 +91,7 @@ asked_of (Claim handed_in) = claims handed_in
 asked_of (Keep fd device inode mount handed_in) = keeps fd device inode mount handed_in
 asked_of Release = releases
 asked_of (Know known) = knows known
+asked_of (BySteps first second) = by_steps first.now second.now
 
 abbrev pub O_PATH : ℕ
 O_PATH = 2097152

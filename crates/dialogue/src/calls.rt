@@ -36,7 +36,9 @@ pub enum Question<'n> {
     StatName(u32, &'n [u8]),
     /// fstatfs(2): type and mount flags.
     FileSystem(u32),
-    /// getdents64(2): some entries, which nobody looks at.
+    /// fstat(2) of what is open, for whoever made the request: no code here looks at what it tells.
+    Status(u32),
+    /// getdents64(2): some entries.
     ReadEntries(u32),
     /// readlinkat(2) with an empty path: the text of the link that is open.
     ReadLink(u32),
@@ -94,6 +96,8 @@ pub enum Question<'n> {
     Release,
     /// No system call: this thread knows that the kernel has what the library needs, or doesn't know it any more.
     Know(bool),
+    /// No single system call: a call with these texts is made by single steps.
+    BySteps(&'n [u8], &'n [u8]),
 }
 
 /// What a system call gave. What it doesn't give is 0.

@@ -68,7 +68,7 @@ pub struct Answer {
     pub mode: u32,
 }
 
-/// How far it has come. C keeps it.
+/// How far it has come. The driver keeps it.
 #[repr(C)]
 #[derive(Clone, Copy, Debug, PartialEq, Eq)]
 pub struct Giving {

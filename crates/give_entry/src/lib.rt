@@ -1,7 +1,7 @@
 //! Which system call comes next as a descriptor of the entry that a call has just made is opened, by what those before
 //! gave; and which entry is that one.
 //!
-//! A C driver makes the calls, one at a time, and hands over what a call gave. No function makes a system call or takes
+//! A driver makes the calls, one at a time, and hands over what a call gave. No function makes a system call or takes
 //! memory.
 #![tactic(auto)]
 

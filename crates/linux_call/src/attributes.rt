@@ -1,7 +1,9 @@
 //! The mode, the owner, the times and the extended attributes of an object that was found; and that it is opened again.
 use crate::by_proc::{Act, by_proc};
+use crate::inner::refused;
 use crate::request::{Reply, Request, SET_ATTRIBUTE, told, value};
 use crate::steps;
+use crate::walk::look_error;
 use dialogue::{Answer, Asked, Question, ask};
 use find_proc::Known;
 use system_calls::errors::{EBADF, EINVAL, EOPNOTSUPP, ERANGE};
@@ -30,10 +32,6 @@ fn is_none(fd: u32) -> bool {
     fd >= 0x8000_0000
 }
 
-fn refused<'n>(error: u32) -> Reply<'n> {
-    Reply::Fails(error, steps::NONE, b"")
-}
-
 fn result_of(answer: &Answer) -> Result<u32, u32> {
     if answer.error == 0 {
         Ok(answer.value)
@@ -56,8 +54,8 @@ pub(crate) fn change_mode<'n>(
         return Ok(refused(EBADF));
     }
     let about = ask(answers, Question::Stat(fd))?;
-    if about.error != 0 {
-        return Ok(told(Err(about.error), steps::ATTRIBUTE));
+    if look_error(&about) != 0 {
+        return Ok(told(Err(look_error(&about)), steps::ATTRIBUTE));
     }
     if kind_of(about.mode as u32) == LINK {
         return Ok(told(Err(EOPNOTSUPP), steps::ATTRIBUTE));
@@ -135,23 +133,34 @@ pub(crate) fn attribute<'n>(
     Ok(told(done, steps::ATTRIBUTE))
 }
 
-/// Opens what is open once more, by its link in /proc. It is asked whether it is open, unless that is SURELY so.
+/// Opens what is surely open once more, by its link in /proc.
+pub(crate) fn reopen_object<'n>(
+    answers: &mut &[Answer],
+    known: &mut Known,
+    fd: u32,
+    how: u32,
+) -> Asked<'n, Reply<'n>> {
+    let flags = reopen_flags(&known.machine, how);
+    if flags == 0 {
+        return Ok(refused(EINVAL));
+    }
+    Ok(match by_proc(answers, known, fd, Act::Open(flags))? {
+        Ok(fd) => value(fd),
+        Err(error) => Reply::Fails(error, steps::REOPEN, b""),
+    })
+}
+
+/// The same of what may not be open.
 pub(crate) fn reopen<'n>(
     answers: &mut &[Answer],
     known: &mut Known,
     request: &Request,
 ) -> Asked<'n, Reply<'n>> {
-    let flags = reopen_flags(&known.machine, request.how);
-    if flags == 0 {
+    if reopen_flags(&known.machine, request.how) == 0 {
         return Ok(refused(EINVAL));
     }
-    if !request.surely && ask(answers, Question::IsOpen(request.fd))?.error != 0 {
+    if ask(answers, Question::IsOpen(request.fd))?.error != 0 {
         return Ok(refused(EBADF));
     }
-    Ok(
-        match by_proc(answers, known, request.fd, Act::Open(flags))? {
-            Ok(fd) => value(fd),
-            Err(error) => Reply::Fails(error, steps::REOPEN, b""),
-        },
-    )
+    reopen_object(answers, known, request.fd, request.how)
 }

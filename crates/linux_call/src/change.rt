@@ -51,6 +51,7 @@ fn opened<'n>(
 }
 
 // Gives the object another name, through its link in /proc. If the object is a link, linkat(2) doesn't follow it.
+#[inline(never)]
 fn link_object<'n>(
     answers: &mut &[Answer],
     known: &mut Known,
@@ -65,6 +66,7 @@ fn link_object<'n>(
 }
 
 // A file that the call gives is known by the descriptor by which it was made.
+#[inline(never)]
 fn make_file<'n>(
     answers: &mut &[Answer],
     known: &Known,

@@ -1,12 +1,17 @@
 //! What is due, as C gets it: a system call with its arguments, or the call's end.
 use crate::attributes::MOST_BYTES;
+use crate::path::front;
 use crate::request::{Reply, Request};
 use crate::walk::{O_CLOEXEC, O_PATH};
 use dialogue::{How, Question};
 use system_calls::MachineFlags;
+use system_calls::errors::EIO;
 
 /// Where the second text of what is due lies in the room; the first lies at the room's beginning. A NUL ends each.
 pub(crate) const SECOND: usize = 4352;
+
+/// Where the name lies that the error of a part was about.
+pub(crate) const NAME: usize = 8704;
 
 // RESOLVE_NO_XDEV; RESOLVE_BENEATH and RESOLVE_NO_MAGICLINKS.
 const NO_XDEV: u32 = 0x01;
@@ -26,6 +31,12 @@ pub struct Due {
     pub fd: u32,
     pub other: u32,
     pub mode: u32,
+    /// The answer is to lie there among the answers.
+    pub at: u32,
+    /// At the end, so many descriptors are to be closed.
+    pub closes: u32,
+    pub first_closed: u32,
+    pub second_closed: u32,
     pub what: u8,
     /// The step to blame for an error.
     pub step: u8,
@@ -40,6 +51,10 @@ const NOTHING: Due = Due {
     fd: 0,
     other: 0,
     mode: 0,
+    at: 0,
+    closes: 0,
+    first_closed: 0,
+    second_closed: 0,
     what: 0,
     step: 0,
     again: false,
@@ -104,11 +119,11 @@ const RELEASE: u8 = 28;
 
 const KNOW: u8 = 29;
 
+const FSTAT: u8 = 30;
+
 const VALUE: u8 = 32;
 
 const FAILS: u8 = 33;
-
-const STEPS: u8 = 34;
 
 fn flags_of(machine: &MachineFlags, how: &How) -> u64 {
     let path = if how.path { O_PATH } else { 0 };
@@ -194,6 +209,7 @@ fn look_due(question: &Question<'_>, machine: &MachineFlags) -> Option<Due> {
             looks(READLINKAT, fd)
         }
         Question::IsOpen(fd) => on(GETFD, fd),
+        Question::Status(fd) => on(FSTAT, fd),
         _ => return None,
     })
 }
@@ -255,7 +271,7 @@ fn other_due(question: &Question<'_>, size: u64) -> Due {
 
 // Lays a text there, and a NUL behind it. If they don't fit, the text is empty.
 #[inline(always)]
-fn lay(room: &mut [u8], at: usize, text: &[u8]) {
+pub(crate) fn lay(room: &mut [u8], at: usize, text: &[u8]) {
     if at < room.len() && text.len() < room.len() - at {
         room[at..at + text.len()].copy_from_slice(text);
         room[at + text.len()] = 0;
@@ -267,6 +283,7 @@ fn lay(room: &mut [u8], at: usize, text: &[u8]) {
 const DIGITS: usize = 10;
 
 /// Writes a number's decimal digits at a room's end: how many.
+#[inline(never)]
 pub(crate) fn decimal(number: u32, room: &mut [u8; 10]) -> usize {
     let mut left = number;
     let mut count = 1;
@@ -351,6 +368,32 @@ fn due_of_other(question: &Question<'_>, request: &Request, room: &mut [u8]) -> 
     other_due(question, request.size.min(MOST_BYTES))
 }
 
+fn failing(error: u32, step: u8) -> Due {
+    Due {
+        what: FAILS,
+        number: error as u64,
+        step,
+        ..NOTHING
+    }
+}
+
+fn name_length(names: &[u8]) -> usize {
+    for at in 0..names.len() {
+        if names[at] == 0 {
+            return at;
+        }
+    }
+    names.len()
+}
+
+// The name that lies there is laid at the room's beginning.
+fn lay_name(room: &mut [u8]) {
+    if room.len() > NAME {
+        let (before, names) = room.split_at_mut(NAME);
+        lay(before, 0, front(names, name_length(names)));
+    }
+}
+
 /// The end; the name that an error was about is laid in the room.
 #[inline(always)]
 pub(crate) fn end_of(reply: &Reply<'_>, room: &mut [u8]) -> Due {
@@ -365,16 +408,12 @@ pub(crate) fn end_of(reply: &Reply<'_>, room: &mut [u8]) -> Due {
         }
         Reply::Fails(error, step, name) => {
             lay(room, 0, name);
-            Due {
-                what: FAILS,
-                number: error as u64,
-                step,
-                ..NOTHING
-            }
+            failing(error, step)
         }
-        Reply::Steps => Due {
-            what: STEPS,
-            ..NOTHING
-        },
+        Reply::Failed(error, step) => {
+            lay_name(room);
+            failing(error, step)
+        }
+        Reply::Steps => failing(EIO, 0),
     }
 }

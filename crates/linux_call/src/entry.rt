@@ -1,6 +1,6 @@
 //! An entry: the directory that has it, and its name.
 use crate::path::{PathOf, unslashed};
-use crate::request::Tried;
+use crate::request::{Beside, Tried};
 use crate::walk::{BENEATH, Below, O_PATH, has, walk};
 use c_protocol::{Parted, split};
 use dialogue::{Answer, Asked, Question, ask};
@@ -25,6 +25,24 @@ pub(crate) fn parts(path: PathOf<'_>, takes_slash: bool) -> Option<Parted> {
     } else {
         None
     }
+}
+
+/// Closes the directory behind the call's end, if the reply comes next.
+#[inline(always)]
+pub(crate) fn close_behind<'n>(
+    answers: &mut &[Answer],
+    beside: &mut Beside,
+    entry: Entry<'n>,
+) -> Asked<'n, ()> {
+    let count = beside.closes.count as usize;
+    if !beside.ends || count >= beside.closes.fds.len() {
+        return close(answers, entry);
+    }
+    if entry.own {
+        beside.closes.fds[count] = entry.dir;
+        beside.closes.count = beside.closes.count.saturating_add(1);
+    }
+    Ok(())
 }
 
 #[inline(always)]

@@ -3,7 +3,7 @@ use crate::change::Change;
 use crate::path::front;
 use crate::request::Request;
 use crate::steps;
-use crate::walk::{NO_XDEV, O_CLOEXEC, O_PATH, RESOLVE_NO_XDEV, has, opened};
+use crate::walk::{NO_XDEV, O_CLOEXEC, O_PATH, RESOLVE_NO_XDEV, has, look_error, opened};
 use dialogue::{Answer as Gave, Asked, Question, ask};
 use find_proc::Known;
 use give_entry::{Answer, CLOSE, CLOSE_MADE, COMPARE, Facts, GIVES, LOOK, OPEN, READ, begin, next};
@@ -30,14 +30,6 @@ fn facts_of(request: &Request, change: &Change<'_>, made: bool) -> Facts {
     }
 }
 
-fn error_of(gave: &Gave, looked: bool) -> u32 {
-    if gave.error == 0 && looked && !gave.has_mount {
-        ENOSYS
-    } else {
-        gave.error
-    }
-}
-
 fn answer_of(gave: &Gave, looked: bool) -> Answer {
     Answer {
         object: Object {
@@ -46,7 +38,7 @@ fn answer_of(gave: &Gave, looked: bool) -> Answer {
             mount: gave.mount,
         },
         device: gave.node,
-        error: error_of(gave, looked),
+        error: if looked { look_error(gave) } else { gave.error },
         mode: gave.mode as u32,
     }
 }
@@ -77,6 +69,7 @@ fn open<'n>(
 
 /// Opens the entry by its name, and checks that it is the one: `give_entry` says how. MADE: by this descriptor the file
 /// was made. READ: the text that was read last.
+#[inline(never)]
 pub(crate) fn give<'n>(
     answers: &mut &[Gave],
     known: &mut Known,

@@ -1,12 +1,12 @@
 //! Calls on paths that the kernel walks: what is at the end, an entry there, all directories.
 use crate::change::{Change, make_change};
-use crate::entry::{Entry, above, close, find, parts};
-use crate::path::PathOf;
+use crate::entry::{Entry, above, close, close_behind, find, parts};
+use crate::path::{PathOf, Texts};
 use crate::request::{
-    MKDIR, MKFILE, RESOLVE_NOFOLLOW, RMDIR, Reply, Request, SYMLINK, Tried, UNLINK, value,
+    Beside, MKDIR, MKFILE, RESOLVE_NOFOLLOW, RMDIR, Reply, Request, SYMLINK, Tried, UNLINK, value,
 };
 use crate::steps;
-use crate::walk::{Below, O_PATH, look_up, walk};
+use crate::walk::{Below, O_PATH, look_error, look_up, walk};
 use dialogue::{Answer, Asked, Question, ask};
 use find_proc::{Known, has_floor};
 use path_text::TEXT_MAX;
@@ -26,9 +26,10 @@ fn reply_of<'n>(tried: Tried<u32>) -> Reply<'n> {
 }
 
 // The kind of what was opened stands above the descriptor.
+#[inline(never)]
 fn with_kind<'n>(answers: &mut &[Answer], fd: u32) -> Asked<'n, Reply<'n>> {
     let about = ask(answers, Question::Stat(fd))?;
-    if about.error != 0 {
+    if look_error(&about) != 0 {
         ask(answers, Question::Close(fd))?;
         return Ok(Reply::Steps);
     }
@@ -54,35 +55,6 @@ pub(crate) fn resolve<'n>(
         Tried::Is(fd) if request.asks_kind => with_kind(answers, fd),
         other => Ok(reply_of(other)),
     }
-}
-
-/// Opens what a path means for use.
-#[inline(always)]
-pub(crate) fn open<'n>(
-    answers: &mut &[Answer],
-    known: &mut Known,
-    request: &Request,
-    at: &Below<'n>,
-) -> Asked<'n, Reply<'n>> {
-    let tried = walk(answers, known, at, request.how, request.mode)?;
-    Ok(reply_of(tried))
-}
-
-/// Opens the directory that has an entry, whose name lies in the room. Above the descriptor stands 1 if it is to be
-/// closed.
-pub(crate) fn entry<'n>(
-    answers: &mut &[Answer],
-    known: &mut Known,
-    at: &Below<'n>,
-) -> Asked<'n, Reply<'n>> {
-    Ok(match find(answers, known, at, false)? {
-        Tried::Is(entry) => {
-            let own = if entry.own { 0x1_0000_0000 } else { 0 };
-            Reply::Value(own + entry.dir as u64, entry.name)
-        }
-        Tried::Fails(error, step) => Reply::Fails(error, step, b""),
-        Tried::Steps => Reply::Steps,
-    })
 }
 
 #[inline(always)]
@@ -116,11 +88,12 @@ fn is_plain<'n>(
 pub(crate) fn change_entry<'n>(
     answers: &mut &[Answer],
     known: &mut Known,
+    beside: &mut Beside,
     request: &Request,
     at: &Below<'n>,
-    text: &'n [u8],
-    read: &[u8],
+    texts: Texts<'n>,
 ) -> Asked<'n, Reply<'n>> {
+    let text = texts.target;
     if !is_plain(answers, known, request, text)? {
         return Ok(Reply::Steps);
     }
@@ -137,14 +110,15 @@ pub(crate) fn change_entry<'n>(
         other: 0,
         text,
     };
-    let reply = make_change(answers, known, request, &what, read)?;
-    close(answers, entry)?;
+    let reply = make_change(answers, known, request, &what, texts.read)?;
+    close_behind(answers, beside, entry)?;
     Ok(reply)
 }
 
 fn rename_to<'n>(
     answers: &mut &[Answer],
     known: &mut Known,
+    beside: &mut Beside,
     request: &Request,
     from: Entry<'n>,
     at: &Below<'n>,
@@ -162,7 +136,7 @@ fn rename_to<'n>(
         text: to.name,
     };
     let reply = make_change(answers, known, request, &what, b"")?;
-    close(answers, to)?;
+    close_behind(answers, beside, to)?;
     Ok(reply)
 }
 
@@ -171,11 +145,12 @@ fn rename_to<'n>(
 pub(crate) fn rename<'n>(
     answers: &mut &[Answer],
     known: &mut Known,
+    beside: &mut Beside,
     request: &Request,
     at: &Below<'n>,
     to: PathOf<'n>,
 ) -> Asked<'n, Reply<'n>> {
-    if parts(to, false).is_none() {
+    if !at.looked && parts(to, false).is_none() {
         return Ok(Reply::Steps);
     }
     let from = match find(answers, known, at, false)? {
@@ -183,9 +158,16 @@ pub(crate) fn rename<'n>(
         Tried::Fails(error, step) => return Ok(Reply::Fails(error, step, b"")),
         Tried::Steps => return Ok(Reply::Steps),
     };
-    let second = Below { path: to, ..*at };
-    let reply = rename_to(answers, known, request, from, &second)?;
-    close(answers, from)?;
+    let second = Below {
+        path: to,
+        looked: false,
+        ..*at
+    };
+    let reply = rename_to(answers, known, beside, request, from, &second)?;
+    match reply {
+        Reply::Steps => close(answers, from)?,
+        _ => close_behind(answers, beside, from)?,
+    }
     Ok(reply)
 }
 

@@ -1,6 +1,7 @@
-//! A path of a request, with a slash before it.
+//! The texts of a request.
 use path_text::{SLASH, before_slashes};
 
+/// A path with a slash before it.
 #[derive(Clone, Copy)]
 pub(crate) struct PathOf<'n> {
     slashed: &'n [u8],
@@ -43,10 +44,50 @@ impl<'n> PathOf<'n> {
         }
     }
 
-    /// So many bytes from there on.
+    /// Its first bytes; `.` in the place of none.
+    pub(crate) fn front_or_here(self, length: usize) -> PathOf<'n> {
+        if length > 0 {
+            self.front(length)
+        } else {
+            PathOf { slashed: b"/." }
+        }
+    }
+
+    /// So many bytes from there on, before which a slash stands.
+    #[inline(always)]
+    pub(crate) fn part(self, at: usize, length: usize) -> PathOf<'n> {
+        PathOf {
+            slashed: behind(self.slashed, at),
+        }
+        .front(length)
+    }
+
     #[inline(always)]
     pub(crate) fn piece(self, at: usize, length: usize) -> &'n [u8] {
-        front(behind(self.text(), at), length)
+        self.part(at, length).text()
+    }
+}
+
+/// The texts of a request; and the text that was read last, behind which anything may lie.
+#[derive(Clone, Copy)]
+pub(crate) struct Texts<'n> {
+    pub first: PathOf<'n>,
+    pub second: PathOf<'n>,
+    /// The text of a link that is made.
+    pub target: &'n [u8],
+    pub read: &'n [u8],
+    /// The first answer is that of the first path's look-up.
+    pub looked: bool,
+}
+
+impl<'n> Texts<'n> {
+    /// Of a call on another path.
+    pub(crate) fn on(self, first: PathOf<'n>) -> Texts<'n> {
+        Texts {
+            first,
+            looked: false,
+            ..self
+        }
     }
 }
 
@@ -57,6 +98,11 @@ fn behind(text: &[u8], at: usize) -> &[u8] {
     } else {
         &text[..0]
     }
+}
+
+/// So many bytes of a text, from there on.
+pub(crate) fn piece(text: &[u8], at: usize, length: usize) -> &[u8] {
+    front(behind(text, at), length)
 }
 
 /// The first bytes of a text.

@@ -5,7 +5,7 @@ use crate::entry::parts;
 use crate::path::PathOf;
 use crate::request::{Reply, Request, value};
 use crate::steps;
-use crate::walk::{O_CLOEXEC, O_PATH, has, opened};
+use crate::walk::{O_CLOEXEC, O_PATH, has, look_error, opened};
 use dialogue::{Answer, Asked, Question, ask};
 use find_proc::{Known, Proc, find};
 use system_calls::errors::{EAGAIN, EINVAL, ELOOP, ENOENT, ENOSYS, EXDEV};
@@ -247,12 +247,8 @@ pub(crate) fn open<'n>(
 // The text of the link that is open. What is no link has no text, of which the kernel says ENOENT.
 fn text_of<'n>(answers: &mut &[Answer], fd: u32) -> Asked<'n, Result<u32, u32>> {
     let about = ask(answers, Question::Stat(fd))?;
-    if about.error != 0 || !about.has_mount {
-        return Ok(Err(if about.error != 0 {
-            about.error
-        } else {
-            ENOSYS
-        }));
+    if look_error(&about) != 0 {
+        return Ok(Err(look_error(&about)));
     }
     let read = ask(answers, Question::ReadLink(fd))?;
     Ok(if read.error == 0 {

@@ -6,17 +6,16 @@ use find_proc::Known;
 #[derive(Clone, Copy, Debug)]
 pub struct Request {
     pub known: Known,
+    /// How many bytes the first text has.
+    pub length: u64,
     /// The device of a node.
     pub device: u64,
-    /// How many bytes an attribute's value has.
+    /// How many bytes an attribute's value has, or the room for a place.
     pub size: u64,
     /// The nanoseconds of the time of the last access, and of the last change.
     pub accessed: u64,
     pub changed: u64,
-    /// The root; or the directory where an entry is changed.
     pub root: u32,
-    /// The directory of a rename's second name.
-    pub other: u32,
     /// The object that a call is about.
     pub fd: u32,
     /// The flags of inroot.h.
@@ -25,11 +24,11 @@ pub struct Request {
     pub how: u32,
     /// The mode of what is made, with its kind if it is a file.
     pub mode: u32,
+    /// The mode of the directories above a file that is made with them.
+    pub above: u32,
     pub user: u32,
     pub group: u32,
     pub what: u8,
-    /// The step by which an entry is changed, of `CHANGE`.
-    pub step: u8,
     /// A new file is opened as it is made.
     pub opens: bool,
     /// An object gets another name.
@@ -38,16 +37,16 @@ pub struct Request {
     pub gives: bool,
     /// Only a directory is of use.
     pub directory: bool,
-    /// A /proc must be the very file that is kept; or a descriptor is surely open.
-    pub surely: bool,
     /// The kind of what was opened is asked for.
     pub asks_kind: bool,
 }
 
-// The operations have the numbers of `c_protocol`.
+// The calls of inroot.h. The first ones have the numbers of `c_protocol`, by which single steps make them.
 pub(crate) const RESOLVE: u8 = 1;
 
 pub(crate) const RESOLVE_NOFOLLOW: u8 = 2;
+
+pub(crate) const READ_TEXT: u8 = 3;
 
 pub(crate) const MKFILE: u8 = 4;
 
@@ -63,48 +62,76 @@ pub(crate) const RENAME: u8 = 9;
 
 pub(crate) const MKDIR_ALL: u8 = 10;
 
-// What a path means is opened for use.
-pub(crate) const OPEN: u8 = 16;
+pub(crate) const REMOVE_ALL: u8 = 11;
 
-// The directory is opened that has an entry.
-pub(crate) const ENTRY: u8 = 17;
+pub(crate) const OPEN_AT: u8 = 16;
 
-// An entry is changed in a directory that is open.
-pub(crate) const CHANGE: u8 = 18;
+pub(crate) const STATUS: u8 = 17;
 
-pub(crate) const REOPEN: u8 = 19;
+pub(crate) const READ_LINK: u8 = 18;
 
-pub(crate) const CHANGE_MODE: u8 = 20;
+pub(crate) const MAKE_NODE: u8 = 19;
 
-pub(crate) const CHANGE_OWNER: u8 = 21;
+pub(crate) const MAKE_DIRECTORIES: u8 = 20;
 
-pub(crate) const CHANGE_TIMES: u8 = 22;
+pub(crate) const MAKE_FILE: u8 = 21;
 
-pub(crate) const SET_ATTRIBUTE: u8 = 23;
+pub(crate) const LINK: u8 = 22;
 
-pub(crate) const GET_ATTRIBUTE: u8 = 24;
+pub(crate) const LINK_OBJECT: u8 = 23;
 
-pub(crate) const LIST_ATTRIBUTES: u8 = 25;
+pub(crate) const OPEN_PARENT: u8 = 24;
 
-pub(crate) const REMOVE_ATTRIBUTE: u8 = 26;
+pub(crate) const PLACE: u8 = 25;
 
-pub(crate) const USE_PROC: u8 = 27;
+pub(crate) const REOPEN: u8 = 26;
 
-pub(crate) const USE_PRIVATE_PROC: u8 = 28;
+pub(crate) const CHANGE_MODE: u8 = 27;
 
-pub(crate) const PROC_OPEN: u8 = 29;
+pub(crate) const CHANGE_OWNER: u8 = 28;
 
-pub(crate) const PROC_READ_LINK: u8 = 30;
+pub(crate) const CHANGE_TIMES: u8 = 29;
 
-// A /proc for a call by steps; whether one is lost; and why a system call failed by a name in one.
-pub(crate) const FIND_PROC: u8 = 31;
+pub(crate) const SET_ATTRIBUTE: u8 = 30;
 
-pub(crate) const IS_LOST: u8 = 32;
+pub(crate) const GET_ATTRIBUTE: u8 = 31;
 
-pub(crate) const PROC_ERROR: u8 = 33;
+pub(crate) const LIST_ATTRIBUTES: u8 = 32;
 
-// Whether the kernel has what the library needs.
-pub(crate) const HAS_FLOOR: u8 = 34;
+pub(crate) const REMOVE_ATTRIBUTE: u8 = 33;
+
+pub(crate) const USE_PROC: u8 = 34;
+
+pub(crate) const USE_PRIVATE_PROC: u8 = 35;
+
+pub(crate) const PROC_OPEN: u8 = 36;
+
+pub(crate) const PROC_READ_LINK: u8 = 37;
+
+// A call that has failed by the error MODE, behind those of its root.
+pub(crate) const FAILED: u8 = 38;
+
+/// What a call has to say beside its reply, or its question.
+#[derive(Clone, Copy)]
+pub(crate) struct Beside {
+    /// The call that is to be made by single steps.
+    pub inner: Option<Request>,
+    /// What is closed behind the call's end, if the reply comes right behind the change of an entry.
+    pub closes: Closes,
+    pub ends: bool,
+}
+
+/// Descriptors that are closed: so many.
+#[derive(Clone, Copy)]
+pub(crate) struct Closes {
+    pub fds: [u32; 2],
+    pub count: u32,
+}
+
+pub(crate) const NO_CLOSES: Closes = Closes {
+    fds: [0; 2],
+    count: 0,
+};
 
 /// What a call replies.
 #[derive(Clone, Copy)]
@@ -113,6 +140,8 @@ pub(crate) enum Reply<'n> {
     Value(u64, &'n [u8]),
     /// An error (errno(3)), the step to blame and the name that this was about.
     Fails(u32, u8, &'n [u8]),
+    /// The same, of which the name lies in the room (`due::NAME`).
+    Failed(u32, u8),
     /// Single steps are to make the call.
     Steps,
 }

@@ -3,6 +3,10 @@ pub(crate) const NONE: u8 = 0;
 
 pub(crate) const OPEN: u8 = 1;
 
+pub(crate) const READ_LINK: u8 = 4;
+
+pub(crate) const NAME_BELOW: u8 = 5;
+
 pub(crate) const MAKE_DIR: u8 = 8;
 
 pub(crate) const MAKE_FILE: u8 = 9;
@@ -24,3 +28,5 @@ pub(crate) const REOPEN: u8 = 16;
 pub(crate) const ATTRIBUTE: u8 = 17;
 
 pub(crate) const PROC: u8 = 18;
+
+pub(crate) const STATUS: u8 = 19;

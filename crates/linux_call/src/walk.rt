@@ -17,15 +17,27 @@ pub(crate) const BENEATH: u32 = 1;
 
 pub(crate) const NO_LINKS: u32 = 2;
 
+pub(crate) const NOFOLLOW: u32 = 4;
+
+pub(crate) const NO_RETRY: u32 = 8;
+
+pub(crate) const FOLLOW: u32 = 16;
+
 pub(crate) const NO_XDEV: u32 = 128;
+
+pub(crate) const GIVE: u32 = 256;
+
+pub(crate) const DIRECTORY: u32 = 1024;
+
+pub(crate) const EXACT: u32 = 16384;
 
 pub(crate) const RESOLVE_NO_XDEV: u32 = 0x01;
 
-const RESOLVE_NO_MAGICLINKS: u32 = 0x02;
+pub(crate) const RESOLVE_NO_MAGICLINKS: u32 = 0x02;
 
-const RESOLVE_NO_SYMLINKS: u32 = 0x04;
+pub(crate) const RESOLVE_NO_SYMLINKS: u32 = 0x04;
 
-const RESOLVE_BENEATH: u32 = 0x08;
+pub(crate) const RESOLVE_BENEATH: u32 = 0x08;
 
 const RESOLVE_IN_ROOT: u32 = 0x10;
 
@@ -35,11 +47,23 @@ pub(crate) struct Below<'n> {
     pub root: u32,
     pub flags: u32,
     pub path: PathOf<'n>,
+    /// The first answer is that of this path's look-up: so the path was looked at before.
+    pub looked: bool,
 }
 
 #[inline(always)]
 pub(crate) fn has(flags: u32, flag: u32) -> bool {
     flags & flag != 0
+}
+
+/// Why statx(2) told nothing of an object, or 0. If a filter refuses statx(2), a C library may give what fstat(2) says;
+/// or a filter says that the call was made, which then was not.
+pub(crate) fn look_error(about: &Answer) -> u32 {
+    if about.error == 0 && !about.has_mount {
+        ENOSYS
+    } else {
+        about.error
+    }
 }
 
 #[inline(always)]
@@ -118,8 +142,7 @@ pub(crate) fn look_up<'n>(
     how: u32,
     mode: u32,
 ) -> Asked<'n, Result<u32, u32>> {
-    // Where there is an answer the path was looked at before.
-    if answers.is_empty() && !may_walk(at) {
+    if !at.looked && !may_walk(at) {
         return Ok(Err(0));
     }
     opened(

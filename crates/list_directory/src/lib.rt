@@ -1,6 +1,6 @@
 //! Which system call comes next as the names of a directory are read, by what the calls before gave.
 //!
-//! A C driver makes the calls, one at a time, and hands over what a call gave. The names of the records that it read
+//! A driver makes the calls, one at a time, and hands over what a call gave. The names of the records that it read
 //! are taken here. No function makes a system call or takes memory.
 #![tactic(auto)]
 

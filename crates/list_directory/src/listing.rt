@@ -26,7 +26,7 @@ pub const ENDS: u8 = 5;
 /// Nothing comes: it failed by an error.
 pub const FAILS: u8 = 6;
 
-/// How far a listing has come. C keeps it, beside a room for names.
+/// How far a listing has come. The driver keeps it, beside a room for names.
 #[repr(C)]
 #[derive(Clone, Copy, Debug, PartialEq, Eq)]
 pub struct Listing {

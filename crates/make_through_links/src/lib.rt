@@ -1,7 +1,7 @@
 //! Which call comes next as all missing parts of a path are made, through links: the directories of a path (`mkdir
 //! -p`), or a file and all directories above it.
 //!
-//! A C driver makes the calls, one at a time: it finds what is at a path, takes its last name apart, makes directories,
+//! A driver makes the calls, one at a time: it finds what is at a path, takes its last name apart, makes directories,
 //! opens as much of a path as is there, makes a file, or reads a link. It hands over what the call gave, and does what
 //! comes next. No function makes a call or takes memory.
 #![tactic(auto)]

@@ -28,7 +28,7 @@ const STEP_MAKE_DIR: u8 = 8;
 
 const STEP_MAKE_FILE: u8 = 9;
 
-/// How far a call has come. C keeps it, beside a room of bytes that has the path at its beginning.
+/// How far a call has come. The driver keeps it, beside a room of bytes that has the path at its beginning.
 #[repr(C)]
 #[derive(Clone, Copy, Debug, PartialEq, Eq)]
 pub struct Making {

@@ -1,7 +1,7 @@
 //! Which call comes next as a file is opened, or made, or made where it is missing, through links, by flags of open(2);
 //! and what each call is asked for.
 //!
-//! A C driver makes the calls, one at a time: it finds what is at a path, creates a file there, or reads the link that
+//! A driver makes the calls, one at a time: it finds what is at a path, creates a file there, or reads the link that
 //! is there. It hands over what the call gave, and does what comes next. No function makes a call or takes memory.
 #![tactic(auto)]
 

@@ -16,7 +16,7 @@ const MKFILE: u8 = 4;
 
 const S_IFREG: u32 = 0o100000;
 
-/// What a call is asked for. C makes it on the path of that moment.
+/// What a call is asked for. The driver makes it on the path of that moment.
 #[repr(C)]
 #[derive(Clone, Copy, Debug, PartialEq, Eq)]
 pub struct Request {

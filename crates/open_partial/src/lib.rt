@@ -1,7 +1,7 @@
 //! A path of which as much is opened as is there: which system call comes next, by what those before gave. So how many
 //! pieces of the path are tried and how, which descriptor is closed, and where what is left of the path begins.
 //!
-//! A C driver makes the calls, one at a time, and hands over what a call gave. No function makes a call or takes
+//! A driver makes the calls, one at a time, and hands over what a call gave. No function makes a call or takes
 //! memory.
 #![tactic(auto)]
 

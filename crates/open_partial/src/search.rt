@@ -18,7 +18,7 @@ pub const ENDS: u8 = 3;
 /// Nothing comes: it failed by an error, and nothing is open.
 pub const FAILS: u8 = 4;
 
-/// How far a search has come. C keeps it.
+/// How far a search has come. The driver keeps it.
 #[repr(C)]
 #[derive(Clone, Copy, Debug, PartialEq, Eq)]
 pub struct Search {

@@ -1,4 +1,4 @@
-//! At which names an object stands below a root: which question a C driver asks the kernel next, and what follows from
+//! At which names an object stands below a root: which question a driver asks the kernel next, and what follows from
 //! the answers. Linux has no system call for this.
 //!
 //! `begin` names the first question, and `next` the one behind an answer, up to the place, or why there is none. Each

@@ -1,4 +1,4 @@
-//! What is told, as numbers for a C program.
+//! What is told, as numbers.
 ghost use Rattle.std.specs.Prelude.{◌≡◌};
 ghost use Rattle.place_protocol.specs.Texts.{texts_of};
 ghost use Rattle.place_protocol.specs.Told.{begun, names_told, next_told, number_of, question_of, start_of, told_of};

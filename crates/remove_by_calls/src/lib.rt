@@ -1,7 +1,7 @@
 //! Which call comes next as an entry is removed with all that is below it, where one call makes a bounded number of
 //! steps and goes to a bounded depth.
 //!
-//! A C driver makes the calls, one at a time: at the root, or in a place that a call came to and that the driver
+//! A driver makes the calls, one at a time: at the root, or in a place that a call came to and that the driver
 //! keeps in a table. It hands over what the call gave, and does what comes next. No function makes a call or takes
 //! memory.
 #![tactic(auto)]

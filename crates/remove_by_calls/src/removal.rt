@@ -49,7 +49,7 @@ pub enum Demand {
     Fails(u32),
 }
 
-/// How far a removal has come. C keeps it, beside a table of 16 places, with the numbers 0 to 15.
+/// How far a removal has come. The driver keeps it, beside a table of 16 places, with the numbers 0 to 15.
 #[repr(C)]
 #[derive(Clone, Copy, Debug, PartialEq, Eq)]
 pub struct Removal {

@@ -66,7 +66,7 @@ pub const REFUSED: u8 = 19;
 /// It ends: the step wasn't made, for an error that the caller gets.
 pub const UNMADE: u8 = 20;
 
-/// How far a step has come. C keeps it, and leaves it alone.
+/// How far a step has come. The driver keeps it, and leaves it alone.
 #[repr(C)]
 #[derive(Clone, Copy, Debug, PartialEq, Eq)]
 pub struct Course {

@@ -1,6 +1,6 @@
 //! Which system call comes next as one step is made, by what the calls before gave, and how the step ends.
 //!
-//! A C driver makes the calls, one at a time. No function makes a system call or takes memory.
+//! A driver makes the calls, one at a time. No function makes a system call or takes memory.
 #![tactic(auto)]
 
 mod course;

@@ -1,0 +1,281 @@
+//! From a call's beginning to its result: the things that `call_course` asks for.
+use crate::by_steps::slots::{ROOT, Slot};
+use crate::by_steps::state::{Ended, Part, Stage, Steps};
+use crate::by_steps::talk::{DUP, NAME_BELOW, TEXT, Talk};
+use crate::by_steps::work::{make, open_anew};
+use crate::path::front;
+use crate::steps;
+use crate::walk::{BENEATH, NO_LINKS, has, look_error};
+use c_protocol::Asked as Numbers;
+use call_course::{
+    ANOTHER_PROC, Answer, BEGIN, CLOSE, CLOSE_PROC, CONVERSE, ENDS, FAILS, LET_GO, LOOK_AT_PROC,
+    LOOK_AT_ROOT, PLACE, TAKE, begin, next, take,
+};
+use dialogue::{Answer as Gave, Asked, Question, ask};
+use find_proc::{Known, Proc, find, is_lost};
+use place_protocol::BY_ROOT;
+use std::alloc::Global;
+use step_calls::OPENED;
+use system_calls::errors::ENOSYS;
+use system_calls::kind_of;
+
+const DIRECTORY: u8 = 1;
+
+// Lays a text at a room's beginning.
+fn lay(text: &[u8], room: &mut [u8]) {
+    let laid = front(text, room.len());
+    if laid.len() <= room.len() {
+        room[..laid.len()].copy_from_slice(laid);
+    }
+}
+
+impl Steps {
+    // ---- what is due
+
+    // What the proved call opened, out of its handle: the root is opened anew.
+    fn take_due<'s>(&'s self, known: &mut Known, answers: &mut &[Gave]) -> Asked<'s, Part> {
+        let handle = self.told().handle;
+        let slot = self.attempt.handles.at(handle);
+        let taking = take(handle == ROOT, slot.fd.is_some());
+        if taking.error != 0 {
+            return Ok(Part::Thing(taking.error, 0));
+        }
+        if !taking.anew {
+            return Ok(Part::Thing(0, slot.fd.unwrap_or(0) as u64));
+        }
+        let work = open_anew(self.step_fd(), self.request.flags);
+        let made = make(answers, known, &work)?;
+        Ok(if made.course.next == OPENED {
+            Part::Thing(0, made.fd as u64)
+        } else {
+            Part::Thing(made.course.error, 0)
+        })
+    }
+
+    fn look_at_root<'s>(&'s self, answers: &mut &[Gave]) -> Asked<'s, Part> {
+        let about = ask(answers, Question::Stat(self.root))?;
+        let kind = kind_of(about.mode as u32);
+        Ok(Part::Thing(look_error(&about), kind as u64))
+    }
+
+    fn close_due<'s>(&'s self, answers: &mut &[Gave], fd: Option<u32>) -> Asked<'s, Part> {
+        if let Some(fd) = fd {
+            ask(answers, Question::Close(fd))?;
+        }
+        Ok(Part::Thing(0, 0))
+    }
+
+    fn own_proc(&self) -> Option<u32> {
+        match self.attempt.proc {
+            Some(proc) if proc.own => Some(proc.fd),
+            _ => None,
+        }
+    }
+
+    /// The system call of the thing that comes next; or what the thing came to.
+    pub(crate) fn thing_due<'s>(
+        &'s self,
+        known: &mut Known,
+        answers: &mut &[Gave],
+    ) -> Asked<'s, Part> {
+        let about = (self.course.about & 0xffff_ffff) as u32;
+        match self.course.next {
+            BEGIN => {
+                if about > 0 {
+                    ask(answers, Question::Wait(about))?;
+                }
+                Ok(Part::Thing(0, 0))
+            }
+            TAKE => self.take_due(known, answers),
+            CLOSE => self.close_due(answers, Some(about)),
+            CLOSE_PROC => self.close_due(answers, self.own_proc()),
+            LOOK_AT_PROC => match self.attempt.proc {
+                Some(proc) => Ok(Part::Thing(is_lost(answers, known, proc.fd)? as u32, 0)),
+                None => Ok(Part::Thing(0, 0)),
+            },
+            ANOTHER_PROC => Ok(Part::Another(find(answers, known, true)?)),
+            LOOK_AT_ROOT => self.look_at_root(answers),
+            _ => Ok(Part::Thing(0, 0)),
+        }
+    }
+
+    // ---- what came of it
+
+    // What is known of the try by now.
+    fn noted(&self, error: u32, value: u64) -> Answer {
+        Answer {
+            value,
+            length: 0,
+            error,
+            unmade: 0,
+            unopened: 0,
+            made: 0,
+            reply: 0,
+            whole: false,
+            stepped: self.attempt.stepped,
+            changed: self.attempt.changed,
+            has_proc: self.attempt.proc.is_some(),
+            owns_proc: self.attempt.owns_proc(),
+        }
+    }
+
+    fn advance(&mut self, answer: &Answer, read: &mut [u8]) -> Option<Ended> {
+        self.course = next(self.course, answer);
+        match self.course.next {
+            ENDS => return self.run_over(Ok(self.course.value), read),
+            FAILS => return self.run_over(Err(self.course.error), read),
+            PLACE => {
+                self.attempt.step = NAME_BELOW;
+                self.begin_to_ask();
+            }
+            _ => self.stage = Stage::Course,
+        }
+        None
+    }
+
+    // Begins the proved call. Where there is no memory, that is its reply.
+    fn converse(&mut self, alloc: Global) {
+        let numbers = Numbers {
+            root: ROOT,
+            op: self.request.what,
+            mode: self.rename_mode(),
+            beneath: has(self.request.flags, BENEATH),
+            no_links: has(self.request.flags, NO_LINKS),
+        };
+        self.attempt.handles.clear();
+        self.talk = None;
+        if self.attempt.handles.reserve() {
+            let root = Slot::new(Some(self.root), DIRECTORY, BY_ROOT);
+            self.attempt.handles.put(root);
+            let talk = Talk::begin(alloc, &numbers, self.path(), self.second.as_slice());
+            self.talk = talk;
+        }
+        self.tell();
+    }
+
+    // The kind of what was opened is known.
+    fn taken(&mut self) {
+        let handle = self.told().handle;
+        let slot = self.attempt.handles.at(handle);
+        self.kind = slot.kind;
+        if take(handle == ROOT, slot.fd.is_some()).anew {
+            self.attempt.step = DUP;
+        }
+    }
+
+    /// A thing was done.
+    pub(crate) fn thing_done(
+        &mut self,
+        alloc: Global,
+        error: u32,
+        value: u64,
+        read: &mut [u8],
+    ) -> Option<Ended> {
+        match self.course.next {
+            CONVERSE => {
+                self.converse(alloc);
+                return None;
+            }
+            BEGIN => self.attempt.reset(&self.request),
+            TAKE => self.taken(),
+            LET_GO => {
+                self.attempt.handles.clear();
+                self.attempt.names = Vec::new(alloc);
+            }
+            _ => (),
+        }
+        let answer = self.noted(error, value);
+        self.advance(&answer, read)
+    }
+
+    /// The try begins anew by another /proc, if there is one.
+    pub(crate) fn another_found(
+        &mut self,
+        found: Result<Proc, u32>,
+        read: &mut [u8],
+    ) -> Option<Ended> {
+        let error = match found {
+            Ok(proc) => {
+                self.attempt.reset(&self.request);
+                self.attempt.proc = Some(proc);
+                0
+            }
+            Err(error) => error,
+        };
+        let answer = self.noted(error, 0);
+        self.advance(&answer, read)
+    }
+
+    /// The place of the request's object was asked for.
+    pub(crate) fn placed(&mut self, error: u32, length: u64, read: &mut [u8]) -> Option<Ended> {
+        let answer = Answer {
+            length,
+            ..self.noted(error, length)
+        };
+        self.advance(&answer, read)
+    }
+
+    /// The proved call has replied.
+    pub(crate) fn replied(&mut self, read: &mut [u8]) -> Option<Ended> {
+        let told = self.told();
+        let made = match self.attempt.made {
+            Some(fd) => fd.saturating_add(1),
+            None => 0,
+        };
+        let answer = Answer {
+            length: told.first as u64,
+            unmade: self.attempt.unmade,
+            unopened: self.attempt.unopened,
+            made,
+            reply: told.what,
+            whole: told.whole,
+            ..self.noted(told.detail as u32, told.handle)
+        };
+        self.advance(&answer, read)
+    }
+
+    /// Nothing is done where the kernel lacks what the library needs.
+    pub(crate) fn floor_seen(&mut self, has: bool, read: &mut [u8]) -> Option<Ended> {
+        self.course = begin(&self.facts);
+        if has {
+            self.stage = Stage::Course;
+            return None;
+        }
+        self.attempt.reset(&self.request);
+        self.attempt.step = steps::KERNEL;
+        self.run_over(Err(ENOSYS), read)
+    }
+
+    // ---- the end
+
+    // No step of the call is to blame for the root's own error.
+    fn run_over(&mut self, outcome: Result<u64, u32>, read: &mut [u8]) -> Option<Ended> {
+        if self.course.is_root {
+            self.attempt.step = 0;
+        }
+        let is_removal = self.removing.is_some();
+        match outcome {
+            Ok(_) if is_removal => self.run_removed(0),
+            Err(error) if is_removal => self.run_removed(error),
+            Ok(value) => Some(self.ended(value, read)),
+            Err(error) => Some(Ended::Fails(error, self.attempt.step)),
+        }
+    }
+
+    // The kind of what was opened stands above the descriptor, if it is asked for.
+    fn ended(&self, value: u64, read: &mut [u8]) -> Ended {
+        if self.facts.places {
+            lay(self.search.names(), read);
+        }
+        if let Some(talk) = &self.talk {
+            if talk.told().what == TEXT {
+                lay(talk.first(), read);
+            }
+        }
+        Ended::Value(if self.request.asks_kind {
+            self.kind as u64 * 0x1_0000_0000 + (value & 0xffff_ffff)
+        } else {
+            value
+        })
+    }
+}

@@ -1,0 +1,187 @@
+//! At which names below the root an object stands: as a walk asks, and as a program does.
+use crate::by_steps::search::{Found, look_first};
+use crate::by_steps::slots::Slot;
+use crate::by_steps::state::{Ended, Part, Stage, Steps};
+use crate::by_steps::there::is_dead;
+use crate::walk::look_error;
+use ask_place::{Answer, CLOSE, COPY, DEAD, ENDS, FAILS, FIND, LOOK};
+use dialogue::{Answer as Gave, Asked, Question, ask};
+use find_proc::Known;
+use place_protocol::{ASK, AT_ROOT, Held, LOOK_UP, SEEN_BELOW, before_questions, behind_look_up};
+use std::alloc::Global;
+use system_calls::kind_of;
+
+const DIRECTORY: u8 = 1;
+
+// In place of a descriptor.
+const NO_DESCRIPTOR: u32 = 0xffff_ffff;
+
+fn plain(error: u32) -> Answer {
+    Answer {
+        links: 0,
+        error,
+        yes: false,
+    }
+}
+
+impl Steps {
+    // ---- a walk asks
+
+    /// What comes before the questions. The text behind that look-up says what is gone.
+    pub(crate) fn before_due<'s>(
+        &'s self,
+        known: &mut Known,
+        answers: &mut &[Gave],
+    ) -> Asked<'s, Part> {
+        let (told, handles) = (self.told(), &self.attempt.handles);
+        let slot = handles.at(told.handle);
+        let names = self.attempt.passed.names_of(told.handle);
+        let held = Held {
+            way: slot.way,
+            above: false,
+            directory: slot.kind == DIRECTORY,
+            named: names.is_some(),
+            below: self.attempt.below,
+        };
+        let first = before_questions(&held);
+        match names {
+            Some(names) if first == LOOK_UP => {
+                let root = handles.fd(told.other);
+                let fd = handles.fd(told.handle);
+                let found = look_first(answers, known, root, fd, names)?;
+                Ok(Part::Before(behind_look_up(&held, found.is_some()), found))
+            }
+            _ => Ok(Part::Before(first, None)),
+        }
+    }
+
+    /// The walk goes on from a directory by the names that were found.
+    pub(crate) fn before_asked(&mut self, alloc: Global, next: u8, found: Option<u32>) {
+        let told = self.told();
+        let mut slot = self.attempt.handles.at(told.handle);
+        if found.is_some() {
+            slot.fd = found;
+            slot.way = SEEN_BELOW;
+            self.attempt.handles.set(told.handle, slot);
+        }
+        if next == ASK {
+            self.search.begin(self.attempt.handles.fd(told.other), slot);
+            self.stage = Stage::Place;
+            return;
+        }
+        if next == AT_ROOT && slot.kind == DIRECTORY {
+            self.attempt.passed.keep_place(told.handle, b"/");
+        }
+        self.stands_passed(alloc, next == AT_ROOT);
+    }
+
+    /// Takes the answer to a question about a place. READ: the text that was read last.
+    pub(crate) fn place_asked(
+        &mut self,
+        alloc: Global,
+        found: Found,
+        read: &[u8],
+    ) -> Option<Ended> {
+        if let Found::Link(_, Some(proc)) = found {
+            self.attempt.proc = Some(proc);
+        }
+        self.search.take(found, read);
+        if !self.search.is_over() {
+            return None;
+        }
+        if self.course.next == call_course::PLACE {
+            self.object = self.search.held();
+            self.stage = Stage::Asking;
+            self.asking = ask_place::next(self.asking, &plain(self.search.error().unwrap_or(0)));
+        } else {
+            self.place_found(alloc);
+        }
+        None
+    }
+
+    fn place_found(&mut self, alloc: Global) {
+        let handle = self.told().handle;
+        let held = self.search.held();
+        self.attempt.handles.set(handle, held);
+        match self.search.error() {
+            Some(error) => self.unmade(alloc, error),
+            None => {
+                if held.kind == DIRECTORY {
+                    self.attempt.passed.keep_place(handle, self.search.names());
+                }
+                self.stands_found(alloc);
+            }
+        }
+    }
+
+    // ---- a program asks
+
+    fn look_at_object<'s>(&'s self, answers: &mut &[Gave]) -> Asked<'s, Part> {
+        let about = ask(answers, Question::Stat(self.request.fd))?;
+        let kind = kind_of(about.mode as u32);
+        let looked = Answer {
+            links: about.links as u64,
+            error: look_error(&about),
+            yes: kind == DIRECTORY,
+        };
+        Ok(Part::Object(looked, kind as u32))
+    }
+
+    /// Asks of the request's object what comes next, by a copy of the descriptor, which a look-up may close.
+    pub(crate) fn object_due<'s>(
+        &'s self,
+        known: &mut Known,
+        answers: &mut &[Gave],
+    ) -> Asked<'s, Part> {
+        let copy = self.object.fd.unwrap_or(NO_DESCRIPTOR);
+        match self.asking.next {
+            LOOK => self.look_at_object(answers),
+            COPY => {
+                let copied = ask(answers, Question::CopyAbove(self.request.fd))?;
+                Ok(Part::Object(plain(copied.error), copied.value))
+            }
+            DEAD => {
+                let yes = is_dead(answers, known.machine.directory, copy)?;
+                Ok(Part::Object(Answer { yes, ..plain(0) }, 0))
+            }
+            CLOSE => {
+                let closed = ask(answers, Question::Close(copy))?;
+                Ok(Part::Object(plain(closed.error), 0))
+            }
+            _ => Ok(Part::Object(plain(0), 0)),
+        }
+    }
+
+    /// Takes what that gave.
+    pub(crate) fn object_asked(
+        &mut self,
+        answer: Answer,
+        number: u32,
+        read: &mut [u8],
+    ) -> Option<Ended> {
+        match self.asking.next {
+            LOOK => self.object.kind = (number & 0xff) as u8,
+            COPY => self.object.fd = Some(number),
+            FIND => {
+                self.search.begin(self.root, self.object);
+                self.stage = Stage::Place;
+                return None;
+            }
+            _ => (),
+        }
+        self.asking = ask_place::next(self.asking, &answer);
+        let (length, error) = (self.search.names().len() as u64, self.asking.error);
+        match self.asking.next {
+            ENDS => self.placed(0, length, read),
+            FAILS => self.placed(error, 0, read),
+            _ => None,
+        }
+    }
+
+    /// The copy of an object isn't open yet.
+    pub(crate) fn begin_to_ask(&mut self) {
+        self.asking = ask_place::begin();
+        self.object = Slot::new(None, 0, place_protocol::BY_NAME);
+        self.stage = Stage::Asking;
+    }
+}

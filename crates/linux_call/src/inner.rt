@@ -1,0 +1,183 @@
+//! A call on paths within a call: the kernel walks, or single steps make it.
+use crate::by_steps::Ended;
+use crate::makes::{change_entry, open_all, rename, resolve};
+use crate::path::Texts;
+use crate::request::*;
+use crate::steps;
+use crate::walk::{BENEATH, Below, EXACT, NO_LINKS, NO_RETRY, NO_XDEV, has};
+use dialogue::{Answer, Asked, Question, ask};
+use find_proc::{File, Kept, Known, has_floor};
+use system_calls::errors::{EBADF, EINVAL, ENOSYS};
+
+// The flags of inroot.h that every call on a path takes.
+const ALL_CALLS: u32 = BENEATH | NO_LINKS | NO_RETRY | NO_XDEV | EXACT;
+
+/// An error for which no step is to blame.
+pub(crate) fn refused<'n>(error: u32) -> Reply<'n> {
+    Reply::Fails(error, steps::NONE, b"")
+}
+
+/// What is wrong with flags and root, or 0.
+#[inline(always)]
+pub(crate) fn fault_of(flags: u32, root: u32) -> u32 {
+    if flags & !ALL_CALLS != 0 {
+        EINVAL
+    } else if root >= 0x8000_0000 {
+        EBADF
+    } else {
+        0
+    }
+}
+
+#[inline(never)]
+fn blame<'n>(answers: &mut &[Answer], known: &Known, step: u8) -> Asked<'n, u8> {
+    let has = has_floor(answers, known)?;
+    Ok(if has { step } else { steps::KERNEL })
+}
+
+/// If the kernel lacks what the library needs, that is to blame. Of an entry that was made the step stays.
+#[inline(always)]
+pub(crate) fn blamed<'n>(
+    answers: &mut &[Answer],
+    known: &Known,
+    reply: Reply<'n>,
+) -> Asked<'n, Reply<'n>> {
+    Ok(match reply {
+        Reply::Fails(ENOSYS, step, name) if step != steps::GIVE => {
+            Reply::Fails(ENOSYS, blame(answers, known, step)?, name)
+        }
+        other => other,
+    })
+}
+
+#[inline(always)]
+fn by_kernel<'n>(
+    answers: &mut &[Answer],
+    known: &mut Known,
+    beside: &mut Beside,
+    asked: &Request,
+    texts: Texts<'n>,
+) -> Asked<'n, Reply<'n>> {
+    let at = Below {
+        root: asked.root,
+        flags: asked.flags,
+        path: texts.first,
+        looked: texts.looked,
+    };
+    if has(asked.flags, EXACT) {
+        return Ok(Reply::Steps);
+    }
+    match asked.what {
+        RESOLVE | RESOLVE_NOFOLLOW => resolve(answers, known, asked, &at),
+        MKDIR_ALL => open_all(answers, known, asked, &at),
+        RENAME => rename(answers, known, beside, asked, &at, texts.second),
+        MKFILE | MKDIR | SYMLINK | UNLINK | RMDIR => {
+            change_entry(answers, known, beside, asked, &at, texts)
+        }
+        _ => Ok(Reply::Steps),
+    }
+}
+
+// ---- single steps
+
+const THERE: u64 = 1;
+
+const HANDED_IN: u64 = 2;
+
+const CLAIMED: u64 = 4;
+
+const HAS_FLOOR: u64 = 8;
+
+fn bit(holds: bool, bit: u64) -> u64 {
+    if holds { bit } else { 0 }
+}
+
+/// What a call by single steps came to, and what is known by then, as an answer.
+pub(crate) fn answer_of(ended: Ended, known: &Known) -> Answer {
+    let (value, error, step) = match ended {
+        Ended::Value(value) => (value, 0, steps::NONE),
+        Ended::Fails(error, step) => (0, error, step),
+    };
+    let kept = known.kept;
+    Answer {
+        file_system: value,
+        flags: bit(kept.there, THERE)
+            | bit(kept.handed_in, HANDED_IN)
+            | bit(kept.claimed, CLAIMED)
+            | bit(known.has_floor, HAS_FLOOR),
+        device: kept.file.device,
+        inode: kept.file.inode,
+        mount: kept.file.mount,
+        node: 0,
+        value: kept.fd,
+        error,
+        links: step as u32,
+        mode: 0,
+        has_mount: false,
+    }
+}
+
+fn known_by(answer: &Answer, known: &Known) -> Known {
+    let flags = answer.flags;
+    Known {
+        kept: Kept {
+            file: File {
+                device: answer.device,
+                inode: answer.inode,
+                mount: answer.mount,
+            },
+            fd: answer.value,
+            there: flags & THERE != 0,
+            handed_in: flags & HANDED_IN != 0,
+            claimed: flags & CLAIMED != 0,
+        },
+        machine: known.machine,
+        has_floor: flags & HAS_FLOOR != 0,
+    }
+}
+
+/// A call by single steps, which is then told beside.
+#[inline(never)]
+pub(crate) fn by_steps<'n>(
+    answers: &mut &[Answer],
+    known: &mut Known,
+    beside: &mut Beside,
+    asked: &Request,
+    texts: Texts<'n>,
+) -> Asked<'n, Reply<'n>> {
+    let second = if asked.what == RENAME {
+        texts.second.text()
+    } else {
+        texts.target
+    };
+    beside.inner = Some(Request {
+        known: *known,
+        ..*asked
+    });
+    let answer = ask(answers, Question::BySteps(texts.first.text(), second))?;
+    *known = known_by(&answer, known);
+    Ok(if answer.error == 0 {
+        Reply::Value(answer.file_system, b"")
+    } else {
+        Reply::Failed(answer.error, (answer.links % 256) as u8)
+    })
+}
+
+/// Makes a call on paths: by the kernel's walk, or by single steps where the kernel doesn't make it.
+#[inline(never)]
+pub(crate) fn carry_out<'n>(
+    answers: &mut &[Answer],
+    known: &mut Known,
+    beside: &mut Beside,
+    asked: &Request,
+    texts: Texts<'n>,
+) -> Asked<'n, Reply<'n>> {
+    let fault = fault_of(asked.flags, asked.root);
+    if fault != 0 {
+        return Ok(refused(fault));
+    }
+    match by_kernel(answers, known, beside, asked, texts)? {
+        Reply::Steps => by_steps(answers, known, beside, asked, texts),
+        reply => blamed(answers, known, reply),
+    }
+}
