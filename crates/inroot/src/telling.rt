@@ -29,39 +29,60 @@ impl Told {
     }
 }
 
-/// Tells a line, unless there was no room for its text or it has none.
-fn tell_line(rt: &HostRuntime, added: Result<(), NoMemory>, text: &Output) -> io::Result<()> {
-    if added.is_err() || text.as_slice().is_empty() {
-        return Ok(());
-    }
-    eprint!(rt; "inroot: ")?;
-    rt.stderr().write_all(text.as_slice())?;
-    eprintln!(rt; "")
+/// The line of a start and a text.
+fn line_of(alloc: Global, start: &str, text: &[u8]) -> Result<Output, NoMemory> {
+    let mut line = Output::new(alloc);
+    line.text(start)?;
+    line.bytes(text)?;
+    line.text("\n")?;
+    Ok(line)
 }
 
-/// Tells why a script is no JSON text, and points to where.
+/// Writes a line by one write, so nobody reads half a line. Returns whether memory sufficed for the line.
+fn write_line(rt: &HostRuntime, start: &str, text: &[u8]) -> io::Result<bool> {
+    match line_of(rt.alloc(), start, text) {
+        Ok(line) => {
+            rt.stderr().write_all(line.as_slice())?;
+            Ok(true)
+        }
+        Err(_) => Ok(false),
+    }
+}
+
+/// Writes the line of a text, unless the text is empty. Returns whether memory sufficed for the text and the line.
+fn tell_line(rt: &HostRuntime, added: Result<(), NoMemory>, text: &Output) -> io::Result<bool> {
+    if added.is_err() || text.as_slice().is_empty() {
+        return Ok(added.is_ok());
+    }
+    write_line(rt, "inroot: ", text.as_slice())
+}
+
+/// Tells why a script is no JSON text, and points to where. Leaves out what follows a line that had no memory.
 fn tell_no_json(rt: &HostRuntime, fault: JsonFault, script: &[u8]) -> io::Result<()> {
     let mut reason = Output::new(rt.alloc());
     let added = add_no_json(&mut reason, script, fault);
-    tell_line(rt, added, &reason)?;
-    let mut excerpt = Output::new(rt.alloc());
-    let added = add_excerpt(&mut excerpt, script, fault);
-    tell_line(rt, added, &excerpt)?;
-    let mut caret = Output::new(rt.alloc());
-    let added = add_caret(&mut caret, script, fault);
-    tell_line(rt, added, &caret)
+    let mut whole = tell_line(rt, added, &reason)?;
+    if whole {
+        let mut excerpt = Output::new(rt.alloc());
+        let added = add_excerpt(&mut excerpt, script, fault);
+        whole = tell_line(rt, added, &excerpt)?;
+    }
+    if whole {
+        let mut caret = Output::new(rt.alloc());
+        let added = add_caret(&mut caret, script, fault);
+        let _ = tell_line(rt, added, &caret)?;
+    }
+    Ok(())
 }
 
 /// Tells what a script has where it is refused, if that is one of its entries.
 fn tell_entry(rt: &HostRuntime, fault: ScriptFault, script: &Value) -> io::Result<()> {
-    match entry_text(rt.alloc(), script, fault) {
-        Ok(Some(text)) => {
-            eprint!(rt; "inroot: {fault}: ")?;
-            rt.stderr().write_all(text.as_slice())?;
-            eprintln!(rt; "")
+    if let Ok(Some(text)) = entry_text(rt.alloc(), script, fault) {
+        if let Ok(start) = format!(in rt.alloc(); "inroot: {fault}: ") {
+            let _ = write_line(rt, start.as_str(), text.as_slice())?;
         }
-        _ => Ok(()),
     }
+    Ok(())
 }
 
 /// Tells what is wrong with a script, or else what was wanted, and what the script has there.
@@ -98,5 +119,6 @@ pub fn tell(rt: &HostRuntime, fault: Fault, told: &Told) -> io::Result<()> {
     }
     let mut advice = Output::new(rt.alloc());
     let added = advise(&mut advice, fault, told.states, told.line.as_slice());
-    tell_line(rt, added, &advice)
+    let _ = tell_line(rt, added, &advice)?;
+    Ok(())
 }
