@@ -72,21 +72,13 @@ if ! lacks mandoc 'the form of the man pages'; then
 fi
 # The example of inroot-script(5), where the program is there.
 if [ -x "${INROOT_PROGRAM-}" ]; then
-    awk '/^[.]Sh EXAMPLES/ { on = 1 } on && /^[{ ]/' man/inroot-script.5 >"$work/script"
+    awk '/^[.]Sh / { on = /EXAMPLES/ } on && /^[{ ]/' man/inroot-script.5 >"$work/script"
     told=$("$INROOT_PROGRAM" walk up <"$work/script" 2>&1)
     [ "$told" = "$(sed -n 's/^[.]Dl \(opened .*\)/\1/p' man/inroot-script.5)" ]
     verdict $? "the example of man/inroot-script.5: $told"
 else
     skip 'the example of inroot-script(5)' 'INROOT_PROGRAM names no program'
 fi
-for option in $("$fs" --help | grep -o -- '--[a-z-]*' | sort -u); do
-    name=${option#--}
-    case $name in version) continue ;; esac
-    grep -qF -- "Fl Fl $name" man/inroot-fs.1 && grep -qF -- "$option" completions/inroot-fs.bash &&
-        { [ "$name" = help ] || grep -qF -- "$option" completions/_inroot-fs; } &&
-        grep -qF -- "-l $name" completions/inroot-fs.fish
-    verdict $? "$option is missing in the man page or a completion of inroot-fs"
-done
 for shell in bash zsh fish; do
     lacks "$shell" "completions for $shell" || lacks python3 "completions for $shell" ||
         has "completions for $shell" python3 checks/library_parts/tab.py "$shell" "$prefix"
