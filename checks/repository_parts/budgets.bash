@@ -25,7 +25,7 @@ within 'pronouns in a thousand words of README.md, docs and host/inroot.h' 35 "$
 within 'lines of C in the library' 1500 "$(lines_of "${of_the_library[@]}")"
 within 'lines of the header between C and the proved library' 120 "$(lines_of host/calls.h)"
 within 'exports of the proved library' 2 "$(grep -rhE '^pub extern "C" fn' crates/c_library/src | wc -l)"
-within 'lines of CHANGELOG.md on a version' 120 "$(awk '/^## / { lines = 0 } ++lines > most { most = lines } END { print most }' CHANGELOG.md)"
+within 'lines of CHANGELOG.md' 120 "$(lines_of CHANGELOG.md)"
 within 'lines of docs/DECISIONS.md' 150 "$(lines_of docs/DECISIONS.md)"
 within 'words in the table of docs/MEANING.md' 25 "$(sed -n '/^## Words of/,$p' docs/MEANING.md | grep -c '^| [^h-]\|^| h[^e]')"
 if [ -n "$(git ls-files -- checks/repository 2>/dev/null)" ]; then
