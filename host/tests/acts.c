@@ -1,12 +1,12 @@
 /*
- * acts: each call of inroot.h, and somebody acts between two system calls of it: before the first, before the second, and so on.
- * They move a directory out, or to another place, and back one system call later or some later; put a link that leads outside in
- * its place; exchange the root's own directory; remove, replace and exchange entries; put something else where the call has made
- * an entry; mount over a directory of a call that stays on its mount; and put another directory in the place of the root's
- * descriptor, which the program promised not to do. Nothing outside may be opened, listed, made, changed or removed, and no
- * place told where the object never was. A call that fails has changed nothing, or says that it has; none changes an entry
- * twice; none closes a descriptor twice or leaves one open. What is outside is told by inodes, and what it was by all that
- * fstat(2) tells of it. To be linked with --wrap of each function that is wrapped here.
+ * acts: each call of inroot.h, by the kernel's walk and with INROOT_EXACT, in a chroot and on one mount. Somebody acts
+ * before the first system call of the call, before the second, and so on; or that system call fails, or no descriptor
+ * is left. They move a directory out, or elsewhere, and back later; put a link that leads outside in its place;
+ * exchange the root's own directory; remove, replace and exchange entries; put something else where the call has made
+ * an entry; mount over a directory; and replace the root's descriptor, which the program promised not to do. Nothing
+ * outside may be opened, listed, made, changed or removed, and no call may name a path at which the object never stood.
+ * A call that fails has changed nothing, or says that it has; none changes an entry twice; none closes a descriptor
+ * twice or leaves one open. Objects outside are known by inodes, and their state by all that fstat(2) says.
  *
  * usage: acts DIR [few]. With `few` somebody acts before one system call of each kind in one of three rounds. Exits 0 where that
  * holds, and a walk without checks is led out. 77: no openat2(2) here. 78: no right to change a root or to mount.

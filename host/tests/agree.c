@@ -1,5 +1,6 @@
 /*
- * agree: inroot_open() beside openat2(2) on random trees that stand still, half of the cases with INROOT_EXACT.
+ * agree: inroot_open() beside openat2(2) on random trees that stand still, with pipes, sockets and hard links, in-root
+ * and beneath, with and without links, half of the cases with INROOT_EXACT.
  *
  * usage: agree DIR CASES. Exits 0 where each case agrees: the same object, or the same error. 77: no openat2(2) here.
  */

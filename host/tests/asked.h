@@ -1,6 +1,5 @@
 /*
- * asked.h: the system calls of a call are counted, and somebody acts before one of them, or it fails. To be linked with --wrap of
- * each function that is wrapped here.
+ * asked.h: the system calls of a call are counted, and somebody acts before one of them, or it fails.
  */
 #ifndef ASKED_H
 #define ASKED_H

@@ -1,6 +1,7 @@
 /*
- * attributes: the mode, the owner, the times and the extended attributes of what was found, of each kind, by the object
- * itself. With the system calls of this kernel, and with those of an older one alone, which says so or has a filter say so.
+ * attributes: mode, owner, times and extended attributes of a file, a directory, a link, a FIFO, a socket and a device:
+ * by /proc, without /proc, and by another proc(5); with this kernel's system calls, and without the newer ones, which
+ * the kernel lacks or a filter refuses. The object that a link leads to doesn't change.
  *
  * usage: attributes DIR. Exits 0 where each case holds. 78: no right here to do what it takes, or a part of it.
  */

@@ -1,9 +1,9 @@
 /*
- * automount: a directory below the root on which autofs mounts. A call that goes through it, wants a directory at its end or opens it
- * for use has it mounted, as open(2) does, and finds or makes what is in there; a call that only finds it mounts nothing, as open(2)
- * with O_PATH. With INROOT_EXACT each call has it mounted, since a step opens each name as a directory first.
- * By the kernel's walk and with INROOT_EXACT, also in a chroot. The daemon is the test's own: it mounts an empty file system with the
- * file `f` and the directory `d`.
+ * automount: a directory below the root on which autofs mounts, by a daemon of the test's own: it mounts an empty file
+ * system with the file `f` and the directory `d`. A call that goes through the directory, wants a directory at its end
+ * or opens it for use has it mounted, as open(2) does, and finds or makes what is in there; a call that only finds it
+ * mounts nothing, as open(2) with O_PATH. With INROOT_EXACT each call has it mounted, since a step opens each name as a
+ * directory first. Also in a chroot.
  *
  * usage: automount DIR. Exits 0 where that holds. 77: no openat2(2) here. 78: no right to mount here, or no autofs.
  */

@@ -1,6 +1,6 @@
 /*
- * calls: what inroot.h says of modes, of an entry's directory, of opening once more, of nodes, second names and stat, and of why a
- * call failed. By the kernel's walk, and with INROOT_EXACT.
+ * calls: modes, an entry's directory, opening once more, nodes, second names, stat, why a call failed, and what these
+ * calls refuse, as inroot.h says. By the kernel's walk, and with INROOT_EXACT.
  *
  * usage: calls DIR. Exits 0 where each is as it says. 78: no right to become nobody, so that a part is left out.
  */

@@ -1,7 +1,7 @@
 /*
- * corners: what seldom happens to a call. The kernel refuses or interrupts what hardly ever is, a text is too long in the midst of a
- * call, or there is no /proc, or no number, as the first call is made; by the kernel's walk and with INROOT_EXACT. To be linked with
- * --wrap of openat, readlinkat and syscall.
+ * corners: what seldom happens to a call. The kernel refuses or interrupts what hardly ever is, a text is too long in
+ * the midst of a call, or there is no /proc, or no number, as the first call is made; by the kernel's walk and with
+ * INROOT_EXACT.
  *
  * usage: corners DIR. Exits 0 where each call gives the error that inroot.h has for it, and leaves nothing open. 78: no right to
  * change a root, so that a part is left out.

@@ -3,8 +3,7 @@
  * which isn't counted. docs/HOST-TESTED.md has the numbers. And how often inroot_openat() tries to create, and what the calls give
  * where openat2(2) fails.
  *
- * usage: counts DIR. Exits 0 where that holds. 77: no openat2(2) here. To be linked with --wrap of each function that is wrapped
- * here.
+ * usage: counts DIR. Exits 0 where that holds. 77: no openat2(2) here.
  */
 #define _GNU_SOURCE
 #include "../openat2.h"

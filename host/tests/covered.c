@@ -1,7 +1,7 @@
 /*
- * covered: something is mounted over the root's own directory, to which `..` of what is in there then leads: another directory, or
- * the root once more. To the kernel that is below the root, as each mount there: so a call goes there by `..` as openat2(2) does.
- * Under INROOT_EXACT and INROOT_NO_XDEV none does. And no place is told of what is there.
+ * covered: something is mounted over the root's own directory: another directory, or the root once more. A call goes
+ * there by `..` as openat2(2) does, since the kernel counts each mount there as below the root. With INROOT_EXACT no
+ * call does (EAGAIN), nor with INROOT_NO_XDEV (EXDEV). No call names a path of what is there.
  *
  * usage: covered DIR. Exits 0 where that holds. 77: no openat2(2) here. 78: no right to mount here.
  */

@@ -1,9 +1,9 @@
 /*
- * dead: a directory is removed after a call has opened it, and before the call asks for the one above: that one isn't opened, as
- * the kernel opens none of what is gone. On the file system that DIR is on, and on overlayfs, which leaves links to a directory
- * of a lower layer: of one that is there alone, of one that the upper layer has too, of one that was made above. And on a cgroup2,
- * which leaves links to each. And a directory whose name ends in ` (deleted)`, which the kernel writes of what was removed, is
- * opened only if the driver can find out that it is there. To be linked with --wrap=openat.
+ * dead: a directory is removed after a call has opened it, and before the call asks for the one above: that one isn't
+ * opened, as the kernel opens none of what is gone. On the file system that DIR is on, and on overlayfs, which leaves
+ * links to a directory of a lower layer: of one that is there alone, of one that the upper layer has too, of one that
+ * was made above. And on a cgroup2, which leaves links to each. And a directory whose name ends in ` (deleted)`, which
+ * the kernel writes of what was removed, is opened only if the driver can find out that it is there.
  *
  * usage: dead DIR. Exits 0 where that holds. 78: no right to mount, so that overlayfs or a cgroup2 is left out.
  */

@@ -1,6 +1,7 @@
 /*
- * errors: what a call gives for a bad root before anything else, what it opens, what the kernel's words for what is
- * removed are taken for, and the sentence of an error.
+ * errors: the first errors of a call in their order, for a bad root before anything else; an opened object shares
+ * nothing with the root; names that end in ` (deleted)`; directories that may not be searched; how often a call tries;
+ * the sentence of an error, also cut off.
  *
  * usage: errors DIR. Exits 0 where each is as inroot.h says. 78: no right to become nobody, so that a part is left out.
  */

@@ -4,8 +4,7 @@
  * for one by that. `..` of a directory that somebody moved out of its mount is ENOENT: nobody takes it for removed; and of the top
  * of a mount that was taken off it is that top itself: nobody goes on there.
  *
- * usage: facts DIR. Exits 0 where that holds. 77: no openat2(2) here. 78: no right to do what it takes. To be linked with
- * --wrap=statx, and --wrap=openat.
+ * usage: facts DIR. Exits 0 where that holds. 77: no openat2(2) here. 78: no right to do what it takes.
  */
 #define _GNU_SOURCE
 #include "filter.h"

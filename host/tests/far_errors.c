@@ -1,6 +1,6 @@
 /*
  * far_errors: a system call of a step fails by any number up to 4095, also by one that isn't told in a byte: the call
- * gives just this, at its first try. To be linked with --wrap of openat, mkdirat, mknodat and unlinkat.
+ * gives just this, at its first try.
  *
  * usage: far_errors DIR. Exits 0 where that holds.
  */

@@ -1,7 +1,8 @@
 /*
- * filters: a filter refuses openat2(2) or statx(2), by whichever error: each call that needs the system call fails by ENOSYS before it
- * has done anything, and says so by the step `Kernel`. What the library can do without goes on. A filter's error is given as it is
- * where the library keeps a descriptor.
+ * filters: a filter refuses openat2(2) or statx(2), by three errors: each call that needs the system call fails by
+ * ENOSYS at the step `Kernel` before it has done anything. A filter that comes later has calls fail, and nothing made;
+ * once openat2(2) has failed so, calls fail by ENOSYS, too. Calls that need neither work. A filter's error is returned
+ * as it is where the library keeps a descriptor.
  *
  * usage: filters DIR. Exits 0 where that holds. 78: no right to be filtered here.
  */

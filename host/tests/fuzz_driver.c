@@ -2,9 +2,8 @@
  * fuzz_driver: the driver with system calls that fail by plan, and with others' changes between any two of them. Whatever comes,
  * no descriptor is left open, what is opened was inside once, and what is outside stays as it is.
  *
- * For libFuzzer, or with fuzz_main.c for stored cases. A case is bytes: who calls, the operation, flags, two paths by their
- * parts, and then one byte for each system call. To be linked with --wrap of each function that is wrapped here. Its tree is
- * in INROOT_FUZZ_DIR, or in a new directory of the current one.
+ * For libFuzzer, or with fuzz_main.c for stored cases. A case is bytes: who calls, the operation, flags, two paths by
+ * their parts, and then one byte for each system call. Its tree is in INROOT_FUZZ_DIR, or a new directory here.
  */
 #define _GNU_SOURCE
 #include "../inroot.h"

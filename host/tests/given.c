@@ -1,8 +1,8 @@
 /*
- * given: what a call makes is given by a descriptor (INROOT_GIVE, and O_PATH with O_CREAT); by the kernel's walk and with
- * INROOT_EXACT, also in a chroot, and with INROOT_NO_XDEV. Between the making and the opening the entry is moved, and another put in
- * its place: then nothing is given; nor is what can't be looked at, or with INROOT_NO_XDEV what is mounted over it. To be linked
- * with --wrap=openat, statx, fstat and syscall.
+ * given: calls return a descriptor of the new entry (INROOT_GIVE, and O_PATH with O_CREAT), for nine ways to make one;
+ * by the kernel's walk and with INROOT_EXACT, also in a chroot, and with INROOT_NO_XDEV. The call notices each of five
+ * acts of others between the making and the opening. An entry that can't be opened or looked at has that error, and
+ * leaves no descriptor. With INROOT_NO_XDEV nothing is returned that is mounted over the entry.
  *
  * usage: given DIR. Exits 0 where each is as inroot.h says. 78: no right to change a root or to mount, so that a part is left out.
  */

@@ -4,8 +4,7 @@
  * end. And each flag reaches the first look-up and the steps: a call that leads over a mount, through a link or a magic one, or out
  * of the root gives its error and changes nothing, by the kernel's walk, by the steps behind one that fails, and with INROOT_EXACT.
  *
- * usage: kernel_first DIR. Exits 0 where that holds. 78: no right to mount, so that mounts are left out. To be linked with --wrap of
- * each function that is wrapped here.
+ * usage: kernel_first DIR. Exits 0 where that holds. 78: no right to mount, so that mounts are left out.
  */
 #define _GNU_SOURCE
 #include "support.h"

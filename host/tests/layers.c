@@ -1,6 +1,6 @@
 /*
- * layers: a tree on overlayfs that is deeper than one proved call goes. To remove what is below a directory copies it from its
- * lower layer. Nobody else acts, so one try is enough.
+ * layers: a tree on overlayfs that is deeper than one proved call goes, whose directories are copied up from the lower
+ * layer as they are emptied. Nobody else acts, so one try is enough.
  *
  * usage: layers DIR. Exits 0 where that holds. 78: no right to mount here.
  */

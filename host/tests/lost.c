@@ -1,5 +1,5 @@
 /*
- * lost.c: loses memory in a part of a test, which ends by _exit(2); with a word, in a chroot. checks/host looks whether the
+ * lost: loses memory in a part of a test, which ends by _exit(2); with a word, in a chroot. checks/host looks whether the
  * sanitizer for leaks sees it.
  *
  * usage: lost [chroot]    ends with status 1 where it is seen, 78 where there is no right to a chroot, and 0 else

@@ -1,8 +1,8 @@
 /*
- * magic: which links are followed below the root `/` with its proc(5): along a text, and none of the kernel's own. openat2(2) with
- * RESOLVE_IN_ROOT and RESOLVE_NO_MAGICLINKS says the same, and comes to the same objects. And if the kernel can't say which kind a
- * link is, by any error, or since no descriptor is left or the object is gone just then, no call follows the link. To be linked with
- * --wrap=syscall.
+ * magic: which links are followed below the root `/` with its proc(5): along a text, and none of the kernel's own.
+ * openat2(2) with RESOLVE_IN_ROOT and RESOLVE_NO_MAGICLINKS says the same, and comes to the same objects. And if the
+ * kernel can't say which kind a link is, by any error, or since no descriptor is left or the object is gone just then,
+ * no call follows the link.
  *
  * usage: magic DIR. Exits 0 where that holds. 77: no openat2(2) here.
  */

@@ -1,7 +1,7 @@
 /*
- * make_all: all that is missing of a path is made, through links that lead to what is missing as well (INROOT_FOLLOW); by the
- * kernel's walk and with INROOT_EXACT, also in a chroot. Others make, remove and replace what the call has just come to. Nothing is
- * made outside. To be linked with --wrap=openat.
+ * make_all: calls make all missing components of 54 paths with flags, also through links that lead to missing objects
+ * (INROOT_FOLLOW), and nothing outside: by the kernel's walk and with INROOT_EXACT, also in a chroot. Chains of 39 to
+ * 42 links; texts that make a path of 4,095 bytes, and of one more; six acts of others right before the making.
  *
  * usage: make_all DIR. Exits 0 where each is as inroot.h says. 78: no right to change a root, so that a part is left out.
  */

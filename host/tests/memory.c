@@ -1,6 +1,6 @@
 /*
- * memory: each allocation of each kind of call is refused in turn. The call then ends by ENOMEM or as it does without, and
- * leaves no descriptor open. To be linked with --wrap=malloc and --wrap=realloc.
+ * memory: each allocation of each kind of call is refused in turn. The call then ends by ENOMEM or as it does without,
+ * and leaves no descriptor open.
  *
  * usage: memory DIR. Exits 0 where that holds.
  */

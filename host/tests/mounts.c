@@ -1,8 +1,7 @@
 /*
- * mounts: what is mounted below the root, by a bind mount of the same file system, of a file, and of another file
- * system; also one on which no link is followed (nosymfollow), which the calls keep to. Under INROOT_NO_XDEV no call
- * goes there, makes, moves or removes anything there: by the kernel's walk and with INROOT_EXACT. To be linked with --wrap=syscall
- * and --wrap=openat.
+ * mounts: mounts below the root, by a bind mount of the same file system, of a file, and of another file system; a
+ * mount on which no link is followed (nosymfollow), which the calls keep to; and a mounted file whose own entry is
+ * replaced. Under INROOT_NO_XDEV no call goes there, makes, moves or removes anything there, also with INROOT_EXACT.
  *
  * usage: mounts DIR. Exits 0 where each call ends as openat2(2) does with RESOLVE_NO_XDEV, and what is mounted is as
  * it was. 77: no openat2(2) here. 78: no right to mount here.

@@ -1,6 +1,6 @@
 /*
  * no_links: inroot_openat() with O_CREAT walks twice, and somebody places a link, or removes one, in between. Under
- * INROOT_NO_LINKS none is followed. To be linked with --wrap=openat.
+ * INROOT_NO_LINKS none is followed.
  *
  * usage: no_links DIR. Exits 0 where each call ends as openat2(2) would, and nothing else was made or opened.
  */

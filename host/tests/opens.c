@@ -1,6 +1,7 @@
 /*
- * opens: inroot_openat() beside openat2(2) with RESOLVE_IN_ROOT, each on a tree of its own: the same error, or the
- * same object opened in the same way, and then the same trees. By the kernel's walk, and with INROOT_EXACT.
+ * opens: inroot_openat() beside openat2(2) with RESOLVE_IN_ROOT, each on a tree of its own: many paths, by many ways to
+ * open, to create and to truncate. Both return the same error, or open the same object in the same way, and leave the
+ * same trees. By the kernel's walk, and with INROOT_EXACT.
  *
  * usage: opens DIR. Exits 0 where each case agrees. 77: no openat2(2) here.
  */

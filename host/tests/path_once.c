@@ -1,7 +1,6 @@
 /*
- * path_once: somebody changes the text of a path as soon as a call has made a system call. What is opened, made, renamed or
- * removed is what the text said as the call began; also at a second try, and where a file is made that wasn't there. To be linked
- * with --wrap=readlinkat, --wrap=openat and --wrap=syscall.
+ * path_once: somebody changes the text of a path as soon as a call has made a system call. What is opened, made,
+ * renamed or removed is what the text said as the call began; also at a second try, and of a new file.
  *
  * usage: path_once DIR. Exits 0 where that holds.
  */

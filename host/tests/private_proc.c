@@ -1,13 +1,14 @@
 /*
- * private_proc: in a mount namespace whose /proc is covered, calls by inroot_use_private_proc() go on as they should: /proc as a
- * whole, and the directory of this thread's descriptors, by one with links that lead elsewhere. Where the program has closed it,
- * no call goes by another one. Nor does any by a proc(5) that the program has opened by the number of the one that it closed, be it
- * another mount of the same one; nor in a child that another thread made in the midst of inroot_use_private_proc(). Each system
- * call by which it makes one fails by some errors: a copy of /proc takes the place of a new one, or the first error is given, and
- * nothing stays open. A new one that doesn't have the calling thread, as after unshare(2) with CLONE_NEWPID, is none.
+ * private_proc: where somebody covers /proc, as a whole or by links that lie, calls by inroot_use_private_proc() read
+ * inside; the same calls without it are led out. Where the program has closed the library's descriptor of it, no call
+ * goes by /proc, nor by another proc(5) that has the number since, or another mount of the same one, nor in a child
+ * that another thread made in the midst of inroot_use_private_proc(). Of the descriptor of /proc itself the same holds:
+ * no file outside is read, and no mode changed. No attribute goes by a covered /proc of which the private one is a
+ * copy, or the handed-in one another mount. An attribute that a link refuses is EPERM by a private one, too. Each
+ * system call by which a private one is made fails, by five errors, or is interrupted by signals: a copy of /proc takes
+ * its place, or the first error is returned, and nothing stays open. So also where a new one lacks the thread.
  *
- * usage: private_proc DIR. Exits 0 where that holds. 78: no right to mount here, so that nothing was tried. To be linked with
- * --wrap of readlinkat, statx and syscall.
+ * usage: private_proc DIR. Exits 0 where that holds. 78: no right to mount here, so that nothing was tried.
  */
 #define _GNU_SOURCE
 #include "filter.h"

@@ -1,6 +1,6 @@
 /*
- * proc: what stands at /proc is asked only where it is a proc(5), and a program may hand in one. In a mount namespace of its
- * own, where another file system is put there.
+ * proc: a /proc that is no proc(5), one whose mount follows no link, one that somebody covers later, one that the
+ * program hands in, and one that the program has closed. In a mount namespace of the test's own.
  *
  * usage: proc DIR. Exits 0 where each call says so. 78: no right to mount here.
  */

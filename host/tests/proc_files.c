@@ -1,10 +1,11 @@
 /*
- * proc_files: inroot_proc_open() and inroot_proc_readlink() lead to files of /proc, from each base, and to nothing else. What is
- * mounted over a file, a directory or a link is refused, and so is a link of the kernel's own on the way; at the end such a link is
- * followed where the caller says so. By a private proc(5) they lead to what is covered. Nothing stays open.
+ * proc_files: inroot_proc_open() and inroot_proc_readlink() lead to a file of /proc from each base, and to its text,
+ * and to nothing else. What is mounted over the file, on the way or over a link at the end is EXDEV, also if it is
+ * mounted once the call has begun. A link of the kernel's own is ELOOP on the way, and at the end leads to its object
+ * where the caller says so. `..` doesn't lead out. By a private proc(5) the calls lead to what is covered. Nothing
+ * stays open, also where a question about a file fails.
  *
- * usage: proc_files DIR. Exits 0 where that holds. 78: no right to mount here. 77: no openat2(2). To be linked with --wrap of
- * statx and syscall.
+ * usage: proc_files DIR. Exits 0 where that holds. 78: no right to mount here. 77: no openat2(2).
  */
 #define _GNU_SOURCE
 #include "filter.h"

@@ -1,8 +1,7 @@
 /*
- * slow_kernel.h: a kernel whose calls take their time, and others who move directories meanwhile, between any two system calls of
- * the driver or within one: openat2(2) looks up one name after another and at last where it is; readlinkat(2) of a link in /proc
- * looks first whether the object is gone and then for its names, as the kernel does. To be linked with --wrap of each function that
- * is wrapped here.
+ * slow_kernel.h: a kernel whose calls take their time, and others who move directories meanwhile, between any two
+ * system calls of the driver or within one: openat2(2) looks up one name after another and at last where it is;
+ * readlinkat(2) of a link in /proc looks first whether the object is gone and then for its names, as the kernel does.
  */
 #ifndef SLOW_KERNEL_H
 #define SLOW_KERNEL_H

@@ -1,7 +1,8 @@
 /*
- * tree: entries removed with all that is below them, however deep and however many, with few descriptors and in bounded
- * memory; and a directory that is moved away while what is below it is removed. To be linked with --wrap=unlinkat and
- * --wrap=syscall.
+ * tree: one call removes an entry with everything below, with 64 descriptors and in less than 64 megabytes: trees of
+ * 5,000 and 40,000 levels (2,100 and 16,400 under sanitizers), the deepest after a call that was refused at its end;
+ * and 1,000,000 files in one directory (650,000 in the gate). Somebody moves a directory while the call is below it. To
+ * be linked with --wrap=unlinkat and --wrap=syscall.
  *
  * usage: tree DIR ENTRIES. Exits 0 where each is removed by one call, and nothing else is.
  */

@@ -1,9 +1,9 @@
 /*
- * twins: a directory outside of the root has the same path from the top as one inside has from the root, so that in a thread
- * whose own root directory is that root /proc writes the same of both. Somebody moves directories from one to the other between
- * any two system calls of a call, or within one: at each two moments of a call, or at each four that are near; and to a directory
- * that takes the root's name then. Or /proc tells of what is outside that it is inside, and numbers of inodes tell nothing. What
- * a call opens is told by its inode. To be linked with --wrap of each function that is wrapped in slow_kernel.h.
+ * twins: a directory outside of the root has the same path from the top as one inside has from the root, so that in a
+ * thread whose own root directory is that root /proc writes the same of both. Somebody moves directories from one to
+ * the other between any two system calls of a call, or within one: at each two moments of a call, or at each four that
+ * are near; and to a directory that takes the root's name then. Or /proc tells of what is outside that it is inside,
+ * and numbers of inodes tell nothing. What a call opens is told by its inode.
  *
  * usage: twins DIR. Exits 0 where nothing is opened that never stood below the root, and a walk without checks is led out. 77: no
  * openat2(2) here. 78: no right to change a root.

@@ -1,7 +1,6 @@
 /*
- * use_race: files are opened, made, linked, changed and told of below a directory that another thread exchanges for a link
- * that leads out of the root. What is read is never what is outside, and nothing outside is made, written or
- * linked.
+ * use_race: calls read, write, make, publish, link, look at (stat) and change files (mode, times, an attribute) below a
+ * directory that another thread exchanges for a link out of the root. Nothing outside is read, made, linked or changed.
  *
  * usage: use_race DIR SECONDS. Exits 0 where that holds, and a walk without checks was led out. 79: that walk was not
  * led out.

@@ -3,7 +3,7 @@
  * still but for the calls themselves: each call gives the same, what it opened has the same path, and then the
  * trees are the same. And paths with long names, with many links and of many bytes, by both and by openat2(2) itself.
  *
- * usage: ways DIR CASES. Exits 0 where that holds. 77: no openat2(2) here. To be linked with --wrap=syscall.
+ * usage: ways DIR CASES. Exits 0 where that holds. 77: no openat2(2) here.
  */
 #define _GNU_SOURCE
 #include "../openat2.h"
