@@ -41,7 +41,7 @@ for name in $(sed -n 's/^[.]Xr \(inroot[a-z_-]*\|libinroot\) \([1357]\).*/\1.\2/
     verdict $? "a man page names $name, and there is none"
 done
 # The errors that come before those on a call's page stand in one order.
-ordered_in_header() { sed -n '/gives -errno where it fails/,/any other/s/^ \*   \(E[A-Z0-9]*\) .*/\1/p' host/inroot.h; }
+ordered_in_header() { sed -n '/call that fails returns -errno/,/any other/s/^ \*   \(E[A-Z0-9]*\) .*/\1/p' host/inroot.h; }
 ordered_in_manual() { sed -n '/^[.]Ss Errors/,/^[.]Sh/s/^[.]It Bq Er //p' man/libinroot.7; }
 [ "$(ordered_in_manual | wc -l)" -ge 15 ] && [ "$(ordered_in_manual)" = "$(ordered_in_header)" ]
 verdict $? "man/libinroot.7 has another order of errors: $(diff <(ordered_in_manual) <(ordered_in_header))"
