@@ -55,6 +55,7 @@ long inroot_program_does(const struct inroot_due *due)
     case INROOT_DUE_CLAIM: return claim(due->fd ? HANDED_IN : CLAIMED);
     case INROOT_DUE_KEEP: return keep(due);
     case INROOT_DUE_RELEASE: atomic_store(&kept, NONE); return 0;
+    /* INROOT_DUE_KNOW */
     default: has_floor = due->fd; return 0;
     }
 }
