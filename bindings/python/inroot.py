@@ -8,8 +8,9 @@ path and an absolute link begin at the root, and `..` at the root is the root, w
         root.write_text("var/log/first", "begun")
 
 A path is a str, bytes or an os.PathLike, and becomes bytes as by os.fsencode(). One with a NUL is a ValueError. A call
-that fails raises an OSError with the kernel's number, why it failed, and the path as it was given. A call that a signal interrupts is
-not made again (InterruptedError).
+that fails raises an OSError with the kernel's number, why it failed, and the path as it was given. Where a signal
+interrupts a call that looks or opens, the call is made again, as by the functions of os. One that changes something
+raises InterruptedError, and nobody knows whether it has.
 
 The library is found as libinroot.so.0.2 where the loader looks, or is the file that INROOT_LIBRARY_PATH names.
 """
@@ -22,7 +23,7 @@ import os
 import pathlib
 import stat
 
-__all__ = ["Flags", "Rename", "Root", "version"]
+__all__ = ["Flags", "Proc", "Rename", "Root", "proc_open", "proc_readlink", "reopen", "version"]
 
 _NAME = "libinroot.so.0.2"
 _NOFOLLOW = 4
@@ -46,6 +47,14 @@ class Rename(enum.IntFlag):
     WHITEOUT = 4        # a whiteout is left behind, by itself or together with NOREPLACE
 
 
+class Proc(enum.IntEnum):
+    """Where a path of proc_open() and proc_readlink() begins; or at the process that has a number above 0."""
+
+    ROOT = -201
+    SELF = -202
+    THREAD_SELF = -203
+
+
 def _load():
     library = ctypes.CDLL(os.environ.get("INROOT_LIBRARY_PATH") or _NAME)
     number, text, long = ctypes.c_int, ctypes.c_char_p, ctypes.c_ssize_t
@@ -54,10 +63,15 @@ def _load():
         ("last_error_text", number, (text, ctypes.c_size_t)),
         ("open", number, (number, text, number)),
         ("openat", number, (number, text, number, ctypes.c_uint, number)),
+        ("reopen", number, (number, number)),
+        ("proc_open", number, (number, text, number)),
+        ("proc_readlink", long, (number, text, text, ctypes.c_size_t)),
         ("readlink", long, (number, text, number, text, ctypes.c_size_t)),
         ("fchmod", number, (number, ctypes.c_uint)),
+        ("futimens", number, (number, ctypes.c_void_p)),
         ("mkdir", number, (number, text, ctypes.c_uint, number)),
         ("mkdir_all", number, (number, text, ctypes.c_uint, number)),
+        ("mknod", number, (number, text, ctypes.c_uint, ctypes.c_uint64, number)),
         ("symlink", number, (number, text, text, number)),
         ("link", number, (number, text, text, number)),
         ("unlink", number, (number, text, number)),
@@ -86,6 +100,13 @@ def _bytes(path):
     return path
 
 
+def _number(value, least=-1 << 31, beyond=1 << 31):
+    """The number; one that ctypes would cut to its lower bits is refused."""
+    if not least <= value < beyond:
+        raise OverflowError(f"too large a number: {value}")
+    return value
+
+
 def _checked(result, path, second=None):
     """What a call gave; an OSError of the class that its number has where it failed, with the library's sentence."""
     if result >= 0:
@@ -93,6 +114,36 @@ def _checked(result, path, second=None):
     why = ctypes.create_string_buffer(2048)
     _library.last_error_text(why, len(why))
     raise OSError(-result, why.value.decode(), path, None, second)
+
+
+def _found(path, call, *given):
+    """What a call gave that changes nothing, and is made again where a signal interrupts it."""
+    while (result := call(*given)) == -errno.EINTR:
+        pass
+    return _checked(result, path)
+
+
+def _text(path, call, *given):
+    """The text that a call reads: a str, or bytes where the path is bytes."""
+    text = ctypes.create_string_buffer(4096)
+    length = _found(path, call, *given, text, len(text))
+    return text.raw[:length] if isinstance(os.fspath(path), bytes) else os.fsdecode(text.raw[:length])
+
+
+def reopen(fd, flags):
+    """Opens the object of a descriptor once more, for use by the flags of open(2), and gives a descriptor."""
+    return _found(None, _library.reopen, fd, _number(flags))
+
+
+def proc_open(base, path, flags):
+    """Opens a file of the proc(5) by which the calls go, and gives a descriptor: inroot_proc_open(3). EXDEV where
+    something is mounted over it or over a part of the path."""
+    return _found(path, _library.proc_open, _number(base), _bytes(path), _number(flags))
+
+
+def proc_readlink(base, path):
+    """The text of a link there."""
+    return _text(path, _library.proc_readlink, _number(base), _bytes(path))
 
 
 class Root:
@@ -119,7 +170,7 @@ class Root:
 
     def close(self):
         """Closes the root's descriptor. Files that were opened stay open."""
-        fd, self._fd = self._fd, -1
+        fd = vars(self).pop("_fd", -1)      # in one step, so that one of two threads closes it
         if fd >= 0:
             os.close(fd)
 
@@ -133,14 +184,20 @@ class Root:
     def __del__(self):
         self.close()
 
+    def __reduce__(self):
+        """A copy would have the descriptor's number, and close it a second time."""
+        raise TypeError("a Root can't be copied or pickled; Root(root.fileno()) is a second one")
+
     # ---- what is there
 
     def open_descriptor(self, path, flags, mode=0o666):
         """Opens what the path means by the flags of open(2), and gives a descriptor, as os.open() does. With os.O_PATH
         it is a handle of the object alone."""
         makes = flags & os.O_CREAT or flags & os.O_TMPFILE == os.O_TMPFILE
-        mode = stat.S_IMODE(mode) if makes else 0
-        return _checked(_library.openat(self.fileno(), _bytes(path), flags, mode, self._flags), path)
+        given = (self.fileno(), _bytes(path), _number(flags), stat.S_IMODE(mode) if makes else 0, self._flags)
+        if flags & os.O_EXCL:
+            return _checked(_library.openat(*given), path)
+        return _found(path, _library.openat, *given)
 
     def open(self, path, mode="r", buffering=-1, encoding=None, errors=None, newline=None):
         """Opens a file as the function open() of Python does. The file's `name` is its descriptor's number, since its
@@ -170,7 +227,7 @@ class Root:
             return file.read()
 
     def _status(self, path, more):
-        fd = _checked(_library.open(self.fileno(), _bytes(path), self._flags | more), path)
+        fd = _found(path, _library.open, self.fileno(), _bytes(path), self._flags | more)
         try:
             return os.fstat(fd)
         finally:
@@ -184,15 +241,30 @@ class Root:
         """The same, of a link at the end of the path of the link itself."""
         return self._status(path, _NOFOLLOW)
 
-    def exists(self, path):
-        """Whether the path leads to an object."""
+    def _kind(self, path, more=0):
+        """The kind of what the path means, and 0 of what isn't there."""
         try:
-            self.stat(path)
+            return stat.S_IFMT(self._status(path, more).st_mode)
         except OSError as error:
             if error.errno in (errno.ENOENT, errno.ENOTDIR, errno.ELOOP):
-                return False
+                return 0
             raise
-        return True
+
+    def exists(self, path):
+        """Whether the path leads to an object."""
+        return self._kind(path) != 0
+
+    def is_dir(self, path):
+        """Whether the path leads to a directory."""
+        return self._kind(path) == stat.S_IFDIR
+
+    def is_file(self, path):
+        """Whether the path leads to a regular file."""
+        return self._kind(path) == stat.S_IFREG
+
+    def is_symlink(self, path):
+        """Whether the path ends in a symbolic link."""
+        return self._kind(path, _NOFOLLOW) == stat.S_IFLNK
 
     def iterdir(self, path="."):
         """The paths of a directory's entries below this root, in no order: each a pathlib.PurePosixPath, which the
@@ -207,14 +279,13 @@ class Root:
 
     def readlink(self, path):
         """The text of the link at the end of the path: a str, or bytes where the path is bytes."""
-        text = ctypes.create_string_buffer(4096)
-        length = _checked(_library.readlink(self.fileno(), _bytes(path), self._flags, text, len(text)), path)
-        return text.raw[:length] if isinstance(os.fspath(path), bytes) else os.fsdecode(text.raw[:length])
+        return _text(path, _library.readlink, self.fileno(), _bytes(path), self._flags)
 
     # ---- what is made and changed
 
     def write_bytes(self, path, data):
         """Writes a whole file, which is made where it is missing, and gives the number of bytes."""
+        data = memoryview(data)     # or it is a TypeError, before the file is emptied
         with self.open(path, "wb") as file:
             return file.write(data)
 
@@ -227,7 +298,7 @@ class Root:
 
     def chmod(self, path, mode):
         """Sets the mode of the object that the path means."""
-        fd = _checked(_library.open(self.fileno(), _bytes(path), self._flags), path)
+        fd = _found(path, _library.open, self.fileno(), _bytes(path), self._flags)
         try:
             _checked(_library.fchmod(fd, stat.S_IMODE(mode)), path)
         finally:
@@ -242,9 +313,24 @@ class Root:
                 os.close(_checked(_library.mkdir_all(self.fileno(), above, 0o777, self._flags), path))
         try:
             _checked(_library.mkdir(self.fileno(), _bytes(path), stat.S_IMODE(mode), self._flags), path)
-        except FileExistsError:
-            if not (exist_ok and self.exists(path) and stat.S_ISDIR(self.stat(path).st_mode)):
+        except OSError:     # which need not be EEXIST, as of `.` or where nothing may be made
+            if not (exist_ok and self.is_dir(path)):
                 raise
+
+    def mknod(self, path, mode=0o600, device=0):
+        """Makes an entry as os.mknod() does: an empty file, a FIFO, a socket or a device."""
+        mode = _number(mode) if stat.S_IFMT(mode) else mode | stat.S_IFREG
+        device = _number(device, 0, 1 << 64)
+        _checked(_library.mknod(self.fileno(), _bytes(path), mode, device, self._flags), path)
+
+    def touch(self, path, mode=0o666, exist_ok=True):
+        """Makes an empty file, or sets the times of what is there to the present."""
+        makes = os.O_CREAT | os.O_WRONLY | (0 if exist_ok else os.O_EXCL)
+        fd = self.open_descriptor(path, os.O_PATH if exist_ok and self.exists(path) else makes, mode)
+        try:
+            _checked(_library.futimens(fd, None), path)
+        finally:
+            os.close(fd)
 
     def symlink_to(self, path, target):
         """Makes the path a symbolic link with the text `target`, which is any text."""
@@ -256,7 +342,7 @@ class Root:
 
     def rename(self, path, target, flags=Rename(0)):
         """Renames the entry, which stays below the root. One that is there is treated as the flags say."""
-        result = _library.rename(self.fileno(), _bytes(path), _bytes(target), flags, self._flags)
+        result = _library.rename(self.fileno(), _bytes(path), _bytes(target), _number(flags), self._flags)
         _checked(result, path, target)
 
     # ---- what is removed

@@ -1,10 +1,14 @@
 """Tests of inroot.py: each method beside the function of Python that has its name, links that lead out, hostile names,
 and descriptors."""
 
+import copy
 import errno
+import multiprocessing
 import os
 import pathlib
+import pickle
 import shutil
+import signal
 import stat
 import sys
 import tempfile
@@ -69,8 +73,8 @@ class AsPython(Room):
             os.symlink(text, os.path.join(top, link))
         return top
 
-    def each(self, mine, python):
-        for path in PATHS:
+    def each(self, mine, python, paths=PATHS):
+        for path in paths:
             self.both(path, mine, python)
 
     def both(self, path, mine, python):
@@ -110,7 +114,8 @@ class AsPython(Room):
 
         self.each(lambda root, path: about(root.stat(path)), lambda path: about(os.stat(path)))
         self.each(lambda root, path: about(root.lstat(path)), lambda path: about(os.lstat(path)))
-        self.each(inroot.Root.exists, lambda path: pathlib.Path(path).exists())
+        for name in ("exists", "is_dir", "is_file", "is_symlink"):
+            self.each(getattr(inroot.Root, name), lambda path: getattr(pathlib.Path(path), name)())
         self.each(inroot.Root.readlink, os.readlink)
         self.each(lambda root, path: sorted(found.name for found in root.iterdir(path)),
                   lambda path: sorted(os.listdir(path)))
@@ -121,6 +126,27 @@ class AsPython(Room):
         self.both("d/x/y/z", lambda root, path: root.mkdir(path, 0o700, parents=True),
                   lambda path: pathlib.Path(path).mkdir(0o700, parents=True))
         self.each(inroot.Root.rmdir, os.rmdir)
+        with inroot.Root(self.make("mine")) as root:
+            for path in ("/", ".", "d/..", "to-d/."):
+                self.fails(errno.EINVAL, root.mkdir, path)
+                root.mkdir(path, parents=True, exist_ok=True)
+
+    def test_entries(self):
+        def touched(top, call, *given, **named):
+            os.utime(top + "/f", (1, 1))
+            os.utime(top + "/d", (1, 1))
+            call(*given, **named)
+            return [os.stat(os.path.join(top, path)).st_mtime > 1 for path in ("f", "d")]
+
+        # Of a slash behind what is made the library says ENOTDIR, whatever is there.
+        paths = [path for path in PATHS if path != "d/"]
+        for exist_ok in (True, False):
+            self.each(lambda root, path: touched(self.at("mine"), root.touch, path, 0o640, exist_ok),
+                      lambda path: touched(self.at("python"), pathlib.Path(path).touch, 0o640, exist_ok),
+                      PATHS if exist_ok else paths)
+        for mode in (0o600, stat.S_IFIFO | 0o620, stat.S_IFSOCK | 0o600, stat.S_IFREG | 0o644):
+            self.both("new", lambda root, path: root.mknod(path, mode), lambda path: os.mknod(path, mode))
+        self.each(inroot.Root.mknod, os.mknod, paths)
 
     def test_removals_and_modes(self):
         # Of a slash behind what is removed the library says ENOTDIR, whatever is there.
@@ -257,6 +283,49 @@ class Hostile(Room):
             with self.assertRaises(TypeError):
                 root.stat(path)
 
+    def test_what_is_refused_changes_nothing(self):
+        before = below(self.at("box"))
+        for call in (lambda: self.root.rename("a/b/f", "up", 1 << 32), lambda: self.root.mknod("x", 0o600, 1 << 64),
+                     lambda: self.root.mknod("x", 1 << 32), lambda: inroot.reopen(0, 1 << 32),
+                     lambda: self.root.open_descriptor("x", os.O_CREAT | 1 << 32),
+                     lambda: inroot.proc_open(1 << 32, "comm", os.O_RDONLY)):
+            self.assertRaises(OverflowError, call)
+        for call in (self.root.write_bytes, self.root.write_text):
+            for data in ("text" if call == self.root.write_bytes else b"bytes", None, 3):
+                self.assertRaises(TypeError, call, "a/b/f", data)
+        self.assertEqual(below(self.at("box")), before)
+
+    def test_a_signal_interrupts_no_look(self):
+        os.mkfifo(self.at("box/fifo"))
+        writers = []
+
+        def rings(*_):
+            rung.append(len(rung))
+            if len(rung) == 3:
+                writers.append(os.open(self.at("box/fifo"), os.O_RDWR))
+
+        self.addCleanup(signal.signal, signal.SIGALRM, signal.signal(signal.SIGALRM, rings))
+        self.addCleanup(signal.setitimer, signal.ITIMER_REAL, 0)
+        handle = self.root.open_descriptor("fifo", os.O_PATH)
+        self.addCleanup(os.close, handle)
+        for opens, what in ((self.root.open_descriptor, "fifo"), (inroot.reopen, handle)):
+            rung = []
+            signal.setitimer(signal.ITIMER_REAL, 0.02, 0.02)
+            os.close(opens(what, os.O_RDONLY))
+            signal.setitimer(signal.ITIMER_REAL, 0)
+            self.assertGreaterEqual(len(rung), 3)
+            os.close(writers.pop())
+
+    def test_files_of_proc(self):
+        with open(inroot.proc_open(inroot.Proc.SELF, "comm", os.O_RDONLY)) as file, open("/proc/self/comm") as same:
+            self.assertEqual(file.read(), same.read())
+        self.assertEqual(inroot.proc_readlink(inroot.Proc.ROOT, "self"), str(os.getpid()))
+        self.assertEqual(inroot.proc_readlink(os.getpid(), b"exe"), os.fsencode(os.readlink("/proc/self/exe")))
+        error = self.fails(errno.EXDEV, inroot.proc_open, inroot.Proc.THREAD_SELF, "/comm", os.O_RDONLY)
+        self.assertEqual(error.filename, "/comm")
+        self.fails(errno.EINVAL, inroot.proc_readlink, inroot.Proc.SELF, "comm")
+        self.fails(errno.EINVAL, inroot.proc_open, 0, "comm", os.O_RDONLY)
+
     def test_errors_name_their_paths(self):
         error = self.fails(errno.ENOENT, self.root.stat, "in/none")
         self.assertIsInstance(error, FileNotFoundError)
@@ -336,9 +405,27 @@ class Descriptors(Room):
     def test_a_closed_root_is_refused(self):
         with inroot.Root(self.top) as root:
             pass
-        root.close()
-        for call in (root.fileno, root.iterdir, root.__enter__, lambda: root.stat("f"), lambda: root.open("f", "w")):
-            self.assertRaises(ValueError, call)
+        with open(self.at("other"), "w"):   # it has the root's number now
+            root.close()
+            for call in (root.fileno, root.iterdir, root.__enter__, lambda: root.stat("f"),
+                         lambda: root.open("f", "w")):
+                self.assertRaises(ValueError, call)
+
+    def test_no_two_roots_have_one_descriptor(self):
+        with inroot.Root(self.top) as root:
+            for call in (copy.copy, copy.deepcopy, pickle.dumps):
+                self.assertRaises(TypeError, call, root)
+            with inroot.Root(root.fileno()) as second:
+                second.write_text("f", "text")
+            self.assertEqual(root.read_text("f"), "text")
+
+    def test_a_forked_process_has_the_root(self):
+        with inroot.Root(self.top) as root:
+            root.write_text("f", "parent")      # which opens /proc
+            child = multiprocessing.get_context("fork").Process(target=root.write_text, args=("f", "child"))
+            child.start()
+            child.join()
+            self.assertEqual((child.exitcode, root.read_text("f")), (0, "child"))
 
     def test_a_descriptor_is_a_root(self):
         os.mkdir(self.at("d"))
