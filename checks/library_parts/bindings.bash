@@ -10,7 +10,23 @@ for name in $(sed -n 's/^[a-z][a-z_ ]*[ *]\(inroot_[a-z_]*\)(.*/\1/p' host/inroo
     verdict $? "a binding makes no call $name, or makes one that this check leaves out"
 done
 
-if ! lacks cargo bindings/rust; then
+# is_too_old LANGUAGE LEAST VERSION WHAT COMMAND..: whether this machine's compiler is older than the binding says. Then
+# WHAT is skipped, and the command must fail. README says of each language the same version as the compiler's own file.
+is_too_old() {
+    local language=$1 least=$2 version=$3 what=$4
+    shift 4
+    grep -q "for $language $least (.*) or later" bindings/README.md
+    verdict $? "bindings/README.md has another least version of $language than $least"
+    [ "$(printf '%s\n' "$least" "$version" | sort -V | head -n 1)" != "$least" ] || return
+    skip "$what" "it takes $language $least or later, and here is $version"
+    ! "$@" >"$work/printed" 2>&1
+    verdict $? "$language $version builds $what"
+}
+
+least=$(sed -n 's/^rust-version = "\(.*\)"$/\1/p' bindings/rust/Cargo.toml)
+if ! lacks cargo bindings/rust &&
+    ! is_too_old Rust "$least" "$(rustc --version | cut -d ' ' -f 2)" bindings/rust \
+        cargo build --offline --locked --target-dir "$work/old" --manifest-path bindings/rust/Cargo.toml; then
     # Nobody debugs what is built here, nor builds it a second time after a change.
     export CARGO_TARGET_DIR=$work/target CARGO_INCREMENTAL=0 CARGO_PROFILE_DEV_DEBUG=0 CARGO_PROFILE_TEST_DEBUG=0
     lacks rustfmt 'the form of bindings/rust' ||
@@ -68,7 +84,10 @@ if ! lacks python3 bindings/python; then
     verdict $? 'Python over the library that INROOT_LIBRARY_PATH names'
 fi
 has_go=
-if ! lacks go 'bindings/go and the example in Go'; then
+least=$(sed -n 's/^go //p' bindings/go/go.mod)
+if ! lacks go 'bindings/go and the example in Go' &&
+    ! is_too_old Go "$least" "$(go version | sed 's/.* go\([0-9.]*\).*/\1/')" 'bindings/go and the example in Go' \
+        env -C bindings/go GOFLAGS=-mod=readonly GOPROXY=off GOCACHE="$work/old" go build ./...; then
     export GOFLAGS=-mod=readonly GOWORK=off GOPROXY=off GOTOOLCHAIN=local CGO_ENABLED=1
     # Of its own: the cache keeps what pkg-config said, and doesn't see where the library went.
     export GOCACHE=$work/gocache

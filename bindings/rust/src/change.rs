@@ -7,6 +7,7 @@ use crate::{ffi, DirBuilder, Handle, RenameFlags, Root};
 use std::fs::Permissions;
 use std::io;
 use std::os::raw::c_int;
+use std::os::unix::ffi::OsStrExt;
 use std::os::unix::io::{AsFd, AsRawFd};
 use std::path::{Path, PathBuf};
 
@@ -276,7 +277,7 @@ impl Root {
     }
 
     /// Removes a directory with all that is below it; of a link the link alone. ENOENT where nothing is there, ENOTDIR
-    /// of a file. What others put into the directory's place meanwhile is removed as [`Root::remove_all`] does.
+    /// of a file, and of a link with a slash behind it. What others put into the directory's place meanwhile is removed as [`Root::remove_all`] does.
     ///
     /// ```
     /// # let root = include!("../tests/shared/example.rs");
@@ -290,7 +291,10 @@ impl Root {
         if kind.is_symlink() {
             return self.remove_file(path);
         }
-        if !kind.is_dir() {
+        // With a slash behind it a link is followed.
+        let name = path.components().as_path();
+        let slash = path.as_os_str().as_bytes().ends_with(b"/");
+        if !kind.is_dir() || slash && self.symlink_metadata(name)?.file_type().is_symlink() {
             return Err(io::Error::from_raw_os_error(ENOTDIR));
         }
         match self.remove_all(path)? {

@@ -83,6 +83,17 @@ pub(crate) fn done(result: c_int) -> io::Result<()> {
     count_of(result as isize).map(|_| ())
 }
 
+/// What a call gives that changes nothing: it is made again where a signal interrupts it, as std does.
+pub(crate) fn again(call: impl Fn() -> c_int) -> c_int {
+    const EINTR: c_int = 4;
+    loop {
+        let given = call();
+        if given != -EINTR {
+            return given;
+        }
+    }
+}
+
 /// What a call gave that gives a descriptor.
 pub(crate) fn opened(result: c_int) -> io::Result<OwnedFd> {
     count_of(result as isize)?;

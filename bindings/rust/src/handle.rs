@@ -1,6 +1,6 @@
 //! An object that was found.
 
-use crate::error::opened;
+use crate::error::{again, opened};
 use crate::{ffi, OpenOptions};
 use std::fs::{File, Metadata};
 use std::io;
@@ -29,7 +29,7 @@ impl Handle {
     pub fn reopen(&self, options: &OpenOptions) -> io::Result<File> {
         let (flags, _) = options.numbers()?;
         // SAFETY: it takes numbers alone.
-        opened(unsafe { ffi::inroot_reopen(self.fd.as_raw_fd(), flags) }).map(File::from)
+        opened(again(|| unsafe { ffi::inroot_reopen(self.fd.as_raw_fd(), flags) })).map(File::from)
     }
 
     /// What fstat(2) says of the object. It takes no descriptor more.

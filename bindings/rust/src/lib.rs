@@ -6,7 +6,8 @@
 //!
 //! Its methods are named as the functions of [`std::fs`], as those of cap-std's `Dir` are: they take the same arguments
 //! and give std's types and errors, with the kernel's number. Where a path would lead out, cap-std gives an error; here
-//! the path stays below the root.
+//! the path stays below the root. Where a signal interrupts a call that opens, the call is made again, as by std. One
+//! that changes something gives `Interrupted`, and nobody knows whether it has.
 //!
 //! ```
 //! # let root = include!("../tests/shared/example.rs");

@@ -1,6 +1,6 @@
 //! Which proc(5) the calls ask, and files in it.
 
-use crate::error::{c_path, done, opened, text_from};
+use crate::error::{again, c_path, done, opened, text_from};
 use crate::{ffi, OpenOptions};
 use std::fs::File;
 use std::io;
@@ -75,7 +75,7 @@ pub fn proc_open(base: ProcfsBase, path: impl AsRef<Path>, options: &OpenOptions
     let (flags, _) = options.numbers()?;
     let path = c_path(path.as_ref())?;
     // SAFETY: the path ends with a NUL and stays during the call, here and below.
-    opened(unsafe { ffi::inroot_proc_open(base.number(), path.as_ptr(), flags) }).map(File::from)
+    opened(again(|| unsafe { ffi::inroot_proc_open(base.number(), path.as_ptr(), flags) })).map(File::from)
 }
 
 /// The text of a link there.

@@ -1,6 +1,6 @@
 //! A directory, and what is found, opened, read and written below it.
 
-use crate::error::{c_path, opened, text_from};
+use crate::error::{again, c_path, opened, text_from};
 use crate::options::MODE;
 use crate::{ffi, Handle, OpenFlags, OpenOptions, ResolverFlags};
 use std::fs::{File, Metadata, Permissions};
@@ -167,8 +167,10 @@ impl Root {
         let (flags, mode) = options.numbers()?;
         let path = c_path(path.as_ref())?;
         // SAFETY: as above.
-        let given = unsafe { ffi::inroot_openat(self.number(), path.as_ptr(), flags, mode, self.flags.bits()) };
-        opened(given).map(File::from)
+        let call = || unsafe { ffi::inroot_openat(self.number(), path.as_ptr(), flags, mode, self.flags.bits()) };
+        // What makes a file would find its own at a second time.
+        let makes = flags & OpenFlags::O_EXCL.bits() != 0;
+        opened(if makes { call() } else { again(call) }).map(File::from)
     }
 
     /// Makes a file without a name in the file system of this directory. [`Root::hard_link_fd`] gives it one.

@@ -6,12 +6,14 @@ use inroot::{DirBuilder, InodeType, OpenFlags, OpenOptions, RenameFlags, Resolve
 use shared::*;
 use std::ffi::OsStr;
 use std::fs;
-use std::io::Write;
+use std::io::{self, Write};
+use std::os::raw::c_int;
 use std::os::unix::ffi::OsStrExt;
 use std::os::unix::fs::{symlink, FileTypeExt, MetadataExt};
 use std::os::unix::io::OwnedFd;
 use std::path::Path;
-use std::sync::atomic::{AtomicBool, Ordering};
+use std::sync::atomic::{AtomicBool, AtomicUsize, Ordering};
+use std::time::Duration;
 
 #[test]
 fn what_is_inside_is_found() {
@@ -235,6 +237,13 @@ fn a_removal_follows_no_link() {
     symlink(tree.at("outside/secret"), tree.at("box/a/key")).unwrap();
     assert_eq!(root.remove_all("a").unwrap(), 5);
     assert_eq!(root.remove_all("a").unwrap(), 0);
+    symlink("d", tree.at("box/to-d")).unwrap();
+    root.create_dir("d").unwrap();
+    for path in ["to-d/", "to-d//"] {
+        assert_eq!(number(root.remove_dir_all(path)), Some(ENOTDIR));
+    }
+    assert!(root.metadata("to-d").unwrap().is_dir());
+    root.remove_dir_all("d//").unwrap();
     root.remove_dir_all("up").unwrap();
     assert_eq!(number(root.remove_all("abs/secret")), Some(ENOENT));
     assert_eq!(number(root.remove_dir_all("abs/secret")), Some(ENOENT));
@@ -295,6 +304,47 @@ fn names_are_any_bytes() {
         assert_eq!(number(root.create_dir(&path)), Some(ENAMETOOLONG), "{path}");
         assert_eq!(number(root.metadata(&path)), Some(ENAMETOOLONG), "{path}");
     }
+}
+
+/// A signal interrupts no opening, as it interrupts none of std.
+#[test]
+fn a_signal_interrupts_no_opening() {
+    const SIGUSR1: c_int = 10;
+    static RUNG: AtomicUsize = AtomicUsize::new(0);
+    extern "C" fn rings(_: c_int) {
+        RUNG.fetch_add(1, Ordering::Relaxed);
+    }
+    extern "C" {
+        fn signal(number: c_int, handler: extern "C" fn(c_int)) -> usize;
+        fn siginterrupt(number: c_int, interrupts: c_int) -> c_int;
+        fn pthread_self() -> usize;
+        fn pthread_kill(thread: usize, number: c_int) -> c_int;
+    }
+    let tree = Tree::new();
+    let root = tree.root();
+    root.mknod("fifo", &InodeType::Fifo(mode(0o600))).unwrap();
+    let found = root.resolve("fifo").unwrap();
+    let reading = OpenOptions::new().read(true).clone();
+    // SAFETY: the handler does nothing but count.
+    unsafe { (signal(SIGUSR1, rings), siginterrupt(SIGUSR1, 1)) };
+    let all: [&(dyn Fn() -> io::Result<fs::File> + Sync); 2] = [&|| root.open("fifo"), &|| found.reopen(&reading)];
+    for opens in all {
+        let (tells, told) = std::sync::mpsc::channel();
+        std::thread::scope(|scope| {
+            // SAFETY: it takes nothing.
+            let reader = scope.spawn(move || (tells.send(unsafe { pthread_self() }), opens()).1);
+            let thread = told.recv().unwrap();
+            for _ in 0..20 {
+                // SAFETY: the thread was not joined yet.
+                unsafe { pthread_kill(thread, SIGUSR1) };
+                std::thread::sleep(Duration::from_millis(2));
+            }
+            let writer = fs::OpenOptions::new().read(true).write(true).open(tree.at("box/fifo")).unwrap();
+            reader.join().unwrap().unwrap();
+            drop(writer);
+        });
+    }
+    assert!(RUNG.load(Ordering::Relaxed) > 0);
 }
 
 #[test]
