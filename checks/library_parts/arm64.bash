@@ -168,8 +168,8 @@ arm_flags() {
 
 arm_bindings() {
     local tests
-    lacks rustc 'the flags of bindings/rust as arm64' || arm_flags
-    ! lacks go 'bindings/go as arm64' || return
+    lacks_rust 'the flags of bindings/rust as arm64' || arm_flags
+    ! lacks_go 'bindings/go as arm64' || return
     # The compiler takes long for Go's own packages.
     if [ -n "${INROOT_DEEP-}" ] && [[ $lacking == *openat2* ]]; then
         skip 'the tests of bindings/go as arm64' 'the emulator has no openat2(2)'

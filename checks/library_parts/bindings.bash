@@ -10,23 +10,28 @@ for name in $(sed -n 's/^[a-z][a-z_ ]*[ *]\(inroot_[a-z_]*\)(.*/\1/p' host/inroo
     verdict $? "a binding makes no call $name, or makes one that this check leaves out"
 done
 
-# is_too_old LANGUAGE LEAST VERSION WHAT COMMAND..: whether this machine's compiler is older than the binding says. Then
-# WHAT is skipped, and the command must fail. README says of each language the same version as the compiler's own file.
-is_too_old() {
-    local language=$1 least=$2 version=$3 what=$4
-    shift 4
-    grep -q "for $language $least (.*) or later" bindings/README.md
-    verdict $? "bindings/README.md has another least version of $language than $least"
-    [ "$(printf '%s\n' "$least" "$version" | sort -V | head -n 1)" != "$least" ] || return
-    skip "$what" "it takes $language $least or later, and here is $version"
-    ! "$@" >"$work/printed" 2>&1
-    verdict $? "$language $version builds $what"
+# What each binding takes at least stands in its compiler's own file, and README says the same.
+least_rust=$(sed -n 's/^rust-version = "\(.*\)"$/\1/p' bindings/rust/Cargo.toml)
+least_go=$(sed -n 's/^go //p' bindings/go/go.mod)
+for least in "Rust $least_rust" "Go $least_go"; do
+    grep -q "for $least (.*) or later" bindings/README.md
+    verdict $? "bindings/README.md doesn't say that a binding takes $least or later"
+done
+
+# is_older LANGUAGE LEAST VERSION WHAT: whether the compiler here is older than the binding takes. Then WHAT is skipped.
+is_older() {
+    [ "$(printf '%s\n' "$2" "$3" | sort -V | head -n 1)" != "$2" ] && skip "$4" "it takes $1 $2 or later, and here is $3"
 }
 
-least=$(sed -n 's/^rust-version = "\(.*\)"$/\1/p' bindings/rust/Cargo.toml)
-if ! lacks cargo bindings/rust &&
-    ! is_too_old Rust "$least" "$(rustc --version | cut -d ' ' -f 2)" bindings/rust \
-        cargo build --offline --locked --target-dir "$work/old" --manifest-path bindings/rust/Cargo.toml; then
+# lacks_rust WHAT, lacks_go WHAT: whether there is no compiler here that the binding takes. Then WHAT is skipped.
+lacks_rust() {
+    lacks cargo "$1" || is_older Rust "$least_rust" "$(rustc --version | cut -d ' ' -f 2)" "$1"
+}
+lacks_go() {
+    lacks go "$1" || is_older Go "$least_go" "$(go version | sed 's/.* go\([0-9.]*\).*/\1/')" "$1"
+}
+
+if ! lacks_rust bindings/rust; then
     # Nobody debugs what is built here, nor builds it a second time after a change.
     export CARGO_TARGET_DIR=$work/target CARGO_INCREMENTAL=0 CARGO_PROFILE_DEV_DEBUG=0 CARGO_PROFILE_TEST_DEBUG=0
     lacks rustfmt 'the form of bindings/rust' ||
@@ -84,10 +89,7 @@ if ! lacks python3 bindings/python; then
     verdict $? 'Python over the library that INROOT_LIBRARY_PATH names'
 fi
 has_go=
-least=$(sed -n 's/^go //p' bindings/go/go.mod)
-if ! lacks go 'bindings/go and the example in Go' &&
-    ! is_too_old Go "$least" "$(go version | sed 's/.* go\([0-9.]*\).*/\1/')" 'bindings/go and the example in Go' \
-        env -C bindings/go GOFLAGS=-mod=readonly GOPROXY=off GOCACHE="$work/old" go build ./...; then
+if ! lacks_go 'bindings/go and the example in Go'; then
     export GOFLAGS=-mod=readonly GOWORK=off GOPROXY=off GOTOOLCHAIN=local CGO_ENABLED=1
     # Of its own: the cache keeps what pkg-config said, and doesn't see where the library went.
     export GOCACHE=$work/gocache

@@ -58,8 +58,8 @@ packages_use() {
     has 'C11 over the packages runs' env LD_LIBRARY_PATH="${pkgconfig%/pkgconfig}" "$work/package-used" "$work/package-box"
     [ "$("$package_root/usr/bin/inroot-fs" "$work/package-box" cat in/f)" = inside ]
     verdict $? 'inroot-fs of the packages'
-    lacks cargo 'the package of bindings/rust' || packages_rust "$pkgconfig"
-    if ! lacks go 'the package of bindings/go'; then
+    lacks_rust 'the package of bindings/rust' || packages_rust "$pkgconfig"
+    if ! lacks_go 'the package of bindings/go'; then
         has 'Go over the packages' env -C "$(dirname -- "$(find "$package_root/usr/share/gocode" -name go.mod)")" \
             GOFLAGS=-mod=readonly GOWORK=off GOPROXY=off GOTOOLCHAIN=local GOCACHE="$work/package-gocache" \
             PKG_CONFIG_SYSROOT_DIR="$package_root" PKG_CONFIG_PATH="$pkgconfig" PKG_CONFIG_ALLOW_SYSTEM_LIBS=1 \

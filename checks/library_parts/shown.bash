@@ -89,8 +89,8 @@ for document in README.md bindings/README.md docs/HOST.md man/*.[37]; do
         [ -f "$source" ] || continue
         shown=$((shown + 1))
         case $source in
-        *.rust) lacks cargo "the Rust of $document" && continue ;;
-        *.go) lacks go "the Go of $document" && continue ;;
+        *.rust) lacks_rust "the Rust of $document" && continue ;;
+        *.go) lacks_go "the Go of $document" && continue ;;
         *.python) lacks python3 "the Python of $document" && continue ;;
         *) is_too_new "$source" && skip "the C of $document" 'the C library has no move_mount(2)' && continue ;;
         esac
