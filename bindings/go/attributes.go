@@ -16,7 +16,7 @@ import (
 func (h *Handle) do(op string, call func(fd C.int) (int, error)) (int, error) {
 	given, err := held(h.File, call)
 	if err != nil {
-		return 0, &fs.PathError{Op: op, Path: h.Name(), Err: err}
+		return 0, &fs.PathError{Op: op, Path: called(h.File), Err: err}
 	}
 	return given, nil
 }

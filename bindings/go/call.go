@@ -56,6 +56,14 @@ func held(file *os.File, call func(fd C.int) (int, error)) (int, error) {
 	return given, err
 }
 
+// called gives the name of a file for messages; that of no file is empty.
+func called(file *os.File) string {
+	if file == nil {
+		return ""
+	}
+	return file.Name()
+}
+
 // texted makes a call by a text of C.
 func texted(text string, call func(text *C.char) (int, error)) (int, error) {
 	if strings.IndexByte(text, 0) >= 0 {

@@ -87,7 +87,7 @@ func (r *Root) LinkFile(file *os.File, newname string) error {
 		})
 	})
 	if err != nil {
-		return &os.LinkError{Op: "linkat", Old: file.Name(), New: newname, Err: err}
+		return &os.LinkError{Op: "linkat", Old: called(file), New: newname, Err: err}
 	}
 	return nil
 }

@@ -174,6 +174,34 @@ func TestCloseWaitsForNoCall(t *testing.T) {
 	}
 }
 
+// A read of a FIFO has a deadline, and ends where the file is closed.
+func TestFifos(t *testing.T) {
+	_, root := tree(t)
+	must(t, root.Mknod("fifo", syscall.S_IFIFO|0o600, 0))
+	handle, err := root.Resolve("fifo")
+	must(t, err)
+	defer handle.Close()
+	for _, open := range []func() (*os.File, error){
+		func() (*os.File, error) { return root.OpenFile("fifo", os.O_RDWR, 0) },
+		func() (*os.File, error) { return handle.Reopen(os.O_RDWR) },
+	} {
+		file, err := open()
+		must(t, err)
+		must(t, file.SetReadDeadline(time.Now().Add(10*time.Millisecond)))
+		_, err = file.Read(make([]byte, 1))
+		fails(t, err, os.ErrDeadlineExceeded)
+		must(t, file.SetReadDeadline(time.Time{}))
+		ended := make(chan error)
+		go func() {
+			_, err := file.Read(make([]byte, 1))
+			ended <- err
+		}()
+		time.Sleep(10 * time.Millisecond)
+		must(t, file.Close())
+		fails(t, <-ended, fs.ErrClosed)
+	}
+}
+
 func TestForgottenRootsAreClosed(t *testing.T) {
 	top, kept := tree(t)
 	box := filepath.Join(top, "box")

@@ -9,6 +9,7 @@ import (
 	"os"
 	"path/filepath"
 	"reflect"
+	"strings"
 	"testing"
 	"testing/fstest"
 )
@@ -152,7 +153,11 @@ func TestHTTP(t *testing.T) {
 		must(t, err)
 		text, err := io.ReadAll(answer.Body)
 		must(t, answer.Body.Close())
-		is(t, string(text), err, wanted)
+		must(t, err)
+		// Before the list of a directory newer versions of Go put a head.
+		if got := string(text); got != wanted && !(path == "/a/" && strings.HasSuffix(got, ">\n"+wanted)) {
+			t.Errorf("%s is %q, and not %q", path, got, wanted)
+		}
 	}
 	asked, err := http.NewRequest("GET", server.URL+"/in/f", nil)
 	must(t, err)

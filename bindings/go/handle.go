@@ -60,7 +60,7 @@ func (h *Handle) Reopen(flag int) (*os.File, error) {
 	if err != nil {
 		return nil, err
 	}
-	return os.NewFile(uintptr(fd), h.Name()), nil
+	return usable(fd, h.Name()), nil
 }
 
 // Place returns where the object that file is open on stands below the root: its names, each with a slash before, or
@@ -73,7 +73,7 @@ func (r *Root) Place(file *os.File) (string, error) {
 		})
 	})
 	if err != nil {
-		return "", &fs.PathError{Op: "place", Path: file.Name(), Err: err}
+		return "", &fs.PathError{Op: "place", Path: called(file), Err: err}
 	}
 	return C.GoString(&place[0]), nil
 }

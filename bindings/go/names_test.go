@@ -130,7 +130,7 @@ func TestEachGiverOfAFileHasACall(t *testing.T) {
 			}
 			name, gives := givesFile(function)
 			switch name {
-			case "ProcOpen", "OpenRoot", "NewRoot", "Root.With":
+			case "ProcOpen", "OpenRoot", "OpenInRoot", "NewRoot", "Root.With":
 				continue
 			}
 			if gives && givers[name] == nil {
@@ -190,6 +190,11 @@ func TestNameOfAPathThatLeadsOut(t *testing.T) {
 	must(t, err)
 	defer file.Close()
 	is(t, file.Name(), nil, filepath.Join(top, "box/etc/passwd"))
+	same, err := OpenInRoot(filepath.Join(top, "box"), "../../../../etc/passwd")
+	is(t, textOf(t, same, err), nil, "")
+	is(t, same.Name(), nil, file.Name())
+	_, err = OpenInRoot(top, "box/up/outside/none")
+	fails(t, err, fs.ErrNotExist)
 }
 
 // Names that a text of C, a line or a command could take otherwise.

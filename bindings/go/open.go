@@ -9,11 +9,22 @@ import (
 	"io"
 	"io/fs"
 	"os"
+	"syscall"
 )
 
 // Open opens a file or a directory for reading, as os.Open does.
 func (r *Root) Open(name string) (*os.File, error) {
 	return r.OpenFile(name, os.O_RDONLY, 0)
+}
+
+// OpenInRoot opens a file below a directory for reading, as os.OpenInRoot does: a [Root] that is open for one call.
+func OpenInRoot(dir, name string) (*os.File, error) {
+	root, err := OpenRoot(dir)
+	if err != nil {
+		return nil, err
+	}
+	defer root.Close()
+	return root.Open(name)
 }
 
 // Create opens a file for reading and writing, as os.Create does: it is emptied if it is there, else made of mode
@@ -51,7 +62,17 @@ func (r *Root) openAs(as, name string, flag int, perm fs.FileMode) (*os.File, er
 	if err != nil {
 		return nil, err
 	}
-	return os.NewFile(uintptr(fd), as), nil
+	return usable(fd, as), nil
+}
+
+// usable gives a file that was opened for use. Where it is a FIFO, a read waits as one of package os does: it has a
+// deadline, and ends where the file is closed.
+func usable(fd int, name string) *os.File {
+	var about syscall.Stat_t
+	if syscall.Fstat(fd, &about) == nil && about.Mode&syscall.S_IFMT == syscall.S_IFIFO {
+		syscall.SetNonblock(fd, true)
+	}
+	return os.NewFile(uintptr(fd), name)
 }
 
 // CreateUnnamed makes a file without a name in the file system of that directory, of mode perm less the umask, and

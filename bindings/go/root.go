@@ -77,7 +77,7 @@ func (r *Root) With(flags Flags) *Root {
 
 // Name returns the name by which the root was opened, also after Close.
 func (r *Root) Name() string {
-	return r.dir.Name()
+	return called(r.dir)
 }
 
 // Close closes the root. Calls that other goroutines are making end as they would have; each later one gives

@@ -386,8 +386,16 @@ func TestErrors(t *testing.T) {
 	defer file.Close()
 	_, err = NewRoot(file).Stat(".")
 	fails(t, err, syscall.ENOTDIR)
-	_, err = NewRoot(nil).Stat(".")
-	fails(t, err, fs.ErrInvalid)
+	// No file is an error, and no panic, as for the methods of os.File.
+	for _, none := range []func() error{
+		func() error { _, err := NewRoot(nil).Stat("."); return err },
+		func() error { _, err := NewRoot(nil).Open("."); return err },
+		func() error { _, err := root.Place(nil); return err },
+		func() error { return root.LinkFile(nil, "x") },
+		func() error { return (&Handle{}).Chmod(0) },
+	} {
+		fails(t, none(), fs.ErrInvalid)
+	}
 	// EINVAL can be found by each of its names.
 	var number syscall.Errno
 	_, err = root.Readlink("a")

@@ -114,6 +114,13 @@ def descriptor_of(argument):
     return (None if found[1] == 'AT_FDCWD' else int(found[1])), found[2]
 
 
+def number_of(text):
+    """A number as strace shows it. ValueError if it's none, or has more digits than any: Python 3.9 takes these."""
+    if len(text) > DIGITS_MOST:
+        raise ValueError('a number too large')
+    return int(text, 0)
+
+
 def finished(line, pid, text, begun=None):
     """The event of a call's whole text."""
     head = CALL.match(text)

@@ -4,7 +4,7 @@ import re
 
 from places import Node
 from processes import Handle, Process, Processes, Unsaid, Where, is_name, joined
-from strace_lines import descriptor_of, text_of
+from strace_lines import descriptor_of, number_of, text_of
 
 # Of each call that looks a path up: the arguments of the descriptor, the path and the flags, None where it has none.
 LOOKS = {'stat': (None, 0, None), 'lstat': (None, 0, None), 'stat64': (None, 0, None), 'lstat64': (None, 0, None),
@@ -365,7 +365,7 @@ class Translation:
             self.processes.closed(process, descriptor_of(call.args[0])[0], call.lines())
 
     def do_close_range(self, call, process):
-        first, last = int(call.args[0], 0), int(call.args[1], 0) if call.args[1].isdigit() else 1 << 32
+        first, last = number_of(call.args[0]), number_of(call.args[1]) if call.args[1].isdigit() else 1 << 32
         for number, (handle, _) in sorted(process.files.table.items()):
             if not call.error and first <= number <= last:
                 if 'CLOSE_RANGE_CLOEXEC' in call.args[2]:
