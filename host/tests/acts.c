@@ -349,6 +349,8 @@ int main(int count, char **words)
     few = count == 3 && strcmp(words[2], "few") == 0;
     if (count == 3 && !few)
         return 2;
+    if (!WRAPS_ALL)
+        return NO_WRAP;
     if (!has_openat2())
         return NO_OPENAT2;
     begin_acts(words[1]);

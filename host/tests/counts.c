@@ -342,6 +342,8 @@ int main(int count, char **words)
 {
     if (count != 2)
         return 2;
+    if (!WRAPS_ALL)
+        return NO_WRAP;
     root = sure(open(words[1], O_PATH | O_DIRECTORY | O_CLOEXEC), words[1]);
     if (!has_openat2())
         return NO_OPENAT2;

@@ -69,6 +69,8 @@ int main(int count, char **words)
 {
     if (count != 2)
         return 2;
+    if (!WRAPS_ALL)
+        return NO_WRAP;
     int root = sure(open(words[1], O_PATH | O_DIRECTORY | O_CLOEXEC), words[1]);
     sure(mkdirat(root, "a", 0755), "a");
     open_proc();

@@ -346,6 +346,8 @@ int main(int words_count, char **words)
 {
     if (words_count != 2)
         return 2;
+    if (!WRAPS_ALL)
+        return NO_WRAP;
     const bool mounts = unshare(CLONE_NEWNS) == 0 && mount(NULL, "/", NULL, MS_REC | MS_PRIVATE, NULL) == 0;
     base = sure(open(words[1], O_RDONLY | O_DIRECTORY | O_CLOEXEC), words[1]);
     for (const struct op *op = ops; op < ops + OPS; op++) {

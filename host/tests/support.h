@@ -22,7 +22,7 @@
 #include <unistd.h>
 
 /* How a check ends that says nothing here: the machine doesn't let it run, or nothing led its control out. The script names it. */
-enum { NO_OPENAT2 = 77, NO_RIGHT = 78, NOT_FOOLED = 79 };
+enum { NO_WRAP = 76, NO_OPENAT2 = 77, NO_RIGHT = 78, NOT_FOOLED = 79 };
 
 /* How many times something wasn't as it is to be. */
 static int wrong;

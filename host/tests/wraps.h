@@ -14,6 +14,13 @@ int __real_openat(int dir, const char *name, int flags, ...);
 int __real_fcntl(int fd, int what, ...);
 long __real_syscall(long number, ...);
 
+/* glibc before 2.33 calls fstat(2) and mknodat(2) by names of its own, in whose place nothing comes. */
+#ifdef _MKNOD_VER
+enum { WRAPS_ALL = 0 };
+#else
+enum { WRAPS_ALL = 1 };
+#endif
+
 #define WRAPPED(type, name, ...) type __real_##name(__VA_ARGS__); type __wrap_##name(__VA_ARGS__)
 
 WRAPPED(int, close, int fd);
