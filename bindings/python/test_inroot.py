@@ -319,6 +319,9 @@ class Hostile(Room):
     def test_files_of_proc(self):
         with open(inroot.proc_open(inroot.Proc.SELF, "comm", os.O_RDONLY)) as file, open("/proc/self/comm") as same:
             self.assertEqual(file.read(), same.read())
+        whole = inroot.proc_open(inroot.Proc.ROOT, ".", os.O_PATH | os.O_DIRECTORY)
+        self.addCleanup(os.close, whole)
+        self.assertEqual(os.fstat(whole)[:3], os.stat("/proc")[:3])
         self.assertEqual(inroot.proc_readlink(inroot.Proc.ROOT, "self"), str(os.getpid()))
         self.assertEqual(inroot.proc_readlink(os.getpid(), b"exe"), os.fsencode(os.readlink("/proc/self/exe")))
         error = self.fails(errno.EXDEV, inroot.proc_open, inroot.Proc.THREAD_SELF, "/comm", os.O_RDONLY)
