@@ -1,4 +1,3 @@
-mod ShortPieces
 mod SeenBelow
 mod AtQuestion
 mod Parts
@@ -16,3 +15,7 @@ mod Slash
 mod Behind
 mod Resolves
 mod RenamesBehind
+mod PiecesSeen
+mod FitPieces
+mod AtOnce
+mod SplitLemmas

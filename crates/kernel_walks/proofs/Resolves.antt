@@ -15,7 +15,7 @@ use Rattle.kernel_walks.specs.Resolves.{IsResolve, ResolvesSeenBelow}
 use Rattle.kernel_walks.proofs.LastQuestion.{resolve_looks_up}
 use Rattle.kernel_walks.proofs.SeenBelow.{seen_below}
 
-starts_so : (below : Below) (op : Op) (goal : Goal) (path : List ℕ) → IsResolve op goal path → starts below true op ≡ on_path below (Opens goal) path
+pub starts_so : (below : Below) (op : Op) (goal : Goal) (path : List ℕ) → IsResolve op goal path → starts below true op ≡ on_path below (Opens goal) path
 starts_so below (Resolve text) goal path is =
     ap (λ (g : Goal). on_path below (Opens g) text) (sym is.0) ∙ ap (on_path below (Opens goal)) is.1
 starts_so below (ResolveNoFollow text) goal path is =

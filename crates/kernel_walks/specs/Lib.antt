@@ -11,3 +11,5 @@ pub mod Followed
 pub mod Behind
 pub mod Resolves
 pub mod RenamesBehind
+pub mod AtOnce
+pub mod Split

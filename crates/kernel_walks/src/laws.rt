@@ -1,4 +1,5 @@
 //! What a call tells whose walks the kernel makes: laws, each the contract of a function without a body.
+ghost use Rattle.kernel_walks.specs.AtOnce.{FailsAtOnceTell};
 ghost use Rattle.kernel_walks.specs.Behind.{DirectoriesAreLookedUp, EntriesAreChangedBehindWalks};
 ghost use Rattle.kernel_walks.specs.RenamesBehind.{RenamesAreLookedUp};
 ghost use Rattle.kernel_walks.specs.Resolves.{ResolvesSeenBelow};
@@ -50,3 +51,13 @@ pub fn directories_are_looked_up()
 pub fn renames_are_looked_up()
     ensures { RenamesAreLookedUp }
 {}
+
+/// A resolve of a path of which `misses_at_once` is true, by whatever handles each name was opened in the directory
+/// before it, up to one that is missing there: the opens, that refusal, and the closes between are the lines of that
+/// call. It fails by ENOENT. In each legal history in which these lines are the caller's own events, it tells what each
+/// call tells.
+pub fn fails_at_once_tell()
+    ensures { FailsAtOnceTell }
+{
+    each_call_tells();
+}

@@ -5,24 +5,25 @@ use Rattle.std.proofs.lemmas.Iterator.Splits.{YieldsList-from_slice_split}
 use Rattle.std.proofs.lemmas.List.{length_push}
 use borrow.Author.Tests.{tests}
 use Rattle.path_text.specs.declared.name.TheConstants.{SLASH}
-use Rattle.kernel_walks.proofs.ShortPieces.{one_long, one_shorter, all_short, long_piece, short_piece}
+use Rattle.kernel_walks.specs.Followed.{is_short}
+use Rattle.kernel_walks.proofs.PiecesSeen.{one_other, one_piece_more, all_pieces, long_piece, short_piece}
 use Rattle.kernel_walks.proofs.followed.are_short.Goals as goal
 
 pub returns-then-piece-gt-NAME_MAX : goal.returns-then-piece-gt-NAME_MAX
 returns-then-piece-gt-NAME_MAX c =
     let chain = YieldsList-from_slice_split _ (λ b. b == SLASH) c.args.text.now (cc) (cc) (cc) (λ x b q k. search (rules, tests)) in
     let t = YieldsList-turn chain c.loop-piece.yielded _ c.loop-piece.yielded_by _ _ c.in-Some.piece c.in-Some.is c.next.ensures.steps in
-    one_long _ _ _ t (long_piece c.in-Some.piece.now c.if-piece-gt-NAME_MAX.true)
+    one_other is_short _ _ _ t (long_piece c.in-Some.piece.now c.if-piece-gt-NAME_MAX.true)
 
 pub loop-piece-preserved : goal.loop-piece-preserved
 loop-piece-preserved c =
     let chain = YieldsList-from_slice_split _ (λ b. b == SLASH) c.args.text.now (cc) (cc) (cc) (λ x b q k. search (rules, tests)) in
     let t = YieldsList-turn chain c.loop-piece.yielded _ c.loop-piece.yielded_by _ _ c.in-Some.piece c.in-Some.is c.next.ensures.steps in
-    one_shorter _ _ _ _ t (length_push c.loop-piece.yielded c.in-Some.piece) c.loop-piece.invariant
+    one_piece_more is_short _ _ _ _ t (length_push c.loop-piece.yielded c.in-Some.piece) c.loop-piece.invariant
     (short_piece c.in-Some.piece.now c.if-piece-gt-NAME_MAX.false)
 
 pub returns : goal.returns
 returns c =
     let chain = YieldsList-from_slice_split _ (λ b. b == SLASH) c.args.text.now (cc) (cc) (cc) (λ x b q k. search (rules, tests)) in
     let t = YieldsList-end chain c.loop-piece.yielded _ c.loop-piece.yielded_by _ _ c.in-None.is c.next.ensures.steps in
-    all_short _ _ c.loop-piece.invariant t.1
+    all_pieces is_short _ _ c.loop-piece.invariant t.1
