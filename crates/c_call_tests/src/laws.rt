@@ -1,4 +1,4 @@
-//! The laws of whole calls, of single steps and of calls from C are called as a caller has them at hand. They do
+//! The laws of whole calls, of single steps and of walks by the kernel are called as a caller has them at hand. They do
 //! nothing.
 
 #[test]
@@ -33,18 +33,8 @@ fn laws_of_single_steps() {
 }
 
 #[test]
-fn laws_of_calls_from_c() {
-    c_protocol::conversations_are_calls();
-    c_protocol::conversations_tell();
-    c_protocol::steps_told_whole_are_one();
-    c_protocol::fails_at_once_tell();
-    c_protocol::conversations_close();
-    c_protocol::unmade_steps_end_calls();
-    c_protocol::steps_are_refused_so();
-}
-
-#[test]
 fn laws_of_walks_by_the_kernel() {
+    kernel_walks::fails_at_once_tell();
     kernel_walks::kernel_walks_tell();
     kernel_walks::resolves_seen_below();
     kernel_walks::entries_are_changed_behind_walks();

@@ -1,5 +1,5 @@
 -- A step that was made by system calls was made at the moment of one of them.
-use Rattle.std.proofs.Common.{◌≡◌, ◌⊎◌, ⊎_elim, ℕ, ◌+◌, ◌<◌, ◌≤◌, true, false, List, [], length, Option, Some, None, refl, sym, ap, ◌∙◌, subst, arith}
+use Rattle.std.proofs.Common.{◌≡◌, ◌⊎◌, ⊎_elim, ℕ, ◌==◌, ◌+◌, ◌<◌, ◌≤◌, true, false, if◌then◌else◌, List, [], length, Option, Some, None, refl, sym, ap, ◌∙◌, subst, arith}
 use Rattle.std.proofs.lemmas.Bool.{eqb-true, false≢true}
 use Rattle.path_text.specs.declared.errno.Errno.{Errno}
 use Rattle.path_text.specs.declared.errno.Errno.TheVariants as errors
@@ -25,7 +25,6 @@ use Rattle.step_calls.proofs.ParentLemmas.{parents-stood}
 use Rattle.step_calls.proofs.LinkLemmas.{links-were-read}
 use Rattle.step_calls.proofs.RefusalLemmas.{refusals-are-own}
 use Rattle.root_ops.specs.Renumbered.{Numbering, step_by, answer_by}
-use Rattle.c_protocol.specs.Numbers.{errno_of}
 use Rattle.calls_by_system_calls.specs.Linux.{Linux, state_at}
 use Rattle.calls_by_system_calls.specs.Lines.{Descriptors, HasRoom, OpenIsMade, ParentIsMade, TextIsRead, DupIsMade, NameIsPassed, NamesAreListed, TextIsRefused, UpIsPassed, LookIsMade, after_step, with_opened, with_closed, world}
 use Rattle.calls_by_system_calls.specs.Places.{PlaceIsTold}
@@ -62,6 +61,14 @@ pub record Made (x : Linux) (nodes : ℕ → ℕ) (m calls : ℕ) (table : Descr
       → step_by (numbering f nodes) step ≡ step_by (numbering g nodes) step
 
 -- ---- errors and kinds
+
+abbrev errno_of : ℕ → Errno
+errno_of n =
+    if n == 2 then errors.NotFound else if n == 11 then errors.Raced else if n == 12 then errors.NoMemory
+    else if n == 16 then errors.Busy else if n == 17 then errors.Exists else if n == 18 then errors.CrossRoot
+    else if n == 20 then errors.NotDir else if n == 21 then errors.IsDir else if n == 22 then errors.Invalid
+    else if n == 24 then errors.TooMany else if n == 28 then errors.BookFull else if n == 36 then errors.TooLong
+    else if n == 39 then errors.NotEmpty else if n == 40 then errors.Loop else errors.BadHandle
 
 pub same_error : (why error : Errno) → number_of why ≡ number_of error → why ≡ error
 same_error why error same = sym (by_number why) ∙ ap errno_of same ∙ by_number error

@@ -1,3 +1,7 @@
+mod Conversing
+mod GivingUp
+mod Unmade
+mod Refusing
 mod Woven
 mod Others
 mod Trees
@@ -9,8 +13,6 @@ mod Joining
 mod JoiningLines
 mod LinesJoined
 mod BySystemCalls
-mod AtOnce
-mod SeenBelow
 mod Places
 mod WorkedRace
 mod WorkedChange

@@ -5,26 +5,30 @@ use Rattle.std.proofs.lemmas.Bool.{eqb-true}
 use Rattle.std.proofs.lemmas.Option.{none-some, same_Some}
 use Rattle.tree_model.specs.declared.tree.TheConstants.{NUMBERS_MAX}
 use Rattle.tree_model.specs.Steps.{held}
-use Rattle.step_resolver.specs.Order.{Line}
-use Rattle.c_protocol.specs.declared.numbers.Asked.{Asked}
-use Rattle.calls_by_system_calls.specs.AtOnce.{LinesAreMade}
-use Rattle.calls_by_system_calls.specs.Joined.{descriptors_before}
+use Rattle.step_resolver.specs.Order.{Line, events_of}
+use Rattle.step_resolver.specs.WalkHistory.{own_events}
+use Rattle.root_ops.specs.declared.below.Below.{Below}
+use Rattle.root_ops.specs.declared.op.Op.{Op}
+use Rattle.root_ops.specs.Renumbered.{lines_by}
+use Rattle.calls_by_system_calls.specs.Joined.{descriptors_before, HasHistory, LinesAreMade}
 use Rattle.calls_by_system_calls.specs.Linux.{Linux, state_at}
 use Rattle.calls_by_system_calls.specs.Lines.{Descriptors, IsNoneOf, numbers_opened}
+use Rattle.calls_by_system_calls.proofs.AtMoment.{numbering}
 use Rattle.calls_by_system_calls.proofs.Joining.{Stands}
 use Rattle.calls_by_system_calls.proofs.JoiningLines.{Joined, joins}
 use Rattle.calls_by_system_calls.proofs.Woven.{not_woven}
 
-module _ (x : Linux) (asked : Asked) (nodes : ℕ → ℕ) (root node : ℕ) (lines : List Line) (counts : List ℕ)
-    (made : LinesAreMade x asked nodes root node lines counts) where
+module _ (x : Linux) (below : Below) (nodes : ℕ → ℕ) (root node : ℕ) (lines : List Line) (counts : List ℕ)
+    (made : LinesAreMade x below nodes root node lines counts) where
   abbrev table : Descriptors
-  table = descriptors_before x asked node
+  table = descriptors_before x below.root.handle node
 
-  is_root : (h d : ℕ) → table.on h ≡ Some d → (h ≡ asked.root) × (node ≡ d)
-  is_root h d e = by (h == asked.root) refl e
+  is_root : (h d : ℕ) → table.on h ≡ Some d → (h ≡ below.root.handle) × (node ≡ d)
+  is_root h d e = by (h == below.root.handle) refl e
     where
-      by : (b : Bool) → (h == asked.root) ≡ b → (if b then Some node else None) ≡ Some d → (h ≡ asked.root) × (node ≡ d)
-      by true q p = (eqb-true h asked.root q, same_Some node d p)
+      by : (b : Bool) → (h == below.root.handle) ≡ b → (if b then Some node else None) ≡ Some d
+          → (h ≡ below.root.handle) × (node ≡ d)
+      by true q p = (eqb-true h below.root.handle q, same_Some node d p)
       by false q p = absurd (none-some d p)
 
   begins_so : Stands x.opening x.opening 0 table (λ h. root)
@@ -41,14 +45,30 @@ module _ (x : Linux) (asked : Asked) (nodes : ℕ → ℕ) (root node : ℕ) (li
   few : (n : ℕ) → length (state_at x n).handles + (0 + length lines) < NUMBERS_MAX
   few n = let most : NUMBERS_MAX ≡ 281474976710656 = refl in omega (arith, made.few n, most)
 
-  pub joined : Joined x made.linux nodes 0 x.opening lines counts (λ h. root)
+  joined : Joined x made.linux nodes 0 x.opening lines counts (λ h. root)
   joined =
       joins x made.linux nodes lines counts 0 x.opening 0 table (λ h. root) few begins_so made.made
       (λ h d e. subst (λ z. IsNoneOf z (numbers_opened lines)) (sym (is_root h d e).0) made.differ.0) made.differ.1
 
   -- the root keeps its number
-  pub root_is : joined.g asked.root ≡ root
-  root_is = joined.same asked.root made.differ.0
+  root_is : joined.g below.root.handle ≡ root
+  root_is = joined.same below.root.handle made.differ.0
 
-  pub root_held : held x.opening 0 (joined.g asked.root) ≡ Some node
-  root_held = ap (held x.opening 0) root_is ∙ made.held
+  pub has_history : (op : Op) (room : Bool) → HasHistory x below op room nodes root node lines counts
+  has_history op room = record {
+    f = numbering joined.g nodes;
+    by_nodes = refl;
+    by_root = root_is;
+    window = joined.window;
+    is_window = joined.is_window;
+    is_call = record {
+      tree = made.linux.tree;
+      legal_before = tt;
+      legal = joined.legal;
+      own = subst (λ a. own_events a joined.window ≡ events_of a (lines_by (numbering joined.g nodes) lines))
+          (sym made.program) joined.own;
+      root = subst (λ a. held x.opening a (joined.g below.root.handle) ≡ Some node) (sym made.program)
+          (ap (held x.opening 0) root_is ∙ made.held);
+      root_is_dir = made.directory;
+    };
+  }

@@ -20,11 +20,11 @@ use Rattle.place_protocol.specs.declared.questions.Question.{Question}
 use Rattle.place_protocol.specs.declared.questions.Question.TheVariants.{RootLink, ObjectLink, LookUp, LinkAgain}
 use Rattle.calls_by_system_calls.specs.Linux.{Change, found_behind, state_at, with_change, ChangeNothing, IsLinux}
 use Rattle.calls_by_system_calls.specs.Changes.{MakeIsMade}
-use Rattle.calls_by_system_calls.specs.Lines.{OpenIsMade}
+use Rattle.calls_by_system_calls.specs.Lines.{AllDiffer, AreMade, OpenIsMade, numbers_opened}
 use Rattle.calls_by_system_calls.specs.Places.{place_world, PlaceIsAsked}
-use Rattle.calls_by_system_calls.specs.WorkedChange.{mkdir, mkdir_race, MkdirIsMade}
+use Rattle.calls_by_system_calls.specs.WorkedChange.{mkdir, mkdir_counts, mkdir_lines, mkdir_race, MkdirIsMade}
 use Rattle.calls_by_system_calls.specs.WorkedRace.{move, race_nodes, race_opening}
-use Rattle.calls_by_system_calls.proofs.WorkedRace.{facts_of, others_at}
+use Rattle.calls_by_system_calls.proofs.WorkedRace.{facts_of, others_at, race_before}
 
 kept : (s : State) (own : Option Change) → length (with_change s own).handles ≡ length s.handles
 kept s None = refl
@@ -196,30 +196,41 @@ makes_new =
       few = omega (arith, eleven);
     }
 
-pub mkdir_is_made : MkdirIsMade
-mkdir_is_made = record {
-  linux = linux;
-  made = (
-    inl (nothing 0 1 (inl (omega arith)), (omega arith, 1, refl, inl opens_a)),
+steps_made : AreMade mkdir_race race_nodes 0 race_before mkdir_lines mkdir_counts
+steps_made = (
+  inl (nothing 0 1 (inl (omega arith)), (omega arith, 1, refl, inl opens_a)),
+  (
+    inl (nothing 1 1 (inl (omega arith)), (omega arith, 2, refl, inl opens_b)),
     (
-      inl (nothing 1 1 (inl (omega arith)), (omega arith, 2, refl, inl opens_b)),
+      inl (nothing 2 1 (inl (omega arith)), (2, refl, refl)),
       (
-        inl (nothing 2 1 (inl (omega arith)), (2, refl, refl)),
+        inl (nothing 3 4 (inl (omega arith)), (1, 3, refl, refl, inr (inl asks_b))),
         (
-          inl (nothing 3 4 (inl (omega arith)), (1, 3, refl, refl, inr (inl asks_b))),
-          (
-            inr (3, refl, makes_new),
-            (inl (nothing 8 1 (inr (omega arith)), (3, refl, refl)), tt),
-          ),
+          inr (3, refl, makes_new),
+          (inl (nothing 8 1 (inr (omega arith)), (3, refl, refl)), tt),
         ),
       ),
     ),
-  );
-  differ = (
-    ((λ e. absurd (omega (arith, e))), ((λ e. absurd (omega (arith, e))), tt)),
-    (((λ e. absurd (omega (arith, e))), tt), (tt, tt)),
-  );
-  few = λ n. omega (arith, three n);
+  ),
+)
+
+all_differ : AllDiffer (50 ∷ numbers_opened mkdir_lines)
+all_differ = (
+  ((λ e. absurd (omega (arith, e))), ((λ e. absurd (omega (arith, e))), tt)),
+  (((λ e. absurd (omega (arith, e))), tt), (tt, tt)),
+)
+
+pub mkdir_is_made : MkdirIsMade
+mkdir_is_made = record {
+  made = record {
+    linux = linux;
+    program = refl;
+    held = refl;
+    directory = refl;
+    made = steps_made;
+    differ = all_differ;
+    few = λ n. omega (arith, three n);
+  };
   new = refl;
   outside = refl;
 }

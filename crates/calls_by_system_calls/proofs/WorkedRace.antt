@@ -1,6 +1,6 @@
 -- The race, computed.
 use Rattle.std.proofs.Common.{◌≡◌, ◌≢◌, ⊎_elim, inl, inr, ℕ, zero, suc, Bool, true, false, if◌then◌else◌, List, [], ◌∷◌, length, refl, sym, subst, arith}
-use Rattle.std.specs.Prelude.{◌==◌}
+use Rattle.std.specs.Prelude.{◌==◌, Some, None}
 use Rattle.std.specs.List.{AllByRecursion}
 use Rattle.std.proofs.lemmas.Bool.{eqb-true, false≢true}
 use Rattle.tree_model.specs.declared.answer.Event.{Event}
@@ -9,8 +9,8 @@ use Rattle.tree_model.proofs.TreeTests.{IsState-from_test}
 use Rattle.step_calls.specs.History.{opens_directory, asks_links, asks_layers}
 use Rattle.step_calls.specs.declared.facts.Facts.{Facts}
 use Rattle.calls_by_system_calls.specs.Linux.{IsLinux, state_at}
-use Rattle.calls_by_system_calls.specs.Lines.{OpenIsMade, ParentIsMade}
-use Rattle.calls_by_system_calls.specs.WorkedRace.{move, race, race_nodes, race_opening, RaceIsMade}
+use Rattle.calls_by_system_calls.specs.Lines.{AllDiffer, AreMade, Descriptors, OpenIsMade, ParentIsMade, numbers_opened}
+use Rattle.calls_by_system_calls.specs.WorkedRace.{move, race, race_counts, race_lines, race_nodes, race_opening, RaceIsMade}
 use Rattle.tree_model.specs.declared.answer.Answer.TheVariants.{Opened}
 use Rattle.tree_model.specs.declared.step.Kind.TheVariants as kind
 use Rattle.std.specs.Prelude.{codes}
@@ -95,34 +95,46 @@ opens_above = record {
   tells = (refl, refl, refl);
 }
 
-pub race_is_made : RaceIsMade
-race_is_made = record {
-  linux = linux;
-  made = (
-    inl ((λ n by. refl), (omega arith, 1, refl, inl opens_a)),
+abbrev pub race_before : Descriptors
+race_before = record { count = 1; on = λ h. if h == 50 then Some 1 else None }
+
+steps_made : AreMade race race_nodes 0 race_before race_lines race_counts
+steps_made = (
+  inl ((λ n by. refl), (omega arith, 1, refl, inl opens_a)),
+  (
+    inl ((λ n by. refl), (omega arith, 2, refl, inl opens_b)),
     (
-      inl ((λ n by. refl), (omega arith, 2, refl, inl opens_b)),
+      inl ((λ n by. refl), (2, refl, refl)),
       (
-        inl ((λ n by. refl), (2, refl, refl)),
+        inl ((λ n by. refl), (omega arith, 3, refl, inl opens_above)),
         (
-          inl ((λ n by. refl), (omega arith, 3, refl, inl opens_above)),
+          inl ((λ n by. refl), (3, refl, refl)),
           (
-            inl ((λ n by. refl), (3, refl, refl)),
-            (
-              inl ((λ n by. refl), (1, 9, refl, refl, inr (inr (record { n = 0; by = omega arith; stood = refl })))),
-              (inl ((λ n by. refl), (9, refl, refl)), tt),
-            ),
+            inl ((λ n by. refl), (1, 9, refl, refl, inr (inr (record { n = 0; by = omega arith; stood = refl })))),
+            (inl ((λ n by. refl), (9, refl, refl)), tt),
           ),
         ),
       ),
     ),
-  );
-  differ = (
-    ((λ e. absurd (omega (arith, e))), ((λ e. absurd (omega (arith, e))), ((λ e. absurd (omega (arith, e))), tt))),
-    (
-      ((λ e. absurd (omega (arith, e))), ((λ e. absurd (omega (arith, e))), tt)),
-      (((λ e. absurd (omega (arith, e))), tt), (tt, tt)),
-    ),
-  );
+  ),
+)
+
+all_differ : AllDiffer (50 ∷ numbers_opened race_lines)
+all_differ = (
+  ((λ e. absurd (omega (arith, e))), ((λ e. absurd (omega (arith, e))), ((λ e. absurd (omega (arith, e))), tt))),
+  (
+    ((λ e. absurd (omega (arith, e))), ((λ e. absurd (omega (arith, e))), tt)),
+    (((λ e. absurd (omega (arith, e))), tt), (tt, tt)),
+  ),
+)
+
+pub race_is_made : RaceIsMade
+race_is_made = record {
+  linux = linux;
+  program = refl;
+  held = refl;
+  directory = refl;
+  made = steps_made;
+  differ = all_differ;
   few = λ n. omega (arith, three n);
 }

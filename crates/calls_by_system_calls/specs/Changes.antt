@@ -17,7 +17,6 @@ use Rattle.step_calls.specs.Moments.{World}
 use Rattle.step_calls.specs.Renames.{ExchangeSays, IsOntoFull, NewEntry, NoReplaceSays, PlainSays}
 use Rattle.step_calls.specs.declared.course.TheConstants.{DONE, REFUSED}
 use Rattle.step_calls.specs.declared.facts.Facts.{Facts}
-use Rattle.c_protocol.specs.Numbers.{mode_number}
 use Rattle.calls_by_system_calls.specs.Linux.{Change, Linux, both_open, found_behind}
 
 -- ---- one system call
@@ -83,6 +82,11 @@ DirectoryIsRemoved x m calls dir name answer =
     (DirectoryRemovalSays (found_world x m dir dir name [])) answer
 
 -- renameat2(2)
+abbrev pub mode_number : Mode → ℕ
+mode_number modes.Plain = 0
+mode_number modes.NoReplace = 1
+mode_number modes.Exchange = 2
+
 abbrev pub RenameSays : Mode → World → NewEntry → ℕ → Exchange → Type 0
 RenameSays modes.Plain = PlainSays
 RenameSays modes.NoReplace = NoReplaceSays

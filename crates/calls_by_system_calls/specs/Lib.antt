@@ -1,5 +1,7 @@
+pub mod Conversations
 pub mod Linux
 pub mod Changes
+pub mod Refusals
 pub mod Lines
 pub mod Window
 pub mod Joined

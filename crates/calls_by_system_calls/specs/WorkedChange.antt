@@ -1,14 +1,14 @@
 -- One race with a change, computed, as Linux might answer it: a directory is made at a/b/new below /c of the base tree.
 -- Its directory /c/a/b is below the root as its place is asked for. Another moves it to /secret/b before mkdirat(2).
-use Rattle.std.specs.Prelude.{◌≡◌, ℕ, List, [], ◌∷◌, ◌+◌, ◌<◌, ◌==◌, if◌then◌else◌, length, Some, None, codes}
+use Rattle.std.specs.Prelude.{◌≡◌, ℕ, List, [], ◌∷◌, ◌==◌, if◌then◌else◌, Some, None, codes}
 use Rattle.tree_model.specs.declared.answer.Answer.TheVariants.{Opened, Names, Done}
 use Rattle.tree_model.specs.declared.step.Kind.TheVariants as kind
 use Rattle.tree_model.specs.declared.step.StepOf.TheVariants.{Open, NameBelow, Close, MakeDir}
 use Rattle.tree_model.specs.State.{child, names_below}
 use Rattle.step_resolver.specs.Order.{Line, answered}
-use Rattle.calls_by_system_calls.specs.Linux.{Change, Linux, IsLinux, state_at}
-use Rattle.calls_by_system_calls.specs.Lines.{AllDiffer, AreMade, numbers_opened}
-use Rattle.calls_by_system_calls.specs.WorkedRace.{move, race_before, race_nodes, race_opening}
+use Rattle.calls_by_system_calls.specs.Joined.{LinesAreMade}
+use Rattle.calls_by_system_calls.specs.Linux.{Change, Linux, state_at}
+use Rattle.calls_by_system_calls.specs.WorkedRace.{move, race_below, race_nodes, race_opening}
 
 -- mkdirat(2) in the directory 3
 abbrev pub mkdir : Change
@@ -39,9 +39,6 @@ mkdir_counts = 1 ∷ 1 ∷ 1 ∷ 4 ∷ 1 ∷ 1 ∷ []
 
 -- All that is supposed is met; and what is made is the node 11, which doesn't stand below the root.
 pub record MkdirIsMade : Type 0 where
-  pub linux : IsLinux mkdir_race 0
-  pub made : AreMade mkdir_race race_nodes 0 race_before mkdir_lines mkdir_counts
-  pub differ : AllDiffer (50 ∷ numbers_opened mkdir_lines)
-  pub few : (n : ℕ) → length (state_at mkdir_race n).handles + length mkdir_lines < 281474976710656
+  pub made : LinesAreMade mkdir_race race_below race_nodes 0 1 mkdir_lines mkdir_counts
   pub new : child (state_at mkdir_race 8).nodes 3 (codes "new") ≡ Some 11
   pub outside : names_below (state_at mkdir_race 8).nodes 1 11 ≡ None

@@ -1,6 +1,6 @@
 -- One race, computed, as Linux might answer it: a walk along `a/b/..` below /c of the base tree, whose directory /c/a/b
 -- another moves to /secret/b meanwhile. It shows that what is supposed of a call can be met.
-use Rattle.std.specs.Prelude.{ℕ, List, [], ◌∷◌, ◌+◌, ◌<◌, ◌==◌, if◌then◌else◌, length, Some, None, codes}
+use Rattle.std.specs.Prelude.{ℕ, List, [], ◌∷◌, ◌==◌, if◌then◌else◌, false, Some, None, codes}
 use Rattle.tree_model.specs.declared.answer.Answer.TheVariants.{Opened, NotBelow, Done}
 use Rattle.tree_model.specs.declared.answer.Event.{Event}
 use Rattle.tree_model.specs.declared.step.Kind.TheVariants as kind
@@ -9,8 +9,9 @@ use Rattle.tree_model.specs.declared.step.StepOf.TheVariants.{Open, Parent, Name
 use Rattle.tree_model.specs.State.{State}
 use Rattle.tree_model.specs.BaseTree.{base_nodes}
 use Rattle.step_resolver.specs.Order.{Line, answered}
-use Rattle.calls_by_system_calls.specs.Linux.{Linux, IsLinux, state_at}
-use Rattle.calls_by_system_calls.specs.Lines.{AllDiffer, AreMade, Descriptors, numbers_opened}
+use Rattle.root_ops.specs.declared.below.Below.{Below}
+use Rattle.calls_by_system_calls.specs.Joined.{LinesAreMade}
+use Rattle.calls_by_system_calls.specs.Linux.{Linux}
 
 -- the program has /c open; another, the actor 8, has /c/a and /secret
 abbrev pub race_opening : State
@@ -47,11 +48,12 @@ race_lines =
 abbrev pub race_counts : List ℕ
 race_counts = 1 ∷ 1 ∷ 1 ∷ 3 ∷ 1 ∷ 2 ∷ 1 ∷ []
 
-abbrev pub race_before : Descriptors
-race_before = record { count = 1; on = λ h. if h == 50 then Some 1 else None }
+abbrev pub race_below : Below
+race_below = record {
+  root = record { owner = record { tag = 0; actor = 0 }; handle = 50 };
+  flags = record { beneath = false; no_links = false };
+}
 
-pub record RaceIsMade : Type 0 where
-  pub linux : IsLinux race 0
-  pub made : AreMade race race_nodes 0 race_before race_lines race_counts
-  pub differ : AllDiffer (50 ∷ numbers_opened race_lines)
-  pub few : (n : ℕ) → length (state_at race n).handles + length race_lines < 281474976710656
+-- All that is supposed is met.
+abbrev pub RaceIsMade : Type 0
+RaceIsMade = LinesAreMade race race_below race_nodes 0 1 race_lines race_counts

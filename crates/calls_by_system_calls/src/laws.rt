@@ -1,28 +1,59 @@
-//! What a C program's call tells whose steps are made by system calls.
+//! What calls of `root_ops` tell whose steps are made by system calls.
 ghost use Rattle.calls_by_system_calls.specs.AtOnce.{FailsAtOnceBySystemCalls};
+ghost use Rattle.calls_by_system_calls.specs.Conversations.{ConversationsAreCalls, UnmadeStepsEndCalls};
 ghost use Rattle.calls_by_system_calls.specs.Joined.{CallsTellBySystemCalls};
 ghost use Rattle.calls_by_system_calls.specs.Places.{AskedPlacesStood};
+ghost use Rattle.calls_by_system_calls.specs.Refusals.{StepsAreRefusedSo};
 ghost use Rattle.calls_by_system_calls.specs.SeenBelow.{ResolvesSeenBelowBySystemCalls};
 ghost use Rattle.calls_by_system_calls.specs.WorkedChange.{MkdirIsMade};
 ghost use Rattle.calls_by_system_calls.specs.WorkedRace.{RaceIsMade};
 
-use c_protocol::{conversations_tell, fails_at_once_tell};
-use kernel_walks::resolves_seen_below;
+use kernel_walks::{fails_at_once_tell, resolves_seen_below};
 use place_protocol::places_stood;
+use root_ops::calls_tell_by_any_numbers;
 
-/// A call of a C program, each of whose Opens, Parents and ReadLinks is a whole conversation of system calls by
-/// `step_calls`, and each change of an entry one system call, while others change the tree between any two of these.
+/// Of no history, from what `Call::start`, `take` and `pass` of `root_ops` say alone, whatever the answers are: each
+/// exchange is a line of the call, the step that was due with its answer; or a step other than Close that counts as not
+/// made, since its answer was a want of memory. The lines lead from the operation's first turn to the reply. So each
+/// law of `root_ops` on a call's lines speaks of them: by `calls_tell` and `each_call_tells`, in each legal history in
+/// which they are the caller's own events; and by `opened_are_closed`, in no history.
+pub fn conversations_are_calls()
+    ensures { ConversationsAreCalls }
+{}
+
+/// Of no history: after a step that wasn't made, which is no Close and is answered by ENOMEM, nothing but Closes is
+/// due, and the call fails by ENOMEM in the end. So it makes no change after that step and opens nothing. A program
+/// answers so where the step table has no word for what a system call gave it, as EACCES, EIO or ENOSPC; then it knows
+/// why the call failed (errno(3)).
+pub fn unmade_steps_end_calls()
+    ensures { UnmadeStepsEndCalls }
+{}
+
+/// The step table refuses a step by no other error than those of `is_refusal` of `step_calls`, in any tree: except for
+/// a handle that isn't open or is on no directory, for want of handles or numbers, and for EINVAL, which is a
+/// directory's that can't go into itself (renameat2(2)) or a text's with a NUL.
+pub fn steps_are_refused_so()
+    ensures { StepsAreRefusedSo }
+{}
+
+/// A call each of whose Opens, Parents and ReadLinks is a whole conversation of system calls by `step_calls`, and each
+/// change of an entry one system call, while others change the tree between any two of these.
 /// What each answer of Linux says of the tree at its moment is a premise (openat(2), fstat(2), readlink(2), rmdir(2),
 /// statfs(2), getdents(2), mkdir(2), mknod(2), symlink(2), unlink(2), renameat2(2); `specs/Lines.antt`,
 /// `specs/Changes.antt`). So is it that a Dup and a Close do what they say. The answer to a NameBelow is a place in
 /// which a conversation of `place_protocol` ended, or the root's own; that any other, and that to a List, was so at
 /// one of its moments is a premise. Then there is a history that begins with the tree as the call did: what others
 /// did, with the call's steps among it, each at a moment of its own system calls. In this history the call tells what
-/// `conversations_tell` says.
+/// `each_call_tells` of `root_ops` says, by whatever numbers the program gave to handles and nodes: which handles it
+/// leaves open; where nobody else acts in the window, that its reply and the nodes after it are those of the operation
+/// done whole; of the walk with which it begins the headline (openat2(2), RESOLVE_IN_ROOT); that a resolve replies by
+/// the end of this walk; and of the calls that make or remove all which entries they made or took away and why they
+/// failed (mkdir(2), unlink(2), rmdir(2)).
 pub fn calls_tell_by_system_calls()
     ensures { CallsTellBySystemCalls }
 {
-    conversations_tell();
+    conversations_are_calls();
+    calls_tell_by_any_numbers();
 }
 
 /// The same of a resolve that fails by ENOENT without its turns: its path is names alone, and one system call looked
@@ -32,6 +63,7 @@ pub fn fails_at_once_by_system_calls()
     ensures { FailsAtOnceBySystemCalls }
 {
     fails_at_once_tell();
+    calls_tell_by_any_numbers();
 }
 
 /// The same of a resolve whose last check is the kernel's (openat2(2), RESOLVE_BENEATH): at a moment of that call the

@@ -1,14 +1,16 @@
-//! C programs' calls by system calls: laws, on which no other crate stands.
+//! Calls of `root_ops` by system calls: laws, on which no other crate stands.
 //!
-//! `step_calls` has laws on one step's conversation of system calls, `place_protocol` on one about an object's place,
-//! and `c_protocol` on one call's conversation of steps. The laws here join them: they put the steps of a call, each
-//! made by system calls, among what others do meanwhile. So they have the history in which the call tells what
-//! `root_ops` says.
+//! `step_calls` has laws on one step's conversation of system calls, and `place_protocol` on one about an object's
+//! place. The laws here join them: they put the steps of a call, each made by system calls, among what others do
+//! meanwhile. So they have the history in which the call tells what `root_ops` says. `conversations_are_calls` and
+//! `unmade_steps_end_calls` say of a call's turns what comes of them in no history, whatever is answered. Which errors
+//! of a system call are a step's own says `step_calls`, and `steps_are_refused_so` that the step table has no others.
 #![tactic(auto)]
 
 mod laws;
 
 pub use laws::{
-    asked_places_stood, calls_tell_by_system_calls, fails_at_once_by_system_calls,
-    seen_below_by_system_calls, worked_change_is_made, worked_race_is_made,
+    asked_places_stood, calls_tell_by_system_calls, conversations_are_calls,
+    fails_at_once_by_system_calls, seen_below_by_system_calls, steps_are_refused_so,
+    unmade_steps_end_calls, worked_change_is_made, worked_race_is_made,
 };

@@ -19,9 +19,9 @@ fn rename_refused(mode: u8, error: u32) -> bool
 }
 
 /// Whether the step table may refuse a step of this number by this error (errno(3)). A link is made with a text of so
-/// many bytes, and a path has 4,095 at most; a rename is by this mode (renameat2(2)). By `c_protocol`'s law
-/// `steps_are_refused_so` the step table refuses a step by no other error, but for what a C program's call doesn't meet
-/// or can't know. Takes no memory.
+/// many bytes, and a path has 4,095 at most; a rename is by this mode (renameat2(2)). By the law
+/// `steps_are_refused_so` of `calls_by_system_calls` the step table refuses a step by no other error, except for what a
+/// call doesn't meet or can't know. Takes no memory.
 ///
 /// `what` is 1 Open, 3 Parent, 4 ReadLink, 8 MakeDir, 9 MakeFile, 10 MakeLink, 11 RemoveFile, 12 RemoveDir, 13 Rename;
 /// of any other number no error is a refusal.

@@ -1,6 +1,0 @@
-use Rattle.root_ops.specs.TurnView.{steps_to_come}
-use Rattle.c_protocol.proofs.kept.give_up.Given as goal
-
--- each answer leaves fewer steps to come
-abbrev pub decreases-loop-turn : goal.decreases-loop-turn
-decreases-loop-turn l = steps_to_come l.turn
