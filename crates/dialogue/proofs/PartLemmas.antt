@@ -1,5 +1,5 @@
 -- A whole conversation of parts is one of the first, and then one of the second.
-use Rattle.std.proofs.Common.{◌≡◌, ◌++◌, List, [], ◌∷◌, refl, sym, ap, subst}
+use Rattle.std.proofs.Common.{◌≡◌, ◌++◌, List, [], ◌∷◌, refl, ap, subst}
 use Rattle.dialogue.specs.Dialogue.{Dialogue, Exchange, Talks, Whole, and_then, asks, behind, ends}
 use Rattle.dialogue.proofs.TalkLemmas.{behind_then}
 

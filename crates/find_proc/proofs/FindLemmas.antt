@@ -5,14 +5,16 @@ use Rattle.std.proofs.lemmas.Bool.{false≢true}
 use Rattle.std.proofs.Math.Bool.{or-true}
 use Rattle.system_calls.specs.Errors.{ENOSYS}
 use Rattle.dialogue.specs.Dialogue.{and_then, calling, claims, closes, ends, keeps}
-use Rattle.find_proc.specs.Asks.{AT_FDCWD, file_of, has_floor, is_proc}
-use Rattle.find_proc.specs.Find.{AT_PROC, Found, claim_told, find, find_new, floor_found, floor_lost, hand_found, hand_told, is_at_hand, is_it, is_lost, kept_of, new_opened, new_seen, none, open_error, owned, proc_of, seen, seen_proc}
+use Rattle.find_proc.specs.Asks.{AT_FDCWD, is_proc}
+use Rattle.find_proc.specs.Find.{AT_PROC, Found, find, find_new, floor_found, floor_lost, hand_found, hand_told, is_at_hand, is_it, is_lost, kept_of, new_opened, new_seen, none, open_error, owned, proc_of, seen, seen_proc}
 use Rattle.find_proc.specs.Promises.{FindEnds, FindsHold, IsShown, LooksHold, LostEnds, for_call}
-use Rattle.find_proc.specs.Seen.{Seen, Wish, at_first, gets, gets_none, is_in, lacking, looked_by, told_by, unasked, why_unopened, without}
+use Rattle.find_proc.specs.Seen.{Seen, Wish, at_first, gets, looked_by, told_by, unasked, watch}
 use Rattle.find_proc.specs.declared.asks.File.{File}
 use Rattle.find_proc.specs.declared.asks.Known.{Known}
-use Rattle.find_proc.proofs.Goes.{Goes, asks_then, both, choose, goes_on, over, weak}
-use Rattle.find_proc.proofs.Parts.{IsSome, file, first_in, floor, floor_by, got, in_by, opened, out_by, proc, same}
+use Rattle.dialogue.specs.Holds.{is_in}
+use Rattle.dialogue.proofs.HeldLemmas.{first_in, in_by, out_by, same}
+use Rattle.dialogue.proofs.HoldLemmas.{Goes, asks_then, both, choose, goes_on, over, weak}
+use Rattle.find_proc.proofs.Parts.{IsSome, file, floor, floor_by, got, opened, proc}
 
 -- ---- the one at hand
 
@@ -44,15 +46,14 @@ hand_file w s (Err error) quiet there =
     }
 
 hand : (w : Wish) (s : Seen) → s.floor ≡ unasked → s.proc ≡ None
-    → Goes Bool w 1 s (is_at_hand w.kept w.surely) (Hand w s)
+    → Goes (watch w) 1 s (is_at_hand w.kept w.surely) (Hand w s)
 unfolding is_at_hand
 hand w s quiet none =
-    choose w 1 s (not w.kept.there) (ends false) _ (Hand w s)
-    (λ absent. over w 1 s false (Hand w s)
+    choose (not w.kept.there)
+    (λ absent. over
     (record { stays = refl; yes = λ is. absurd (false≢true is); denies = λ _ there. absurd (grind (arith, absent, there)) }))
-    (λ present. goes_on w 1 0 s (file_of w.kept.fd) (λ r. ends (hand_told w.kept w.surely r)) (told_by w s w.kept.fd)
-    IsSome (Hand w s) (file w s w.kept.fd quiet (inl refl))
-    (λ r some. over w 0 (told_by w s w.kept.fd r) (hand_told w.kept w.surely r) (Hand w s)
+    (λ present. goes_on 1 0 (told_by w s w.kept.fd) (file w s w.kept.fd quiet (inl refl))
+    (λ r some. over
     (hand_file w s r none (grind (arith, present)))))
 
 -- ---- a new one
@@ -84,26 +85,24 @@ sees_file w s t fd (Err error) h =
     })
 
 is_none : (w : Wish) (s : Seen) (fd why : ℕ) → ENOSYS ≡ why
-    → Goes (Result File ℕ) w 1 (record s { proc = None; why = why }) (ends (Err ENOSYS)) (SeenEnds w s fd)
+    → Goes (watch w) 1 (record s { proc = None; why = why }) (ends (Err ENOSYS)) (SeenEnds w s fd)
 is_none w s fd why is =
-    over w 1 (record s { proc = None; why = why }) (Err ENOSYS) (SeenEnds w s fd)
+    over
     (record { held = refl; claimed = refl; filled = refl; denied = λ was. was; some = λ zero. absurd cc; why = is })
 
 sees_proc : (w : Wish) (s : Seen) (fd : ℕ) (r : Result Bool ℕ) → s.floor ≡ unasked → s.hands ≡ false
-    → is_in fd s.held ≡ true → Goes (Result File ℕ) w 1 (looked_by s fd r) (seen_proc fd r) (SeenEnds w s fd)
+    → is_in fd s.held ≡ true → Goes (watch w) 1 (looked_by s fd r) (seen_proc fd r) (SeenEnds w s fd)
 sees_proc w s fd (Ok true) quiet calls held =
     let t = record s { proc = Some fd } in
-    weak w 1 1 t (file_of fd) (λ u r. (u ≡ told_by w t fd r) × IsSome r) (SeenEnds w s fd) (omega arith)
-    (λ u r h. sees_file w s u fd r h) (file w t fd quiet (inr held))
+    weak 1 (omega arith) (file w t fd quiet (inr held)) (λ u r h. sees_file w s u fd r h)
 sees_proc w s fd (Ok false) quiet calls held = is_none w s fd _ (rw calls refl)
 sees_proc w s fd (Err error) quiet calls held = is_none w s fd _ (rw calls refl)
 
 sees : (w : Wish) (s : Seen) (fd : ℕ) → s.floor ≡ unasked → s.hands ≡ false → is_in fd s.held ≡ true
-    → Goes (Result File ℕ) w 2 s (seen fd) (SeenEnds w s fd)
+    → Goes (watch w) 2 s (seen fd) (SeenEnds w s fd)
 unfolding seen
 sees w s fd quiet calls held =
-    goes_on w 1 1 s (is_proc fd) (seen_proc fd) (looked_by s fd) IsSome (SeenEnds w s fd) (proc w s fd (inr held))
-    (λ r some. sees_proc w s fd r quiet calls held)
+    goes_on 1 1 (looked_by s fd) (proc w s fd (inr held)) (λ r some. sees_proc w s fd r quiet calls held)
 
 -- ---- whose it is
 
@@ -118,19 +117,18 @@ record Identified (s : Seen) (fd : ℕ) (file : File) : Type 0 where
   told : s.told ≡ Some (record { fd = fd; file = file })
 
 claimed_so : (k : Known) (surely : Bool) (s : Seen) (fd : ℕ) (file : File) (b : Bool) → Identified s fd file
-    → Goes Found (for_call k surely) 1
+    → Goes (watch (for_call k surely)) 1
     (if b then record s { claimed = true; hands = false } else record s { hands = false; why = s.why })
     (if not b then ends (record { proc = Ok (proc_of fd true); kept = k.kept })
     else and_then (calling (keeps fd file.device file.inode file.mount false))
     (λ _. ends (record { proc = Ok (proc_of fd false); kept = kept_of fd file }))) (Ends k surely)
 claimed_so k surely s fd file false h =
-    over (for_call k surely) 1 (record s { hands = false; why = s.why }) _ (Ends k surely)
+    over
     (inr (record { is_proc = h.is_proc; file = file; told = h.told; ones = (h.held, h.filled, refl); free = h.claimed }))
 claimed_so k surely s fd file true h =
-    let g = record s { claimed = true; hands = false } in
-    asks_then (for_call k surely) 0 g (keeps fd file.device file.inode file.mount false) _ (Ends k surely)
+    asks_then 0 (keeps fd file.device file.inode file.mount false)
     (record { held = in_by fd s.held [] h.held; claimed = refl; proc = h.is_proc; told = h.told; hands = refl })
-    (λ a. over (for_call k surely) 0 (record g { held = without fd g.held; claimed = false; filled = Some fd }) _ (Ends k surely)
+    (λ a. over
     (inr (record {
       is_proc = h.is_proc;
       file = file;
@@ -140,11 +138,9 @@ claimed_so k surely s fd file true h =
     })))
 
 owns : (k : Known) (surely : Bool) (s : Seen) (fd : ℕ) (file : File) → Identified s fd file
-    → Goes Found (for_call k surely) 2 s (owned k.kept fd file) (Ends k surely)
+    → Goes (watch (for_call k surely)) 2 s (owned k.kept fd file) (Ends k surely)
 unfolding owned
-owns k surely s fd file h =
-    asks_then (for_call k surely) 1 s (claims false) (claim_told k.kept fd file) (Ends k surely) refl
-    (λ a. claimed_so k surely s fd file (a.error == 0) h)
+owns k surely s fd file h = asks_then 1 (claims false) refl (λ a. claimed_so k surely s fd file (a.error == 0) h)
 
 -- ---- the search
 
@@ -162,15 +158,15 @@ open_some error some same = absurd (grind (arith, some, same))
 
 new_sees : (k : Known) (surely : Bool) (s t : Seen) (fd : ℕ) (r : Result File ℕ) → Bare k s
     → SeenEnds (for_call k surely) (gets s fd None) fd t r
-    → Goes Found (for_call k surely) 2 t (new_seen k.kept fd r) (Ends k surely)
+    → Goes (watch (for_call k surely)) 2 t (new_seen k.kept fd r) (Ends k surely)
 new_sees k surely s t fd (Ok file) h is =
-    subst (λ u. Goes Found (for_call k surely) 2 u (owned k.kept fd file) (Ends k surely)) (sym is)
+    subst (λ u. Goes (watch (for_call k surely)) 2 u (owned k.kept fd file) (Ends k surely)) (sym is)
     (owns k surely (told_by (for_call k surely) (record (gets s fd None) { proc = Some fd }) fd (Ok file)) fd file
     (record { held = ap (λ xs. fd ∷ xs) h.held; claimed = h.claimed; filled = h.filled; is_proc = refl; told = refl }))
 new_sees k surely s t fd (Err error) h u =
     let held = u.held ∙ ap (λ xs. fd ∷ xs) h.held in
-    asks_then (for_call k surely) 1 t (closes fd) (λ _. none k.kept error) (Ends k surely) (in_by fd t.held [] held)
-    (λ a. over (for_call k surely) 1 (record t { held = without fd t.held }) _ (Ends k surely) (
+    asks_then 1 (closes fd) (in_by fd t.held [] held)
+    (λ a. over (
       record {
         closed = out_by fd t.held [] held;
         free = u.claimed ∙ h.claimed;
@@ -183,16 +179,15 @@ new_sees k surely s t fd (Err error) h u =
     ))
 
 new_opens : (k : Known) (surely : Bool) (s : Seen) (r : Result ℕ ℕ) → Bare k s → s.proc ≡ None → IsSome r
-    → Goes Found (for_call k surely) 4 (got s AT_FDCWD r) (new_opened k.kept r) (Ends k surely)
+    → Goes (watch (for_call k surely)) 4 (got s AT_FDCWD r) (new_opened k.kept r) (Ends k surely)
 new_opens k surely s (Ok fd) h none some =
-    subst (λ o. Goes Found (for_call k surely) 4 (gets s fd o) (new_opened k.kept (Ok fd)) (Ends k surely))
+    subst (λ o. Goes (watch (for_call k surely)) 4 (gets s fd o) (new_opened k.kept (Ok fd)) (Ends k surely))
     (sym (rw none refl))
-    (both (for_call k surely) 2 2 (gets s fd None) (seen fd) (new_seen k.kept fd)
-    (SeenEnds (for_call k surely) (gets s fd None) fd) (Ends k surely)
+    (both 2 2
     (sees (for_call k surely) (gets s fd None) fd h.quiet h.hands (first_in fd s.held))
     (λ t r is. new_sees k surely s t fd r h is))
 new_opens k surely s (Err error) h none some =
-    over (for_call k surely) 4 (gets_none s (why_unopened s error)) _ (Ends k surely) (
+    over (
       record {
         closed = h.held;
         free = h.claimed;
@@ -205,18 +200,18 @@ new_opens k surely s (Err error) h none some =
     )
 
 news : (k : Known) (surely : Bool) (s : Seen) → Bare k s → s.proc ≡ None → k.kept.handed_in ≡ false
-    → Goes Found (for_call k surely) 7 s (find_new k) (Ends k surely)
+    → Goes (watch (for_call k surely)) 7 s (find_new k) (Ends k surely)
 unfolding find_new
 news k surely s h none alone =
-    goes_on (for_call k surely) 3 4 s _ (new_opened k.kept) (got s AT_FDCWD) IsSome (Ends k surely)
+    goes_on 3 4 (got s AT_FDCWD)
     (opened (for_call k surely) s AT_FDCWD AT_PROC _ 0
     (inl (record { here = refl; named = refl; finds = refl; alone = alone; denied = h.denied })))
     (λ r some. new_opens k surely s r h none some)
 
 hand_ends : (k : Known) (surely : Bool) (t : Seen) (is : Bool) → Hand (for_call k surely) (at_first ENOSYS) t is
-    → Goes Found (for_call k surely) 7 t (hand_found k is) (Ends k surely)
+    → Goes (watch (for_call k surely)) 7 t (hand_found k is) (Ends k surely)
 hand_ends k surely t true h =
-    over (for_call k surely) 7 t _ (Ends k surely)
+    over
     (inl (record {
       is = refl;
       stays = refl;
@@ -234,8 +229,8 @@ hand_ends k surely t false h =
       quiet = ap (λ (u : Seen). u.floor) h.stays;
       denied = h.denies refl;
     } in
-    choose (for_call k surely) 7 t k.kept.handed_in (none k.kept ENOSYS) (find_new k) (Ends k surely)
-    (λ handed. over (for_call k surely) 7 t _ (Ends k surely) (
+    choose k.kept.handed_in
+    (λ handed. over (
       record {
         closed = bare.held;
         free = bare.claimed;
@@ -249,21 +244,17 @@ hand_ends k surely t false h =
     (λ alone. news k surely t bare (ap (λ (u : Seen). u.proc) h.stays) alone)
 
 floor_ends : (k : Known) (surely has : Bool)
-    → Goes Found (for_call k surely) 8 (floor_by (at_first ENOSYS) has) (floor_found k surely has) (Ends k surely)
+    → Goes (watch (for_call k surely)) 8 (floor_by (at_first ENOSYS) has) (floor_found k surely has) (Ends k surely)
 floor_ends k surely false =
-    over (for_call k surely) 8 (lacking (at_first ENOSYS)) _ (Ends k surely)
-    (record { closed = refl; free = refl; unfilled = refl; some = λ zero. absurd cc; why = refl }, refl, inl refl)
+    over (record { closed = refl; free = refl; unfilled = refl; some = λ zero. absurd cc; why = refl }, refl, inl refl)
 floor_ends k surely true =
-    both (for_call k surely) 1 7 (at_first ENOSYS) (is_at_hand k.kept surely) (hand_found k)
-    (Hand (for_call k surely) (at_first ENOSYS)) (Ends k surely)
-    (hand (for_call k surely) (at_first ENOSYS) refl refl) (λ t is h. hand_ends k surely t is h)
+    both 1 7 (hand (for_call k surely) (at_first ENOSYS) refl refl) (λ t is h. hand_ends k surely t is h)
 
 searched : (k : Known) (surely : Bool)
-    → Goes Found (for_call k surely) 11 (at_first ENOSYS) (find k surely) (Ends k surely)
+    → Goes (watch (for_call k surely)) 11 (at_first ENOSYS) (find k surely) (Ends k surely)
 unfolding find
 searched k surely =
-    goes_on (for_call k surely) 3 8 (at_first ENOSYS) (has_floor k) (floor_found k surely) (floor_by (at_first ENOSYS))
-    (λ has. Unit {0}) (Ends k surely) (floor (for_call k surely) (at_first ENOSYS) k refl)
+    goes_on 3 8 (floor_by (at_first ENOSYS)) (floor (for_call k surely) (at_first ENOSYS) k refl)
     (λ has u. floor_ends k surely has)
 
 pub finds-hold : FindsHold
@@ -277,23 +268,18 @@ lost_hand k fd t true h = λ there same. h.yes refl
 lost_hand k fd t false h = inr (h.denies refl)
 
 lost_floor : (k : Known) (fd : ℕ) (has : Bool)
-    → Goes Bool (for_call k true) 1 (floor_by (at_first ENOSYS) has) (floor_lost k has) (LostEnds k.kept fd)
-lost_floor k fd false = over (for_call k true) 1 (lacking (at_first ENOSYS)) true (LostEnds k.kept fd) (inl refl)
+    → Goes (watch (for_call k true)) 1 (floor_by (at_first ENOSYS) has) (floor_lost k has) (LostEnds k.kept fd)
+lost_floor k fd false = over (inl refl)
 lost_floor k fd true =
-    both (for_call k true) 1 0 (at_first ENOSYS) (is_at_hand k.kept true) (λ is. ends (not is))
-    (Hand (for_call k true) (at_first ENOSYS)) (LostEnds k.kept fd)
-    (hand (for_call k true) (at_first ENOSYS) refl refl)
-    (λ t is h. over (for_call k true) 0 t (not is) (LostEnds k.kept fd) (lost_hand k fd t is h))
+    both 1 0 (hand (for_call k true) (at_first ENOSYS) refl refl) (λ t is h. over (lost_hand k fd t is h))
 
-looked : (k : Known) (fd : ℕ) → Goes Bool (for_call k true) 4 (at_first ENOSYS) (is_lost k fd) (LostEnds k.kept fd)
+looked : (k : Known) (fd : ℕ) → Goes (watch (for_call k true)) 4 (at_first ENOSYS) (is_lost k fd) (LostEnds k.kept fd)
 unfolding is_lost
 looked k fd =
-    choose (for_call k true) 4 (at_first ENOSYS) (not k.kept.there || not (k.kept.fd == fd)) (ends false) _
-    (LostEnds k.kept fd)
-    (λ away. over (for_call k true) 4 (at_first ENOSYS) false (LostEnds k.kept fd)
+    choose (not k.kept.there || not (k.kept.fd == fd))
+    (λ away. over
     (λ there same. absurd (grind (arith, away, there, same))))
-    (λ here. goes_on (for_call k true) 3 1 (at_first ENOSYS) (has_floor k) (floor_lost k) (floor_by (at_first ENOSYS))
-    (λ has. Unit {0}) (LostEnds k.kept fd) (floor (for_call k true) (at_first ENOSYS) k refl)
+    (λ here. goes_on 3 1 (floor_by (at_first ENOSYS)) (floor (for_call k true) (at_first ENOSYS) k refl)
     (λ has u. lost_floor k fd has))
 
 pub looks-hold : LooksHold

@@ -1,5 +1,4 @@
 pub mod FindLemmas
-pub mod Goes
 pub mod HandLemmas
 pub mod Parts
 pub mod PrivateLemmas

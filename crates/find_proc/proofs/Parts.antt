@@ -1,15 +1,16 @@
 -- What each part of a search leaves behind it.
-use Rattle.std.proofs.Common.{◌≡◌, ◌≢◌, ◌⊎◌, inl, inr, ℕ, ◌+◌, List, ◌∷◌, Bool, true, false, not, ◌&&◌, ◌||◌, if◌then◌else◌, Result, Ok, Err, refl, sym, ap, ◌∙◌, arith}
+use Rattle.std.proofs.Common.{◌≡◌, ◌≢◌, ◌⊎◌, inl, inr, ℕ, ◌+◌, List, Bool, true, false, not, ◌&&◌, ◌||◌, if◌then◌else◌, Result, Ok, Err, refl, sym, ap, ◌∙◌, arith}
 use Rattle.std.specs.Prelude.{◌==◌, nat_lt, Option, Some, None}
-use Rattle.std.proofs.lemmas.Bool.{eq-eqb, eqb-true}
 use Rattle.system_calls.specs.Errors.{EBADF, ENOSYS}
 use Rattle.dialogue.specs.Dialogue.{and_then, calling, closes, copies_above, ends, knows, look_up, opens, stats, stats_file_system}
 use Rattle.dialogue.specs.declared.calls.Answer.{Answer}
-use Rattle.find_proc.specs.Asks.{AT_FDCWD, NO_DIRECTORY, NO_MAGICLINKS, SAME, above_error, above_told, fails_closed, file_of, file_of_answer, file_told, has_floor, has_followed_proc, has_number, is_proc, is_short, look_told, number_told, opened_above, opened_told, proc_told}
-use Rattle.find_proc.specs.Seen.{May, Seen, Wish, asked, copy_of, gets, gets_none, is_in, lacking, looked_by, seen_by, shown, told_by, unasked, why_unopened, without}
-use Rattle.find_proc.specs.declared.asks.File.{File}
+use Rattle.find_proc.specs.Asks.{AT_FDCWD, NO_DIRECTORY, NO_MAGICLINKS, SAME, above_error, above_told, fails_closed, file_of, file_of_answer, file_told, has_floor, has_followed_proc, has_number, is_proc, is_short, number_told, opened_above, proc_told}
+use Rattle.find_proc.specs.Seen.{May, Seen, Wish, asked, copy_of, gets, gets_none, lacking, looked_by, shown, told_by, unasked, watch, why_unopened}
 use Rattle.find_proc.specs.declared.asks.Known.{Known}
-use Rattle.find_proc.proofs.Goes.{Goes, asks_then, choose, over}
+use Rattle.dialogue.specs.Holds.{is_in}
+use Rattle.system_calls.specs.Held.{without}
+use Rattle.dialogue.proofs.HeldLemmas.{first_in, same, second_in, without_first, without_second}
+use Rattle.dialogue.proofs.HoldLemmas.{Goes, asks_then, choose, over}
 
 -- an error is one
 abbrev pub IsSome : {E : Type 0} → Result E ℕ → Type 0
@@ -19,37 +20,7 @@ IsSome (Err error) = error ≢ 0
 pub not_zero : (n : ℕ) → (n == 0) ≡ false → n ≢ 0
 not_zero n is same = absurd (grind (arith, is, same))
 
--- ---- lists of descriptors
-
-pub same : (n : ℕ) → (n == n) ≡ true
-same n = eq-eqb n n refl
-
-pub first_in : (fd : ℕ) (xs : List ℕ) → is_in fd (fd ∷ xs) ≡ true
-first_in fd xs = rw (same fd) refl
-
-pub second_in : (fd x : ℕ) (xs : List ℕ) → is_in fd (x ∷ fd ∷ xs) ≡ true
-second_in fd x xs = by_case (x == fd)
-  where
-    by_case : (b : Bool) → (b || is_in fd (fd ∷ xs)) ≡ true
-    by_case true = refl
-    by_case false = first_in fd xs
-
-pub without_first : (fd : ℕ) (xs : List ℕ) → without fd (fd ∷ xs) ≡ xs
-without_first fd xs = rw (same fd) refl
-
-pub without_second : (fd x : ℕ) (xs : List ℕ) → without fd (x ∷ fd ∷ xs) ≡ x ∷ xs
-without_second fd x xs = by_case (x == fd) refl
-  where
-    by_case : (b : Bool) → (x == fd) ≡ b → (if b then fd ∷ xs else x ∷ without fd (fd ∷ xs)) ≡ x ∷ xs
-    by_case true is = ap (λ y. y ∷ xs) (sym (eqb-true x fd is))
-    by_case false is = ap (λ ys. x ∷ ys) (without_first fd xs)
-
--- of what is open alone, or was opened last
-pub in_by : (fd : ℕ) (held rest : List ℕ) → held ≡ fd ∷ rest → is_in fd held ≡ true
-in_by fd held rest h = ap (is_in fd) h ∙ first_in fd rest
-
-pub out_by : (fd : ℕ) (held rest : List ℕ) → held ≡ fd ∷ rest → without fd held ≡ rest
-out_by fd held rest h = ap (without fd) h ∙ without_first fd rest
+-- ---- descriptors
 
 copy_again : (o : Option ℕ) (fd low high : ℕ) → copy_of (copy_of o fd low) low high ≡ copy_of o fd high
 copy_again None fd low high = refl
@@ -71,33 +42,29 @@ abbrev FloorIs : Seen → Seen → Bool → Type 0
 FloorIs s t has = (t ≡ floor_by s has) × Unit {0}
 
 numbered : (w : Wish) (s : Seen) (has is_known : Bool) → s.floor ≡ unasked
-    → Goes Bool w 1 (if has then record s { floor = if is_known then shown else unasked } else lacking s)
+    → Goes (watch w) 1 (if has then record s { floor = if is_known then shown else unasked } else lacking s)
     (if has && is_known then and_then (calling (knows true)) (λ _. ends has) else ends has) (FloorIs s)
-numbered w s false is_known quiet = over w 1 (lacking s) false (FloorIs s) (refl, tt)
-numbered w s true false quiet = over w 1 (record s { floor = unasked }) true (FloorIs s) (settles s quiet, tt)
-numbered w s true true quiet =
-    asks_then w 0 (record s { floor = shown }) (knows true) (λ _. ends true) (FloorIs s) (refl, refl)
-    (λ a. over w 0 (record s { floor = unasked }) true (FloorIs s) (settles s quiet, tt))
+numbered w s false is_known quiet = over (refl, tt)
+numbered w s true false quiet = over (settles s quiet, tt)
+numbered w s true true quiet = asks_then 0 (knows true) (refl, refl) (λ a. over (settles s quiet, tt))
 
 numbers : (w : Wish) (s : Seen) (is_known : Bool) → s.floor ≡ unasked
-    → Goes Bool w 2 (record s { floor = asked is_known }) (and_then (calling (stats AT_FDCWD)) (number_told is_known)) (FloorIs s)
-numbers w s is_known quiet =
-    asks_then w 1 (record s { floor = asked is_known }) (stats AT_FDCWD) (number_told is_known) (FloorIs s) (inl tt)
-    (λ a. numbered w s (has_number a) is_known quiet)
+    → Goes (watch w) 2 (record s { floor = asked is_known }) (and_then (calling (stats AT_FDCWD)) (number_told is_known)) (FloorIs s)
+numbers w s is_known quiet = asks_then 1 (stats AT_FDCWD) (inl tt) (λ a. numbered w s (has_number a) is_known quiet)
 
 looked_up : (w : Wish) (s : Seen) (none short : Bool) → s.floor ≡ unasked
-    → Goes Bool w 2 (if none || short then record s { floor = asked none } else lacking s)
+    → Goes (watch w) 2 (if none || short then record s { floor = asked none } else lacking s)
     (if not none && not short then ends false else and_then (calling (stats AT_FDCWD)) (number_told none)) (FloorIs s)
 looked_up w s true short quiet = numbers w s true quiet
 looked_up w s false true quiet = numbers w s false quiet
-looked_up w s false false quiet = over w 2 (lacking s) false (FloorIs s) (refl, tt)
+looked_up w s false false quiet = over (refl, tt)
 
 pub floor : (w : Wish) (s : Seen) (k : Known) → s.floor ≡ unasked
-    → Goes Bool w 3 s (has_floor k) (λ t has. (t ≡ floor_by s has) × Unit {0})
+    → Goes (watch w) 3 s (has_floor k) (λ t has. (t ≡ floor_by s has) × Unit {0})
 unfolding has_floor
 floor w s k quiet =
-    choose w 3 s k.has_floor (ends true) _ (FloorIs s) (λ _. over w 3 s true (FloorIs s) (refl, tt))
-    (λ _. asks_then w 2 s (look_up NO_DIRECTORY SAME k.machine.directory NO_MAGICLINKS) look_told (FloorIs s) tt
+    choose k.has_floor (λ _. over (refl, tt))
+    (λ _. asks_then 2 (look_up NO_DIRECTORY SAME k.machine.directory NO_MAGICLINKS) tt
     (λ a. looked_up w s (a.error == EBADF) (is_short a.error) quiet))
 
 -- ---- what is open
@@ -112,11 +79,11 @@ file_some a = by_case (a.error == 0) refl a.has_mount
     by_case true is false = λ none. absurd cc
 
 pub file : (w : Wish) (s : Seen) (fd : ℕ) → s.floor ≡ unasked → (fd ≡ w.kept.fd) ⊎ (is_in fd s.held ≡ true)
-    → Goes (Result File ℕ) w 1 s (file_of fd) (λ t r. (t ≡ told_by w s fd r) × IsSome r)
+    → Goes (watch w) 1 s (file_of fd) (λ t r. (t ≡ told_by w s fd r) × IsSome r)
 unfolding file_of
 file w s fd quiet may =
-    asks_then w 0 s (stats fd) (λ a. ends (file_told a)) (λ t r. (t ≡ told_by w s fd r) × IsSome r) (inr may)
-    (λ a. over w 0 (seen_by w s (stats fd) a) (file_told a) (λ t r. (t ≡ told_by w s fd r) × IsSome r)
+    asks_then 0 (stats fd) (inr may)
+    (λ a. over
     (rw quiet refl, file_some a))
 
 proc_some : (a : Answer) → IsSome (proc_told a)
@@ -127,20 +94,18 @@ proc_some a = by_case (a.error == 0) refl
     by_case true is = tt
 
 pub proc : (w : Wish) (s : Seen) (fd : ℕ) → (w.handed ≡ Some fd) ⊎ (is_in fd s.held ≡ true)
-    → Goes (Result Bool ℕ) w 1 s (is_proc fd) (λ t r. (t ≡ looked_by s fd r) × IsSome r)
+    → Goes (watch w) 1 s (is_proc fd) (λ t r. (t ≡ looked_by s fd r) × IsSome r)
 unfolding is_proc
 proc w s fd may =
-    asks_then w 0 s (stats_file_system fd) (λ a. ends (proc_told a)) (λ t r. (t ≡ looked_by s fd r) × IsSome r) may
-    (λ a. over w 0 (looked_by s fd (proc_told a)) (proc_told a) (λ t r. (t ≡ looked_by s fd r) × IsSome r)
+    asks_then 0 (stats_file_system fd) may
+    (λ a. over
     (refl, proc_some a))
 
 pub closed : {E : Type 0} (w : Wish) (n : ℕ) (s : Seen) (fd error : ℕ) (Post : Seen → Result E ℕ → Type 0)
     → is_in fd s.held ≡ true → Post (record s { held = without fd s.held }) (Err error)
-    → Goes (Result E ℕ) w (1 + n) s (fails_closed fd error) Post
+    → Goes (watch w) (1 + n) s (fails_closed fd error) Post
 unfolding fails_closed
-closed w n s fd error Post held post =
-    asks_then w n s (closes fd) (λ _. ends (Err error)) Post held
-    (λ a. over w n (record s { held = without fd s.held }) (Err error) Post post)
+closed w n s fd error Post held post = asks_then n (closes fd) held (λ a. over post)
 
 -- ---- what is opened
 
@@ -155,46 +120,40 @@ above_some : (error : ℕ) → error ≢ 0 → above_error error ≢ 0
 above_some error some same = absurd (grind (arith, some, same))
 
 raised : (w : Wish) (s : Seen) (dir low : ℕ) (c : Answer) (b : Bool) → (c.error == 0) ≡ b
-    → Goes (Result ℕ ℕ) w 1
+    → Goes (watch w) 1
     (if b then gets (gets s low (copy_of s.proc dir low)) c.value (copy_of (copy_of s.proc dir low) low c.value)
     else gets_none (gets s low (copy_of s.proc dir low)) (why_unopened s (above_error c.error)))
     (and_then (calling (closes low)) (λ _. ends (if not b then Err (above_error c.error) else Ok c.value))) (Got s dir)
 raised w s dir low c true is =
-    let g = gets (gets s low (copy_of s.proc dir low)) c.value (copy_of (copy_of s.proc dir low) low c.value) in
-    asks_then w 0 g (closes low) (λ _. ends (Ok c.value)) (Got s dir) (second_in low c.value s.held)
-    (λ a. over w 0 (record g { held = without low g.held }) (Ok c.value) (Got s dir) (
+    asks_then 0 (closes low) (second_in low c.value s.held)
+    (λ a. over (
       ap (λ xs. record (gets s c.value (copy_of (copy_of s.proc dir low) low c.value)) { held = xs })
           (without_second low c.value s.held) ∙ ap (gets s c.value) (copy_again s.proc dir low c.value),
       tt,
     ))
 raised w s dir low c false is =
-    let g = gets_none (gets s low (copy_of s.proc dir low)) (why_unopened s (above_error c.error)) in
-    asks_then w 0 g (closes low) (λ _. ends (Err (above_error c.error))) (Got s dir) (first_in low s.held)
-    (λ a. over w 0 (record g { held = without low g.held }) (Err (above_error c.error)) (Got s dir) (
+    asks_then 0 (closes low) (first_in low s.held)
+    (λ a. over (
       ap (λ xs. record (gets_none s (why_unopened s (above_error c.error))) { held = xs }) (without_first low s.held),
       above_some c.error (not_zero c.error is),
     ))
 
 opened_so : (w : Wish) (s : Seen) (dir : ℕ) (a : Answer) (b : Bool) → (a.error == 0) ≡ b
-    → Goes (Result ℕ ℕ) w 2
+    → Goes (watch w) 2
     (if b then gets s a.value (copy_of s.proc dir a.value) else gets_none s (why_unopened s a.error))
     (if not b then ends (Err a.error)
     else (if nat_lt 2 a.value then ends (Ok a.value)
     else and_then (calling (copies_above a.value))
     (λ c. and_then (calling (closes a.value)) (λ _. ends (above_told c)))))
     (Got s dir)
-opened_so w s dir a false is =
-    over w 2 (gets_none s (why_unopened s a.error)) (Err a.error) (Got s dir) (refl, not_zero a.error is)
+opened_so w s dir a false is = over (refl, not_zero a.error is)
 opened_so w s dir a true is =
-    let g = gets s a.value (copy_of s.proc dir a.value) in
-    choose w 2 g (nat_lt 2 a.value) (ends (Ok a.value)) _ (Got s dir)
-    (λ _. over w 2 g (Ok a.value) (Got s dir) (refl, tt))
-    (λ _. asks_then w 1 g (copies_above a.value) _ (Got s dir) (first_in a.value s.held)
+    choose (nat_lt 2 a.value) (λ _. over (refl, tt))
+    (λ _. asks_then 1 (copies_above a.value) (first_in a.value s.held)
     (λ c. raised w s dir a.value c (c.error == 0) refl))
 
 pub opened : (w : Wish) (s : Seen) (dir : ℕ) (path : List ℕ) (flags mode : ℕ) → May w s (opens dir path flags mode)
-    → Goes (Result ℕ ℕ) w 3 s (opened_above (opens dir path flags mode)) (λ t r. (t ≡ got s dir r) × IsSome r)
+    → Goes (watch w) 3 s (opened_above (opens dir path flags mode)) (λ t r. (t ≡ got s dir r) × IsSome r)
 unfolding opened_above
 opened w s dir path flags mode may =
-    asks_then w 2 s (opens dir path flags mode) opened_told (Got s dir) may
-    (λ a. opened_so w s dir a (a.error == 0) refl)
+    asks_then 2 (opens dir path flags mode) may (λ a. opened_so w s dir a (a.error == 0) refl)

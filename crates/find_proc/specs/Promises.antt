@@ -1,26 +1,16 @@
 -- What holds of whole conversations.
-use Rattle.std.specs.Prelude.{◌≡◌, ◌≢◌, ◌⊎◌, ◌≤◌, ℕ, List, [], ◌∷◌, length, Bool, true, false, Some, None, Result, Ok, Err}
+use Rattle.std.specs.Prelude.{◌≡◌, ◌≢◌, ◌⊎◌, ℕ, List, [], ◌∷◌, Bool, true, false, Some, None, Result, Ok, Err}
 use Rattle.system_calls.specs.Errors.{EBUSY, ENOSYS}
-use Rattle.dialogue.specs.Dialogue.{Dialogue, Exchange, Whole, without_signals}
+use Rattle.dialogue.specs.Dialogue.{Exchange, Whole}
+use Rattle.dialogue.specs.Holds.{EachHolds}
 use Rattle.find_proc.specs.Find.{find, is_it, is_lost, kept_of, proc_of}
 use Rattle.find_proc.specs.HandIn.{hand_in}
 use Rattle.find_proc.specs.Private.{make_private}
-use Rattle.find_proc.specs.Seen.{AllMay, Seen, Wish, at_first, seen_after}
+use Rattle.find_proc.specs.Seen.{Seen, Wish, at_first, watch}
 use Rattle.find_proc.specs.declared.asks.File.{File}
 use Rattle.find_proc.specs.declared.asks.Kept.{Kept}
 use Rattle.find_proc.specs.declared.asks.Known.{Known}
 use Rattle.find_proc.specs.declared.asks.Proc.{Proc}
-
--- The exchanges are so many at most; each system call is made where it may be; and what they come to in the end.
-pub record Holds (w : Wish) (most : ℕ) (first : Seen) (es : List Exchange) (Ends : Seen → Type 0) : Type 0 where
-  pub few : length es ≤ most
-  pub fair : AllMay w first es
-  pub ends : Ends (seen_after w first es)
-
--- what so holds of each whole conversation, except for signals
-abbrev pub EachHolds : {E : Type 0} → Wish → ℕ → Seen → Dialogue E → (Seen → E → Type 0) → Type 0
-EachHolds {E} w most first s Ends =
-    (es : List Exchange) (e : E) → Whole s es e → Holds w most first (without_signals es) (λ t. Ends t e)
 
 -- ---- how it ends
 
@@ -98,18 +88,18 @@ for_program k fd = record { kept = k.kept; surely = false; finds = false; handed
 
 abbrev pub FindsHold : Type 0
 FindsHold = (k : Known) (surely : Bool)
-    → EachHolds (for_call k surely) 11 (at_first ENOSYS) (find k surely) (λ t f. FindEnds k.kept surely t f.kept f.proc)
+    → EachHolds (watch (for_call k surely)) 11 (at_first ENOSYS) (find k surely) (λ t f. FindEnds k.kept surely t f.kept f.proc)
 
 abbrev pub LooksHold : Type 0
 LooksHold = (k : Known) (fd : ℕ)
-    → EachHolds (for_call k true) 4 (at_first ENOSYS) (is_lost k fd) (λ t lost. LostEnds k.kept fd t lost)
+    → EachHolds (watch (for_call k true)) 4 (at_first ENOSYS) (is_lost k fd) (λ t lost. LostEnds k.kept fd t lost)
 
 abbrev pub HandingHolds : Type 0
-HandingHolds = (k : Known) (fd : ℕ) → EachHolds (for_program k fd) 11 (at_first 0) (hand_in k fd) HandEnds
+HandingHolds = (k : Known) (fd : ℕ) → EachHolds (watch (for_program k fd)) 11 (at_first 0) (hand_in k fd) HandEnds
 
 abbrev pub MakingHolds : Type 0
 MakingHolds = (k : Known) → k.kept.claimed ≡ false
-    → EachHolds (for_own k) 30 (at_first 0) (make_private k) HandEnds
+    → EachHolds (watch (for_own k)) 30 (at_first 0) (make_private k) HandEnds
 
 -- the program has one already
 abbrev pub NoneIsMade : Type 0

@@ -1,7 +1,9 @@
 -- What the exchanges of a conversation come to, except signals: what is open, and what answers showed.
 use Rattle.std.specs.Prelude.{◌≡◌, ◌≢◌, ◌⊎◌, ℕ, List, [], ◌∷◌, ◌==◌, Bool, true, false, not, ◌&&◌, ◌||◌, if◌then◌else◌, Option, Some, None, Result, Ok, Err}
 use Rattle.system_calls.specs.Errors.{EBADF, EBUSY, EINVAL, ENOSYS}
-use Rattle.dialogue.specs.Dialogue.{Exchange, SystemCall, claims, closes, configures, copies_above, copies_proc, keeps, knows, look_up, mounts, new_proc, opens, reads_thread, releases, stats, stats_file_system}
+use Rattle.system_calls.specs.Held.{without}
+use Rattle.dialogue.specs.Dialogue.{SystemCall, claims, closes, configures, copies_above, copies_proc, keeps, knows, look_up, mounts, new_proc, opens, reads_thread, releases, stats, stats_file_system}
+use Rattle.dialogue.specs.Holds.{Watch, is_in}
 use Rattle.dialogue.specs.declared.calls.Answer.{Answer}
 use Rattle.find_proc.specs.Asks.{AT_FDCWD, SAME, above_error, file_told, has_number, is_short, proc_told}
 use Rattle.find_proc.specs.Find.{AT_PROC, is_it, open_error}
@@ -75,14 +77,6 @@ at_first why =
     }
 
 -- ---- descriptors
-
-abbrev pub is_in : ℕ → List ℕ → Bool
-is_in fd [] = false
-is_in fd (x ∷ xs) = (x == fd) || is_in fd xs
-
-abbrev pub without : ℕ → List ℕ → List ℕ
-without fd [] = []
-without fd (x ∷ xs) = if x == fd then xs else x ∷ without fd xs
 
 -- a new one: nothing is known of it but whether it is a copy of a proc(5)
 abbrev pub gets : Seen → ℕ → Option ℕ → Seen
@@ -170,10 +164,6 @@ seen_by w s (mounts fd) a = if a.error == 0 then makes s a.value else record s {
 seen_by w s copies_proc a = if a.error == 0 then makes s a.value else s
 seen_by w s _ a = s
 
-abbrev pub seen_after : Wish → Seen → List Exchange → Seen
-seen_after w s [] = s
-seen_after w s (x ∷ xs) = seen_after w (seen_by w s x.asked x.answer) xs
-
 -- ---- where each system call may be made
 
 -- /proc is opened for a call alone, never if the program has handed one in, and no kept one is passed over unasked
@@ -229,6 +219,5 @@ May w s (mounts fd) = is_in fd s.held ≡ true
 May w s copies_proc = s.why ≢ 0
 May w s _ = ⊥
 
-abbrev pub AllMay : Wish → Seen → List Exchange → Type 0
-AllMay w s [] = Unit {0}
-AllMay w s (x ∷ xs) = May w s x.asked × AllMay w (seen_by w s x.asked x.answer) xs
+abbrev pub watch : Wish → Watch Seen
+watch w = record { by = λ s x. seen_by w s x.asked x.answer; May = May w }
