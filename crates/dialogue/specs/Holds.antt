@@ -16,7 +16,8 @@ AllMay w s [] = Unit {0}
 AllMay w s (x ∷ xs) = w.May s x.asked × AllMay w (w.by s x) xs
 
 -- The exchanges are so many at most; each system call comes where it may; and what they come to in the end.
-pub record Holds {S : Type 0} (w : Watch S) (most : ℕ) (first : S) (es : List Exchange) (Ends : S → Type 0) : Type 0 where
+pub record Holds {S : Type 0} (w : Watch S) (most : ℕ) (first : S) (es : List Exchange)
+    (Ends : S → Type 0) : Type 0 where
   pub few : length es ≤ most
   pub fair : AllMay w first es
   pub ends : Ends (state_after w first es)

@@ -88,7 +88,8 @@ for_program k fd = record { kept = k.kept; surely = false; finds = false; handed
 
 abbrev pub FindsHold : Type 0
 FindsHold = (k : Known) (surely : Bool)
-    → EachHolds (watch (for_call k surely)) 11 (at_first ENOSYS) (find k surely) (λ t f. FindEnds k.kept surely t f.kept f.proc)
+    → EachHolds (watch (for_call k surely)) 11 (at_first ENOSYS) (find k surely)
+    (λ t f. FindEnds k.kept surely t f.kept f.proc)
 
 abbrev pub LooksHold : Type 0
 LooksHold = (k : Known) (fd : ℕ)

@@ -1,4 +1,4 @@
 pub mod Giving
-pub mod History
 pub mod Made
 pub mod Promises
+pub mod Seen

@@ -1,36 +1,12 @@
-//! How far a call has come with the entry that it has made, and what comes next.
-ghost use Rattle.std.specs.Prelude.{◌≡◌, List, [], ◌∷◌, ◌==◌, true, false};
-ghost use Rattle.system_calls.specs.Objects.{format, S_IFLNK};
-ghost use Rattle.give_entry.specs.Made.{is_known, is_of_kind, Made};
-ghost use Rattle.give_entry.specs.History.{after_look, after_open, after_question, after_seen, ends, is_question, over, refused, Exchange};
-ghost use Rattle.give_entry.specs.Giving.{due_of, exchange, made_of, IsAt};
+//! The entry that a call has made: opened by its name, and compared with what was made.
+ghost use Rattle.std.specs.Prelude.{◌≡◌, take};
+ghost use Rattle.dialogue.specs.Dialogue.{asked_of, ran, ran_by};
+ghost use Rattle.give_entry.specs.Giving.{compared, give, look_error, object_of, open_error, opened, read_back, seen};
+ghost use Rattle.give_entry.specs.Made.{is_of_kind};
 
-use system_calls::errors::{EAGAIN, EINTR, ENOENT};
+use dialogue::{Answer, Asked, Question, ask};
+use system_calls::errors::{EAGAIN, ENOENT, ENOSYS};
 use system_calls::{Object, is_same_object};
-
-/// The entry is opened by its name: openat(2) with O_PATH, O_NOFOLLOW and O_CLOEXEC.
-pub const OPEN: u8 = 1;
-
-/// What was opened is looked at: statx(2), or fstat(2).
-pub const LOOK: u8 = 2;
-
-/// The object is looked at that the entry must be: the one that got another name, or the file that was made.
-pub const COMPARE: u8 = 3;
-
-/// The text of the link that was opened is read: readlinkat(2).
-pub const READ: u8 = 4;
-
-/// What was opened is closed.
-pub const CLOSE: u8 = 5;
-
-/// The descriptor by which the file was made is closed.
-pub const CLOSE_MADE: u8 = 6;
-
-/// Nothing comes: what was opened is the entry that the call has made.
-pub const GIVES: u8 = 7;
-
-/// Nothing comes: an error says why there is no descriptor of it.
-pub const FAILS: u8 = 8;
 
 const S_IFMT: u32 = 0o170000;
 
@@ -38,214 +14,186 @@ const S_IFCHR: u32 = 0o020000;
 
 const S_IFBLK: u32 = 0o060000;
 
+const S_IFREG: u32 = 0o100000;
+
 const S_IFLNK: u32 = 0o120000;
 
 /// What the call has made.
-#[repr(C)]
 #[derive(Clone, Copy, Debug, PartialEq, Eq)]
-pub struct Facts {
-    /// The number of a device (inode(7)). It isn't looked at if the entry is none.
-    pub device: u64,
-    /// Its kind, by the bits of S_IFMT. It isn't looked at if an object got another name.
-    pub mode: u32,
-    /// An object got another name, and there is a descriptor of it.
-    pub linked: bool,
-    /// There is a descriptor by which the file was made, and it is closed in the end.
-    pub made: bool,
-}
-
-/// What a system call gave.
-#[repr(C)]
-#[derive(Clone, Copy, Debug, PartialEq, Eq)]
-pub struct Answer {
-    /// At LOOK and COMPARE: which object it is.
-    pub object: Object,
-    /// At LOOK: the number of the device, if it is one.
-    pub device: u64,
-    /// 0, or the number of its error (errno(3)).
-    pub error: u32,
-    /// At LOOK: its mode.
-    pub mode: u32,
-}
-
-/// How far it has come. The driver keeps it.
-#[repr(C)]
-#[derive(Clone, Copy, Debug, PartialEq, Eq)]
-pub struct Giving {
-    /// The object that was looked at.
-    pub object: Object,
-    /// If it is FAILS, the number of the error (errno(3)). At CLOSE and CLOSE_MADE, the one by which it fails then,
-    /// or 0.
-    pub error: u32,
-    /// What comes next: one of the numbers above.
-    pub next: u8,
-}
-
-fn asks(giving: Giving, next: u8, error: u32) -> Giving
-    ensures { result ≡ record giving { next = next; error = error } }
-{
-    Giving {
-        next,
-        error,
-        ..giving
-    }
-}
-
-fn over(giving: Giving, error: u32) -> Giving
-    ensures due { due_of result ≡ over error }
-    ensures same { result.object ≡ giving.object }
-{
-    asks(giving, if error == 0 { GIVES } else { FAILS }, error)
-}
-
-// Nothing is open any more but what is given, and the descriptor by which the file was made.
-fn ends(giving: Giving, facts: &Facts, error: u32) -> Giving
-    ensures due { due_of result ≡ ends facts.now error }
-    ensures same { result.object ≡ giving.object }
-{
-    if facts.made {
-        asks(giving, CLOSE_MADE, error)
-    } else {
-        over(giving, error)
-    }
-}
-
-fn is_known(facts: &Facts) -> bool
-    ensures { result ≡ is_known facts.now }
-{
-    facts.linked || facts.made
+pub enum Made {
+    /// Another name of an object, which this descriptor is of.
+    Name(u32),
+    /// A file, by this descriptor, which is closed in the end.
+    File(u32),
+    /// Any other entry: its kind, by the bits of S_IFMT, and the number of a device.
+    Entry(u32, u64),
 }
 
 // Whether it is of the kind that the call has made, and if that is a device, has its number.
-fn is_of_kind(facts: &Facts, mode: u32, device: u64) -> bool
-    ensures { result ≡ is_of_kind facts.now mode device }
+fn is_of_kind(made: Made, mode: u32, device: u64) -> bool
+    ensures { result ≡ is_of_kind made mode device }
 {
     let kind = mode & S_IFMT;
-    let is_device = kind == S_IFCHR || kind == S_IFBLK;
-    facts.linked || (kind == facts.mode & S_IFMT && (!is_device || device == facts.device))
-}
-
-fn is_link(facts: &Facts) -> bool
-    ensures { result ≡ (format facts.now.mode == S_IFLNK) }
-{
-    facts.mode & S_IFMT == S_IFLNK
-}
-
-fn after_open(giving: Giving, facts: &Facts, error: u32) -> Giving
-    ensures due { due_of result ≡ after_open facts.now error }
-    ensures same { result.object ≡ giving.object }
-{
-    if error == 0 {
-        asks(giving, LOOK, 0)
-    } else if error == EINTR {
-        asks(giving, OPEN, 0)
-    } else if error == ENOENT {
-        ends(giving, facts, EAGAIN)
-    } else {
-        ends(giving, facts, error)
+    match made {
+        Made::Name(_) => true,
+        Made::File(_) => kind == S_IFREG,
+        Made::Entry(wanted, number) => {
+            let is_device = kind == S_IFCHR || kind == S_IFBLK;
+            kind == wanted & S_IFMT && (!is_device || device == number)
+        }
     }
 }
 
-// A question about what was opened failed.
-fn refused(giving: Giving, asked: u8, error: u32) -> Giving
-    ensures due { due_of result ≡ refused asked error }
-    ensures same { result.object ≡ giving.object }
+// Why statx(2) told nothing of an object, or 0: also where a filter kept it from telling the mount.
+fn look_error(about: &Answer) -> u32
+    ensures { result ≡ look_error about.now }
 {
-    if error == EINTR {
-        asks(giving, asked, 0)
+    if about.error == 0 && !about.has_mount {
+        ENOSYS
     } else {
-        asks(giving, CLOSE, error)
+        about.error
     }
 }
 
-// It is of the kind that was made.
-fn after_seen(giving: Giving, facts: &Facts) -> Giving
-    ensures due { due_of result ≡ after_seen facts.now }
-    ensures same { result.object ≡ giving.object }
+fn object_of(about: &Answer) -> Object
+    ensures { result ≡ object_of about.now }
 {
-    if is_known(facts) {
-        asks(giving, COMPARE, 0)
-    } else if is_link(facts) {
-        asks(giving, READ, 0)
-    } else {
-        ends(giving, facts, 0)
+    Object {
+        device: about.device,
+        inode: about.inode,
+        mount: about.mount,
     }
 }
 
-fn after_look(giving: Giving, facts: &Facts, answer: &Answer) -> Giving
-    ensures due { due_of result ≡ after_look facts.now answer.now.error answer.now.mode answer.now.device }
-    ensures same { result.object ≡ answer.now.object }
+fn front(text: &[u8], length: usize) -> &[u8]
+    ensures { result.now ≡ take length text.now }
 {
-    let looked = Giving {
-        object: answer.object,
-        ..giving
-    };
-    if answer.error != 0 {
-        refused(looked, LOOK, answer.error)
-    } else if is_of_kind(facts, answer.mode, answer.device) {
-        after_seen(looked, facts)
+    if length < text.len() {
+        &text[..length]
     } else {
-        asks(looked, CLOSE, EAGAIN)
+        text
     }
 }
 
-fn after_question(giving: Giving, facts: &Facts, asked: u8, error: u32, fits: bool) -> Giving
-    ensures due { due_of result ≡ after_question facts.now asked error fits }
-    ensures same { result.object ≡ giving.object }
+// Whether the object is the one that the other descriptor is of.
+#[tactic(auto, using(dialogue::proofs::TalkLemmas::ran_then, dialogue::proofs::TalkLemmas::ran_ends), unfolding(crate::specs::Giving::compared))]
+fn compared<'n>(answers: &mut &[Answer], about: &Answer, other: u32) -> Asked<'n, Result<(), u32>>
+    ensures { ran_by (λ x. x) asked_of result answers.new.now ≡ ran (compared about.now other) answers.old.now }
 {
+    let that = ask(answers, Question::Stat(other))?;
+    let error = look_error(&that);
     if error != 0 {
-        refused(giving, asked, error)
-    } else if fits {
-        ends(giving, facts, 0)
-    } else {
-        asks(giving, CLOSE, EAGAIN)
+        return Ok(Err(error));
     }
+    let is = is_same_object(&object_of(about), &object_of(&that), false);
+    Ok(if is { Ok(()) } else { Err(EAGAIN) })
 }
 
-/// Begins to open a descriptor of the entry that a call has just made. Takes no memory.
-pub fn begin() -> Giving
-    ensures { (made : Made) → IsAt made [] result }
+// Whether the link has the text that the call has written.
+#[tactic(auto, using(dialogue::proofs::TalkLemmas::ran_then, dialogue::proofs::TalkLemmas::ran_ends), unfolding(crate::specs::Giving::read_back))]
+fn read_back<'n>(
+    answers: &mut &[Answer],
+    fd: u32,
+    text: &[u8],
+    read: &[u8],
+) -> Asked<'n, Result<(), u32>>
+    ensures { ran_by (λ x. x) asked_of result answers.new.now ≡ ran (read_back fd text.now read.now) answers.old.now }
 {
-    Giving {
-        object: Object {
-            device: 0,
-            inode: 0,
-            mount: 0,
-        },
-        error: 0,
-        next: OPEN,
+    let gave = ask(answers, Question::ReadLink(fd))?;
+    if gave.error != 0 {
+        return Ok(Err(gave.error));
+    }
+    let is = front(read, gave.value as usize) == text;
+    Ok(if is { Ok(()) } else { Err(EAGAIN) })
+}
+
+// Whether what was opened is the entry that the call has made, or why not.
+#[tactic(auto, using(dialogue::proofs::TalkLemmas::ran_then, dialogue::proofs::TalkLemmas::ran_ends), unfolding(crate::specs::Giving::seen))]
+fn seen<'n>(
+    answers: &mut &[Answer],
+    fd: u32,
+    made: Made,
+    text: &[u8],
+    read: &[u8],
+) -> Asked<'n, Result<(), u32>>
+    ensures { ran_by (λ x. x) asked_of result answers.new.now
+        ≡ ran (seen fd made text.now read.now) answers.old.now }
+{
+    let about = ask(answers, Question::Stat(fd))?;
+    let error = look_error(&about);
+    if error != 0 {
+        return Ok(Err(error));
+    }
+    if !is_of_kind(made, about.mode as u32, about.node) {
+        return Ok(Err(EAGAIN));
+    }
+    match made {
+        Made::Name(other) => compared(answers, &about, other),
+        Made::File(other) => compared(answers, &about, other),
+        Made::Entry(mode, _) => {
+            if mode & S_IFMT == S_IFLNK {
+                read_back(answers, fd, text, read)
+            } else {
+                Ok(Ok(()))
+            }
+        }
     }
 }
 
-/// Takes what the last system call gave, and says what comes next. The answer's error is 0, or that of the call
-/// (errno(3)); of CLOSE and CLOSE_MADE it isn't looked at. At READ without an error, `read` is the link's text. `text`
-/// is the one that the call has written, if it has made a link. Where nothing comes any more, nothing changes. Takes no
-/// memory.
-///
-/// It opens the entry by its name, and looks at it. If another name was given to an object, or a file was made and is
-/// open, it must be that very object, by the same mount. Else it must be of the kind that was made, a device by its
-/// number, and a link by its text. EINTR (4) has the call made again.
+// There is no such entry any more (ENOENT).
+fn open_error(error: u32) -> u32
+    ensures { result ≡ open_error error }
+{
+    if error == ENOENT { EAGAIN } else { error }
+}
+
+// The entry, if it is the one.
+#[tactic(auto, using(dialogue::proofs::TalkLemmas::ran_then, dialogue::proofs::TalkLemmas::ran_ends), unfolding(crate::specs::Giving::opened))]
+fn opened<'n>(
+    answers: &mut &[Answer],
+    opening: Question<'n>,
+    made: Made,
+    text: &[u8],
+    read: &[u8],
+) -> Asked<'n, Result<u32, u32>>
+    ensures { ran_by (λ x. x) asked_of result answers.new.now
+        ≡ ran (opened (asked_of opening.entry) made text.now read.now) answers.old.now }
+{
+    let gave = ask(answers, opening)?;
+    if gave.error != 0 {
+        return Ok(Err(open_error(gave.error)));
+    }
+    match seen(answers, gave.value, made, text, read)? {
+        Ok(()) => Ok(Ok(gave.value)),
+        Err(error) => {
+            ask(answers, Question::Close(gave.value))?;
+            Ok(Err(error))
+        }
+    }
+}
+
+/// Opens a descriptor of the entry that a call has just made. OPENING asks for the entry by its name, with O_PATH and
+/// O_NOFOLLOW. It must be the object that got another name, or the file that was made, by the same mount. Else it must
+/// be of the kind that was made, a device by its number, and a link by its TEXT. READ: the text that was read last.
 ///
 /// Errors: EAGAIN (11) if there is no such entry (ENOENT), or it isn't the one; any other error of the last call.
-pub fn next(giving: Giving, facts: &Facts, answer: &Answer, read: &[u8], text: &[u8]) -> Giving
-    ensures goes { (history : List Exchange) → IsAt (made_of facts.now text.now) history giving
-        → is_question giving.next ≡ true
-        → IsAt (made_of facts.now text.now) (exchange giving answer.now read.now ∷ history) result }
-    ensures over { is_question giving.next ≡ false → result ≡ giving }
+#[tactic(auto, using(dialogue::proofs::TalkLemmas::ran_then, dialogue::proofs::TalkLemmas::ran_ends), unfolding(crate::specs::Giving::give))]
+pub fn give<'n>(
+    answers: &mut &[Answer],
+    opening: Question<'n>,
+    made: Made,
+    text: &[u8],
+    read: &[u8],
+) -> Asked<'n, Result<u32, u32>>
+    ensures { ran_by (λ x. x) asked_of result answers.new.now
+        ≡ ran (give (asked_of opening.entry) made text.now read.now) answers.old.now }
 {
-    match giving.next {
-        OPEN => after_open(giving, facts, answer.error),
-        LOOK => after_look(giving, facts, answer),
-        COMPARE => after_question(
-            giving,
-            facts,
-            COMPARE,
-            answer.error,
-            is_same_object(&giving.object, &answer.object, false),
-        ),
-        READ => after_question(giving, facts, READ, answer.error, read == text),
-        CLOSE => ends(giving, facts, giving.error),
-        CLOSE_MADE => over(giving, giving.error),
-        _ => giving,
+    let given = opened(answers, opening, made, text, read)?;
+    match made {
+        Made::File(fd) => {
+            ask(answers, Question::Close(fd))?;
+            Ok(given)
+        }
+        _ => Ok(given),
     }
 }

@@ -33,4 +33,6 @@ mod removals;
 #[cfg(test)]
 mod searches;
 #[cfg(test)]
+mod talk;
+#[cfg(test)]
 mod tries;

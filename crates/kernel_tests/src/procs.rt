@@ -1,4 +1,5 @@
 //! A /proc is found, looked at, handed in or made, by answers that Linux gives.
+use crate::talk::{fails, is_same, opened, works};
 use dialogue::{Answer, Asked, Question};
 use find_proc::{
     AT_FDCWD, File, Kept, Known, Proc, a_proc_is_found, a_proc_is_handed_in, a_proc_is_made, find,
@@ -46,33 +47,6 @@ enum End {
     Got(Proc),
     Done,
     Error(u32),
-}
-
-fn works() -> Answer {
-    Answer {
-        file_system: 0,
-        flags: 0,
-        device: 0,
-        inode: 0,
-        mount: 0,
-        node: 0,
-        value: 0,
-        error: 0,
-        links: 0,
-        mode: 0,
-        has_mount: false,
-    }
-}
-
-fn opened(fd: u32) -> Answer {
-    Answer {
-        value: fd,
-        ..works()
-    }
-}
-
-fn fails(error: u32) -> Answer {
-    Answer { error, ..works() }
 }
 
 fn system(file_system: u64, flags: u64) -> Answer {
@@ -147,32 +121,6 @@ fn run<'n>(call: Call, known: &mut Known, answers: &[Answer]) -> Asked<'n, End> 
         Hand(fd) => ended(hand_in(&mut left, known, fd)?),
         Make => ended(make_private(&mut left, known)?),
     })
-}
-
-fn is_same(asked: &Question<'_>, want: &Question<'_>) -> bool {
-    match (asked, want) {
-        (Question::LookUp(a, path, f, r), Question::LookUp(b, name, g, s)) => {
-            a == b && *path == *name && f == g && r == s
-        }
-        (Question::Open(a, path, f, m), Question::Open(b, name, g, n)) => {
-            a == b && *path == *name && f == g && m == n
-        }
-        (Question::Stat(a), Question::Stat(b))
-        | (Question::FileSystem(a), Question::FileSystem(b))
-        | (Question::ReadThread(a), Question::ReadThread(b))
-        | (Question::Close(a), Question::Close(b))
-        | (Question::CopyAbove(a), Question::CopyAbove(b))
-        | (Question::Mount(a), Question::Mount(b)) => a == b,
-        (Question::Configure(a, x), Question::Configure(b, y)) => a == b && x == y,
-        (Question::Claim(x), Question::Claim(y)) | (Question::Know(x), Question::Know(y)) => x == y,
-        (Question::Keep(a, d, i, m, x), Question::Keep(b, e, j, n, y)) => {
-            a == b && d == e && i == j && m == n && x == y
-        }
-        (Question::NewProc, Question::NewProc)
-        | (Question::CopyProc, Question::CopyProc)
-        | (Question::Release, Question::Release) => true,
-        _ => false,
-    }
 }
 
 // Each of these is asked, by the answers before it; then this is the end. What is known then.

@@ -1,5 +1,5 @@
-use Rattle.give_entry.proofs.HistoryLemmas.{gives}
+use Rattle.give_entry.proofs.GiveLemmas.{gives-what-fits}
 use Rattle.give_entry.proofs.laws.what_fits_is_given.Goals as goal
 
 pub returns : goal.returns
-returns c = gives
+returns c = gives-what-fits

@@ -1,5 +1,5 @@
-use Rattle.give_entry.proofs.HistoryLemmas.{fails}
+use Rattle.give_entry.proofs.GiveLemmas.{fails-by-the-last}
 use Rattle.give_entry.proofs.laws.why_it_fails.Goals as goal
 
 pub returns : goal.returns
-returns c = fails
+returns c = fails-by-the-last
