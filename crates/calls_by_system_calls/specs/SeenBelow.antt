@@ -1,6 +1,6 @@
 -- The same of a resolve whose last check is the kernel's (openat2(2), RESOLVE_BENEATH): at a moment of the system call
 -- the object stood below the root, at names that the program doesn't learn.
-use Rattle.std.specs.Prelude.{◌≡◌, ℕ, List, [], ◌∷◌, ◌++◌, true}
+use Rattle.std.specs.Prelude.{ℕ, List, [], ◌∷◌, ◌++◌, true}
 use Rattle.path_text.specs.Text.{reading_of}
 use Rattle.walk_plan.specs.declared.goal.Goal.{Goal}
 use Rattle.step_resolver.specs.Order.{Line, Handle}

@@ -16,14 +16,10 @@ use Rattle.path_text.specs.Text.{between_slashes, parts_of, text_fault, reading_
 use Rattle.path_text.specs.Reading.{Reading}
 use Rattle.path_text.proofs.PrintLemmas.{printed_read}
 use Rattle.path_text.proofs.TextLemmas.{and_true}
-use Rattle.tree_model.specs.declared.answer.Answer.{Answer}
-use Rattle.tree_model.specs.declared.answer.Answer.TheVariants.{Opened, Done, Refused}
-use Rattle.tree_model.specs.StepWith.{StepWith}
-use Rattle.tree_model.specs.declared.step.Kind.{Kind}
+use Rattle.tree_model.specs.declared.answer.Answer.TheVariants.{Refused}
 use Rattle.tree_model.specs.declared.step.Kind.TheVariants.{Dir}
-use Rattle.tree_model.specs.declared.step.StepOf.TheVariants.{Open, Close}
+use Rattle.tree_model.specs.declared.step.StepOf.TheVariants.{Open}
 use Rattle.walk_plan.specs.declared.goal.Goal.{Goal}
-use Rattle.walk_plan.specs.declared.goal.Goal.TheVariants.{Follow, NoFollow}
 use Rattle.walk_plan.specs.Plan.{follows, leads_out}
 use Rattle.step_resolver.specs.Asked.{AskedPart, Named, asked, is_deepest}
 use Rattle.step_resolver.specs.Meaning.{LINKS_MAX, is_too_long}
@@ -35,7 +31,7 @@ use Rattle.root_ops.specs.declared.below.Below.{Below}
 use Rattle.root_ops.specs.declared.op.Op.{Op}
 use Rattle.root_ops.specs.declared.op.Op.TheVariants.{Resolve, ResolveNoFollow}
 use Rattle.root_ops.specs.EachCall.{EachCallTells}
-use Rattle.root_ops.specs.Order.{CallTurn, ends, fault, walked, on_path, unless_fault, makes, starts, LeadsTo}
+use Rattle.root_ops.specs.Order.{CallTurn, ends, fault, walked, on_path, unless_fault, starts, LeadsTo}
 use Rattle.root_ops.specs.declared.reply.Reply.TheVariants.{Fault}
 use Rattle.root_ops.specs.CallHistory.{RepliesWith}
 use Rattle.kernel_walks.specs.AtOnce.{Passed, opens, closes, has_names, misses_at_once, spells_place, lines_missing, lines_missing_from, names_to, FailsAtOnceTell}

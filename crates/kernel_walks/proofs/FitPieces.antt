@@ -1,9 +1,8 @@
 -- The pieces of a text: which of them are names, where the text has no NUL.
-use Rattle.std.proofs.Common.{◌≡◌, ℕ, Bool, true, false, not, ◌==◌, ◌&&◌, ◌||◌, cond, List, [], ◌∷◌, refl, sym, ap, subst, ◌∙◌, arith}
-use Rattle.std.specs.Prelude.{codes}
+use Rattle.std.proofs.Common.{◌≡◌, ℕ, Bool, true, false, not, ◌==◌, ◌&&◌, ◌||◌, cond, List, [], ◌∷◌, refl, sym, ap, ◌∙◌, arith}
 use Rattle.std.specs.List.{list_any, list_all, onto_first}
 use Rattle.std.proofs.lemmas.Bool.{eqb-true}
-use Rattle.path_text.specs.Name.{NUL, is_name, same_bytes}
+use Rattle.path_text.specs.Name.{NUL, is_name}
 use Rattle.path_text.specs.Text.{between_slashes}
 use Rattle.path_text.specs.declared.name.TheConstants.{SLASH}
 use Rattle.kernel_walks.specs.AtOnce.{fits_piece}
