@@ -1,4 +1,4 @@
--- A path's last name, as a C program is told where it stands: what comes before it in the path is the path of its
+-- Where a path's last name stands in it: what comes before it in the path is the path of its
 -- directory. Calls on one entry take the same two (root_ops, `split_of` of path_text).
 use Rattle.std.specs.Prelude.{◌≡◌, ℕ, List, Bool, false, if◌then◌else◌, nat_lt, length, take, drop, Option, Some, None, MatchOption, MatchResult, ◌++◌, ◌==◌}
 use Rattle.std.specs.List.{list_any}
