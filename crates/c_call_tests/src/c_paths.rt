@@ -1,23 +1,11 @@
-//! What is decided of a call from C by its numbers and its path: whether one system call may walk it, where its last
-//! name stands, and which errors refuse a step.
+//! What is decided of a call from C by its path: whether one system call may walk it, and where its last name stands;
+//! and which errors refuse a step.
 ghost use Rattle.std.specs.Prelude.{◌<◌, ◌≤◌};
 
-use c_protocol::{Asked, Parted, misses_at_once, split};
-use kernel_walks::follows_at_once;
+use kernel_walks::{Parted, follows_at_once, misses_at_once, split};
 use path_text::Flags;
 use std::test::Fail;
 use step_calls::is_refusal;
-
-// An operation below the root with handle 3.
-fn asked(op: u8, beneath: bool) -> Asked {
-    Asked {
-        root: 3,
-        op,
-        mode: 0,
-        beneath,
-        no_links: false,
-    }
-}
 
 /// RESOLVE_BENEATH, RESOLVE_NO_SYMLINKS and a path, and whether openat2(2) may walk that whole.
 const FOLLOWED: [(bool, bool, &str, bool); 13] = [
@@ -79,32 +67,30 @@ fn lengths_are_those_of_linux(rt: HostRuntime) -> Result<(), Fail> {
     Ok(())
 }
 
-/// An operation's number, a path and a place; and whether the call fails where a name of that is missing.
-const MISSED: [(u8, &str, &str, bool); 13] = [
-    (1, "a/f", "/a/f", true),
-    (2, "/a/f", "/a/f", true),
-    // Directories that are made all, another operation, another part, another place, and none.
-    (10, "a/b", "/a/b", false),
-    (3, "a", "/a", false),
-    (1, "a/./f", "/a/f", false),
-    (1, "a/f/", "/a/f", false),
-    (1, "a//f", "/a/f", false),
-    (1, "a/../f", "/a/../f", false),
-    (1, "a/f", "/a/g", false),
-    (1, "a/f", "a/f", false),
-    (1, "/", "/", false),
-    (1, "", "/", false),
-    (1, "a", "", false),
+/// A path and a place; and whether a resolve fails where a name of that is missing.
+const MISSED: [(&str, &str, bool); 11] = [
+    ("a/f", "/a/f", true),
+    ("/a/f", "/a/f", true),
+    // Another part, another place, and none.
+    ("a/./f", "/a/f", false),
+    ("a/f/", "/a/f", false),
+    ("a//f", "/a/f", false),
+    ("a/../f", "/a/../f", false),
+    ("a/f", "/a/g", false),
+    ("a/f", "a/f", false),
+    ("/", "/", false),
+    ("", "/", false),
+    ("a", "", false),
 ];
 
 #[test]
 fn names_are_missed_at_once(rt: HostRuntime) -> Result<(), Fail> {
-    for (op, path, place, wanted) in &MISSED {
-        let missed = misses_at_once(&asked(*op, false), path.as_bytes(), place.as_bytes());
+    for (path, place, wanted) in &MISSED {
+        let missed = misses_at_once(false, path.as_bytes(), place.as_bytes());
         assert!(rt; missed == *wanted, "{path}");
     }
     // A slash at the beginning leads out of the root.
-    assert!(rt; !misses_at_once(&asked(1, true), b"/a/f", b"/a/f"));
+    assert!(rt; !misses_at_once(true, b"/a/f", b"/a/f"));
     Ok(())
 }
 

@@ -54,7 +54,6 @@ fn fine() -> Answer {
         unopened: 0,
         made: 0,
         reply: 0,
-        whole: false,
         stepped: true,
         changed: false,
         has_proc: false,
@@ -120,19 +119,13 @@ fn what_a_reply_opened_is_taken(rt: HostRuntime) -> Result<(), Fail> {
 }
 
 #[test]
-fn a_text_is_whole_or_wants_memory(rt: HostRuntime) -> Result<(), Fail> {
+fn a_text_and_a_count_are_given(rt: HostRuntime) -> Result<(), Fail> {
     let text = Answer {
         length: 3,
-        whole: true,
         ..replies(TEXT, 0)
     };
     let end = goes(goes(due(plain()), text), fine());
     assert!(rt; is(&end, ENDS, 0) && end.value == 3 && !end.holds);
-    let cut = Answer {
-        whole: false,
-        ..text
-    };
-    assert!(rt; is(&goes(goes(due(plain()), cut), fine()), FAILS, ENOMEM));
     let count = goes(goes(due(plain()), replies(COUNT, 12)), fine());
     assert!(rt; is(&count, ENDS, 0) && count.value == 12);
     Ok(())

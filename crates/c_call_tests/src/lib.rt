@@ -1,10 +1,8 @@
-//! Calls from C: whole ones, their single steps, their turns, and what is decided of one by its numbers and its path.
+//! Calls from C: whole ones, their single steps, and what is decided of one by its path.
 #![tactic(auto)]
 
 #[cfg(test)]
 mod c_paths;
-#[cfg(test)]
-mod c_turns;
 #[cfg(test)]
 mod callings;
 #[cfg(test)]

@@ -10,7 +10,7 @@ use Rattle.call_course.specs.declared.calling.Answer.{Answer}
 use Rattle.call_course.specs.declared.calling.Facts.{Facts}
 use Rattle.call_course.specs.declared.calling.TheConstants.{BEGIN, LOOK_AT_ROOT, FAILS}
 use Rattle.std.proofs.lemmas.Bool.{false≢true}
-use Rattle.call_course.proofs.Leads.{Leads, Turn, to_proc, to_close, to_root, to_end, to_again, to_fail, t_begin, t_place, t_no_place, t_opened, t_text, t_cut, t_done, t_made, t_lost, t_unopened, t_count, t_fault, t_took, t_not_took, t_let_go, t_close_made, t_closed, t_same_proc, t_lost_proc, t_another, t_no_other, t_proc_closed, t_root, t_bad_root}
+use Rattle.call_course.proofs.Leads.{Leads, Turn, to_proc, to_close, to_root, to_end, to_again, to_fail, t_begin, t_place, t_no_place, t_opened, t_text, t_done, t_made, t_lost, t_unopened, t_count, t_fault, t_took, t_not_took, t_let_go, t_close_made, t_closed, t_same_proc, t_lost_proc, t_another, t_no_other, t_proc_closed, t_root, t_bad_root}
 use Rattle.call_course.proofs.Sound.{sound}
 use Rattle.call_course.proofs.Rule.{always, leads_same, sound_root}
 
@@ -57,10 +57,8 @@ root_turn c a n t =
       | t_no_place p0 p1 l ↦ root_leads true (lacks a.error (noted a c)) n (looked_by (exchange c a)) l
       | t_opened p0 p1 is ↦ subst (λ m. root_seen (looked_by (exchange c a)) m ≡ true) (sym is)
           (grind (arith, p0, p1))
-      | t_text p0 p1 p2 p3 is ↦
-          subst (λ m. root_seen (looked_by (exchange c a)) m ≡ true) (sym is) (grind (arith, p0, p1, p2, p3))
-      | t_cut p0 p1 p2 p3 is ↦
-          subst (λ m. root_seen (looked_by (exchange c a)) m ≡ true) (sym is) (grind (arith, p0, p1, p2, p3))
+      | t_text p0 p1 p2 is ↦
+          subst (λ m. root_seen (looked_by (exchange c a)) m ≡ true) (sym is) (grind (arith, p0, p1, p2))
       | t_done p0 p1 p2 p3 p4 is ↦
           subst (λ m. root_seen (looked_by (exchange c a)) m ≡ true) (sym is) (grind (arith, p0, p1, p2, p3, p4))
       | t_made p0 p1 p2 p3 p4 p5 is ↦
@@ -128,8 +126,7 @@ again_turn c a n t =
       | t_place p0 p1 l ↦ again_leads false true (gains a.length false (noted a c)) n false l
       | t_no_place p0 p1 l ↦ again_leads false true (lacks a.error (noted a c)) n false l
       | t_opened p0 p1 is ↦ subst (λ m. again_ok false m ≡ true) (sym is) (grind (arith, p0, p1))
-      | t_text p0 p1 p2 p3 is ↦ subst (λ m. again_ok false m ≡ true) (sym is) (grind (arith, p0, p1, p2, p3))
-      | t_cut p0 p1 p2 p3 is ↦ subst (λ m. again_ok false m ≡ true) (sym is) (grind (arith, p0, p1, p2, p3))
+      | t_text p0 p1 p2 is ↦ subst (λ m. again_ok false m ≡ true) (sym is) (grind (arith, p0, p1, p2))
       | t_done p0 p1 p2 p3 p4 is ↦ subst (λ m. again_ok false m ≡ true) (sym is) (grind (arith, p0, p1, p2, p3, p4))
       | t_made p0 p1 p2 p3 p4 p5 is ↦
           subst (λ m. again_ok false m ≡ true) (sym is) (grind (arith, p0, p1, p2, p3, p4, p5))
@@ -184,8 +181,7 @@ own_turn older c a n s t r =
       | t_no_place p0 p1 l ↦ absurd
           (grind (arith, p0, p1, leads_same false true (lacks a.error (noted a c)) n l, so, r))
       | t_opened p0 p1 is ↦ absurd (grind (arith, p0, p1, is, so, r))
-      | t_text p0 p1 p2 p3 is ↦ absurd (grind (arith, p0, p1, p2, p3, is, so, r))
-      | t_cut p0 p1 p2 p3 is ↦ absurd (grind (arith, p0, p1, p2, p3, is, so, r))
+      | t_text p0 p1 p2 is ↦ absurd (grind (arith, p0, p1, p2, is, so, r))
       | t_done p0 p1 p2 p3 p4 is ↦ absurd (grind (arith, p0, p1, p2, p3, p4, is, so, r))
       | t_made p0 p1 p2 p3 p4 p5 is ↦ absurd (grind (arith, p0, p1, p2, p3, p4, p5, is, so, r))
       | t_lost p0 p1 p2 p3 p4 p5 p6 is ↦ absurd (grind (arith, p0, p1, p2, p3, p4, p5, p6, is, so, r))

@@ -8,7 +8,7 @@ use Rattle.call_course.specs.declared.calling.Calling.{Calling}
 use Rattle.call_course.specs.declared.calling.Answer.{Answer}
 use Rattle.call_course.specs.declared.calling.Facts.{Facts}
 use Rattle.call_course.specs.declared.calling.TheConstants.{BEGIN}
-use Rattle.call_course.proofs.Leads.{Turn, t_begin, t_place, t_no_place, t_opened, t_text, t_cut, t_done, t_made, t_lost, t_unopened, t_count, t_fault, t_took, t_not_took, t_let_go, t_close_made, t_closed, t_same_proc, t_lost_proc, t_another, t_no_other, t_proc_closed, t_root, t_bad_root}
+use Rattle.call_course.proofs.Leads.{Turn, t_begin, t_place, t_no_place, t_opened, t_text, t_done, t_made, t_lost, t_unopened, t_count, t_fault, t_took, t_not_took, t_let_go, t_close_made, t_closed, t_same_proc, t_lost_proc, t_another, t_no_other, t_proc_closed, t_root, t_bad_root}
 use Rattle.call_course.proofs.Sound.{another_ok, changed_ok, error_ok, owns_ok, tries_ok}
 use Rattle.call_course.proofs.Rule.{always, leads_same, sound_another, sound_changed, sound_error, sound_owns, sound_tries}
 
@@ -21,8 +21,7 @@ owns_turn c a n was h0 h1 w t =
       | t_place p0 p1 l ↦ grind (arith, p0, p1, leads_same false true (gains a.length false (noted a c)) n l)
       | t_no_place p0 p1 l ↦ grind (arith, p0, p1, leads_same false true (lacks a.error (noted a c)) n l)
       | t_opened p0 p1 is ↦ grind (arith, p0, p1, is)
-      | t_text p0 p1 p2 p3 is ↦ grind (arith, p0, p1, p2, p3, is)
-      | t_cut p0 p1 p2 p3 is ↦ grind (arith, p0, p1, p2, p3, is)
+      | t_text p0 p1 p2 is ↦ grind (arith, p0, p1, p2, is)
       | t_done p0 p1 p2 p3 p4 is ↦ grind (arith, p0, p1, p2, p3, p4, is)
       | t_made p0 p1 p2 p3 p4 p5 is ↦ grind (arith, p0, p1, p2, p3, p4, p5, is)
       | t_lost p0 p1 p2 p3 p4 p5 p6 is ↦ grind (arith, p0, p1, p2, p3, p4, p5, p6, is)
@@ -52,8 +51,7 @@ changed_turn c a n was h0 w t =
       | t_place p0 p1 l ↦ grind (arith, p0, p1, leads_same false true (gains a.length false (noted a c)) n l)
       | t_no_place p0 p1 l ↦ grind (arith, p0, p1, leads_same false true (lacks a.error (noted a c)) n l)
       | t_opened p0 p1 is ↦ grind (arith, p0, p1, is)
-      | t_text p0 p1 p2 p3 is ↦ grind (arith, p0, p1, p2, p3, is)
-      | t_cut p0 p1 p2 p3 is ↦ grind (arith, p0, p1, p2, p3, is)
+      | t_text p0 p1 p2 is ↦ grind (arith, p0, p1, p2, is)
       | t_done p0 p1 p2 p3 p4 is ↦ grind (arith, p0, p1, p2, p3, p4, is)
       | t_made p0 p1 p2 p3 p4 p5 is ↦ grind (arith, p0, p1, p2, p3, p4, p5, is)
       | t_lost p0 p1 p2 p3 p4 p5 p6 is ↦ grind (arith, p0, p1, p2, p3, p4, p5, p6, is)
@@ -82,8 +80,7 @@ begun_turn c a n was h0 w t =
       | t_place p0 p1 l ↦ grind (arith, p0, p1, leads_same false true (gains a.length false (noted a c)) n l)
       | t_no_place p0 p1 l ↦ grind (arith, p0, p1, leads_same false true (lacks a.error (noted a c)) n l)
       | t_opened p0 p1 is ↦ grind (arith, p0, p1, is)
-      | t_text p0 p1 p2 p3 is ↦ grind (arith, p0, p1, p2, p3, is)
-      | t_cut p0 p1 p2 p3 is ↦ grind (arith, p0, p1, p2, p3, is)
+      | t_text p0 p1 p2 is ↦ grind (arith, p0, p1, p2, is)
       | t_done p0 p1 p2 p3 p4 is ↦ grind (arith, p0, p1, p2, p3, p4, is)
       | t_made p0 p1 p2 p3 p4 p5 is ↦ grind (arith, p0, p1, p2, p3, p4, p5, is)
       | t_lost p0 p1 p2 p3 p4 p5 p6 is ↦ grind (arith, p0, p1, p2, p3, p4, p5, p6, is)
@@ -112,8 +109,7 @@ stepped_turn c a n was w t =
       | t_place p0 p1 l ↦ grind (arith, p0, p1, leads_same false true (gains a.length false (noted a c)) n l)
       | t_no_place p0 p1 l ↦ grind (arith, p0, p1, leads_same false true (lacks a.error (noted a c)) n l)
       | t_opened p0 p1 is ↦ grind (arith, p0, p1, is)
-      | t_text p0 p1 p2 p3 is ↦ grind (arith, p0, p1, p2, p3, is)
-      | t_cut p0 p1 p2 p3 is ↦ grind (arith, p0, p1, p2, p3, is)
+      | t_text p0 p1 p2 is ↦ grind (arith, p0, p1, p2, is)
       | t_done p0 p1 p2 p3 p4 is ↦ grind (arith, p0, p1, p2, p3, p4, is)
       | t_made p0 p1 p2 p3 p4 p5 is ↦ grind (arith, p0, p1, p2, p3, p4, p5, is)
       | t_lost p0 p1 p2 p3 p4 p5 p6 is ↦ grind (arith, p0, p1, p2, p3, p4, p5, p6, is)
@@ -142,8 +138,7 @@ why_turn c a n was h0 w t =
       | t_place p0 p1 l ↦ grind (arith, p0, p1, leads_same false true (gains a.length false (noted a c)) n l)
       | t_no_place p0 p1 l ↦ grind (arith, p0, p1, leads_same false true (lacks a.error (noted a c)) n l)
       | t_opened p0 p1 is ↦ grind (arith, p0, p1, is)
-      | t_text p0 p1 p2 p3 is ↦ grind (arith, p0, p1, p2, p3, is)
-      | t_cut p0 p1 p2 p3 is ↦ grind (arith, p0, p1, p2, p3, is)
+      | t_text p0 p1 p2 is ↦ grind (arith, p0, p1, p2, is)
       | t_done p0 p1 p2 p3 p4 is ↦ grind (arith, p0, p1, p2, p3, p4, is)
       | t_made p0 p1 p2 p3 p4 p5 is ↦ grind (arith, p0, p1, p2, p3, p4, p5, is)
       | t_lost p0 p1 p2 p3 p4 p5 p6 is ↦ grind (arith, p0, p1, p2, p3, p4, p5, p6, is)
@@ -172,8 +167,7 @@ value_turn c a n was w t =
       | t_place p0 p1 l ↦ grind (arith, p0, p1, leads_same false true (gains a.length false (noted a c)) n l)
       | t_no_place p0 p1 l ↦ grind (arith, p0, p1, leads_same false true (lacks a.error (noted a c)) n l)
       | t_opened p0 p1 is ↦ grind (arith, p0, p1, is)
-      | t_text p0 p1 p2 p3 is ↦ grind (arith, p0, p1, p2, p3, is)
-      | t_cut p0 p1 p2 p3 is ↦ grind (arith, p0, p1, p2, p3, is)
+      | t_text p0 p1 p2 is ↦ grind (arith, p0, p1, p2, is)
       | t_done p0 p1 p2 p3 p4 is ↦ grind (arith, p0, p1, p2, p3, p4, is)
       | t_made p0 p1 p2 p3 p4 p5 is ↦ grind (arith, p0, p1, p2, p3, p4, p5, is)
       | t_lost p0 p1 p2 p3 p4 p5 p6 is ↦ grind (arith, p0, p1, p2, p3, p4, p5, p6, is)

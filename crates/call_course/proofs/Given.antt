@@ -8,7 +8,7 @@ use Rattle.call_course.specs.declared.calling.Calling.{Calling}
 use Rattle.call_course.specs.declared.calling.Answer.{Answer}
 use Rattle.call_course.specs.declared.calling.Facts.{Facts}
 use Rattle.call_course.specs.declared.calling.TheConstants.{ANOTHER_PROC, LOOK_AT_PROC, ENDS, FAILS}
-use Rattle.call_course.proofs.Leads.{First, f_given, f_place, f_walk, first_is, Leads, Turn, to_proc, to_close, to_root, to_end, to_again, to_fail, t_begin, t_place, t_no_place, t_opened, t_text, t_cut, t_done, t_made, t_lost, t_unopened, t_count, t_fault, t_took, t_not_took, t_let_go, t_close_made, t_closed, t_same_proc, t_lost_proc, t_another, t_no_other, t_proc_closed, t_root, t_bad_root}
+use Rattle.call_course.proofs.Leads.{First, f_given, f_place, f_walk, first_is, Leads, Turn, to_proc, to_close, to_root, to_end, to_again, to_fail, t_begin, t_place, t_no_place, t_opened, t_text, t_done, t_made, t_lost, t_unopened, t_count, t_fault, t_took, t_not_took, t_let_go, t_close_made, t_closed, t_same_proc, t_lost_proc, t_another, t_no_other, t_proc_closed, t_root, t_bad_root}
 use Rattle.call_course.proofs.Rule.{always, has_facts}
 
 -- its error is the root's own or the one before, and no /proc is in use
@@ -65,8 +65,7 @@ given_turn c a n w t =
       | t_place p0 p1 l ↦ given_leads false true (gains a.length false (noted a c)) n (grind (arith, p0, p1, w)) l
       | t_no_place p0 p1 l ↦ given_leads false true (lacks a.error (noted a c)) n (grind (arith, p0, p1, w)) l
       | t_opened p0 p1 is ↦ subst (λ m. given_ok m ≡ true) (sym is) (grind (arith, p0, p1, w))
-      | t_text p0 p1 p2 p3 is ↦ subst (λ m. given_ok m ≡ true) (sym is) (grind (arith, p0, p1, p2, p3, w))
-      | t_cut p0 p1 p2 p3 is ↦ subst (λ m. given_ok m ≡ true) (sym is) (grind (arith, p0, p1, p2, p3, w))
+      | t_text p0 p1 p2 is ↦ subst (λ m. given_ok m ≡ true) (sym is) (grind (arith, p0, p1, p2, w))
       | t_done p0 p1 p2 p3 p4 is ↦ subst (λ m. given_ok m ≡ true) (sym is) (grind (arith, p0, p1, p2, p3, p4, w))
       | t_made p0 p1 p2 p3 p4 p5 is ↦ subst (λ m. given_ok m ≡ true) (sym is) (grind (arith, p0, p1, p2, p3, p4, p5, w))
       | t_lost p0 p1 p2 p3 p4 p5 p6 is ↦ subst (λ m. given_ok m ≡ true) (sym is) (grind (arith, p0, p1, p2, p3, p4, p5, p6, w))

@@ -1,9 +1,9 @@
 -- Where a turn leads: all that may be, one by one.
 use Rattle.std.proofs.Common.{◌≡◌, ◌-◌, ℕ, Bool, true, false, not, ◌||◌, refl, ap, sym, subst}
 use Rattle.std.specs.Prelude.{◌==◌, if◌then◌else◌}
-use Rattle.system_calls.specs.Errors.{EAGAIN, ENOMEM}
+use Rattle.system_calls.specs.Errors.{EAGAIN}
 use Rattle.system_calls.specs.Tries.{pause_after}
-use Rattle.call_course.specs.Turns.{after_answer, after_proc, asks, began, begun, ended, first, gains, is_again, is_unseen, judged, lacks, may_go_by_another, noted, over, replied, reply_error, root_error, done, text_of, COUNT, DONE, OPENED, TEXT}
+use Rattle.call_course.specs.Turns.{after_answer, after_proc, asks, began, begun, ended, first, gains, is_again, is_unseen, judged, lacks, may_go_by_another, noted, over, replied, reply_error, root_error, done, COUNT, DONE, OPENED, TEXT}
 use Rattle.call_course.specs.declared.calling.Calling.{Calling}
 use Rattle.call_course.specs.declared.calling.Answer.{Answer}
 use Rattle.call_course.specs.declared.calling.Facts.{Facts}
@@ -80,10 +80,8 @@ pub data Turn (c : Calling) (a : Answer) (n : Calling) : Type 0 where
   t_place : c.next ≡ PLACE → (a.error == 0) ≡ true → Leads false true (gains a.length false (noted a c)) n → Turn c a n
   t_no_place : c.next ≡ PLACE → (a.error == 0) ≡ false → Leads false true (lacks a.error (noted a c)) n → Turn c a n
   t_opened : c.next ≡ CONVERSE → (a.reply == OPENED) ≡ true → n ≡ asks TAKE 0 (made_of a c) → Turn c a n
-  t_text : c.next ≡ CONVERSE → (a.reply == OPENED) ≡ false → (a.reply == TEXT) ≡ true → a.whole ≡ true
+  t_text : c.next ≡ CONVERSE → (a.reply == OPENED) ≡ false → (a.reply == TEXT) ≡ true
       → n ≡ asks LET_GO 0 (gains a.length false (made_of a c)) → Turn c a n
-  t_cut : c.next ≡ CONVERSE → (a.reply == OPENED) ≡ false → (a.reply == TEXT) ≡ true → a.whole ≡ false
-      → n ≡ asks LET_GO 0 (lacks ENOMEM (made_of a c)) → Turn c a n
   t_done : c.next ≡ CONVERSE → (a.reply == OPENED) ≡ false → (a.reply == TEXT) ≡ false → (a.reply == DONE) ≡ true
       → c.facts.gives ≡ false → n ≡ asks LET_GO 0 (gains 0 false (made_of a c)) → Turn c a n
   t_made : c.next ≡ CONVERSE → (a.reply == OPENED) ≡ false → (a.reply == TEXT) ≡ false → (a.reply == DONE) ≡ true
@@ -127,12 +125,6 @@ done_turn c a at x y z true false no_why is is_made is_why = t_made at x y z is 
 done_turn c a at x y z true true true is is_made is_why = t_lost at x y z is is_made is_why refl
 done_turn c a at x y z true true false is is_made is_why = t_unopened at x y z is is_made is_why refl
 
-text_turn : (c : Calling) (a : Answer) → c.next ≡ CONVERSE → (a.reply == OPENED) ≡ false → (a.reply == TEXT) ≡ true
-    → (whole : Bool) → a.whole ≡ whole
-    → Turn c a (asks LET_GO 0 (if whole then gains a.length false (made_of a c) else lacks ENOMEM (made_of a c)))
-text_turn c a at x y true is = t_text at x y is refl
-text_turn c a at x y false is = t_cut at x y is refl
-
 abbrev not_done : Answer → Calling → Calling
 not_done a c =
     if a.reply == COUNT then asks LET_GO 0 (gains a.value false c) else asks LET_GO 0 (lacks (reply_error a) c)
@@ -141,14 +133,14 @@ abbrev not_text : Answer → Calling → Calling
 not_text a c = if a.reply == DONE then asks LET_GO 0 (done a c) else not_done a c
 
 abbrev not_opened : Answer → Calling → Calling
-not_opened a c = if a.reply == TEXT then asks LET_GO 0 (text_of a c) else not_text a c
+not_opened a c = if a.reply == TEXT then asks LET_GO 0 (gains a.length false c) else not_text a c
 
 replied_turn : (c : Calling) (a : Answer) → c.next ≡ CONVERSE → Turn c a (replied a (made_of a c))
 replied_turn c a at =
     pick (Turn c a) (a.reply == OPENED) (asks TAKE 0 (made_of a c)) (not_opened a (made_of a c))
     (λ x. t_opened at x refl)
-    (λ x. pick (Turn c a) (a.reply == TEXT) (asks LET_GO 0 (text_of a (made_of a c))) (not_text a (made_of a c))
-    (λ y. text_turn c a at x y a.whole refl)
+    (λ x. pick (Turn c a) (a.reply == TEXT) (asks LET_GO 0 (gains a.length false (made_of a c))) (not_text a (made_of a c))
+    (λ y. t_text at x y refl)
     (λ y. pick (Turn c a) (a.reply == DONE) (asks LET_GO 0 (done a (made_of a c))) (not_done a (made_of a c))
     (λ z. done_turn c a at x y z c.facts.gives (a.made == 0) (a.unopened == 0) refl refl refl)
     (λ z. pick (Turn c a) (a.reply == COUNT) (asks LET_GO 0 (gains a.value false (made_of a c)))

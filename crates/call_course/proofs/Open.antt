@@ -9,7 +9,7 @@ use Rattle.call_course.specs.declared.calling.Calling.{Calling}
 use Rattle.call_course.specs.declared.calling.Answer.{Answer}
 use Rattle.call_course.specs.declared.calling.Facts.{Facts}
 use Rattle.call_course.specs.declared.calling.TheConstants.{CLOSE}
-use Rattle.call_course.proofs.Leads.{Leads, Turn, to_proc, to_close, to_root, to_end, to_again, to_fail, t_begin, t_place, t_no_place, t_opened, t_text, t_cut, t_done, t_made, t_lost, t_unopened, t_count, t_fault, t_took, t_not_took, t_let_go, t_close_made, t_closed, t_same_proc, t_lost_proc, t_another, t_no_other, t_proc_closed, t_root, t_bad_root}
+use Rattle.call_course.proofs.Leads.{Leads, Turn, to_proc, to_close, to_root, to_end, to_again, to_fail, t_begin, t_place, t_no_place, t_opened, t_text, t_done, t_made, t_lost, t_unopened, t_count, t_fault, t_took, t_not_took, t_let_go, t_close_made, t_closed, t_same_proc, t_lost_proc, t_another, t_no_other, t_proc_closed, t_root, t_bad_root}
 use Rattle.call_course.proofs.Sound.{error_ok, holds_ok, made_ok}
 use Rattle.call_course.proofs.Rule.{always, sound_error, sound_holds, sound_made}
 
@@ -48,12 +48,9 @@ open_turn c a n was h1 h2 h3 w t =
       | t_no_place p0 p1 l ↦ grind (arith, p0, p1, together_leads false true (lacks a.error (noted a c)) n l)
       | t_opened p0 p1 is ↦ subst (λ m. (opened_by (exchange c a) ++ closed_by (exchange c a) was) ≡ together m)
           (sym is) (grind (arith, p0, p1))
-      | t_text p0 p1 p2 p3 is ↦
+      | t_text p0 p1 p2 is ↦
           subst (λ m. (opened_by (exchange c a) ++ closed_by (exchange c a) was) ≡ together m) (sym is)
-          (grind (arith, p0, p1, p2, p3))
-      | t_cut p0 p1 p2 p3 is ↦
-          subst (λ m. (opened_by (exchange c a) ++ closed_by (exchange c a) was) ≡ together m) (sym is)
-          (grind (arith, p0, p1, p2, p3))
+          (grind (arith, p0, p1, p2))
       | t_done p0 p1 p2 p3 p4 is ↦
           subst (λ m. (opened_by (exchange c a) ++ closed_by (exchange c a) was) ≡ together m) (sym is)
           (grind (arith, p0, p1, p2, p3, p4))

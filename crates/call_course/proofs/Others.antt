@@ -8,7 +8,7 @@ use Rattle.call_course.specs.declared.calling.Calling.{Calling}
 use Rattle.call_course.specs.declared.calling.Answer.{Answer}
 use Rattle.call_course.specs.declared.calling.Facts.{Facts}
 use Rattle.call_course.specs.declared.calling.TheConstants.{PLACE, ANOTHER_PROC}
-use Rattle.call_course.proofs.Leads.{Leads, Turn, to_proc, to_close, to_root, to_end, to_again, to_fail, t_begin, t_place, t_no_place, t_opened, t_text, t_cut, t_done, t_made, t_lost, t_unopened, t_count, t_fault, t_took, t_not_took, t_let_go, t_close_made, t_closed, t_same_proc, t_lost_proc, t_another, t_no_other, t_proc_closed, t_root, t_bad_root}
+use Rattle.call_course.proofs.Leads.{Leads, Turn, to_proc, to_close, to_root, to_end, to_again, to_fail, t_begin, t_place, t_no_place, t_opened, t_text, t_done, t_made, t_lost, t_unopened, t_count, t_fault, t_took, t_not_took, t_let_go, t_close_made, t_closed, t_same_proc, t_lost_proc, t_another, t_no_other, t_proc_closed, t_root, t_bad_root}
 use Rattle.call_course.proofs.Sound.{another_ok, sound, within}
 use Rattle.call_course.proofs.Rule.{always, sound_another}
 
@@ -53,12 +53,9 @@ others_turn c a n was s w t =
           (grind (arith, p0, p1, w)) (λ is can. grind (arith, p0, p1, w, can)) l
       | t_opened p0 p1 is ↦ subst (λ m. others_ok (others_by (exchange c a) was) m ≡ true) (sym is)
           (grind (arith, p0, p1, w, sa))
-      | t_text p0 p1 p2 p3 is ↦
+      | t_text p0 p1 p2 is ↦
           subst (λ m. others_ok (others_by (exchange c a) was) m ≡ true) (sym is)
-          (grind (arith, p0, p1, p2, p3, w, sa))
-      | t_cut p0 p1 p2 p3 is ↦
-          subst (λ m. others_ok (others_by (exchange c a) was) m ≡ true) (sym is)
-          (grind (arith, p0, p1, p2, p3, w, sa))
+          (grind (arith, p0, p1, p2, w, sa))
       | t_done p0 p1 p2 p3 p4 is ↦
           subst (λ m. others_ok (others_by (exchange c a) was) m ≡ true) (sym is)
           (grind (arith, p0, p1, p2, p3, p4, w, sa))

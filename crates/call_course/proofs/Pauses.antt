@@ -10,7 +10,7 @@ use Rattle.call_course.specs.declared.calling.Calling.{Calling}
 use Rattle.call_course.specs.declared.calling.Answer.{Answer}
 use Rattle.call_course.specs.declared.calling.Facts.{Facts}
 use Rattle.call_course.specs.declared.calling.TheConstants.{BEGIN, PLACE, CONVERSE, TAKE, LET_GO, CLOSE, LOOK_AT_PROC, ANOTHER_PROC, CLOSE_PROC, LOOK_AT_ROOT}
-use Rattle.call_course.proofs.Leads.{Leads, Turn, to_proc, to_close, to_root, to_end, to_again, to_fail, t_begin, t_place, t_no_place, t_opened, t_text, t_cut, t_done, t_made, t_lost, t_unopened, t_count, t_fault, t_took, t_not_took, t_let_go, t_close_made, t_closed, t_same_proc, t_lost_proc, t_another, t_no_other, t_proc_closed, t_root, t_bad_root}
+use Rattle.call_course.proofs.Leads.{Leads, Turn, to_proc, to_close, to_root, to_end, to_again, to_fail, t_begin, t_place, t_no_place, t_opened, t_text, t_done, t_made, t_lost, t_unopened, t_count, t_fault, t_took, t_not_took, t_let_go, t_close_made, t_closed, t_same_proc, t_lost_proc, t_another, t_no_other, t_proc_closed, t_root, t_bad_root}
 use Rattle.call_course.proofs.Sound.{another_ok, owns_ok, sound, tries_ok}
 use Rattle.call_course.proofs.Rule.{always, sound_another, sound_owns, sound_tries}
 
@@ -60,10 +60,7 @@ pauses_turn c a n was s w t =
       | t_opened p0 p1 is ↦ subst
           (λ m. pauses_ok (if (exchange c a).asked == BEGIN then was + (exchange c a).about else was) m) (sym is)
           (grind (arith, p0, w))
-      | t_text p0 p1 p2 p3 is ↦
-          subst (λ m. pauses_ok (if (exchange c a).asked == BEGIN then was + (exchange c a).about else was) m) (sym is)
-          (grind (arith, p0, w))
-      | t_cut p0 p1 p2 p3 is ↦
+      | t_text p0 p1 p2 is ↦
           subst (λ m. pauses_ok (if (exchange c a).asked == BEGIN then was + (exchange c a).about else was) m) (sym is)
           (grind (arith, p0, w))
       | t_done p0 p1 p2 p3 p4 is ↦
@@ -197,12 +194,9 @@ few_turn c a n was so sa st t =
           (λ is. grind (arith, p0, p1, w)) (grind (arith, p0, p1, w)) l)
       | t_opened p0 p1 is ↦ few_via CONVERSE c was (few_ok (suc was) n) p0
           (λ w. subst (λ m. few_ok (suc was) m) (sym is) (grind (arith, p0, p1, w)))
-      | t_text p0 p1 p2 p3 is ↦
+      | t_text p0 p1 p2 is ↦
           few_via CONVERSE c was (few_ok (suc was) n) p0
-          (λ w. subst (λ m. few_ok (suc was) m) (sym is) (grind (arith, p0, p1, p2, p3, w)))
-      | t_cut p0 p1 p2 p3 is ↦
-          few_via CONVERSE c was (few_ok (suc was) n) p0
-          (λ w. subst (λ m. few_ok (suc was) m) (sym is) (grind (arith, p0, p1, p2, p3, w)))
+          (λ w. subst (λ m. few_ok (suc was) m) (sym is) (grind (arith, p0, p1, p2, w)))
       | t_done p0 p1 p2 p3 p4 is ↦
           few_via CONVERSE c was (few_ok (suc was) n) p0
           (λ w. subst (λ m. few_ok (suc was) m) (sym is) (grind (arith, p0, p1, p2, p3, p4, w)))

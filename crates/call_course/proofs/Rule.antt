@@ -7,7 +7,7 @@ use Rattle.call_course.specs.declared.calling.Answer.{Answer}
 use Rattle.call_course.specs.declared.calling.Facts.{Facts}
 use Rattle.call_course.specs.declared.calling.TheConstants.{LOOK_AT_ROOT}
 use Rattle.call_course.proofs.Asked.{asked_is}
-use Rattle.call_course.proofs.Leads.{turn_at, Leads, Turn, to_proc, to_close, to_root, to_end, to_again, to_fail, t_begin, t_place, t_no_place, t_opened, t_text, t_cut, t_done, t_made, t_lost, t_unopened, t_count, t_fault, t_took, t_not_took, t_let_go, t_close_made, t_closed, t_same_proc, t_lost_proc, t_another, t_no_other, t_proc_closed, t_root, t_bad_root}
+use Rattle.call_course.proofs.Leads.{turn_at, Leads, Turn, to_proc, to_close, to_root, to_end, to_again, to_fail, t_begin, t_place, t_no_place, t_opened, t_text, t_done, t_made, t_lost, t_unopened, t_count, t_fault, t_took, t_not_took, t_let_go, t_close_made, t_closed, t_same_proc, t_lost_proc, t_another, t_no_other, t_proc_closed, t_root, t_bad_root}
 use Rattle.call_course.proofs.Sound.{another_ok, changed_ok, error_ok, holds_ok, made_ok, owns_ok, root_ok, sound, sound_start, sound_turn, tries_ok}
 
 -- ---- what sound says
@@ -74,8 +74,7 @@ facts_turn c a n t =
       | t_place p0 p1 l ↦ ap (λ m. m.facts) (leads_same false true (gains a.length false (noted a c)) n l)
       | t_no_place p0 p1 l ↦ ap (λ m. m.facts) (leads_same false true (lacks a.error (noted a c)) n l)
       | t_opened p0 p1 is ↦ ap (λ m. m.facts) is
-      | t_text p0 p1 p2 p3 is ↦ ap (λ m. m.facts) is
-      | t_cut p0 p1 p2 p3 is ↦ ap (λ m. m.facts) is
+      | t_text p0 p1 p2 is ↦ ap (λ m. m.facts) is
       | t_done p0 p1 p2 p3 p4 is ↦ ap (λ m. m.facts) is
       | t_made p0 p1 p2 p3 p4 p5 is ↦ ap (λ m. m.facts) is
       | t_lost p0 p1 p2 p3 p4 p5 p6 is ↦ ap (λ m. m.facts) is

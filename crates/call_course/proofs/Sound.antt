@@ -7,7 +7,7 @@ use Rattle.call_course.specs.declared.calling.Calling.{Calling}
 use Rattle.call_course.specs.declared.calling.Answer.{Answer}
 use Rattle.call_course.specs.declared.calling.Facts.{Facts}
 use Rattle.call_course.specs.declared.calling.TheConstants.{BEGIN, PLACE, CONVERSE, TAKE, LET_GO, CLOSE, LOOK_AT_PROC, ANOTHER_PROC, CLOSE_PROC, LOOK_AT_ROOT, ENDS, FAILS}
-use Rattle.call_course.proofs.Leads.{First, f_given, f_place, f_walk, first_is, made_of, Leads, Turn, to_proc, to_close, to_root, to_end, to_again, to_fail, t_begin, t_place, t_no_place, t_opened, t_text, t_cut, t_done, t_made, t_lost, t_unopened, t_count, t_fault, t_took, t_not_took, t_let_go, t_close_made, t_closed, t_same_proc, t_lost_proc, t_another, t_no_other, t_proc_closed, t_root, t_bad_root}
+use Rattle.call_course.proofs.Leads.{First, f_given, f_place, f_walk, first_is, made_of, Leads, Turn, to_proc, to_close, to_root, to_end, to_again, to_fail, t_begin, t_place, t_no_place, t_opened, t_text, t_done, t_made, t_lost, t_unopened, t_count, t_fault, t_took, t_not_took, t_let_go, t_close_made, t_closed, t_same_proc, t_lost_proc, t_another, t_no_other, t_proc_closed, t_root, t_bad_root}
 
 abbrev pub within : ℕ → ℕ → ℕ → Bool
 within low high n = nat_le low n && nat_le n high
@@ -113,10 +113,8 @@ sound_turn c a n t =
           (λ g. sound_leads false true (lacks a.error (noted a c)) n l (grind (arith, p1, g)))
       | t_opened p0 p1 is ↦ via CONVERSE c (sound n ≡ true) p0
           (λ g. subst (λ m. sound m ≡ true) (sym is) (grind (arith, p1, g)))
-      | t_text p0 p1 p2 p3 is ↦
-          via CONVERSE c (sound n ≡ true) p0 (λ g. subst (λ m. sound m ≡ true) (sym is) (grind (arith, p1, p2, p3, g)))
-      | t_cut p0 p1 p2 p3 is ↦
-          via CONVERSE c (sound n ≡ true) p0 (λ g. subst (λ m. sound m ≡ true) (sym is) (grind (arith, p1, p2, p3, g)))
+      | t_text p0 p1 p2 is ↦
+          via CONVERSE c (sound n ≡ true) p0 (λ g. subst (λ m. sound m ≡ true) (sym is) (grind (arith, p1, p2, g)))
       | t_done p0 p1 p2 p3 p4 is ↦
           via CONVERSE c (sound n ≡ true) p0
           (λ g. subst (λ m. sound m ≡ true) (sym is) (grind (arith, p1, p2, p3, p4, g)))

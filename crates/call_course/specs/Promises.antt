@@ -1,6 +1,6 @@
 -- What holds of every history.
 use Rattle.std.specs.Prelude.{◌≡◌, ℕ, suc, ◌+◌, ◌-◌, List, [], ◌∷◌, ◌++◌, ◌==◌, Bool, false, ◌&&◌, ◌||◌, not, if◌then◌else◌, nat_le}
-use Rattle.system_calls.specs.Errors.{EAGAIN, ENOMEM}
+use Rattle.system_calls.specs.Errors.{EAGAIN}
 use Rattle.system_calls.specs.Held.{without}
 use Rattle.call_course.specs.Turns.{reply_error, root_error, COUNT, DONE, OPENED, TEXT}
 use Rattle.call_course.specs.History.{Exchange}
@@ -90,9 +90,8 @@ unopened_error facts a =
 -- the error of a reply, or 0
 abbrev pub error_of : Facts → Answer → ℕ
 error_of facts a =
-    if (a.reply == OPENED) || (a.reply == COUNT) then 0
-    else (if a.reply == TEXT then (if a.whole then 0 else ENOMEM)
-    else (if a.reply == DONE then unopened_error facts a else reply_error a))
+    if (a.reply == OPENED) || (a.reply == TEXT) || (a.reply == COUNT) then 0
+    else (if a.reply == DONE then unopened_error facts a else reply_error a)
 
 abbrev pub last_error : ℕ → ℕ → ℕ
 last_error error before = if error == 0 then before else error
@@ -123,7 +122,7 @@ RootHas error (e ∷ older) = (e.asked ≡ LOOK_AT_ROOT) × (root_error e.gave �
 
 abbrev pub reply_value : Facts → Answer → ℕ → ℕ
 reply_value facts a before =
-    if a.reply == TEXT then (if a.whole then a.length else before)
+    if a.reply == TEXT then a.length
     else (if a.reply == COUNT then a.value
     else (if not (a.reply == DONE) then before
     else (if not facts.gives then 0 else (if a.made == 0 then before else a.made - 1))))

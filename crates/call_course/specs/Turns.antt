@@ -1,5 +1,5 @@
 -- What comes next in a call, by what the last thing gave. The numbers of errors are those of errno(3), and those of
--- replies and of kinds are those of c_protocol and system_calls.
+-- kinds are those of system_calls.
 use Rattle.std.specs.Prelude.{ℕ, suc, ◌-◌, ◌==◌, Bool, true, false, ◌&&◌, ◌||◌, not, if◌then◌else◌, nat_lt}
 use Rattle.system_calls.specs.Errors.{EIO, EAGAIN, ENOMEM, ENOTDIR, ENOSYS}
 use Rattle.system_calls.specs.Tries.{is_due, pause_after, TRIES}
@@ -120,13 +120,10 @@ done a c =
     else (if not (c.made == 0) then gains (c.made - 1) true (record c { made = 0 })
     else (if a.unopened == 0 then lacks EAGAIN c else lacks a.unopened c))
 
-abbrev pub text_of : Answer → Calling → Calling
-text_of a c = if a.whole then gains a.length false c else lacks ENOMEM c
-
 abbrev pub replied : Answer → Calling → Calling
 replied a c =
     if a.reply == OPENED then asks TAKE 0 c
-    else (if a.reply == TEXT then asks LET_GO 0 (text_of a c)
+    else (if a.reply == TEXT then asks LET_GO 0 (gains a.length false c)
     else (if a.reply == DONE then asks LET_GO 0 (done a c)
     else (if a.reply == COUNT then asks LET_GO 0 (gains a.value false c)
     else asks LET_GO 0 (lacks (reply_error a) c))))

@@ -76,10 +76,8 @@ pub struct Answer {
     pub unopened: u32,
     /// Of CONVERSE: the descriptor of what it made, its number and one; or 0.
     pub made: u32,
-    /// Of CONVERSE: which reply it is.
+    /// Of CONVERSE: which reply it is. 32 opened, 33 a text, 34 done, 35 a count, and any other an error.
     pub reply: u8,
-    /// Of CONVERSE: the text is whole.
-    pub whole: bool,
     /// Of a try's things: a step was made.
     pub stepped: bool,
     /// An entry was made, removed or renamed.

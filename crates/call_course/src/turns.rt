@@ -6,7 +6,7 @@ use crate::calling::{ANOTHER_PROC, Answer, CONVERSE, Calling, FAILS, Facts, LET_
 use crate::ending::{after_proc, asks, ended, gains, lacks, over};
 use system_calls::errors::{EAGAIN, EIO, ENOMEM, ENOTDIR};
 
-// What the proved call's reply is, by its number (c_protocol).
+// What the proved call's reply is, by its number.
 const OPENED: u8 = 32;
 
 const TEXT: u8 = 33;
@@ -122,15 +122,7 @@ fn replied(c: Calling, a: &Answer) -> Calling
 {
     match a.reply {
         OPENED => asks(c, TAKE, 0),
-        TEXT => asks(
-            if a.whole {
-                gains(c, a.length, false)
-            } else {
-                lacks(c, ENOMEM)
-            },
-            LET_GO,
-            0,
-        ),
+        TEXT => asks(gains(c, a.length, false), LET_GO, 0),
         DONE => asks(done(c, a), LET_GO, 0),
         COUNT => asks(gains(c, a.value, false), LET_GO, 0),
         _ => asks(lacks(c, reply_error(a)), LET_GO, 0),

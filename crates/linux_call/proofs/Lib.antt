@@ -1,2 +1,1 @@
 mod AsBox
-mod Keeping

@@ -6,9 +6,9 @@ use crate::request::*;
 use crate::steps;
 use crate::walk::{Below, DIRECTORY, EXACT, FOLLOW, GIVE, NO_RETRY, NOFOLLOW, has, look_error};
 use ask_place::next_question;
-use c_protocol::split;
 use dialogue::{Answer, Asked, Question, ask};
 use find_proc::Known;
+use kernel_walks::split;
 use system_calls::errors::{EINVAL, ENOENT};
 use system_calls::{is_node, kind_of};
 

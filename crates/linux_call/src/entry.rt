@@ -2,9 +2,9 @@
 use crate::path::{PathOf, unslashed};
 use crate::request::{Beside, Tried};
 use crate::walk::{BENEATH, Below, O_PATH, has, walk};
-use c_protocol::{Parted, split};
 use dialogue::{Answer, Asked, Question, ask};
 use find_proc::Known;
+use kernel_walks::{Parted, split};
 use path_text::SLASH;
 
 /// A directory that is open, and a name in it.

@@ -3,9 +3,9 @@
 use crate::inner::{carry_out, refused};
 use crate::path::Texts;
 use crate::request::*;
-use c_protocol::split;
 use dialogue::{Answer, Asked, Question, ask};
 use find_proc::Known;
+use kernel_walks::split;
 use make_through_links::{CREATE, FIND, MAKE, MAKE_ABOVE, Making, Outcome, PARTIAL, SPLIT};
 use open_partial::{CLOSE, ENDS, Search, TRY, beginning, trial_of};
 

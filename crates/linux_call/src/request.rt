@@ -41,7 +41,7 @@ pub struct Request {
     pub asks_kind: bool,
 }
 
-// The calls of inroot.h. The first ones have the numbers of `c_protocol`, by which single steps make them.
+// The calls of inroot.h.
 pub(crate) const RESOLVE: u8 = 1;
 
 pub(crate) const RESOLVE_NOFOLLOW: u8 = 2;

@@ -2,10 +2,9 @@
 use crate::path::PathOf;
 use crate::request::Tried;
 use crate::steps;
-use c_protocol::{Asked as Numbers, misses_at_once};
 use dialogue::{Answer, Asked, Question, ask};
 use find_proc::Known;
-use kernel_walks::follows_at_once;
+use kernel_walks::{follows_at_once, misses_at_once};
 use path_text::{Flags, SLASH};
 use system_calls::errors::{EACCES, EINTR, ENOENT, ENOSYS, EPERM};
 
@@ -155,14 +154,7 @@ pub(crate) fn look_up<'n>(
 // Of a path of names alone: whether one of them is missing, and no link's target.
 #[inline(never)]
 fn is_missing<'n>(answers: &mut &[Answer], known: &mut Known, at: &Below<'n>) -> Asked<'n, bool> {
-    let numbers = Numbers {
-        root: 0,
-        op: 1,
-        mode: 0,
-        beneath: has(at.flags, BENEATH),
-        no_links: has(at.flags, NO_LINKS),
-    };
-    if !misses_at_once(&numbers, at.path.text(), at.path.place()) {
+    if !misses_at_once(has(at.flags, BENEATH), at.path.text(), at.path.place()) {
         return Ok(false);
     }
     let resolve = resolve_of(at.flags) | RESOLVE_NO_SYMLINKS;

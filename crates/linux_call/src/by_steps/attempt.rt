@@ -1,13 +1,18 @@
 //! What a try of a call holds, and what is known of it.
 use crate::by_steps::name::Name;
 use crate::by_steps::passed::Passed;
-use crate::by_steps::slots::Handles;
-use crate::by_steps::talk::{MAKE_DIR, OPEN};
+use crate::by_steps::slots::{Handles, Slot};
+use crate::by_steps::state::Stage;
 use crate::request::{REMOVE_ALL, Request};
+use crate::steps::parts_of;
 use crate::walk::{EXACT, has};
-use c_protocol::Told;
 use find_proc::Proc;
 use std::alloc::Global;
+use system_calls::errors::ENOMEM;
+use tree_model::LentStep;
+
+// So many levels deep goes one proved call that removes a tree: it holds a descriptor of each directory above.
+const LEVELS: u32 = 20;
 
 #[derive(Drop)]
 pub(crate) struct Attempt {
@@ -96,15 +101,57 @@ impl Attempt {
     }
 
     /// A step is due, but for Close. It and its name are kept, in case the call fails.
-    pub(crate) fn note(&mut self, told: &Told, name: &[u8]) {
+    pub(crate) fn note(&mut self, step: &LentStep<'_>) {
+        let (number, _, name) = parts_of(step);
         self.stepped = true;
-        let on_name = told.what == OPEN || told.what >= MAKE_DIR;
-        self.step = told.what;
-        if on_name {
-            self.step_name.keep(name);
+        self.step = number;
+        self.step_name.keep(name);
+    }
+
+    // ---- what is opened
+
+    /// Room for one more handle comes before what is opened.
+    pub(crate) fn reserve(&mut self) -> Stage {
+        if self.handles.reserve() {
+            Stage::Step
         } else {
-            self.step_name.clear();
+            Stage::Unmade(ENOMEM)
         }
+    }
+
+    /// Notes which entry of a tree that is removed is opened. A tree that is too deep for the call is left there.
+    pub(crate) fn enter(&mut self, dir: u64, name: &[u8]) -> Stage {
+        self.deepest_name.keep(name);
+        if self.handles.at(dir).depth >= LEVELS {
+            self.leave(dir)
+        } else {
+            self.reserve()
+        }
+    }
+
+    /// The call ends, and leaves the entry whose turn it is in this directory, which it hands over: another goes on
+    /// from there.
+    pub(crate) fn leave(&mut self, dir: u64) -> Stage {
+        let slot = self.handles.at(dir);
+        self.deepest = slot.fd;
+        self.handles.set(dir, Slot { fd: None, ..slot });
+        Stage::Unmade(ENOMEM)
+    }
+
+    /// A handle on what was opened by a name. Keeps by which names the walk has come there, or how deep that is in a tree
+    /// that is removed.
+    pub(crate) fn opened(&mut self, dir: u64, name: &[u8], slot: Slot) -> u64 {
+        if !self.begun {
+            let handle = self.handles.put(slot);
+            let handles = &self.handles;
+            self.passed.keep_name(handles, dir, name, handle, slot.kind);
+            return handle;
+        }
+        let depth = self.handles.at(dir).depth.saturating_add(1);
+        let handle = self.handles.put(Slot { depth, ..slot });
+        self.entered = handle;
+        self.above = dir;
+        handle
     }
 
     pub(crate) fn owns_proc(&self) -> bool {

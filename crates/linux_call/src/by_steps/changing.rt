@@ -1,25 +1,32 @@
 //! A step that changes an entry: the same system calls as where the kernel walks.
+use crate::by_steps::answers::refused;
+use crate::by_steps::slots::Handles;
 use crate::by_steps::state::{Part, Steps};
-use crate::by_steps::talk::{RENAME, Talk};
 use crate::change::{Change, make_change};
 use crate::request::{RENAME as RENAMES, Reply};
 use crate::steps;
 use dialogue::{Answer, Asked};
 use find_proc::{Known, has_floor};
-use std::alloc::Global;
 use step_calls::{DONE, Facts, REFUSED, begin, next};
 use system_calls::errors::{EIO, ENOSYS};
+use tree_model::{LentStep, StepOf};
 
 // RENAME_NOREPLACE and RENAME_EXCHANGE.
 const MODES: u32 = 3;
 
-fn change_of<'s>(talk: &'s Talk, dir: u32, other: u32) -> Change<'s> {
+fn change_of<'s>(step: &LentStep<'s>, handles: &Handles) -> Change<'s> {
+    let (number, dir, name) = steps::parts_of(step);
+    let (other, text) = match step {
+        StepOf::MakeLink(_, _, text) => (0, text.as_slice()),
+        StepOf::Rename(_, _, to, new, _) => (handles.fd(to.number()), new.bytes()),
+        _ => (0, b"".as_slice()),
+    };
     Change {
-        step: talk.told().what,
-        dir,
-        name: talk.first(),
+        step: number,
+        dir: handles.fd(dir.number()),
+        name,
         other,
-        text: talk.second(),
+        text,
     }
 }
 
@@ -45,23 +52,15 @@ impl Steps {
         }
     }
 
-    /// The change of the step that is told.
+    /// The change of the step that is due.
     pub(crate) fn change_due<'s>(
         &'s self,
         known: &mut Known,
         answers: &mut &[Answer],
+        step: &LentStep<'s>,
         read: &'s [u8],
     ) -> Asked<'s, Part> {
-        let talk = match &self.talk {
-            Some(talk) => talk,
-            None => return Ok(Part::Changed(EIO, None, 0)),
-        };
-        let other = if talk.told().what == RENAME {
-            self.attempt.handles.fd(talk.told().other)
-        } else {
-            0
-        };
-        let change = change_of(talk, self.step_fd(), other);
+        let change = change_of(step, &self.attempt.handles);
         let reply = make_change(answers, known, &self.request, &change, read)?;
         match reply {
             Reply::Fails(ENOSYS, step, _) if step != steps::GIVE => {
@@ -85,8 +84,8 @@ impl Steps {
     }
 
     /// A change was made, or wasn't, for this error.
-    pub(crate) fn changed(&mut self, alloc: Global, error: u32, made: Option<u32>, unopened: u32) {
-        let what = self.told().what;
+    pub(crate) fn changed(&mut self, error: u32, made: Option<u32>, unopened: u32) {
+        let what = self.attempt.step;
         let facts = self.facts_of_change(what);
         let course = next(&facts, begin(&facts), &crate::by_steps::there::plain(error));
         let is_done = course.next == DONE;
@@ -104,11 +103,11 @@ impl Steps {
         }
         if is_done {
             self.attempt.changed = true;
-            self.done(alloc);
+            self.answer(tree_model::Answer::Done);
         } else if course.next == REFUSED {
-            self.refused(alloc, course.error);
+            self.answer(refused(course.error));
         } else {
-            self.unmade(alloc, course.error);
+            self.unmade(course.error);
         }
     }
 }

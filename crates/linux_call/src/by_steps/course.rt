@@ -1,23 +1,29 @@
 //! From a call's beginning to its result: the things that `call_course` asks for.
 use crate::by_steps::slots::{ROOT, Slot};
 use crate::by_steps::state::{Ended, Part, Stage, Steps};
-use crate::by_steps::talk::{DUP, NAME_BELOW, TEXT, Talk};
+use crate::by_steps::talk::Talk;
 use crate::by_steps::work::{make, open_anew};
 use crate::path::front;
+use crate::request::{
+    MKDIR, MKDIR_ALL, MKFILE, READ_TEXT, REMOVE_ALL, RENAME, RESOLVE, RESOLVE_NOFOLLOW, RMDIR,
+    SYMLINK, UNLINK,
+};
 use crate::steps;
 use crate::walk::{BENEATH, NO_LINKS, has, look_error};
-use c_protocol::Asked as Numbers;
 use call_course::{
     ANOTHER_PROC, Answer, BEGIN, CLOSE, CLOSE_PROC, CONVERSE, ENDS, FAILS, LET_GO, LOOK_AT_PROC,
     LOOK_AT_ROOT, PLACE, TAKE, begin, next, take,
 };
 use dialogue::{Answer as Gave, Asked, Question, ask};
 use find_proc::{Known, Proc, find, is_lost};
+use path_text::{Bytes, Errno, Flags};
 use place_protocol::BY_ROOT;
+use root_ops::{Op, Reply};
 use std::alloc::Global;
 use step_calls::OPENED;
 use system_calls::errors::ENOSYS;
 use system_calls::kind_of;
+use tree_model::Mode;
 
 const DIRECTORY: u8 = 1;
 
@@ -29,12 +35,33 @@ fn lay(text: &[u8], room: &mut [u8]) {
     }
 }
 
+fn mode_of(mode: u8) -> Result<Mode, Errno> {
+    match mode {
+        0 => Ok(Mode::Plain),
+        1 => Ok(Mode::NoReplace),
+        2 => Ok(Mode::Exchange),
+        _ => Err(Errno::Invalid),
+    }
+}
+
+// A reply's number in `call_course`, a count, how long a text is, and an error.
+fn told(reply: &Reply) -> (u8, u64, u64, u32) {
+    match reply {
+        Reply::Opened(_) => (32, 0, 0, 0),
+        Reply::Text(text) => (33, 0, text.as_slice().len() as u64, 0),
+        Reply::Done => (34, 0, 0, 0),
+        Reply::Count(count) => (35, *count, 0, 0),
+        Reply::Fault(error) => (38, 0, 0, error.number() as u32),
+        _ => (0, 0, 0, 0),
+    }
+}
+
 impl Steps {
     // ---- what is due
 
     // What the proved call opened, out of its handle: the root is opened anew.
     fn take_due<'s>(&'s self, known: &mut Known, answers: &mut &[Gave]) -> Asked<'s, Part> {
-        let handle = self.told().handle;
+        let handle = self.talk.handle();
         let slot = self.attempt.handles.at(handle);
         let taking = take(handle == ROOT, slot.fd.is_some());
         if taking.error != 0 {
@@ -43,7 +70,7 @@ impl Steps {
         if !taking.anew {
             return Ok(Part::Thing(0, slot.fd.unwrap_or(0) as u64));
         }
-        let work = open_anew(self.step_fd(), self.request.flags);
+        let work = open_anew(self.attempt.handles.fd(handle), self.request.flags);
         let made = make(answers, known, &work)?;
         Ok(if made.course.next == OPENED {
             Part::Thing(0, made.fd as u64)
@@ -111,7 +138,6 @@ impl Steps {
             unopened: 0,
             made: 0,
             reply: 0,
-            whole: false,
             stepped: self.attempt.stepped,
             changed: self.attempt.changed,
             has_proc: self.attempt.proc.is_some(),
@@ -125,7 +151,7 @@ impl Steps {
             ENDS => return self.run_over(Ok(self.course.value), read),
             FAILS => return self.run_over(Err(self.course.error), read),
             PLACE => {
-                self.attempt.step = NAME_BELOW;
+                self.attempt.step = steps::NAME_BELOW;
                 self.begin_to_ask();
             }
             _ => self.stage = Stage::Course,
@@ -133,33 +159,53 @@ impl Steps {
         None
     }
 
+    fn op(&self, alloc: Global) -> Result<Op, Errno> {
+        let path = Bytes::from_slice(alloc, self.path())?;
+        Ok(match self.request.what {
+            RESOLVE => Op::Resolve(path),
+            RESOLVE_NOFOLLOW => Op::ResolveNoFollow(path),
+            READ_TEXT => Op::ReadLink(path),
+            MKFILE => Op::CreateFile(path),
+            MKDIR => Op::CreateDir(path),
+            SYMLINK => Op::CreateLink(path, Bytes::from_slice(alloc, self.second.as_slice())?),
+            UNLINK => Op::RemoveFile(path),
+            RMDIR => Op::RemoveDir(path),
+            RENAME => {
+                let new = Bytes::from_slice(alloc, self.second.as_slice())?;
+                Op::Rename(path, new, mode_of(self.rename_mode())?)
+            }
+            MKDIR_ALL => Op::MkdirAll(path),
+            REMOVE_ALL => Op::RemoveAll(path),
+            _ => return Err(Errno::Invalid),
+        })
+    }
+
     // Begins the proved call. Where there is no memory, that is its reply.
     fn converse(&mut self, alloc: Global) {
-        let numbers = Numbers {
-            root: ROOT,
-            op: self.request.what,
-            mode: self.rename_mode(),
-            beneath: has(self.request.flags, BENEATH),
-            no_links: has(self.request.flags, NO_LINKS),
-        };
         self.attempt.handles.clear();
-        self.talk = None;
+        self.talk = Talk::failed(alloc, Errno::NoMemory);
         if self.attempt.handles.reserve() {
             let root = Slot::new(Some(self.root), DIRECTORY, BY_ROOT);
             self.attempt.handles.put(root);
-            let talk = Talk::begin(alloc, &numbers, self.path(), self.second.as_slice());
-            self.talk = talk;
+            let flags = Flags {
+                beneath: has(self.request.flags, BENEATH),
+                no_links: has(self.request.flags, NO_LINKS),
+            };
+            self.talk = match self.op(alloc) {
+                Ok(op) => Talk::begin(alloc, op, flags),
+                Err(error) => Talk::failed(alloc, error),
+            };
         }
         self.tell();
     }
 
     // The kind of what was opened is known.
     fn taken(&mut self) {
-        let handle = self.told().handle;
+        let handle = self.talk.handle();
         let slot = self.attempt.handles.at(handle);
         self.kind = slot.kind;
         if take(handle == ROOT, slot.fd.is_some()).anew {
-            self.attempt.step = DUP;
+            self.attempt.step = steps::DUP;
         }
     }
 
@@ -217,19 +263,18 @@ impl Steps {
 
     /// The proved call has replied.
     pub(crate) fn replied(&mut self, read: &mut [u8]) -> Option<Ended> {
-        let told = self.told();
+        let (reply, value, length, error) = told(self.talk.reply());
         let made = match self.attempt.made {
             Some(fd) => fd.saturating_add(1),
             None => 0,
         };
         let answer = Answer {
-            length: told.first as u64,
+            length,
             unmade: self.attempt.unmade,
             unopened: self.attempt.unopened,
             made,
-            reply: told.what,
-            whole: told.whole,
-            ..self.noted(told.detail as u32, told.handle)
+            reply,
+            ..self.noted(error, value)
         };
         self.advance(&answer, read)
     }
@@ -267,10 +312,8 @@ impl Steps {
         if self.facts.places {
             lay(self.search.names(), read);
         }
-        if let Some(talk) = &self.talk {
-            if talk.told().what == TEXT {
-                lay(talk.first(), read);
-            }
+        if let Reply::Text(text) = self.talk.reply() {
+            lay(text.as_slice(), read);
         }
         Ended::Value(if self.request.asks_kind {
             self.kind as u64 * 0x1_0000_0000 + (value & 0xffff_ffff)

@@ -1,6 +1,6 @@
 //! At which names below the root an object stands: as a walk asks, and as a program does.
 use crate::by_steps::search::{Found, look_first};
-use crate::by_steps::slots::Slot;
+use crate::by_steps::slots::{ROOT, Slot};
 use crate::by_steps::state::{Ended, Part, Stage, Steps};
 use crate::by_steps::there::is_dead;
 use crate::walk::look_error;
@@ -32,10 +32,11 @@ impl Steps {
         &'s self,
         known: &mut Known,
         answers: &mut &[Gave],
+        handle: u64,
     ) -> Asked<'s, Part> {
-        let (told, handles) = (self.told(), &self.attempt.handles);
-        let slot = handles.at(told.handle);
-        let names = self.attempt.passed.names_of(told.handle);
+        let handles = &self.attempt.handles;
+        let slot = handles.at(handle);
+        let names = self.attempt.passed.names_of(handle);
         let held = Held {
             way: slot.way,
             above: false,
@@ -46,8 +47,8 @@ impl Steps {
         let first = before_questions(&held);
         match names {
             Some(names) if first == LOOK_UP => {
-                let root = handles.fd(told.other);
-                let fd = handles.fd(told.handle);
+                let root = handles.fd(ROOT);
+                let fd = handles.fd(handle);
                 let found = look_first(answers, known, root, fd, names)?;
                 Ok(Part::Before(behind_look_up(&held, found.is_some()), found))
             }
@@ -57,20 +58,20 @@ impl Steps {
 
     /// The walk goes on from a directory by the names that were found.
     pub(crate) fn before_asked(&mut self, alloc: Global, next: u8, found: Option<u32>) {
-        let told = self.told();
-        let mut slot = self.attempt.handles.at(told.handle);
+        let handle = self.talk.handle();
+        let mut slot = self.attempt.handles.at(handle);
         if found.is_some() {
             slot.fd = found;
             slot.way = SEEN_BELOW;
-            self.attempt.handles.set(told.handle, slot);
+            self.attempt.handles.set(handle, slot);
         }
         if next == ASK {
-            self.search.begin(self.attempt.handles.fd(told.other), slot);
+            self.search.begin(self.attempt.handles.fd(ROOT), slot);
             self.stage = Stage::Place;
             return;
         }
         if next == AT_ROOT && slot.kind == DIRECTORY {
-            self.attempt.passed.keep_place(told.handle, b"/");
+            self.attempt.passed.keep_place(handle, b"/");
         }
         self.stands_passed(alloc, next == AT_ROOT);
     }
@@ -100,11 +101,11 @@ impl Steps {
     }
 
     fn place_found(&mut self, alloc: Global) {
-        let handle = self.told().handle;
+        let handle = self.talk.handle();
         let held = self.search.held();
         self.attempt.handles.set(handle, held);
         match self.search.error() {
-            Some(error) => self.unmade(alloc, error),
+            Some(error) => self.unmade(error),
             None => {
                 if held.kind == DIRECTORY {
                     self.attempt.passed.keep_place(handle, self.search.names());

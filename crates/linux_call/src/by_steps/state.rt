@@ -5,15 +5,15 @@ use crate::by_steps::name::Name;
 use crate::by_steps::removal::Removing;
 use crate::by_steps::search::{Found, Search};
 use crate::by_steps::slots::Slot;
-use crate::by_steps::talk::{NO_MEMORY, Talk};
+use crate::by_steps::talk::Talk;
 use crate::by_steps::work::Made;
 use crate::request::{FAILED, MKDIR_ALL, PLACE, REMOVE_ALL, Request};
 use crate::walk::{NO_RETRY, has};
 use ask_place::Asking;
-use c_protocol::Told;
 use call_course::{Calling, Facts};
 use dialogue::{Answer, Asked};
 use find_proc::{Known, Proc, has_floor};
+use path_text::Errno;
 use place_protocol::BY_NAME;
 use std::alloc::Global;
 use system_calls::errors::ENOMEM;
@@ -92,7 +92,7 @@ pub(crate) struct Steps {
     pub(crate) stage: Stage,
     pub(crate) course: Calling,
     pub(crate) attempt: Attempt,
-    pub(crate) talk: Option<Talk>,
+    pub(crate) talk: Talk,
     pub(crate) search: Search,
     pub(crate) asking: Asking,
     /// The copy of the request's object, as its place is asked for.
@@ -182,7 +182,7 @@ impl Steps {
             stage: first_stage(request),
             course: call_course::begin(&facts),
             attempt: Attempt::new(alloc),
-            talk: None,
+            talk: Talk::failed(alloc, Errno::NoMemory),
             search: Search::new(alloc),
             asking: ask_place::begin(),
             object: Slot::new(None, 0, BY_NAME),
@@ -235,9 +235,9 @@ impl Steps {
             Part::Made(made) => self.made(alloc, made, read),
             Part::Before(next, found) => self.before_asked(alloc, next, found),
             Part::Listed(error, value) => self.listed(alloc, error, value, read),
-            Part::Changed(error, made, unopened) => self.changed(alloc, error, made, unopened),
-            Part::Closed => self.closed(alloc),
-            Part::Unmade(error) => self.unmade(alloc, error),
+            Part::Changed(error, made, unopened) => self.changed(error, made, unopened),
+            Part::Closed => self.closed(),
+            Part::Unmade(error) => self.unmade(error),
         }
         None
     }
@@ -247,17 +247,9 @@ impl Steps {
         self.attempt.step_name.text()
     }
 
-    /// The step that is told.
-    pub(crate) fn told(&self) -> Told {
-        match &self.talk {
-            Some(talk) => talk.told(),
-            None => NO_MEMORY,
-        }
-    }
-
     /// The descriptor of the step's handle.
     pub(crate) fn step_fd(&self) -> u32 {
-        self.attempt.handles.fd(self.told().handle)
+        self.attempt.handles.fd(self.talk.handle())
     }
 
     /// The path of the proved call under way.

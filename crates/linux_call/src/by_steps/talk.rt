@@ -1,119 +1,123 @@
-//! A proved call under way: the step that it asks for, or its reply.
-ghost use Rattle.std.specs.Prelude.{◌<◌, IsSome};
-ghost use Rattle.c_protocol.specs.Turns.{call_of};
-
-use crate::path::{front, piece};
-use c_protocol::{Answered, Asked, Kept, Told, begin, next};
+//! A proved call under way: the step that is due, or its reply.
+use crate::by_steps::slots::ROOT;
+use crate::steps::parts_of;
+use handles::Owner;
+use path_text::{Errno, Flags};
+use root_ops::{Call, CallTurn, Op, Reply, Request};
 use std::alloc::Global;
+use step_resolver::Root;
+use tree_model::{Actor, Answer, HandleNo, LentStep};
 
-// The steps and the replies, by their numbers (`c_protocol`).
-pub(crate) const OPEN: u8 = 1;
-
-pub(crate) const DUP: u8 = 2;
-
-pub(crate) const PARENT: u8 = 3;
-
-pub(crate) const READ_LINK: u8 = 4;
-
-pub(crate) const NAME_BELOW: u8 = 5;
-
-pub(crate) const LIST: u8 = 6;
-
-pub(crate) const CLOSE: u8 = 7;
-
-pub(crate) const MAKE_DIR: u8 = 8;
-
-pub(crate) const RENAME: u8 = 13;
-
-const REPLIES: u8 = 32;
-
-pub(crate) const TEXT: u8 = 33;
-
-const FAULT: u8 = 38;
-
-const ENOMEM: u8 = 12;
-
-// Two names with a text each, and a NUL behind each.
-const ROOM: usize = 8704;
-
-/// A call that goes on is kept while a step is told.
-#[derive(Drop)]
+/// A call that goes on, or the reply of one. It lies where it is kept, and most turns move nothing. To drop it frees the
+/// call's memory, and leaves the handles as they are.
+#[derive(Debug)]
 pub(crate) struct Talk {
-    kept: Kept,
-    told: Told,
-    room: Vec<u8>,
-    ghost goes: { told.what < 32 → IsSome (call_of kept.held) },
+    alloc: Global,
+    call: Option<Call>,
+    // What the call came to, if it doesn't go on.
+    reply: Reply,
 }
 
-/// What is told where there is no memory for a call.
-pub(crate) const NO_MEMORY: Told = Told {
-    handle: 0,
-    other: 0,
-    first: 0,
-    second: 0,
-    what: FAULT,
-    detail: ENOMEM,
-    whole: true,
-};
+// Makes each Close that is due for nobody, and says of every other step that there was no memory for it.
+fn give_up(alloc: Global, call: Call) {
+    let mut turn = CallTurn::More(call);
+    loop {
+        match turn {
+            CallTurn::More(call) => turn = call.take(alloc, Answer::Refused(Errno::NoMemory)),
+            CallTurn::Done(_reply) => return,
+        }
+    }
+}
 
-pub(crate) fn is_step(told: &Told) -> bool {
-    told.what < REPLIES
+impl Drop for Talk {
+    fn drop(self) {
+        let Talk {
+            alloc,
+            call,
+            reply: _,
+        } = self;
+        match call {
+            Some(call) => give_up(alloc, call),
+            None => {}
+        }
+    }
 }
 
 impl Talk {
-    /// Begins a call. None: there is no memory.
-    pub(crate) fn begin(alloc: Global, asked: &Asked, first: &[u8], second: &[u8]) -> Option<Talk> {
-        let mut room = match Vec::from_elem(alloc, 0u8, ROOM) {
-            Ok(room) => room,
-            Err(_) => return None,
-        };
-        let mut kept = Kept::empty(alloc);
-        let mut told = NO_MEMORY;
-        begin(
+    /// No call goes on: it failed by this error.
+    pub(crate) fn failed(alloc: Global, error: Errno) -> Talk {
+        Talk {
             alloc,
-            asked,
-            first,
-            second,
-            &mut kept,
-            &mut told,
-            room.as_mut_slice(),
-        );
-        Some(Talk { kept, told, room })
-    }
-
-    /// Answers the step that was told.
-    #[tactic(auto, using(crate::proofs::Keeping::next_is_kept))]
-    pub(crate) fn answered(self, alloc: Global, answered: &Answered, bytes: &[u8]) -> Talk {
-        let Talk {
-            mut kept,
-            mut told,
-            mut room,
-        } = self;
-        if told.what < REPLIES {
-            next(
-                alloc,
-                &mut kept,
-                answered,
-                bytes,
-                &mut told,
-                room.as_mut_slice(),
-            );
+            call: None,
+            reply: Reply::Fault(error),
         }
-        Talk { kept, told, room }
     }
 
-    pub(crate) fn told(&self) -> Told {
-        self.told
+    fn at(alloc: Global, turn: CallTurn) -> Talk {
+        match turn {
+            CallTurn::More(call) => Talk {
+                alloc,
+                call: Some(call),
+                reply: Reply::Done,
+            },
+            CallTurn::Done(reply) => Talk {
+                alloc,
+                call: None,
+                reply,
+            },
+        }
     }
 
-    /// The first name of a step, or the text of a reply.
-    pub(crate) fn first(&self) -> &[u8] {
-        front(self.room.as_slice(), self.told.first)
+    /// Begins a call.
+    pub(crate) fn begin(alloc: Global, op: Op, flags: Flags) -> Talk {
+        let owner = Owner {
+            tag: 0,
+            actor: Actor::new(0),
+        };
+        let handle = HandleNo::new(ROOT);
+        let turn = Call::start(alloc, Request { op, flags }, Root { owner, handle });
+        Talk::at(alloc, turn)
     }
 
-    /// The other name of a step, or a link's text. A NUL stands before it.
-    pub(crate) fn second(&self) -> &[u8] {
-        let behind = self.first().len() + 1;
-        piece(self.room.as_slice(), behind, self.told.second)
+    /// Answers the step that is due.
+    pub(crate) fn take(&mut self, answer: Answer) {
+        let passes = match self.call.as_mut() {
+            Some(call) => call.pass(&answer),
+            None => true,
+        };
+        if !passes {
+            self.turn(answer);
+        }
+    }
+
+    // The turn by which the call is moved. Apart from `take`, so that a turn that passes makes no room for it.
+    #[inline(never)]
+    fn turn(&mut self, answer: Answer) {
+        let alloc = self.alloc;
+        if let Some(call) = self.call.take() {
+            *self = Talk::at(alloc, call.take(alloc, answer));
+        }
+    }
+
+    /// The step that is due; none, if the call has replied.
+    pub(crate) fn step(&self) -> Option<LentStep<'_>> {
+        match &self.call {
+            Some(call) => Some(call.due()),
+            None => None,
+        }
+    }
+
+    /// The reply, if no step is due.
+    pub(crate) fn reply(&self) -> &Reply {
+        &self.reply
+    }
+
+    /// The handle that the step is about, or that the reply hands over; or 0, which is none.
+    pub(crate) fn handle(&self) -> u64 {
+        match (self.step(), &self.reply) {
+            (Some(step), _) => parts_of(&step).1.number(),
+            (None, Reply::Opened(standing)) => standing.handle().number(),
+            _ => 0,
+        }
     }
 }
