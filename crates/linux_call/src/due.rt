@@ -201,7 +201,6 @@ fn look_due(question: &Question<'_>, machine: &MachineFlags) -> Option<Due> {
         Question::OpenName(dir, _, how)
         | Question::OpenSame(dir, how)
         | Question::OpenAbove(dir, how) => { by_how(machine, dir, &how) }
-        Question::OpenPath(dir, _, flags, mode, resolve) => opens(dir, flags, mode, resolve, false),
         Question::Stat(fd) | Question::StatName(fd, _) => looks(STATX, fd),
         Question::FileSystem(fd) => looks(FSTATFS, fd),
         Question::ReadEntries(fd) => looks(GETDENTS, fd),
@@ -317,7 +316,6 @@ fn lay_object(room: &mut [u8], front: &[u8], fd: u32) {
 fn lay_texts(question: &Question<'_>, room: &mut [u8]) {
     match *question {
         Question::OpenName(_, text, _)
-        | Question::OpenPath(_, text, _, _, _)
         | Question::Open(_, text, _, _)
         | Question::StatName(_, text)
         | Question::MakeDirectory(_, text, _)
@@ -348,9 +346,16 @@ fn lay_texts(question: &Question<'_>, room: &mut [u8]) {
 /// The system call that is due; its texts are laid in the room.
 #[inline(always)]
 pub(crate) fn due_of(question: &Question<'_>, request: &Request, room: &mut [u8]) -> Due {
-    if let Question::LookUp(dir, path, flags, resolve) = *question {
-        lay(room, 0, path);
-        return opens(dir, flags | O_PATH | O_CLOEXEC, 0, resolve, true);
+    match *question {
+        Question::LookUp(dir, path, flags, resolve) => {
+            lay(room, 0, path);
+            return opens(dir, flags | O_PATH | O_CLOEXEC, 0, resolve, true);
+        }
+        Question::OpenPath(dir, path, flags, mode, resolve) => {
+            lay(room, 0, path);
+            return opens(dir, flags, mode, resolve, false);
+        }
+        _ => {}
     }
     due_of_other(question, request, room)
 }

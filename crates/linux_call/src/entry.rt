@@ -27,22 +27,32 @@ pub(crate) fn parts(path: PathOf<'_>, takes_slash: bool) -> Option<Parted> {
     }
 }
 
-/// Closes the directory behind the call's end, if the reply comes next.
+/// Has the directory closed behind the call's end, if the reply comes right behind the change: whether it is.
+#[inline(always)]
+pub(crate) fn is_closed_behind(beside: &mut Beside, entry: Entry<'_>) -> bool {
+    let count = beside.closes.count as usize;
+    if !beside.ends || count >= beside.closes.fds.len() {
+        return false;
+    }
+    if entry.own {
+        beside.closes.fds[count] = entry.dir;
+        beside.closes.count = beside.closes.count.saturating_add(1);
+    }
+    true
+}
+
+/// Closes the directory behind the call's end, if the reply comes next; else now.
 #[inline(always)]
 pub(crate) fn close_behind<'n>(
     answers: &mut &[Answer],
     beside: &mut Beside,
     entry: Entry<'n>,
 ) -> Asked<'n, ()> {
-    let count = beside.closes.count as usize;
-    if !beside.ends || count >= beside.closes.fds.len() {
-        return close(answers, entry);
+    if is_closed_behind(beside, entry) {
+        Ok(())
+    } else {
+        close(answers, entry)
     }
-    if entry.own {
-        beside.closes.fds[count] = entry.dir;
-        beside.closes.count = beside.closes.count.saturating_add(1);
-    }
-    Ok(())
 }
 
 #[inline(always)]

@@ -6,6 +6,7 @@ ghost use Rattle.linux_call.specs.declared.by_steps.state.Steps.{Steps};
 mod parts;
 
 use crate::by_steps::Steps;
+use crate::request::{Closes, NO_CLOSES};
 use find_proc::{File, Kept as Proc, Known};
 use make_through_links::Making;
 use open_or_make::Course;
@@ -87,6 +88,8 @@ pub struct State {
     pub(crate) making: Making,
     /// What is known as single steps go on.
     pub(crate) known: Known,
+    /// What is closed behind the change of an entry.
+    pub(crate) closes: Closes,
     pub(crate) error: u32,
     /// So many answers stand. So many of them aren't of the single step that is under way.
     pub(crate) count: u32,
@@ -97,6 +100,8 @@ pub struct State {
     pub(crate) looked: bool,
     /// What the first answer opens is the reply.
     pub(crate) opens: bool,
+    /// The change of an entry is due: if no error comes, the reply is 0.
+    pub(crate) changes: bool,
     /// STEPS holds a call.
     pub by_steps: bool,
 }
@@ -181,6 +186,7 @@ impl State {
             course: NO_COURSE,
             making: NO_MAKING,
             known: NOTHING_KNOWN,
+            closes: NO_CLOSES,
             error: 0,
             count: 0,
             base: 0,
@@ -188,6 +194,7 @@ impl State {
             begun: false,
             looked: false,
             opens: false,
+            changes: false,
             by_steps: false,
         }
     }

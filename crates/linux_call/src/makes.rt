@@ -1,6 +1,6 @@
 //! Calls on paths that the kernel walks: what is at the end, an entry there, all directories.
 use crate::change::{Change, make_change};
-use crate::entry::{Entry, above, close, close_behind, find, parts};
+use crate::entry::{Entry, above, close, close_behind, find, is_closed_behind, parts};
 use crate::path::{PathOf, Texts};
 use crate::request::{
     Beside, MKDIR, MKFILE, RESOLVE_NOFOLLOW, RMDIR, Reply, Request, SYMLINK, Tried, UNLINK, value,
@@ -110,8 +110,13 @@ pub(crate) fn change_entry<'n>(
         other: 0,
         text,
     };
+    let is_behind = is_closed_behind(beside, entry);
+    beside.changes = is_behind && !request.gives;
     let reply = make_change(answers, known, request, &what, texts.read)?;
-    close_behind(answers, beside, entry)?;
+    beside.changes = false;
+    if !is_behind {
+        close(answers, entry)?;
+    }
     Ok(reply)
 }
 
@@ -125,8 +130,14 @@ fn rename_to<'n>(
 ) -> Asked<'n, Reply<'n>> {
     let to = match find(answers, known, at, false)? {
         Tried::Is(to) => to,
-        Tried::Fails(error, step) => return Ok(Reply::Fails(error, step, b"")),
-        Tried::Steps => return Ok(Reply::Steps),
+        Tried::Fails(error, step) => {
+            close_behind(answers, beside, from)?;
+            return Ok(Reply::Fails(error, step, b""));
+        }
+        Tried::Steps => {
+            close(answers, from)?;
+            return Ok(Reply::Steps);
+        }
     };
     let what = Change {
         step: steps::RENAME,
@@ -135,8 +146,17 @@ fn rename_to<'n>(
         other: to.dir,
         text: to.name,
     };
+    let is_to_behind = is_closed_behind(beside, to);
+    let is_from_behind = is_closed_behind(beside, from);
+    beside.changes = is_to_behind && is_from_behind;
     let reply = make_change(answers, known, request, &what, b"")?;
-    close_behind(answers, beside, to)?;
+    beside.changes = false;
+    if !is_to_behind {
+        close(answers, to)?;
+    }
+    if !is_from_behind {
+        close(answers, from)?;
+    }
     Ok(reply)
 }
 
@@ -163,12 +183,7 @@ pub(crate) fn rename<'n>(
         looked: false,
         ..*at
     };
-    let reply = rename_to(answers, known, beside, request, from, &second)?;
-    match reply {
-        Reply::Steps => close(answers, from)?,
-        _ => close_behind(answers, beside, from)?,
-    }
-    Ok(reply)
+    rename_to(answers, known, beside, request, from, &second)
 }
 
 // ---- all directories of a path

@@ -119,6 +119,8 @@ pub(crate) struct Beside {
     /// What is closed behind the call's end, if the reply comes right behind the change of an entry.
     pub closes: Closes,
     pub ends: bool,
+    /// The change is due, and the reply is 0 if no error comes.
+    pub changes: bool,
 }
 
 /// Descriptors that are closed: so many.

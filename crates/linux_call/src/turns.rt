@@ -196,6 +196,15 @@ fn texts_of<'n>(
     }
 }
 
+fn end_and_close(reply: &Reply<'_>, closes: &Closes, room: &mut [u8]) -> Due {
+    Due {
+        closes: closes.count,
+        first_closed: closes.fds[0],
+        second_closed: closes.fds[1],
+        ..end_of(reply, room)
+    }
+}
+
 #[inline(never)]
 fn go(
     alloc: Global,
@@ -214,6 +223,7 @@ fn go(
         inner: None,
         closes: NO_CLOSES,
         ends: ends_behind(request.what),
+        changes: false,
     };
     let mut left = between(answers, 0, state.count);
     match part(&mut left, &mut known, &mut beside, request, state, texts) {
@@ -225,14 +235,11 @@ fn go(
                 state.looked = is_look_up(request, &question);
                 state.opens = state.looked && is_reply(request, state);
             }
+            state.changes = beside.changes;
+            state.closes = beside.closes;
             Came::Due(due_of(&question, request, room))
         }
-        Ok(Ok(reply)) => Came::Due(Due {
-            closes: beside.closes.count,
-            first_closed: beside.closes.fds[0],
-            second_closed: beside.closes.fds[1],
-            ..end_of(&reply, room)
-        }),
+        Ok(Ok(reply)) => Came::Due(end_and_close(&reply, &beside.closes, room)),
         Ok(Err(gave)) => {
             keep(state, &gave.reply, room);
             request.known = known;
@@ -389,6 +396,13 @@ fn at_once(state: &State, answers: &[Answer]) -> Option<u32> {
     }
 }
 
+// Where the change of an entry fails by no error, the call is over, and its reply is 0.
+#[inline(always)]
+fn is_changed(state: &State, answers: &[Answer]) -> bool {
+    let at = state.count as usize;
+    state.changes && at < answers.len() && answers[at].error == 0
+}
+
 // Most calls begin with the look-up that `run` would ask for: that takes no more than this.
 #[inline(always)]
 fn look_up_first(
@@ -449,6 +463,10 @@ pub fn turn(
         *due = end_of(&value(fd), room);
         return;
     }
+    if is_changed(state, answers) {
+        *due = end_and_close(&value(0), &state.closes, room);
+        return;
+    }
     if !state.begun {
         if request.what == OPEN_AT {
             state.opening = open_at::opening(request);
@@ -464,6 +482,7 @@ pub fn turn(
         }
     }
     state.opens = false;
+    state.changes = false;
     let mut steps = if state.by_steps {
         Some(mem::replace(&mut state.steps, Kept::empty(alloc)).into_box())
     } else {
