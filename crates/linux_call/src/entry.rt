@@ -30,13 +30,16 @@ pub(crate) fn parts(path: PathOf<'_>, takes_slash: bool) -> Option<Parted> {
 /// Has the directory closed behind the call's end, if the reply comes right behind the change: whether it is.
 #[inline(always)]
 pub(crate) fn is_closed_behind(beside: &mut Beside, entry: Entry<'_>) -> bool {
-    let count = beside.closes.count as usize;
-    if !beside.ends || count >= beside.closes.fds.len() {
+    if !beside.ends || beside.closes.count > 1 {
         return false;
     }
     if entry.own {
-        beside.closes.fds[count] = entry.dir;
-        beside.closes.count = beside.closes.count.saturating_add(1);
+        if beside.closes.count == 0 {
+            beside.closes.first = entry.dir;
+        } else {
+            beside.closes.second = entry.dir;
+        }
+        beside.closes.count += 1;
     }
     true
 }

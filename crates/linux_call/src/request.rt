@@ -124,14 +124,17 @@ pub(crate) struct Beside {
 }
 
 /// Descriptors that are closed: so many.
+#[repr(C)]
 #[derive(Clone, Copy)]
 pub(crate) struct Closes {
-    pub fds: [u32; 2],
+    pub first: u32,
+    pub second: u32,
     pub count: u32,
 }
 
 pub(crate) const NO_CLOSES: Closes = Closes {
-    fds: [0; 2],
+    first: 0,
+    second: 0,
     count: 0,
 };
 

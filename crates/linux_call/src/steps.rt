@@ -41,7 +41,8 @@ pub(crate) const PROC: u8 = 18;
 
 pub(crate) const STATUS: u8 = 19;
 
-/// A proved call's step: its number, the handle that it is about, and its name. Of a rename, the old directory and name.
+/// A proved call's step: its number, the handle that the step is about, and its name. Of a rename, the old directory
+/// and name.
 pub(crate) fn parts_of<'s>(step: &LentStep<'s>) -> (u8, HandleNo, &'s [u8]) {
     let nameless = b"".as_slice();
     match step {

@@ -199,8 +199,8 @@ fn texts_of<'n>(
 fn end_and_close(reply: &Reply<'_>, closes: &Closes, room: &mut [u8]) -> Due {
     Due {
         closes: closes.count,
-        first_closed: closes.fds[0],
-        second_closed: closes.fds[1],
+        first_closed: closes.first,
+        second_closed: closes.second,
         ..end_of(reply, room)
     }
 }

@@ -138,8 +138,8 @@ impl Attempt {
         Stage::Unmade(ENOMEM)
     }
 
-    /// A handle on what was opened by a name. Keeps by which names the walk has come there, or how deep that is in a tree
-    /// that is removed.
+    /// A handle on what was opened by a name. Keeps by which names the walk has come there, or how deep that is in a
+    /// tree that is removed.
     pub(crate) fn opened(&mut self, dir: u64, name: &[u8], slot: Slot) -> u64 {
         if !self.begun {
             let handle = self.handles.put(slot);

@@ -8,8 +8,8 @@ use std::alloc::Global;
 use step_resolver::Root;
 use tree_model::{Actor, Answer, HandleNo, LentStep};
 
-/// A call that goes on, or the reply of one. It lies where it is kept, and most turns move nothing. To drop it frees the
-/// call's memory, and leaves the handles as they are.
+/// A call that goes on, or the reply of one. A call lies where it is kept, and most turns move nothing. To drop a call
+/// frees its memory, and leaves the handles as they are.
 #[derive(Debug)]
 pub(crate) struct Talk {
     alloc: Global,
