@@ -7,6 +7,7 @@ import (
 	"errors"
 	"io/fs"
 	"os"
+	"path"
 	"syscall"
 )
 
@@ -154,12 +155,20 @@ const (
 	RenameWhiteout RenameFlags = C.INROOT_WHITEOUT
 )
 
-// Rename renames an entry, which stays below the root, and replaces newname where that is there, as rename(2) does.
+// Rename renames an entry, which stays below the root, and replaces newname where that is there, as os.Rename does:
+// EEXIST where newname is a directory, which the call looks at before.
 func (r *Root) Rename(oldname, newname string) error {
+	there, err := r.Lstat(newname)
+	if last := path.Base(newname); err == nil && there.IsDir() && last != "/" && last != "." && last != ".." {
+		old, err := r.Lstat(oldname)
+		if err == nil && !(newname != oldname && os.SameFile(there, old)) {
+			return &os.LinkError{Op: "renameat", Old: oldname, New: newname, Err: syscall.EEXIST}
+		}
+	}
 	return r.RenameWith(oldname, newname, 0)
 }
 
-// RenameWith does so by flags, as renameat2(2) does.
+// RenameWith does so by flags, as renameat2(2) does. It replaces an empty directory by a directory.
 func (r *Root) RenameWith(oldname, newname string, flags RenameFlags) error {
 	_, err := r.ofTwo("renameat", oldname, newname, func(root C.int, from, to *C.char) (int, error) {
 		return result(C.inroot_rename(root, from, to, number(int(flags)), r.with(0)))

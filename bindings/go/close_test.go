@@ -77,7 +77,7 @@ func TestEachMethodAfterClose(t *testing.T) {
 		if closed.Name() != filepath.Join(top, "box") {
 			t.Errorf("the name is %q", closed.Name())
 		}
-		methods := failures(t, closed, file, "Close", "FS", "Name", "With")
+		methods := failures(t, closed, file.File, "Close", "FS", "Name", "With")
 		if len(methods) < 35 {
 			t.Errorf("only the methods %v were called", methods)
 		}
@@ -90,12 +90,12 @@ func TestEachMethodAfterClose(t *testing.T) {
 	must(t, handle.Close())
 	for _, name := range strings.Fields("Chmod Chown Chtimes Getxattr Listxattr Removexattr Reopen Setxattr") {
 		method := reflect.ValueOf(handle).MethodByName(name)
-		results := method.Call(arguments(t, method.Type(), file))
+		results := method.Call(arguments(t, method.Type(), file.File))
 		if err, _ := results[len(results)-1].Interface().(error); !errors.Is(err, fs.ErrClosed) {
 			t.Errorf("%s of a closed handle: %v", name, err)
 		}
 	}
-	fails(t, NewRoot(file).LinkFile(handle.File, "x"), fs.ErrClosed)
+	fails(t, NewRoot(file.File).LinkFile(handle.File, "x"), fs.ErrClosed)
 	if now := seen(t, top); now != before {
 		t.Errorf("calls after Close have made %s", now)
 	}
@@ -181,9 +181,9 @@ func TestFifos(t *testing.T) {
 	handle, err := root.Resolve("fifo")
 	must(t, err)
 	defer handle.Close()
-	for _, open := range []func() (*os.File, error){
-		func() (*os.File, error) { return root.OpenFile("fifo", os.O_RDWR, 0) },
-		func() (*os.File, error) { return handle.Reopen(os.O_RDWR) },
+	for _, open := range []func() (*File, error){
+		func() (*File, error) { return root.OpenFile("fifo", os.O_RDWR, 0) },
+		func() (*File, error) { return handle.Reopen(os.O_RDWR) },
 	} {
 		file, err := open()
 		must(t, err)

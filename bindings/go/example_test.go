@@ -141,7 +141,7 @@ func ExampleRoot_CreateUnnamed() {
 	if _, err = file.WriteString("whole"); err != nil {
 		log.Fatal(err)
 	}
-	if err = root.LinkFile(file, "etc/new"); err != nil {
+	if err = root.LinkFile(file.File, "etc/new"); err != nil {
 		log.Fatal(err)
 	}
 	text, err := root.ReadFile("etc/new")

@@ -1,7 +1,6 @@
 package inroot
 
 import (
-	"errors"
 	"io/fs"
 	"os"
 	"sort"
@@ -10,8 +9,7 @@ import (
 
 // FS returns the files below the root as an fs.FS, which has also the methods of fs.StatFS, fs.ReadFileFS,
 // fs.ReadDirFS, and fs.ReadLinkFS of Go 1.25. Its names are those of fs.ValidPath, else the error is fs.ErrInvalid;
-// links are followed below the root. An open file is an *os.File; a directory has the methods of fs.ReadDirFile
-// alone.
+// links are followed below the root. What is opened is a *File.
 func (r *Root) FS() fs.FS {
 	return rootFS{r}
 }
@@ -37,14 +35,6 @@ func (f rootFS) Open(name string) (fs.File, error) {
 	file, err := f.root.openAs(as, name, os.O_RDONLY, 0)
 	if err != nil {
 		return nil, err
-	}
-	about, err := file.Stat()
-	if err != nil {
-		file.Close()
-		return nil, err
-	}
-	if about.IsDir() {
-		return directory{file}, nil
 	}
 	return file, nil
 }
@@ -86,35 +76,7 @@ func (f rootFS) ReadDir(name string) ([]fs.DirEntry, error) {
 		return nil, err
 	}
 	defer file.Close()
-	entries, err := directory{file}.ReadDir(-1)
+	entries, err := file.ReadDir(-1)
 	sort.Slice(entries, func(i, j int) bool { return entries[i].Name() < entries[j].Name() })
 	return entries, err
-}
-
-// directory has those methods of its file which look at nothing by the file's name: along that, the links of the host
-// lead out of the root.
-type directory struct{ file *os.File }
-
-func (d directory) Stat() (fs.FileInfo, error)     { return d.file.Stat() }
-func (d directory) Read(bytes []byte) (int, error) { return d.file.Read(bytes) }
-func (d directory) Close() error                   { return d.file.Close() }
-
-// ReadDir gives entries with their status as they are read, each of this very directory. One that is removed
-// meanwhile is left out.
-func (d directory) ReadDir(count int) ([]fs.DirEntry, error) {
-	for {
-		names, err := d.file.Readdirnames(count)
-		entries := make([]fs.DirEntry, 0, len(names))
-		for _, name := range names {
-			about, failed := NewRoot(d.file).Lstat(name)
-			if failed == nil {
-				entries = append(entries, fs.FileInfoToDirEntry(about))
-			} else if !errors.Is(failed, fs.ErrNotExist) {
-				return entries, failed
-			}
-		}
-		if err != nil || len(entries) > 0 || count <= 0 {
-			return entries, err
-		}
-	}
 }

@@ -53,7 +53,7 @@ func (r *Root) ResolveParent(name string) (*Handle, string, error) {
 
 // Reopen opens the object once more, for use by the flags of open(2). No name is walked again. ELOOP of a link, ENXIO
 // of a socket, EISDIR of a directory that is opened for writing, EINVAL of flags that make a file.
-func (h *Handle) Reopen(flag int) (*os.File, error) {
+func (h *Handle) Reopen(flag int) (*File, error) {
 	fd, err := h.do("reopen", func(fd C.int) (int, error) {
 		return ignoringEINTR(func() (int, error) { return result(C.inroot_reopen(fd, number(flag))) })
 	})

@@ -40,7 +40,7 @@ func TestParts(t *testing.T) {
 	file, err := root.Open("in/f")
 	must(t, err)
 	defer file.Close()
-	place, err := root.Place(file)
+	place, err := root.Place(file.File)
 	is(t, place, err, "/a/b/f")
 	outside, err := os.Open(filepath.Join(top, "outside"))
 	must(t, err)
@@ -159,7 +159,7 @@ func TestExtendedAttributes(t *testing.T) {
 	file, err := root.Open("in/f")
 	must(t, err)
 	defer file.Close()
-	handle := &Handle{File: file}
+	handle := &Handle{File: file.File}
 	err = handle.Setxattr("user.inroot", []byte("one"), XattrCreate)
 	if errors.Is(err, syscall.EOPNOTSUPP) {
 		t.Skip("the file system has none")

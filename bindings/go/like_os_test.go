@@ -36,11 +36,8 @@ func two(own func(root *Root, oldname, newname string) error, like func(oldname,
 }
 
 // opens has those that give a file, which is read where it can be, and then written where it can be.
-func opens(own func(root *Root, name string) (*os.File, error), like func(name string) (*os.File, error)) doing {
-	use := func(file *os.File, err error) (string, error) {
-		if err != nil {
-			return "", err
-		}
+func opens(own func(root *Root, name string) (*File, error), like func(name string) (*os.File, error)) doing {
+	use := func(file *os.File) (string, error) {
 		defer file.Close()
 		text, unread := io.ReadAll(file)
 		_, unwritten := file.WriteString("written")
@@ -48,8 +45,20 @@ func opens(own func(root *Root, name string) (*os.File, error), like func(name s
 		return fmt.Sprintf("%q %v %v %v", text, errorOf(unread), errorOf(unwritten), about.Mode()), err
 	}
 	return doing{
-		func(root *Root, name ...string) (string, error) { return use(own(root, name[0])) },
-		func(name ...string) (string, error) { return use(like(name[0])) },
+		func(root *Root, name ...string) (string, error) {
+			file, err := own(root, name[0])
+			if err != nil {
+				return "", err
+			}
+			return use(file.File)
+		},
+		func(name ...string) (string, error) {
+			file, err := like(name[0])
+			if err != nil {
+				return "", err
+			}
+			return use(file)
+		},
 	}
 }
 
@@ -76,7 +85,7 @@ func states(own func(root *Root, name string) (fs.FileInfo, error), like func(na
 
 // opensBy has OpenFile with that flag.
 func opensBy(flag int) doing {
-	return opens(func(root *Root, name string) (*os.File, error) { return root.OpenFile(name, flag, 0o640) },
+	return opens(func(root *Root, name string) (*File, error) { return root.OpenFile(name, flag, 0o640) },
 		func(name string) (*os.File, error) { return os.OpenFile(name, flag, 0o640) })
 }
 
@@ -110,12 +119,11 @@ var doings = map[string]doing{
 		func(name string) error { return os.MkdirAll(name, 0o750) }),
 	"Remove":    one((*Root).Remove, os.Remove),
 	"RemoveAll": one((*Root).RemoveAll, os.RemoveAll),
-	// os.Rename refuses to replace an empty directory; the method of os.Root is renameat(2).
-	"Rename":   two((*Root).Rename, syscall.Rename),
-	"Link":     two((*Root).Link, os.Link),
-	"Readlink": texts((*Root).Readlink, os.Readlink),
-	"Stat":     states((*Root).Stat, os.Stat),
-	"Lstat":    states((*Root).Lstat, os.Lstat),
+	"Rename":    two((*Root).Rename, os.Rename),
+	"Link":      two((*Root).Link, os.Link),
+	"Readlink":  texts((*Root).Readlink, os.Readlink),
+	"Stat":      states((*Root).Stat, os.Stat),
+	"Lstat":     states((*Root).Lstat, os.Lstat),
 	"Symlink": one(func(root *Root, name string) error {
 		err := root.Symlink("some/text", name)
 		var told *os.LinkError

@@ -15,69 +15,46 @@ import (
 // outOf leads above any directory: joined to the name of a root, it gives a path of the host.
 var outOf = strings.Repeat("../", 64)
 
-// fileOf gives the file of a handle.
-func fileOf(handle *Handle, err error) (*os.File, error) {
-	if err != nil {
-		return nil, err
-	}
-	return handle.File, nil
+// A named is a file, a handle or a root.
+type named interface {
+	Name() string
+	Close() error
 }
 
-// givers has a call of each exported function and method that gives a file or a handle, by a name that leads to
-// root's own a. Those of proc(5) aren't below a root, and a Root's name is that of its directory.
-var givers = map[string]func(root *Root) (*os.File, error){
-	"Root.Open":     func(root *Root) (*os.File, error) { return root.Open(outOf + "a/b/f") },
-	"Root.Create":   func(root *Root) (*os.File, error) { return root.Create(outOf + "a/0") },
-	"Root.OpenFile": func(root *Root) (*os.File, error) { return root.OpenFile(outOf+"a/b/f", os.O_RDWR, 0) },
-	"Root.OpenRoot": func(root *Root) (*os.File, error) { return dirOf(root.OpenRoot(outOf + "a")) },
-	"Root.FS":       func(root *Root) (*os.File, error) { return fileOfFS(root.FS().Open("a/b/f")) },
-	"Root.Resolve":  func(root *Root) (*os.File, error) { return fileOf(root.Resolve(outOf + "a/b/f")) },
-	"Handle.Reopen": reopened,
-	"Root.MkdirAllHandle": func(root *Root) (*os.File, error) {
-		return fileOf(root.MkdirAllHandle(outOf+"a/1", 0o755))
+// givers has a call of each exported function and method that gives one, by a name that leads to root's own a. Files
+// of proc(5) aren't below a root, and a Root's name is that of its directory.
+var givers = map[string]func(root *Root) (named, error){
+	"Root.Open":            func(root *Root) (named, error) { return root.Open(outOf + "a/b/f") },
+	"Root.Create":          func(root *Root) (named, error) { return root.Create(outOf + "a/0") },
+	"Root.OpenFile":        func(root *Root) (named, error) { return root.OpenFile(outOf+"a/b/f", os.O_RDWR, 0) },
+	"Root.OpenRoot":        func(root *Root) (named, error) { return root.OpenRoot(outOf + "a") },
+	"Root.Resolve":         func(root *Root) (named, error) { return root.Resolve(outOf + "a/b/f") },
+	"Root.ResolveNoFollow": func(root *Root) (named, error) { return root.ResolveNoFollow(outOf + "a/b/f") },
+	"Root.MkdirAllHandle":  func(root *Root) (named, error) { return root.MkdirAllHandle(outOf+"a/1", 0o755) },
+	"Root.MkfileAll":       func(root *Root) (named, error) { return root.MkfileAll(outOf+"a/3", 0o600, 0o755) },
+	"Root.MkdirHandle":     func(root *Root) (named, error) { return root.MkdirHandle(outOf+"a/6", 0o755) },
+	"Root.SymlinkHandle":   func(root *Root) (named, error) { return root.SymlinkHandle("/etc/passwd", outOf+"a/8") },
+	"Root.LinkHandle":      func(root *Root) (named, error) { return root.LinkHandle("a/b/f", outOf+"a/9") },
+	"Root.CreateUnnamed":   func(root *Root) (named, error) { return root.CreateUnnamed(outOf+"a", 0o600) },
+	"Root.FS": func(root *Root) (named, error) {
+		file, err := root.FS().Open("a/b/f")
+		return file.(named), err
 	},
-	"Root.MkfileAll": func(root *Root) (*os.File, error) {
-		return fileOf(root.MkfileAll(outOf+"a/3", 0o600, 0o755))
-	},
-	"Root.MkdirHandle":   func(root *Root) (*os.File, error) { return fileOf(root.MkdirHandle(outOf+"a/6", 0o755)) },
-	"Root.LinkHandle":    func(root *Root) (*os.File, error) { return fileOf(root.LinkHandle("a/b/f", outOf+"a/9")) },
-	"Root.CreateUnnamed": func(root *Root) (*os.File, error) { return root.CreateUnnamed(outOf+"a", 0o600) },
-	"Root.ResolveNoFollow": func(root *Root) (*os.File, error) {
-		return fileOf(root.ResolveNoFollow(outOf + "a/b/f"))
-	},
-	"Root.ResolveParent": func(root *Root) (*os.File, error) {
+	"Root.ResolveParent": func(root *Root) (named, error) {
 		handle, _, err := root.ResolveParent(outOf + "a/b/f")
-		return fileOf(handle, err)
+		return handle, err
 	},
-	"Root.MknodHandle": func(root *Root) (*os.File, error) {
-		return fileOf(root.MknodHandle(outOf+"a/7", syscall.S_IFIFO|0o600, 0))
+	"Root.MknodHandle": func(root *Root) (named, error) {
+		return root.MknodHandle(outOf+"a/7", syscall.S_IFIFO|0o600, 0)
 	},
-	"Root.SymlinkHandle": func(root *Root) (*os.File, error) {
-		return fileOf(root.SymlinkHandle("/etc/passwd", outOf+"a/8"))
+	"Handle.Reopen": func(root *Root) (named, error) {
+		found, err := root.Resolve(outOf + "a/b/f")
+		if err != nil {
+			return nil, err
+		}
+		defer found.Close()
+		return found.Reopen(os.O_RDONLY)
 	},
-}
-
-func reopened(root *Root) (*os.File, error) {
-	found, err := root.Resolve(outOf + "a/b/f")
-	if err != nil {
-		return nil, err
-	}
-	defer found.Close()
-	return found.Reopen(os.O_RDONLY)
-}
-
-func dirOf(sub *Root, err error) (*os.File, error) {
-	if err != nil {
-		return nil, err
-	}
-	return sub.dir, nil
-}
-
-func fileOfFS(file fs.File, err error) (*os.File, error) {
-	if err != nil {
-		return nil, err
-	}
-	return file.(*os.File), nil
 }
 
 // typeName gives the name of a type that may be a pointer, and may be another package's.
@@ -155,7 +132,7 @@ func TestNamesAreBelowTheRoots(t *testing.T) {
 	}
 }
 
-func checkName(t *testing.T, giver, name string, call func(root *Root) (*os.File, error)) {
+func checkName(t *testing.T, giver, name string, call func(root *Root) (named, error)) {
 	_, root := tree(t)
 	if name == "absolute" {
 		name = root.Name()
@@ -166,9 +143,9 @@ func checkName(t *testing.T, giver, name string, call func(root *Root) (*os.File
 	defer os.Chdir(before)
 	fd, err := syscall.Dup(int(root.dir.Fd()))
 	must(t, err)
-	named := NewRoot(os.NewFile(uintptr(fd), name))
-	defer named.Close()
-	file, err := call(named)
+	called := NewRoot(os.NewFile(uintptr(fd), name))
+	defer called.Close()
+	file, err := call(called)
 	must(t, err)
 	defer file.Close()
 	if name == "" {

@@ -9,16 +9,15 @@ import (
 	"io"
 	"io/fs"
 	"os"
-	"syscall"
 )
 
 // Open opens a file or a directory for reading, as os.Open does.
-func (r *Root) Open(name string) (*os.File, error) {
+func (r *Root) Open(name string) (*File, error) {
 	return r.OpenFile(name, os.O_RDONLY, 0)
 }
 
 // OpenInRoot opens a file below a directory for reading, as os.OpenInRoot does: a [Root] that is open for one call.
-func OpenInRoot(dir, name string) (*os.File, error) {
+func OpenInRoot(dir, name string) (*File, error) {
 	root, err := OpenRoot(dir)
 	if err != nil {
 		return nil, err
@@ -29,7 +28,7 @@ func OpenInRoot(dir, name string) (*os.File, error) {
 
 // Create opens a file for reading and writing, as os.Create does: it is emptied if it is there, else made of mode
 // 0o666 less the umask. EISDIR of a directory.
-func (r *Root) Create(name string) (*os.File, error) {
+func (r *Root) Create(name string) (*File, error) {
 	return r.OpenFile(name, os.O_RDWR|os.O_CREATE|os.O_TRUNC, 0o666)
 }
 
@@ -42,12 +41,12 @@ const makesFile = C.O_TMPFILE &^ C.O_DIRECTORY
 //
 // If perm has other bits than those of permissions and fs.ModeSetuid, fs.ModeSetgid and fs.ModeSticky, nothing is
 // made and the error is EINVAL. So it is in all calls that make an entry.
-func (r *Root) OpenFile(name string, flag int, perm fs.FileMode) (*os.File, error) {
+func (r *Root) OpenFile(name string, flag int, perm fs.FileMode) (*File, error) {
 	return r.openAs(r.nameOf(name), name, flag, perm)
 }
 
 // openAs does so, and gives the file the name as.
-func (r *Root) openAs(as, name string, flag int, perm fs.FileMode) (*os.File, error) {
+func (r *Root) openAs(as, name string, flag int, perm fs.FileMode) (*File, error) {
 	bits := newModeOf(perm)
 	if flag&(os.O_CREATE|makesFile) == 0 {
 		bits = 0
@@ -65,20 +64,10 @@ func (r *Root) openAs(as, name string, flag int, perm fs.FileMode) (*os.File, er
 	return usable(fd, as), nil
 }
 
-// usable gives a file that was opened for use. Where it is a FIFO, a read waits as one of package os does: it has a
-// deadline, and ends where the file is closed.
-func usable(fd int, name string) *os.File {
-	var about syscall.Stat_t
-	if syscall.Fstat(fd, &about) == nil && about.Mode&syscall.S_IFMT == syscall.S_IFIFO {
-		syscall.SetNonblock(fd, true)
-	}
-	return os.NewFile(uintptr(fd), name)
-}
-
 // CreateUnnamed makes a file without a name in the file system of that directory, of mode perm less the umask, and
 // opens it for reading and writing (O_TMPFILE). [Root.LinkFile] gives it a name. EOPNOTSUPP where the file system has
 // none.
-func (r *Root) CreateUnnamed(directory string, perm fs.FileMode) (*os.File, error) {
+func (r *Root) CreateUnnamed(directory string, perm fs.FileMode) (*File, error) {
 	return r.OpenFile(directory, os.O_RDWR|C.O_TMPFILE, perm)
 }
 

@@ -56,14 +56,14 @@ func inProc(op, path string, call func(path *C.char) (int, error)) (int, error) 
 
 // ProcOpen opens a file of the proc(5) by which the calls go, and fails with EXDEV where something is mounted over it
 // or over a part of the path: inroot_proc_open(3). A link at the end is followed without O_NOFOLLOW.
-func ProcOpen(base int, path string, flag int) (*os.File, error) {
+func ProcOpen(base int, path string, flag int) (*File, error) {
 	fd, err := inProc("procopen", path, func(path *C.char) (int, error) {
 		return result(C.inroot_proc_open(number(base), path, number(flag)))
 	})
 	if err != nil {
 		return nil, err
 	}
-	return os.NewFile(uintptr(fd), procName(base, path)), nil
+	return &File{os.NewFile(uintptr(fd), procName(base, path))}, nil
 }
 
 // ProcReadlink returns the text of a link there. EINVAL of anything else.

@@ -47,7 +47,7 @@ func TestFilesOfProc(t *testing.T) {
 		text, err := ProcReadlink(base, link)
 		is(t, text, err, root.Name())
 		file, err = ProcOpen(base, link, os.O_RDONLY|syscall.O_DIRECTORY)
-		sameAs(t, &Handle{file}, err, root.Name())
+		sameAs(t, &Handle{file.File}, err, root.Name())
 	}
 	_, err = ProcOpen(ProcRoot, "../etc/passwd", os.O_RDONLY)
 	fails(t, err, syscall.EXDEV)

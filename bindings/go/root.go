@@ -13,8 +13,8 @@
 // call is made again, as package os does. One that changes something gives EINTR, and nobody knows whether it has.
 //
 // The name of an opened file lies below that of its root, whatever ".." it was opened by, and is for messages.
-// os.Chmod and its like would follow links there out of the root. So would ReadDir and Readdir of an *os.File, which
-// may look at an entry by name: [Root.FS] has a ReadDir that doesn't.
+// os.Chmod and its like would follow links there out of the root. So would ReadDir of an *os.File; that of a [File]
+// doesn't.
 //
 // A call blocks its thread, and has no deadline. The library is found by pkg-config; with the tag inroot_static its
 // archive is linked.
@@ -62,7 +62,7 @@ func (r *Root) OpenRoot(name string) (*Root, error) {
 	if err != nil {
 		return nil, err
 	}
-	return &Root{dir: dir, flags: r.flags}, nil
+	return &Root{dir: dir.File, flags: r.flags}, nil
 }
 
 // With returns a view of the root, whose calls take these flags, too:

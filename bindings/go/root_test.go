@@ -83,7 +83,7 @@ func is(t *testing.T, what string, err error, wanted string) {
 	}
 }
 
-func textOf(t *testing.T, file *os.File, err error) string {
+func textOf(t *testing.T, file *File, err error) string {
 	t.Helper()
 	must(t, err)
 	defer file.Close()
@@ -230,11 +230,11 @@ func TestUnnamedFiles(t *testing.T) {
 	}
 	_, err = file.WriteString("published")
 	must(t, err)
-	must(t, root.LinkFile(file, "in/whole"))
+	must(t, root.LinkFile(file.File, "in/whole"))
 	text, err := os.ReadFile(filepath.Join(top, "box/a/b/whole"))
 	is(t, string(text), err, "published")
-	fails(t, root.LinkFile(file, "in/whole"), fs.ErrExist)
-	fails(t, root.LinkFile(file, "up/whole"), fs.ErrNotExist)
+	fails(t, root.LinkFile(file.File, "in/whole"), fs.ErrExist)
+	fails(t, root.LinkFile(file.File, "up/whole"), fs.ErrNotExist)
 }
 
 func TestFlags(t *testing.T) {
@@ -384,7 +384,7 @@ func TestErrors(t *testing.T) {
 	file, err := root.Open("in/f")
 	must(t, err)
 	defer file.Close()
-	_, err = NewRoot(file).Stat(".")
+	_, err = NewRoot(file.File).Stat(".")
 	fails(t, err, syscall.ENOTDIR)
 	// No file is an error, and no panic, as for the methods of os.File.
 	for _, none := range []func() error{

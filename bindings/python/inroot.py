@@ -120,13 +120,17 @@ def _found(path, call, *given):
     """What a call gave that changes nothing, and is made again where a signal interrupts it."""
     while (result := call(*given)) == -errno.EINTR:
         pass
+    del given       # or an error's traceback would keep a closed root's descriptor open
     return _checked(result, path)
 
 
 def _text(path, call, *given):
     """The text that a call reads: a str, or bytes where the path is bytes."""
     text = ctypes.create_string_buffer(4096)
-    length = _found(path, call, *given, text, len(text))
+    try:
+        length = _found(path, call, *given, text, len(text))
+    finally:
+        del given
     return text.raw[:length] if isinstance(os.fspath(path), bytes) else os.fsdecode(text.raw[:length])
 
 
@@ -146,10 +150,21 @@ def proc_readlink(base, path):
     return _text(path, _library.proc_readlink, _number(base), _bytes(path))
 
 
-class Root:
-    """A directory, and calls below it. Any number of threads may make calls, but none beside close()."""
+class _Descriptor:
+    """A descriptor that is closed once nothing refers to it: each call of the library refers to it until it ends."""
 
-    _fd = -1
+    def __init__(self, fd):
+        self._as_parameter_ = fd
+
+    def __del__(self):
+        os.close(self._as_parameter_)
+
+
+class Root:
+    """A directory, and calls below it. Any number of threads may make calls. Those that are made as one of them calls
+    close() end as they would have; each later one is a ValueError."""
+
+    _descriptor = None
 
     def __init__(self, directory, flags=Flags(0)):
         """Opens a directory, whose own path is walked as open(2) does; or takes a descriptor of one, which stays the
@@ -158,30 +173,29 @@ class Root:
         if self._flags & ~sum(Flags):
             raise ValueError(f"not flags of a root: {flags!r}")
         if isinstance(directory, int):
-            self._fd = os.dup(directory)
+            self._descriptor = _Descriptor(os.dup(directory))
         else:
-            self._fd = os.open(directory, os.O_PATH | os.O_DIRECTORY | os.O_CLOEXEC)
+            self._descriptor = _Descriptor(os.open(directory, os.O_PATH | os.O_DIRECTORY | os.O_CLOEXEC))
+
+    def _open(self):
+        descriptor = self._descriptor
+        if descriptor is None:
+            raise ValueError("I/O operation on closed root")
+        return descriptor
 
     def fileno(self):
         """The root's own descriptor."""
-        if self._fd < 0:
-            raise ValueError("I/O operation on closed root")
-        return self._fd
+        return self._open()._as_parameter_
 
     def close(self):
-        """Closes the root's descriptor. Files that were opened stay open."""
-        fd = vars(self).pop("_fd", -1)      # in one step, so that one of two threads closes it
-        if fd >= 0:
-            os.close(fd)
+        """Closes the root's descriptor, behind the last call that is being made. Files that were opened stay open."""
+        self._descriptor = None
 
     def __enter__(self):
         self.fileno()
         return self
 
     def __exit__(self, *_):
-        self.close()
-
-    def __del__(self):
         self.close()
 
     def __reduce__(self):
@@ -194,10 +208,10 @@ class Root:
         """Opens what the path means by the flags of open(2), and gives a descriptor, as os.open() does. With os.O_PATH
         it is a handle of the object alone."""
         makes = flags & os.O_CREAT or flags & os.O_TMPFILE == os.O_TMPFILE
-        given = (self.fileno(), _bytes(path), _number(flags), stat.S_IMODE(mode) if makes else 0, self._flags)
+        mode = stat.S_IMODE(mode) if makes else 0
         if flags & os.O_EXCL:
-            return _checked(_library.openat(*given), path)
-        return _found(path, _library.openat, *given)
+            return _checked(_library.openat(self._open(), _bytes(path), _number(flags), mode, self._flags), path)
+        return _found(path, _library.openat, self._open(), _bytes(path), _number(flags), mode, self._flags)
 
     def open(self, path, mode="r", buffering=-1, encoding=None, errors=None, newline=None):
         """Opens a file as the function open() of Python does. The file's `name` is its descriptor's number, since its
@@ -227,7 +241,7 @@ class Root:
             return file.read()
 
     def _status(self, path, more):
-        fd = _found(path, _library.open, self.fileno(), _bytes(path), self._flags | more)
+        fd = _found(path, _library.open, self._open(), _bytes(path), self._flags | more)
         try:
             return os.fstat(fd)
         finally:
@@ -279,7 +293,7 @@ class Root:
 
     def readlink(self, path):
         """The text of the link at the end of the path: a str, or bytes where the path is bytes."""
-        return _text(path, _library.readlink, self.fileno(), _bytes(path), self._flags)
+        return _text(path, _library.readlink, self._open(), _bytes(path), self._flags)
 
     # ---- what is made and changed
 
@@ -298,7 +312,7 @@ class Root:
 
     def chmod(self, path, mode):
         """Sets the mode of the object that the path means."""
-        fd = _found(path, _library.open, self.fileno(), _bytes(path), self._flags)
+        fd = _found(path, _library.open, self._open(), _bytes(path), self._flags)
         try:
             _checked(_library.fchmod(fd, stat.S_IMODE(mode)), path)
         finally:
@@ -310,9 +324,9 @@ class Root:
         if parents:
             above = os.path.dirname(_bytes(path).rstrip(b"/"))
             if above:
-                os.close(_checked(_library.mkdir_all(self.fileno(), above, 0o777, self._flags), path))
+                os.close(_checked(_library.mkdir_all(self._open(), above, 0o777, self._flags), path))
         try:
-            _checked(_library.mkdir(self.fileno(), _bytes(path), stat.S_IMODE(mode), self._flags), path)
+            _checked(_library.mkdir(self._open(), _bytes(path), stat.S_IMODE(mode), self._flags), path)
         except OSError:     # which need not be EEXIST, as of `.` or where nothing may be made
             if not (exist_ok and self.is_dir(path)):
                 raise
@@ -321,7 +335,7 @@ class Root:
         """Makes an entry as os.mknod() does: an empty file, a FIFO, a socket or a device."""
         mode = _number(mode) if stat.S_IFMT(mode) else mode | stat.S_IFREG
         device = _number(device, 0, 1 << 64)
-        _checked(_library.mknod(self.fileno(), _bytes(path), mode, device, self._flags), path)
+        _checked(_library.mknod(self._open(), _bytes(path), mode, device, self._flags), path)
 
     def touch(self, path, mode=0o666, exist_ok=True):
         """Makes an empty file, or sets the times of what is there to the present."""
@@ -334,15 +348,15 @@ class Root:
 
     def symlink_to(self, path, target):
         """Makes the path a symbolic link with the text `target`, which is any text."""
-        _checked(_library.symlink(self.fileno(), _bytes(target), _bytes(path), self._flags), target, path)
+        _checked(_library.symlink(self._open(), _bytes(target), _bytes(path), self._flags), target, path)
 
     def hardlink_to(self, path, target):
         """Makes the path a second name of what `target` means below the root; of a link at its end, of the link."""
-        _checked(_library.link(self.fileno(), _bytes(target), _bytes(path), self._flags), target, path)
+        _checked(_library.link(self._open(), _bytes(target), _bytes(path), self._flags), target, path)
 
     def rename(self, path, target, flags=Rename(0)):
         """Renames the entry, which stays below the root. One that is there is treated as the flags say."""
-        result = _library.rename(self.fileno(), _bytes(path), _bytes(target), _number(flags), self._flags)
+        result = _library.rename(self._open(), _bytes(path), _bytes(target), _number(flags), self._flags)
         _checked(result, path, target)
 
     # ---- what is removed
@@ -350,14 +364,14 @@ class Root:
     def unlink(self, path, missing_ok=False):
         """Removes a non-directory; of a link the link alone."""
         try:
-            _checked(_library.unlink(self.fileno(), _bytes(path), self._flags), path)
+            _checked(_library.unlink(self._open(), _bytes(path), self._flags), path)
         except FileNotFoundError:
             if not missing_ok:
                 raise
 
     def rmdir(self, path):
         """Removes an empty directory."""
-        _checked(_library.rmdir(self.fileno(), _bytes(path), self._flags), path)
+        _checked(_library.rmdir(self._open(), _bytes(path), self._flags), path)
 
     def rmtree(self, path):
         """Removes a directory with all that is below it. NotADirectoryError of anything else, a link too. What others
@@ -367,5 +381,5 @@ class Root:
         # With a slash behind it a link is followed.
         if not stat.S_ISDIR(about.st_mode) or name and stat.S_ISLNK(self.lstat(name).st_mode):
             raise OSError(errno.ENOTDIR, os.strerror(errno.ENOTDIR), path)
-        if _checked(_library.remove_all(self.fileno(), _bytes(path), self._flags), path) == 0:
+        if _checked(_library.remove_all(self._open(), _bytes(path), self._flags), path) == 0:
             raise OSError(errno.ENOENT, os.strerror(errno.ENOENT), path)

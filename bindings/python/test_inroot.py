@@ -13,6 +13,7 @@ import stat
 import sys
 import tempfile
 import threading
+import time
 import unittest
 
 sys.dont_write_bytecode = True
@@ -413,6 +414,49 @@ class Descriptors(Room):
             for call in (root.fileno, root.iterdir, root.__enter__, lambda: root.stat("f"),
                          lambda: root.open("f", "w")):
                 self.assertRaises(ValueError, call)
+
+    def test_an_error_keeps_no_closed_root_open(self):
+        errors = []
+        for call in (inroot.Root.stat, inroot.Root.open, inroot.Root.readlink, inroot.Root.unlink, inroot.Root.rmtree):
+            with inroot.Root(self.top) as root:
+                fd = root.fileno()
+                try:
+                    call(root, "none")
+                except OSError as error:
+                    errors.append(error)    # with its traceback
+            self.assertRaises(OSError, os.fstat, fd)
+        self.assertEqual([error.errno for error in errors], [errno.ENOENT] * 5)
+
+    def test_a_root_is_closed_beside_calls(self):
+        """Meanwhile descriptors of another directory are opened: no call acts there by the number of the root's."""
+        for name in ("box", "other"):
+            os.makedirs(self.at(name, "d"))
+            pathlib.Path(self.at(name, "f")).write_text(name)
+        before = below(self.at("other"))
+        for _ in range(20):
+            root, ends = inroot.Root(self.at("box")), []
+
+            def calls(call):
+                try:
+                    while True:
+                        call()
+                except Exception as error:
+                    ends.append(error)
+
+            threads = [threading.Thread(target=calls, args=(call,)) for call in (
+                lambda: self.assertEqual(root.read_text("f"), "box"), lambda: root.write_text("g", "box"),
+                lambda: root.mkdir("d/x/y", parents=True, exist_ok=True), lambda: root.chmod("f", 0o640))]
+            for thread in threads:
+                thread.start()
+            time.sleep(0.005)
+            root.close()
+            others = [os.open(self.at("other"), os.O_PATH) for _ in range(20)]
+            for thread in threads:
+                thread.join()
+            for fd in others:
+                os.close(fd)
+            self.assertEqual([type(end) for end in ends], [ValueError] * 4, ends)
+        self.assertEqual(below(self.at("other")), before)
 
     def test_no_two_roots_have_one_descriptor(self):
         with inroot.Root(self.top) as root:

@@ -14,8 +14,6 @@
 #define _GNU_SOURCE
 #include "tries.h"
 
-#include <sched.h>
-#include <sys/mount.h>
 
 /* ---- the calls: what they give is a descriptor, a number or -errno */
 
@@ -217,8 +215,7 @@ static void in_chroot(void)
 
 static void have_own_mounts(void)
 {
-    if (unshare(CLONE_NEWNS) != 0 || mount(NULL, "/", NULL, MS_REC | MS_PRIVATE, NULL) != 0)
-        _exit(NO_RIGHT);
+    own_mounts_or_end();
     open_directories();
 }
 

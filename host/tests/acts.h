@@ -8,7 +8,6 @@
 #include "asked.h"
 
 #include <limits.h>
-#include <sys/mount.h>
 #include <sys/socket.h>
 
 static int base, root, out, gone, spare_root;

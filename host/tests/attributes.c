@@ -11,9 +11,7 @@
 
 #include <errno.h>
 #include <limits.h>
-#include <sched.h>
 #include <string.h>
-#include <sys/mount.h>
 #include <sys/stat.h>
 #include <sys/syscall.h>
 #include <sys/sysmacros.h>
@@ -325,8 +323,7 @@ static void without_proc(void)
 static void other_proc(void)
 {
     char path[PATH_MAX + 8], value[4];
-    if (unshare(CLONE_NEWNS) != 0 || mount(NULL, "/", NULL, MS_REC | MS_PRIVATE, NULL) != 0)
-        _exit(NO_RIGHT);
+    own_mounts_or_end();
     snprintf(path, sizeof path, "%s/proc", at);
     sure(mkdir(path, 0755), path);
     if (mount("proc", path, "proc", 0, NULL) != 0)

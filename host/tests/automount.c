@@ -12,10 +12,8 @@
 
 #include <linux/auto_fs.h>
 #include <linux/magic.h>
-#include <sched.h>
 #include <signal.h>
 #include <sys/ioctl.h>
-#include <sys/mount.h>
 #include <sys/prctl.h>
 #include <sys/vfs.h>
 
@@ -66,8 +64,7 @@ static void begin_daemon(void)
 {
     int ready[2];
     char byte;
-    if (unshare(CLONE_NEWNS) != 0 || mount(NULL, "/", NULL, MS_REC | MS_PRIVATE, NULL) != 0)
-        exit(NO_RIGHT);
+    own_mounts_or_end();
     /* By the mounts of this namespace. */
     snprintf(place, sizeof place, "%s/box", where);
     root = sure(open(place, O_PATH | O_DIRECTORY | O_CLOEXEC), place);

@@ -8,8 +8,6 @@
 #define _GNU_SOURCE
 #include "support.h"
 
-#include <sched.h>
-#include <sys/mount.h>
 
 static int base, root;
 static char where[PATH_MAX];
@@ -36,8 +34,7 @@ static void mount_itself(void)
 static void begin(void (*mounts)(void))
 {
     char box[PATH_MAX + 8];
-    if (unshare(CLONE_NEWNS) != 0 || mount(NULL, "/", NULL, MS_REC | MS_PRIVATE, NULL) != 0)
-        _exit(NO_RIGHT);
+    own_mounts_or_end();
     /* By the mount of this namespace. */
     snprintf(box, sizeof box, "%s/box", where);
     root = sure(open(box, O_PATH | O_DIRECTORY | O_CLOEXEC), box);

@@ -13,9 +13,7 @@
 
 #include <errno.h>
 #include <limits.h>
-#include <sched.h>
 #include <string.h>
-#include <sys/mount.h>
 #include <sys/stat.h>
 
 static char where[PATH_MAX];
@@ -91,8 +89,7 @@ static void on_overlay(const char *name)
     make(name, "");
     for (size_t one = 0; one < sizeof dirs / sizeof *dirs; one++)
         make(name, dirs[one]);
-    if (unshare(CLONE_NEWNS) != 0 || mount(NULL, "/", NULL, MS_REC | MS_PRIVATE, NULL) != 0)
-        _exit(NO_RIGHT);
+    own_mounts_or_end();
     snprintf(layers, sizeof layers, "%s/%s", where, name);
     snprintf(target, sizeof target, "%s/mount", layers);
     snprintf(options, sizeof options, "lowerdir=%s/lower,upperdir=%s/upper,workdir=%s/work", layers, layers, layers);
@@ -110,8 +107,8 @@ static void on_cgroup2(void)
     static const char *const names[] = {"low", "both", "high"};
     make("five", "");
     snprintf(target, sizeof target, "%s/five", where);
-    if (unshare(CLONE_NEWNS) != 0 || mount(NULL, "/", NULL, MS_REC | MS_PRIVATE, NULL) != 0 ||
-        mount("none", target, "cgroup2", 0, NULL) != 0)
+    own_mounts_or_end();
+    if (mount("none", target, "cgroup2", 0, NULL) != 0)
         _exit(NO_RIGHT);
     int top = sure(open(target, O_PATH | O_DIRECTORY | O_CLOEXEC), target);
     snprintf(target, sizeof target, "inroot_dead_%ld", (long)getpid());

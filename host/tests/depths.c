@@ -13,9 +13,7 @@
 
 #include <errno.h>
 #include <fcntl.h>
-#include <sched.h>
 #include <string.h>
-#include <sys/mount.h>
 #include <sys/resource.h>
 #include <sys/stat.h>
 
@@ -188,8 +186,7 @@ static void mounted_over(void)
 {
     char source[64], target[64];
     struct stat about;
-    if (unshare(CLONE_NEWNS) != 0 || mount(NULL, "/", NULL, MS_REC | MS_PRIVATE, NULL) != 0)
-        _exit(NO_RIGHT);
+    own_mounts_or_end();
     root = sure(open(where, O_PATH | O_DIRECTORY | O_CLOEXEC), where);
     int dir = sure(__real_openat(root, "t", O_PATH | O_DIRECTORY | O_CLOEXEC), "t");
     for (int level = 0; level < mount_level; level++) {

@@ -9,9 +9,7 @@
 #include "support.h"
 
 #include <errno.h>
-#include <sched.h>
 #include <string.h>
-#include <sys/mount.h>
 #include <sys/stat.h>
 #include <sys/syscall.h>
 
@@ -85,8 +83,7 @@ static void shut_directories(void)
 
 static void magic_links(void)
 {
-    if (unshare(CLONE_NEWNS) != 0 || mount(NULL, "/", NULL, MS_REC | MS_PRIVATE, NULL) != 0)
-        _exit(NO_RIGHT);
+    own_mounts_or_end();
     int base = sure(open(where, O_PATH | O_DIRECTORY | O_CLOEXEC), where);
     sure(fchdir(base), where);
     sure(mkdir("proc", 0755), "proc");

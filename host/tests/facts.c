@@ -10,8 +10,6 @@
 #include "filter.h"
 #include "wraps.h"
 
-#include <sched.h>
-#include <sys/mount.h>
 #include <sys/sysmacros.h>
 
 static int base, root;
@@ -133,8 +131,7 @@ static void take_off(void)
 /* In a mount namespace of its own. */
 static void mount_over(const char *from, const char *name)
 {
-    if (unshare(CLONE_NEWNS) != 0 || mount(NULL, "/", NULL, MS_REC | MS_PRIVATE, NULL) != 0)
-        _exit(NO_RIGHT);
+    own_mounts_or_end();
     sure(chdir(where), where);
     base = sure(open(".", O_PATH | O_DIRECTORY | O_CLOEXEC), where);
     if (mount(from, name, NULL, MS_BIND, NULL) != 0)

@@ -5,9 +5,7 @@
 #include "support.h"
 
 #include <linux/fuse.h>
-#include <sched.h>
 #include <signal.h>
-#include <sys/mount.h>
 #include <sys/prctl.h>
 
 /* By it the kernel asks, and is answered: open in the server, and where the server began. */

@@ -10,9 +10,7 @@
 #include "support.h"
 #include "wraps.h"
 
-#include <sched.h>
 #include <string.h>
-#include <sys/mount.h>
 #include <sys/stat.h>
 #include <sys/sysmacros.h>
 
@@ -274,8 +272,7 @@ static void covered(void)
     umask(0);
     sure(mkdirat(root, "a/other", 0750), "a/other");
     sure(fchdir(root), "root");
-    if (unshare(CLONE_NEWNS) != 0 || mount(NULL, "/", NULL, MS_REC | MS_PRIVATE, NULL) != 0)
-        _exit(NO_RIGHT);
+    own_mounts_or_end();
     root = sure(open(".", O_PATH | O_DIRECTORY | O_CLOEXEC), "root");
     for (way = 0; way <= INROOT_EXACT; way += INROOT_EXACT) {
         meanwhile = mount_over;

@@ -10,8 +10,6 @@
 #include "support.h"
 #include "wraps.h"
 
-#include <sched.h>
-#include <sys/mount.h>
 
 /*
  * The names of the functions that the call made; of its openat2(2), the RESOLVE bits of the first, how many there were, how many

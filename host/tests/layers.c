@@ -10,9 +10,7 @@
 #include <errno.h>
 #include <fcntl.h>
 #include <limits.h>
-#include <sched.h>
 #include <string.h>
-#include <sys/mount.h>
 #include <sys/stat.h>
 
 enum { LEVELS = 90 };
@@ -66,8 +64,7 @@ static void mount_layers(int number, const char *more)
 
 static void go_apart(void)
 {
-    if (unshare(CLONE_NEWNS) != 0 || mount(NULL, "/", NULL, MS_REC | MS_PRIVATE, NULL) != 0)
-        _exit(NO_RIGHT);
+    own_mounts_or_end();
     sure(chdir(where), where);
 }
 

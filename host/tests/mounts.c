@@ -14,9 +14,7 @@
 #include <errno.h>
 #include <fcntl.h>
 #include <limits.h>
-#include <sched.h>
 #include <string.h>
-#include <sys/mount.h>
 #include <sys/stat.h>
 #include <sys/syscall.h>
 
@@ -294,8 +292,7 @@ static void each_link(void)
 static void without_links(void)
 {
     char target[2 * PATH_MAX];
-    if (unshare(CLONE_NEWNS) != 0 || mount(NULL, "/", NULL, MS_REC | MS_PRIVATE, NULL) != 0)
-        _exit(NO_RIGHT);
+    own_mounts_or_end();
     open_roots();
     snprintf(target, sizeof target, "%s/root/t/other", where);
     sure(mount("none", target, "tmpfs", NOSYMFOLLOW, NULL), target);
@@ -315,8 +312,7 @@ static void without_links(void)
 static void replaced(void)
 {
     char place[PATH_MAX];
-    if (unshare(CLONE_NEWNS) != 0 || mount(NULL, "/", NULL, MS_REC | MS_PRIVATE, NULL) != 0)
-        _exit(NO_RIGHT);
+    own_mounts_or_end();
     make("here", true);
     make("kept", true);
     make("next", true);
@@ -375,8 +371,7 @@ static void put_link(const char *source, const char *target)
 /* In a mount namespace of this process's own, which ends with it. What was opened before stands in another. */
 static void mount_all(void)
 {
-    if (unshare(CLONE_NEWNS) != 0 || mount(NULL, "/", NULL, MS_REC | MS_PRIVATE, NULL) != 0)
-        _exit(NO_RIGHT);
+    own_mounts_or_end();
     open_roots();
     put("host", "t/m", NULL);
     put("host/kept", "t/file", NULL);

@@ -17,11 +17,9 @@
 #include <fcntl.h>
 #include <limits.h>
 #include <pthread.h>
-#include <sched.h>
 #include <signal.h>
 #include <stdatomic.h>
 #include <string.h>
-#include <sys/mount.h>
 #include <sys/stat.h>
 #include <sys/syscall.h>
 #include <sys/time.h>
@@ -413,8 +411,7 @@ static void mount_here(const char *dir, bool overlay)
         sure(mkdirat(base, dirs[at], 0755), dirs[at]);
     snprintf(target, sizeof target, "%.4000s/mount", dir);
     snprintf(options, sizeof options, "lowerdir=%s/lower,upperdir=%s/upper,workdir=%s/work", dir, dir, dir);
-    if (unshare(CLONE_NEWNS) != 0 || mount(NULL, "/", NULL, MS_REC | MS_PRIVATE, NULL) != 0)
-        exit(NO_RIGHT);
+    own_mounts_or_end();
     char lower[PATH_MAX];
     snprintf(lower, sizeof lower, "%.4000s/lower", dir);
     if (overlay ? mount("overlay", target, "overlay", 0, options) != 0 : mount(lower, target, NULL, MS_BIND, NULL) != 0)

@@ -14,9 +14,7 @@
 #include "filter.h"
 #include "wraps.h"
 
-#include <sched.h>
 #include <string.h>
-#include <sys/mount.h>
 #include <sys/stat.h>
 #include <sys/vfs.h>
 #include <sys/xattr.h>
@@ -88,12 +86,6 @@ int __wrap_statx(int dir, const char *name, int flags, unsigned int mask, struct
     return __real_statx(dir, name, flags, mask, about);
 }
 
-static void apart_from_others(void)
-{
-    if (unshare(CLONE_NEWNS) != 0 || mount(NULL, "/", NULL, MS_REC | MS_PRIVATE, NULL) != 0)
-        _exit(NO_RIGHT);
-}
-
 static void cover(const char *place)
 {
     if (mount("tmpfs", place, "tmpfs", 0, NULL) != 0)
@@ -139,7 +131,7 @@ static void use_private(void)
 
 static void whole(void)
 {
-    apart_from_others();
+    own_mounts_or_end();
     cover("/proc");
     reads("without /proc", -ENOSYS);
     use_private();
@@ -148,7 +140,7 @@ static void whole(void)
 
 static void in_part(void)
 {
-    apart_from_others();
+    own_mounts_or_end();
     cover_with_lies();
     use_private();
     reads("a private one beside a covered one", 0);
@@ -165,7 +157,7 @@ static void close_all_but_root(int most)
 /* The program has closed what it didn't open. /proc, which somebody has covered, doesn't take its place. */
 static void closed(void)
 {
-    apart_from_others();
+    own_mounts_or_end();
     cover_with_lies();
     use_private();
     close_all_but_root(64);
@@ -193,7 +185,7 @@ static void go_on_in_child(void)
 
 static void forked_meanwhile(void)
 {
-    apart_from_others();
+    own_mounts_or_end();
     act = go_on_in_child;
     use_private();
     expect(act == NULL, "no child was made meanwhile");
@@ -220,7 +212,7 @@ static void set_by_paths(void)
 /* A copy of /proc is of the same file system, and has what is at /proc not covered. Before Linux 6.13 attributes go by a path. */
 static void attribute(void)
 {
-    apart_from_others();
+    own_mounts_or_end();
     cover_with_lies();
     refuse(FSOPEN, EPERM);
     set_by_paths();
@@ -260,7 +252,7 @@ static void by_the_number(const char *what)
 
 static void mount_other(const char *source, const char *kind, unsigned long flags)
 {
-    apart_from_others();
+    own_mounts_or_end();
     reads("by /proc", 0);
     snprintf(other, sizeof other, "%s/proc", where);
     sure(mkdir(other, 0755) == 0 || errno == EEXIST ? 0 : -1, other);
@@ -271,7 +263,7 @@ static void mount_other(const char *source, const char *kind, unsigned long flag
 /* The program has handed another mount of /proc in, which isn't covered. */
 static void attribute_by_another(void)
 {
-    apart_from_others();
+    own_mounts_or_end();
     snprintf(other, sizeof other, "%s/proc", where);
     sure(mkdir(other, 0755) == 0 || errno == EEXIST ? 0 : -1, other);
     if (mount("/proc", other, NULL, MS_BIND, NULL) != 0)
@@ -313,7 +305,7 @@ static void another_mount(void)
 /* A copy of /proc was closed, and /proc, which is covered, has its number. Before Linux 6.8 nobody can tell them apart. */
 static void copied(void)
 {
-    apart_from_others();
+    own_mounts_or_end();
     if (!numbers_mounts(TELLS_UNIQUE))
         _exit(NO_RIGHT);
     refuse(FSOPEN, EPERM);
@@ -331,7 +323,7 @@ static void copied(void)
 static void control(void)
 {
     char text[16] = "";
-    apart_from_others();
+    own_mounts_or_end();
     cover_with_lies();
     int fd = inroot_reopen(box, O_RDONLY);
     ssize_t got = fd < 0 ? -1 : read(fd, text, sizeof text - 1);

@@ -10,9 +10,7 @@
 #include <errno.h>
 #include <fcntl.h>
 #include <limits.h>
-#include <sched.h>
 #include <string.h>
-#include <sys/mount.h>
 #include <sys/vfs.h>
 #include <linux/magic.h>
 #include <sys/stat.h>
@@ -25,8 +23,7 @@ static void cover(bool lies)
 {
     static const char *const dirs[] = {"/proc/self", "/proc/self/fd", "/proc/thread-self", "/proc/thread-self/fd"};
     char link[64], target[PATH_MAX + 16];
-    if (unshare(CLONE_NEWNS) != 0 || mount(NULL, "/", NULL, MS_REC | MS_PRIVATE, NULL) != 0)
-        _exit(NO_RIGHT);
+    own_mounts_or_end();
     if (mount("none", "/proc", "tmpfs", 0, NULL) != 0)
         _exit(NO_RIGHT);
     for (size_t at = 0; lies && at < sizeof dirs / sizeof *dirs; at++) {
@@ -116,8 +113,8 @@ static void follows_none(void)
     enum { NOSYMFOLLOW = 256, ST_FOLLOWS_NONE = 0x2000 };
     struct statfs about;
     const unsigned long flags = MS_REMOUNT | MS_BIND | MS_NOSUID | MS_NODEV | MS_NOEXEC | NOSYMFOLLOW;
-    if (unshare(CLONE_NEWNS) != 0 || mount(NULL, "/", NULL, MS_REC | MS_PRIVATE, NULL) != 0 ||
-        mount(NULL, "/proc", NULL, flags, NULL) != 0 || statfs("/proc", &about) != 0 || !(about.f_flags & ST_FOLLOWS_NONE))
+    own_mounts_or_end();
+    if (mount(NULL, "/proc", NULL, flags, NULL) != 0 || statfs("/proc", &about) != 0 || !(about.f_flags & ST_FOLLOWS_NONE))
         _exit(NO_RIGHT);
     no_use("by a /proc that follows no link");
     gives(inroot_use_proc(good), 0, "another mount of it");

@@ -3,7 +3,8 @@
  * and to nothing else. What is mounted over the file, on the way or over a link at the end is EXDEV, also if it is
  * mounted once the call has begun. A link of the kernel's own is ELOOP on the way, and at the end leads to its object
  * where the caller says so. `..` doesn't lead out. By a private proc(5) the calls lead to what is covered. Nothing
- * stays open, also where a question about a file fails.
+ * stays open, also where a question about a file fails. A proc(5) as the root of inroot_openat() is as safe under
+ * INROOT_NO_XDEV, whatever is mounted at /proc, and without links of the kernel's own.
  *
  * usage: proc_files DIR. Exits 0 where that holds. 78: no right to mount here. 77: no openat2(2).
  */
@@ -11,8 +12,6 @@
 #include "filter.h"
 #include "wraps.h"
 
-#include <sched.h>
-#include <sys/mount.h>
 #include <sys/prctl.h>
 #include <sys/vfs.h>
 
@@ -84,12 +83,6 @@ static void reads_link(int base, const char *path, const char *wanted)
     char text[PATH_MAX] = "";
     gives(inroot_proc_readlink(base, path, text, sizeof text - 1), (long)strlen(wanted), "the link %s", path);
     gives_text(text, wanted, "the link %s", path);
-}
-
-static void apart_from_others(void)
-{
-    if (unshare(CLONE_NEWNS) != 0 || mount(NULL, "/", NULL, MS_REC | MS_PRIVATE, NULL) != 0)
-        _exit(NO_RIGHT);
 }
 
 /* ---- what is there */
@@ -278,7 +271,7 @@ static void no_openat2(void)
 
 static void no_proc(void)
 {
-    apart_from_others();
+    own_mounts_or_end();
     if (mount("none", "/proc", "tmpfs", 0, NULL) != 0)
         _exit(NO_RIGHT);
     sure(mkdir("/proc/self", 0755), "/proc/self");
@@ -289,7 +282,7 @@ static void no_proc(void)
 
 static void not_its_top(void)
 {
-    apart_from_others();
+    own_mounts_or_end();
     if (mount("/proc/1", "/proc", NULL, MS_BIND, NULL) != 0)
         _exit(NO_RIGHT);
     fails(INROOT_PROC_ROOT, "comm", O_RDONLY, ENOSYS);
@@ -315,7 +308,7 @@ static void mount_by_another(void)
 static void of_others(void)
 {
     snprintf(proc, sizeof proc, "%s/proc", where);
-    apart_from_others();
+    own_mounts_or_end();
     if (apart(mount_by_another) != 0)
         _exit(NO_RIGHT);
     int fd = sure(open(proc, O_PATH | O_DIRECTORY | O_CLOEXEC), proc);
@@ -342,7 +335,7 @@ static void cover_file(const char *place)
 
 static void cover_file_and_directory(void)
 {
-    apart_from_others();
+    own_mounts_or_end();
     cover_file("/proc/self/comm");
     cover(where, "/proc/self/attr");
     cover_file("/proc/self/task/../oom_score_adj");
@@ -375,7 +368,7 @@ static void covered_process(void)
 {
     char process[64];
     snprintf(process, sizeof process, "/proc/%d", (int)getpid());
-    apart_from_others();
+    own_mounts_or_end();
     cover(where, process);
     fails(INROOT_PROC_SELF, "file", O_RDONLY, EXDEV);
     fails(INROOT_PROC_THREAD_SELF, ".", O_PATH, EXDEV);
@@ -385,7 +378,7 @@ static void covered_process(void)
 static void covered_link(void)
 {
     char text[8];
-    apart_from_others();
+    own_mounts_or_end();
     cover_link("/proc/self/exe");
     fails(INROOT_PROC_SELF, "exe", O_RDONLY, EXDEV);
     fails(INROOT_PROC_SELF, "exe", O_PATH | O_NOFOLLOW, EXDEV);
@@ -399,7 +392,7 @@ static void cover_program(void)
 
 static void covered_meanwhile(void)
 {
-    apart_from_others();
+    own_mounts_or_end();
     act = cover_program;
     fails(INROOT_PROC_SELF, "exe", O_RDONLY, EXDEV);
     expect(act == NULL, "nothing was covered meanwhile");
@@ -425,7 +418,7 @@ static void private(void)
 /* A copy of /proc has all of it. */
 static void private_copy(void)
 {
-    apart_from_others();
+    own_mounts_or_end();
     cover_file("/proc/self/comm");
     refuse(FSOPEN, EPERM);
     prctl(PR_SET_NAME, "copy");
@@ -435,11 +428,54 @@ static void private_copy(void)
     reads(inroot_proc_open(INROOT_PROC_ROOT, "sys/kernel/ostype", O_RDONLY), "Linux", "what is of no process, in a copy");
 }
 
+/* ---- another one as the root of a call */
+
+static int in_other(int top, const char *path, int flags)
+{
+    return inroot_openat(top, path, flags, 0, INROOT_NO_XDEV);
+}
+
+/* The oracle is what the kernel opens by the path of that mount. */
+static void opens_of(int top, const char *path, const char *same)
+{
+    const int fd = in_other(top, path, O_RDONLY), wanted = sure(open(same, O_PATH | O_CLOEXEC), same);
+    expect(fd >= 0 && is_same_object(fd, wanted), "%s of another one: %d", path, fd);
+    close(fd);
+    close(wanted);
+}
+
+static void another_as_root(void)
+{
+    static const char *const magic[] = {"self/exe", "self/cwd/file", "thread-self/root/etc", "self/fd/0"};
+    char text[PATH_MAX] = "";
+    own_mounts_or_end();
+    if (mount("proc", "proc", "proc", 0, NULL) != 0)
+        _exit(NO_RIGHT);
+    cover_link("proc/self/root");
+    cover_file("proc/self/oom_score_adj");
+    cover(where, "proc/self/attr");
+    cover(where, "/proc");
+    const int top = sure(open("proc", O_PATH | O_DIRECTORY | O_CLOEXEC), "proc"), before = open_descriptors();
+    opens_of(top, "self/status", "proc/self/status");
+    opens_of(top, "/../thread-self/fd/../comm", "proc/thread-self/comm");
+    opens_of(top, "mounts", "proc/self/mounts");
+    opens_of(top, "sys/kernel/ostype", "proc/sys/kernel/ostype");
+    for (size_t at = 0; at < sizeof magic / sizeof *magic; at++)
+        gives(in_other(top, magic[at], O_RDONLY), -ELOOP, "%s of another one", magic[at]);
+    opens_object(in_other(top, "self/exe", O_PATH | O_NOFOLLOW), "proc/self/exe", "a link of another one");
+    gives(in_other(top, "self/root", O_PATH | O_NOFOLLOW), -EXDEV, "a covered link of another one");
+    gives(in_other(top, "self/oom_score_adj", O_WRONLY), -EXDEV, "a covered file of another one");
+    gives(in_other(top, "self/attr/file", O_RDONLY), -EXDEV, "what covers a directory of another one");
+    gives(inroot_readlink(top, "self/cwd", INROOT_NO_XDEV, text, sizeof text), (long)strlen(where), "a link's text");
+    gives_text(text, where, "a link's text");
+    gives(open_descriptors(), before, "open descriptors");
+}
+
 int main(int count, char **words)
 {
     static void (*const parts[])(void) = {
         each_base, ordinary_links, magic_links, unasked_files, errors, other_processes, no_descriptors, no_openat2, no_proc, not_its_top,
-        of_others, covered, covered_process, covered_link, covered_meanwhile, private, private_copy,
+        of_others, covered, covered_process, covered_link, covered_meanwhile, private, private_copy, another_as_root,
     };
     int skipped = 0;
     if (count != 2 || realpath(words[1], where) == NULL)

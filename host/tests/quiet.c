@@ -13,9 +13,7 @@
 #include <dirent.h>
 #include <errno.h>
 #include <limits.h>
-#include <sched.h>
 #include <string.h>
-#include <sys/mount.h>
 #include <sys/stat.h>
 #include <sys/syscall.h>
 
@@ -198,12 +196,6 @@ static void mount_at(const char *from, const char *name, const char *kind, const
     }
 }
 
-static void apart_from_others(void)
-{
-    if (unshare(CLONE_NEWNS) != 0 || mount(NULL, "/", NULL, MS_REC | MS_PRIVATE, NULL) != 0)
-        _exit(NO_RIGHT);
-}
-
 static void fill(const char *name)
 {
     static const char *const dirs[] = {"", "/a", "/a/b", "/a/b (deleted)", "/m"};
@@ -236,7 +228,7 @@ static void of_binds(void)
     make("one/file", false);
     make("one/tmp", true);
     make("one/again", true);
-    apart_from_others();
+    own_mounts_or_end();
     mount_at("one", "one", NULL, NULL);
     mount_at("two", "one/m", NULL, NULL);
     mount_at("two/a/f", "one/file", NULL, NULL);
@@ -255,7 +247,7 @@ static void of_overlay(void)
     for (size_t one = 0; one < sizeof dirs / sizeof *dirs; one++)
         make(dirs[one], true);
     make("upper/a/new", false);
-    apart_from_others();
+    own_mounts_or_end();
     snprintf(options, sizeof options, "lowerdir=%s/lower,upperdir=%s/upper,workdir=%s/work", where, where, where);
     mount_at("overlay", "mount", "overlay", options);
     open_root("mount");
@@ -270,7 +262,7 @@ static void of_covered(void)
 {
     what = "a root that is covered by itself";
     fill("covered");
-    apart_from_others();
+    own_mounts_or_end();
     open_root("covered");
     mount_at("covered", "covered", NULL, NULL);
     by_any_mount = true;
@@ -290,7 +282,7 @@ static void of_proc(void)
     what = "proc(5) below the root";
     make("top", true);
     make("top/p", true);
-    apart_from_others();
+    own_mounts_or_end();
     mount_at("/proc/sys", "top/p", NULL, NULL);
     open_root("top");
     all_paths();

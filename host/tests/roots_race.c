@@ -10,7 +10,6 @@
 #include "race.h"
 
 #include <limits.h>
-#include <sys/mount.h>
 #include <sys/syscall.h>
 
 /* The inner directory is below the root, and the outer one outside. */
@@ -143,12 +142,6 @@ static void is_untouched(const char *title)
 
 /* ---- mounts */
 
-static void apart_from_others(void)
-{
-    if (unshare(CLONE_NEWNS) != 0 || mount(NULL, "/", NULL, MS_REC | MS_PRIVATE, NULL) != 0)
-        exit(NO_RIGHT);
-}
-
 /* DIR itself is on such a mount from here on. */
 static void on_overlay(void)
 {
@@ -156,7 +149,7 @@ static void on_overlay(void)
     static const char *const dirs[] = {"lower", "upper", "work", "mount"};
     for (size_t one = 0; one < sizeof dirs / sizeof *dirs; one++)
         sure(mkdirat(base, dirs[one], 0755), dirs[one]);
-    apart_from_others();
+    own_mounts_or_end();
     snprintf(options, sizeof options, "lowerdir=%s/lower,upperdir=%s/upper,workdir=%s/work", where, where, where);
     strcat(where, "/mount");
     if (mount("overlay", where, "overlay", 0, options) != 0) {
@@ -172,7 +165,7 @@ static void by_bind(void)
 {
     char box[PATH_MAX + 24];
     snprintf(box, sizeof box, "%s/box", where);
-    apart_from_others();
+    own_mounts_or_end();
     if (mount(box, box, NULL, MS_BIND, NULL) != 0)
         exit(NO_RIGHT);
     root = sure(open(box, O_PATH | O_DIRECTORY | O_CLOEXEC), box);

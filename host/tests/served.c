@@ -10,7 +10,6 @@
 #define _GNU_SOURCE
 #include "fuse.h"
 
-#include <sched.h>
 #include <sys/mman.h>
 #include <sys/vfs.h>
 

@@ -9,12 +9,14 @@
 #include <errno.h>
 #include <fcntl.h>
 #include <limits.h>
+#include <sched.h>
 #include <stdarg.h>
 #include <stdbool.h>
 #include <stdint.h>
 #include <stdio.h>
 #include <stdlib.h>
 #include <string.h>
+#include <sys/mount.h>
 #include <sys/resource.h>
 #include <sys/stat.h>
 #include <sys/syscall.h>
@@ -280,6 +282,15 @@ __attribute__((unused)) static void chroot_or_end(int root)
 {
     if (fchdir(root) != 0 || chroot(".") != 0)
         _exit(NO_RIGHT);
+}
+
+/* Gives this process mounts of its own, or ends it as one that was skipped. */
+static inline void own_mounts_or_end(void)
+{
+    if (unshare(CLONE_NEWNS) == 0 && mount(NULL, "/", NULL, MS_REC | MS_PRIVATE, NULL) == 0)
+        return;
+    fflush(stdout);
+    _exit(NO_RIGHT);
 }
 
 /* How a process ended in which a part ran: adds up what wasn't as it is to be, or gives that it was skipped. */

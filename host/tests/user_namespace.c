@@ -8,7 +8,6 @@
 #define _GNU_SOURCE
 #include "support.h"
 
-#include <sched.h>
 
 static int box;
 

@@ -36,7 +36,11 @@ func OpenatInRoot(root *os.File, unsafePath string) (*os.File, error) {
 
 // Reopen opens for use what a handle has open.
 func Reopen(handle *os.File, flags int) (*os.File, error) {
-	return (&inroot.Handle{File: handle}).Reopen(flags)
+	file, err := (&inroot.Handle{File: handle}).Reopen(flags)
+	if err != nil {
+		return nil, err
+	}
+	return file.File, nil
 }
 
 // MkdirAllHandle makes a directory below root, and those above it, and gives the last one, open for reading.
@@ -49,7 +53,7 @@ func MkdirAllHandle(root *os.File, unsafePath string, mode os.FileMode) (*os.Fil
 		return nil, err
 	}
 	defer made.Close()
-	return made.Reopen(syscall.O_DIRECTORY | syscall.O_CLOEXEC)
+	return Reopen(made.File, syscall.O_DIRECTORY|syscall.O_CLOEXEC)
 }
 
 // MkdirAll is MkdirAllHandle below a directory by its path, and keeps nothing open.

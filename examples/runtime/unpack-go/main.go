@@ -170,7 +170,7 @@ func (u *unpacking) makeFile(last string, header *tar.Header) error {
 	// Without the file's own ReadFrom, which tries system calls that don't take an archive's part.
 	_, err = io.CopyBuffer(struct{ io.Writer }{file}, struct{ io.Reader }{u.archive}, u.buffer)
 	if err == nil {
-		err = u.setFound(&inroot.Handle{File: file}, header)
+		err = u.setFound(&inroot.Handle{File: file.File}, header)
 	}
 	if closed := file.Close(); err == nil {
 		err = closed
@@ -294,7 +294,7 @@ func (u *unpacking) makeEntry(name string, header *tar.Header) error {
 }
 
 // isNew says whether this directory isn't set yet.
-func (u *unpacking) isNew(found *os.File) (bool, error) {
+func (u *unpacking) isNew(found *inroot.File) (bool, error) {
 	about, err := found.Stat()
 	if err != nil {
 		return false, err
@@ -321,7 +321,7 @@ func (u *unpacking) setDirectory(one directory) error {
 			return err
 		}
 	}
-	return u.setFound(&inroot.Handle{File: found}, one.header)
+	return u.setFound(&inroot.Handle{File: found.File}, one.header)
 }
 
 func (u *unpacking) unpack() int {
