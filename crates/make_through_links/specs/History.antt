@@ -15,7 +15,7 @@ use Rattle.make_through_links.specs.declared.meets.Seen.{Seen}
 
 -- ---- numbers; the others are those of open_or_make
 
--- the step that makes a directory, as c_protocol numbers it
+-- the step that makes a directory, as linux_call numbers it
 abbrev pub STEP_MAKE_DIR : ℕ
 STEP_MAKE_DIR = 8
 

@@ -17,7 +17,7 @@ use Rattle.open_or_make.specs.declared.course.Met.TheVariants.{Missing, Stands, 
 abbrev pub LINKS : ℕ
 LINKS = 40
 
--- the steps at which it may fail by itself, as c_protocol numbers them
+-- the steps at which it may fail by itself, as linux_call numbers them
 abbrev pub STEP_READ_LINK : ℕ
 STEP_READ_LINK = 4
 

@@ -4,7 +4,7 @@ use Rattle.system_calls.specs.declared.opening.Opening.{Opening}
 use Rattle.open_or_make.specs.declared.course.TheConstants.{FIND, CREATE}
 use Rattle.open_or_make.specs.declared.requests.Request.{Request}
 
--- the operations, as c_protocol numbers them
+-- the operations, as linux_call numbers them
 abbrev pub RESOLVE : ℕ
 RESOLVE = 1
 

@@ -3,7 +3,7 @@ use Rattle.std.specs.Prelude.{ℕ, ◌==◌, Bool, not, ◌&&◌, if◌then◌el
 use Rattle.open_partial.specs.declared.search.Search.{Search}
 use Rattle.open_partial.specs.declared.trials.Trial.{Trial}
 
--- the operations, as c_protocol numbers them
+-- the operations, as linux_call numbers them
 abbrev pub RESOLVE : ℕ
 RESOLVE = 1
 

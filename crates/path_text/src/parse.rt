@@ -40,7 +40,7 @@ impl Path {
             return Err(fault);
         }
         let mut parts = Parts::new(alloc);
-        let slash = parts.put_for_first(Bytes::from_slice(alloc, text)?)?;
+        let slash = parts.replace_first(Bytes::from_slice(alloc, text)?)?;
         Ok(Path {
             absolute: begins_with_slash(text),
             parts,

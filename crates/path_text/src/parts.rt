@@ -172,7 +172,7 @@ impl Parts {
     /// Puts the parts of a text without NUL in the place of the first part, or where there is none, before all.
     /// The answer is whether a slash at the text's end gave one of them. Where no other part is left, the text is kept
     /// as it came. NoMemory where room was refused, before anything changed.
-    pub fn put_for_first(&mut self, text: Bytes) -> Result<bool, NoMemory>
+    pub fn replace_first(&mut self, text: Bytes) -> Result<bool, NoMemory>
         requires { list_any (λ b. b == NUL) text ≡ false }
         ensures ok { OnOk result (self.new ≡ parts_of text ++ drop 1 self.old) }
         ensures slash { IfOk result (λ slash. slash ≡ has_final_slash text) }

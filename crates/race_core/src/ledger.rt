@@ -82,7 +82,7 @@ fn step_at(root: Root, standings: &[Option<Standing>], step: StepOf<Ref>) -> Opt
 }
 
 // Takes what a call keeps.
-fn take_standing(standings: &mut [Option<Standing>], call: usize) -> Option<Standing>
+fn take_kept_by(standings: &mut [Option<Standing>], call: usize) -> Option<Standing>
     ensures taken { result ≡ standing_under standings.old call }
     ensures left { standings.new ≡ slice_set standings.old call None }
 {
@@ -102,7 +102,7 @@ fn request_of(root: Root, standings: &mut [Option<Standing>], planned: Planned) 
     let op = match planned {
         Planned::Call(request) => return Some(request),
         Planned::Single(step) => Op::Single(step_at(root, standings, step)?),
-        Planned::Release(call) => Op::Release(take_standing(standings, call)?),
+        Planned::Release(call) => Op::Release(take_kept_by(standings, call)?),
     };
     let flags = Flags {
         beneath: false,
@@ -112,7 +112,7 @@ fn request_of(root: Root, standings: &mut [Option<Standing>], planned: Planned) 
 }
 
 // The first turn of a call that asks this. One that names what isn't held is at its end at once.
-fn first_turn(alloc: Global, root: Root, request: Option<Request>) -> CallTurn
+fn start_call(alloc: Global, root: Root, request: Option<Request>) -> CallTurn
     ensures { IsStarted root request result }
 {
     match request {
@@ -163,7 +163,7 @@ impl Ledger {
     {
         let planned = self.to_come.pop_front()?;
         let request = request_of(self.root, self.standings.as_mut_slice(), planned);
-        Some(first_turn(alloc, self.root, request))
+        Some(start_call(alloc, self.root, request))
     }
 
     /// Takes down how a call ended. NoMemory where the room for that was refused; then nothing is taken down.

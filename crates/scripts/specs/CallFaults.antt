@@ -1,5 +1,5 @@
 -- What is wrong with a call that is refused, over the data that it is: the first of its fields that is
--- (docs/SCRIPT.md).
+-- (inroot-script(5)).
 use Rattle.std.specs.Prelude.{ℕ, ◌||◌, List, Bool, not, if◌then◌else◌, Option, Some, None, is_some, codes}
 use Rattle.std.specs.Option.{option_or}
 use Rattle.serde_json.specs.Data.{Data}

@@ -1,4 +1,4 @@
--- The keys that a script's objects may have (docs/SCRIPT.md), over the data that they are.
+-- The keys that a script's objects may have (inroot-script(5)), over the data that they are.
 use Rattle.std.specs.Prelude.{ℕ, ◌||◌, List, Bool, false, not, if◌then◌else◌, Option, Some, None, option_map, codes}
 use Rattle.serde_json.specs.Data.{Data, Members, no_members, member}
 use Rattle.serde_json.specs.Find.{as_object}

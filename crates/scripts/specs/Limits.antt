@@ -1,4 +1,4 @@
--- The most that a script may have (docs/SCRIPT.md).
+-- The most that a script may have (inroot-script(5)).
 use Rattle.std.specs.Prelude.{ℕ}
 
 abbrev pub MOST_BYTES : ℕ

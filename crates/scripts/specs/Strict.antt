@@ -1,4 +1,4 @@
--- What of a script nobody looks at, over the data that its JSON text is: a strict reader refuses it (docs/SCRIPT.md).
+-- What of a script nobody looks at, over the data that its JSON text is: a strict reader refuses it (inroot-script(5)).
 use Rattle.std.specs.Prelude.{⊤, ◌≡◌, ℕ, ◌+◌, ◌&&◌, ◌||◌, List, Bool, false, not, if◌then◌else◌, length, nat_lt, Option, Some, None, is_some, Result, Ok, Err, codes}
 use Rattle.std.specs.Option.{option_or}
 use Rattle.serde_json.specs.Data.{Data, Items, no_items, item}

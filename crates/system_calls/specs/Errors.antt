@@ -1,7 +1,6 @@
 -- Errors of system calls (errno(3)), by their numbers in Linux's asm-generic/errno-base.h and asm-generic/errno.h.
 -- These are the same on x86-64 and on arm64. The model's errors are a type of path_text, whose `number_of` gives
--- them these numbers. The two meet where a step is refused: in Refusals.antt of c_protocol, and in Lines.antt of
--- calls_by_system_calls.
+-- them these numbers. The two meet where a step is refused: in Lines.antt of calls_by_system_calls.
 use Rattle.std.specs.Prelude.{ℕ}
 
 abbrev pub EPERM : ℕ

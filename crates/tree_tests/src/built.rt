@@ -95,8 +95,8 @@ const MORE: [(&str, &str); 4] = [
     ("/l", "c/a/more"),
 ];
 
-/// Whether the tree with more entries has the nodes of the plain tree that is built of all, and its handle still.
-fn are_added(alloc: Global, tree: &mut SlabTree, built: &ListTree) -> Result<bool, Errno> {
+/// Adds more entries: whether the tree then has the nodes of the plain tree that is built of all, and its handle still.
+fn is_same_once_added(alloc: Global, tree: &mut SlabTree, built: &ListTree) -> Result<bool, Errno> {
     let actor = Actor::new(0);
     tree.grant(alloc, actor, &names_of(alloc, "/c")?)?;
     let more = entries(alloc, MORE.as_slice())?;
@@ -122,7 +122,7 @@ fn are_more(alloc: Global) -> Result<bool, Errno> {
     };
     let mut tree = SlabTree::new(alloc, 4)?;
     let base = entries(alloc, fixtures::BASE.as_slice())?;
-    Ok(tree.add_all(alloc, &base).is_ok() && are_added(alloc, &mut tree, &built)?)
+    Ok(tree.add_all(alloc, &base).is_ok() && is_same_once_added(alloc, &mut tree, &built)?)
 }
 
 #[test]

@@ -452,7 +452,7 @@ fn parts_go_at_both_ends(alloc: Global) -> Result<bool, Errno> {
 /// Whether a text's parts come in the place of the first.
 fn parts_are_put(alloc: Global) -> Result<bool, Errno> {
     let mut parts = three_parts(alloc)?;
-    let slash = parts.put_for_first(Bytes::from_slice(alloc, b"../")?)?;
+    let slash = parts.replace_first(Bytes::from_slice(alloc, b"../")?)?;
     let wanted = Path::parse(alloc, b".././../b")?.parts;
     Ok(slash && parts.same(&wanted) && parts.same(&wanted.copy(alloc)?))
 }
@@ -460,11 +460,11 @@ fn parts_are_put(alloc: Global) -> Result<bool, Errno> {
 /// Whether a text's parts come in the place of the only one, and of none.
 fn parts_are_put_alone(alloc: Global) -> Result<bool, Errno> {
     let mut parts = Path::parse(alloc, b"a")?.parts;
-    let slash = parts.put_for_first(Bytes::from_slice(alloc, b"../b")?)?;
+    let slash = parts.replace_first(Bytes::from_slice(alloc, b"../b")?)?;
     let is_put = parts.same(&Path::parse(alloc, b"../b")?.parts);
     parts.drop_first();
     parts.drop_first();
-    let last_slash = parts.put_for_first(Bytes::from_slice(alloc, b"c/")?)?;
+    let last_slash = parts.replace_first(Bytes::from_slice(alloc, b"c/")?)?;
     Ok(!slash && is_put && last_slash && parts.same(&Path::parse(alloc, b"c/")?.parts))
 }
 

@@ -300,7 +300,7 @@ fn splice(inner: &mut Parts, own: &mut Parts, text: Bytes) -> Result<(), NoMemor
     ensures err { OnErr result ((inner.new ≡ inner.old) × (own.new ≡ own.old)) }
 {
     let from_own = inner.is_empty();
-    let _ = inner.put_for_first(text)?;
+    let _ = inner.replace_first(text)?;
     if from_own {
         own.drop_first();
     }

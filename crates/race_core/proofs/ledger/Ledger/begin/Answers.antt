@@ -18,11 +18,11 @@ returns c =
       standings = c.self.inside.standings.items;
       kept = c.self.inside.kept.items;
     } in
-    let begun = begun_by was c.in_ok-planned.planned c.pop_front.new.self.items c.request_of-request.new.standings c.request_of-request.result c.first_turn.result
+    let begun = begun_by was c.in_ok-planned.planned c.pop_front.new.self.items c.request_of-request.new.standings c.request_of-request.result c.start_call.result
     c.in_ok-planned.ensures.items
     (c.request_of-request.ensures.request ∙ ap (λ (ss : List (Option StandingObject)). request_of c.self.inside.root ss c.in_ok-planned.planned) c.as_mut_slice.ensures.value)
     (c.request_of-request.ensures.left ∙ ap (λ (ss : List (Option StandingObject)). left_by c.in_ok-planned.planned ss) c.as_mut_slice.ensures.value)
-    c.first_turn.ensures in
+    c.start_call.ensures in
     let same = with_items_is c.self.inside.standings c.request_of-request.new.standings (c.request_of-request.auto.standings ∙ c.as_mut_slice.ensures.len) in
     let P : LedgerView → List (Option StandingObject) → Type 0 = λ old ss.
     IsBegun old (record {
@@ -31,6 +31,6 @@ returns c =
       outcomes = c.self.inside.outcomes;
       standings = ss;
       kept = c.self.inside.kept.items;
-    }) c.first_turn.result in
+    }) c.start_call.result in
     subst (λ old. P old (with_items c.self.inside.standings c.request_of-request.new.standings).items) c.self.view_is
     (subst (λ ss. P was ss) (sym same) begun)

@@ -1,7 +1,7 @@
 use Rattle.std.proofs.Common.{sym, subst}
 use Rattle.race_core.specs.TurnView.{IsStarted}
 use Rattle.race_core.proofs.Starting.{started}
-use Rattle.race_core.proofs.ledger.first_turn.Goals as goal
+use Rattle.race_core.proofs.ledger.start_call.Goals as goal
 
 pub returns-in-Some : goal.returns-in-Some
 returns-in-Some c =
