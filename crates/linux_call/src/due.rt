@@ -2,7 +2,7 @@
 use crate::attributes::MOST_BYTES;
 use crate::path::front;
 use crate::request::{Reply, Request};
-use crate::walk::{O_CLOEXEC, O_PATH};
+use crate::walk::{O_CLOEXEC, O_PATH, RESOLVE_BENEATH, RESOLVE_NO_MAGICLINKS, RESOLVE_NO_XDEV};
 use dialogue::{How, Question};
 use system_calls::MachineFlags;
 use system_calls::errors::EIO;
@@ -13,10 +13,7 @@ pub(crate) const SECOND: usize = 4352;
 /// Where the name lies that the error of a part was about.
 pub(crate) const NAME: usize = 8704;
 
-// RESOLVE_NO_XDEV; RESOLVE_BENEATH and RESOLVE_NO_MAGICLINKS.
-const NO_XDEV: u32 = 0x01;
-
-const FOLLOWED: u32 = 0x08 | 0x02;
+const FOLLOWED: u32 = RESOLVE_BENEATH | RESOLVE_NO_MAGICLINKS;
 
 /// What is due. Which field is which argument stands at each number of WHAT in the header for C.
 #[repr(C)]
@@ -134,7 +131,7 @@ fn flags_of(machine: &MachineFlags, how: &How) -> u64 {
 
 fn resolve_of(how: &How) -> u64 {
     let followed = if how.no_follow { 0 } else { FOLLOWED };
-    let no_xdev = if how.no_xdev { NO_XDEV } else { 0 };
+    let no_xdev = if how.no_xdev { RESOLVE_NO_XDEV } else { 0 };
     (followed | no_xdev) as u64
 }
 

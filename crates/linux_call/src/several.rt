@@ -4,27 +4,22 @@ use crate::inner::fault_of;
 use crate::kept::State;
 use crate::make_all::{Gave, outcome_of};
 use crate::path::{Texts, front};
+use crate::progress::Progress;
 use crate::request::*;
 use crate::walk::{FOLLOW, NO_RETRY, has};
-use crate::{make_all, open_at, steps};
-use dialogue::{Answer, Asked, Question, ask};
-use find_proc::Known;
+use dialogue::Asked;
 use path_text::TEXT_MAX;
-use system_calls::errors::{EINVAL, EIO};
+use system_calls::errors::EINVAL;
 
-const MODE_BITS: u32 = 0o7777;
+/// The reply; or what a call of several gave.
+pub(crate) type Part<'n> = Asked<'n, Result<Reply<'n>, Gave<'n>>>;
 
 // What a call of several gave is kept, with the name that an error was about.
 pub(crate) fn keep(state: &mut State, reply: &Reply<'_>, room: &mut [u8]) {
-    let (given, error, step) = match *reply {
-        Reply::Value(given, _) => (given, 0, steps::NONE),
-        Reply::Fails(error, step, name) => {
-            lay(room, NAME, name);
-            (0, error, step)
-        }
-        Reply::Failed(error, step) => (0, error, step),
-        Reply::Steps => (0, EIO, steps::NONE),
-    };
+    if let Reply::Fails(_, _, name) = *reply {
+        lay(room, NAME, name);
+    }
+    let (given, error, step) = reply.outcome();
     state.given = given;
     state.error = error;
     state.step = step;
@@ -38,52 +33,43 @@ pub(crate) fn last_reply<'n>(state: &State) -> Reply<'n> {
     }
 }
 
-// The end of a course, or what its next call gives.
-pub(crate) fn open_at_part<'n>(
-    answers: &mut &[Answer],
-    known: &mut Known,
-    beside: &mut Beside,
-    request: &Request,
-    state: &State,
-    texts: Texts<'n>,
-) -> Asked<'n, Result<Reply<'n>, Gave<'n>>> {
-    Ok(match state.course.next {
-        open_or_make::ENDS => Ok(last_reply(state)),
-        open_or_make::FAILS => Ok(Reply::Fails(state.course.error as u32, state.course.step, b"")),
-        _ => Err(Gave {
-            reply: open_at::call(
-                answers,
-                known,
-                beside,
-                request,
-                &state.course,
-                &state.opening,
-                texts,
-            )?,
-            rest: 0,
-        }),
-    })
-}
-
-#[inline(never)]
-pub(crate) fn make_all_part<'n>(
-    answers: &mut &[Answer],
-    known: &mut Known,
-    beside: &mut Beside,
-    request: &Request,
-    state: &State,
-    texts: Texts<'n>,
-) -> Asked<'n, Result<Reply<'n>, Gave<'n>>> {
-    let making = &state.making;
-    if making.closes > 0 {
-        ask(answers, Question::Close(making.closes - 1))?;
+impl Progress<'_> {
+    // The end of a course, or what its next call gives.
+    pub(crate) fn open_at_part<'n>(
+        &mut self,
+        request: &Request,
+        state: &State,
+        texts: Texts<'n>,
+    ) -> Part<'n> {
+        let course = &state.course;
+        Ok(match course.next {
+            open_or_make::ENDS => Ok(last_reply(state)),
+            open_or_make::FAILS => Ok(Reply::Fails(course.error as u32, course.step, b"")),
+            _ => Err(Gave {
+                reply: self.open_next(request, course, &state.opening, texts)?,
+                rest: 0,
+            }),
+        })
     }
-    Ok(match making.next {
-        make_through_links::ENDS if making.gives > 0 => Ok(value(making.gives - 1)),
-        make_through_links::ENDS => Ok(Reply::Failed(state.error, state.step)),
-        make_through_links::FAILS => Ok(Reply::Fails(making.error, making.step, b"")),
-        _ => Err(make_all::call(answers, known, beside, request, making, texts)?),
-    })
+
+    #[inline(never)]
+    pub(crate) fn make_all_part<'n>(
+        &mut self,
+        request: &Request,
+        state: &State,
+        texts: Texts<'n>,
+    ) -> Part<'n> {
+        let making = &state.making;
+        if making.closes > 0 {
+            self.close(making.closes - 1)?;
+        }
+        Ok(match making.next {
+            make_through_links::ENDS if making.gives > 0 => Ok(value(making.gives - 1)),
+            make_through_links::ENDS => Ok(Reply::Failed(state.error, state.step)),
+            make_through_links::FAILS => Ok(Reply::Fails(making.error, making.step, b"")),
+            _ => Err(self.make_next(request, making, texts)?),
+        })
+    }
 }
 
 // The text that a call has read.

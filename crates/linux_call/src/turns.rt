@@ -6,17 +6,15 @@ ghost use Rattle.std.specs.Prelude.{◌≡◌, true, IsSome};
 
 use crate::by_steps::{Ended, Steps};
 use crate::due::{Due, NAME, decimal, digits, due_of, end_of, lay};
-use crate::inner::{answer_of, fault_of, refused};
+use crate::inner::{answer_of, fault_of};
 use crate::kept::{Kept, State};
-use crate::make_all::Gave;
 use crate::path::{PathOf, Texts};
+use crate::progress::Progress;
 use crate::request::*;
-use crate::run::run;
-use crate::several::{begin, keep, make_all_part, next_call, open_at_part};
-use crate::walk::{Below, EXACT, NOFOLLOW, O_PATH, has, look_up};
+use crate::several::{Part, begin, keep, next_call};
+use crate::walk::{Below, EXACT, NOFOLLOW, O_PATH, has};
 use crate::{open_at, steps};
-use dialogue::{Answer, Asked, Question};
-use find_proc::Known;
+use dialogue::{Answer, Question};
 use open_or_make::{Course, FIND};
 use std::alloc::Global;
 use std::mem;
@@ -106,19 +104,15 @@ fn path_in(first: &[u8], length: usize) -> PathOf<'_> {
 
 #[inline(always)]
 fn part<'n>(
-    answers: &mut &[Answer],
-    known: &mut Known,
-    beside: &mut Beside,
+    now: &mut Progress<'_>,
     request: &Request,
     state: &State,
     texts: Texts<'n>,
-) -> Asked<'n, Result<Reply<'n>, Gave<'n>>> {
+) -> Part<'n> {
     match request.what {
-        OPEN_AT => open_at_part(answers, known, beside, request, state, texts),
-        MAKE_DIRECTORIES | MAKE_FILE => {
-            make_all_part(answers, known, beside, request, state, texts)
-        }
-        _ => Ok(Ok(run(answers, known, beside, request, texts)?)),
+        OPEN_AT => now.open_at_part(request, state, texts),
+        MAKE_DIRECTORIES | MAKE_FILE => now.make_all_part(request, state, texts),
+        _ => Ok(Ok(now.run(request, texts)?)),
     }
 }
 
@@ -218,31 +212,25 @@ fn go(
     room: &mut [u8],
 ) -> Came {
     let texts = texts_of(request, state, first, second, read, number);
-    let mut known = request.known;
-    let mut beside = Beside {
-        inner: None,
-        closes: NO_CLOSES,
-        ends: ends_behind(request.what),
-        changes: false,
-    };
-    let mut left = between(answers, 0, state.count);
-    match part(&mut left, &mut known, &mut beside, request, state, texts) {
+    let left = between(answers, 0, state.count);
+    let mut now = Progress::new(left, request.known, ends_behind(request.what));
+    match part(&mut now, request, state, texts) {
         Err(Question::BySteps(first, second)) => {
-            begin_steps(alloc, state, &beside.inner, first, second)
+            begin_steps(alloc, state, &now.inner, first, second)
         }
         Err(question) => {
             if state.count == 0 {
                 state.looked = is_look_up(request, &question);
                 state.opens = state.looked && is_reply(request, state);
             }
-            state.changes = beside.changes;
-            state.closes = beside.closes;
+            state.changes = now.changes;
+            state.closes = now.closes;
             Came::Due(due_of(&question, request, room))
         }
-        Ok(Ok(reply)) => Came::Due(end_and_close(&reply, &beside.closes, room)),
+        Ok(Ok(reply)) => Came::Due(end_and_close(&reply, &now.closes, room)),
         Ok(Err(gave)) => {
             keep(state, &gave.reply, room);
-            request.known = known;
+            request.known = now.known;
             state.count = 0;
             state.looked = false;
             Came::Gave(gave.rest)
@@ -433,9 +421,7 @@ fn look_up_first(
         path: path_in(first, request.length as usize),
         looked: false,
     };
-    let mut known = request.known;
-    let mut none: &[Answer] = &[];
-    match look_up(&mut none, &mut known, &at, how, mode) {
+    match Progress::new(&[], request.known, false).look_up(&at, how, mode) {
         Err(question) => Some(due_of(&question, request, room)),
         Ok(_) => None,
     }
