@@ -1,11 +1,10 @@
 //! The mode, the owner, the times and the extended attributes of an object that was found; and that it is opened again.
 use crate::by_proc::Act;
 use crate::progress::{Progress, Said};
-use crate::request::{MODE_BITS, Request, SET_ATTRIBUTE, given, refused, told, value};
+use crate::request::{A_LINK, MODE_BITS, Request, SET_ATTRIBUTE, given, refused, told, value};
 use crate::steps;
-use crate::walk::look_error;
 use dialogue::Question;
-use step_calls::LINK;
+use linux_steps::look_error;
 use system_calls::errors::{EBADF, EINVAL, EOPNOTSUPP, ERANGE};
 use system_calls::{kind_of, reopen_flags};
 
@@ -59,7 +58,7 @@ impl Progress<'_> {
         let error = look_error(&about);
         let changed = if error != 0 {
             Err(error)
-        } else if kind_of(about.mode as u32) == LINK {
+        } else if kind_of(about.mode as u32) == A_LINK {
             Err(EOPNOTSUPP)
         } else {
             self.by_proc(fd, Act::Mode(request.mode))?

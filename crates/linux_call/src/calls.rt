@@ -4,12 +4,11 @@ use crate::path::{Texts, front};
 use crate::progress::{Progress, Said};
 use crate::request::*;
 use crate::steps;
-use crate::walk::{
-    DIRECTORY, EXACT, FOLLOW, GIVE, NO_RETRY, NOFOLLOW, has, look_error, path_below,
-};
+use crate::walk::{DIRECTORY, EXACT, FOLLOW, GIVE, NO_RETRY, NOFOLLOW, has, path_below};
 use ask_place::next_question;
 use dialogue::Question;
 use kernel_walks::split;
+use linux_steps::look_error;
 use system_calls::errors::{EINVAL, ENOENT};
 use system_calls::{is_node, kind_of};
 

@@ -7,9 +7,10 @@ use crate::request::{
     MKDIR, MKFILE, RESOLVE_NOFOLLOW, RMDIR, Reply, Request, SYMLINK, UNLINK, value,
 };
 use crate::steps;
-use crate::walk::{Below, O_PATH, look_error};
+use crate::walk::{Below, O_PATH};
 use dialogue::{Asked, Question};
 use find_proc::has_floor;
+use linux_steps::look_error;
 use path_text::TEXT_MAX;
 use system_calls::errors::{EEXIST, ENOENT};
 use system_calls::kind_of;

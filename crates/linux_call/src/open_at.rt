@@ -5,10 +5,10 @@ use crate::path::Texts;
 use crate::progress::{Progress, Said};
 use crate::request::*;
 use crate::steps;
-use crate::walk::{EXACT, NO_LINKS, NO_RETRY, O_PATH, has, look_error, path_below};
+use crate::walk::{EXACT, NO_LINKS, NO_RETRY, O_PATH, has, path_below};
 use dialogue::Question;
+use linux_steps::look_error;
 use open_or_make::{Course, FIND, begin, request_of};
-use step_calls::DIRECTORY;
 use system_calls::{
     MachineFlags, Opening, USE_FAILS, USE_GIVES, USE_MAKES, USE_REOPENS, kind_of, opening_of,
     use_of,
@@ -29,7 +29,11 @@ pub(crate) fn first(request: &Request, opening: &Opening) -> Course {
 }
 
 fn usual_kind(opening: &Opening) -> u8 {
-    if opening.directory { DIRECTORY } else { A_FILE }
+    if opening.directory {
+        A_DIRECTORY
+    } else {
+        A_FILE
+    }
 }
 
 /// By which flags of open(2) the one look-up opens what is there; or what is found so is the reply.

@@ -4,15 +4,14 @@
 use crate::entry::parts;
 use crate::path::{PathOf, Texts};
 use crate::progress::{Number, Progress, Said};
-use crate::request::{Request, given, refused};
+use crate::request::{A_LINK, Request, given, refused};
 use crate::steps;
 use crate::walk::{
-    O_CLOEXEC, O_PATH, RESOLVE_BENEATH, RESOLVE_NO_MAGICLINKS, RESOLVE_NO_XDEV, has, look_error,
-    opened,
+    O_CLOEXEC, O_PATH, RESOLVE_BENEATH, RESOLVE_NO_MAGICLINKS, RESOLVE_NO_XDEV, has, opened,
 };
 use dialogue::{Asked, Question};
 use find_proc::{Known, Proc, find};
-use step_calls::LINK;
+use linux_steps::look_error;
 use system_calls::errors::{EAGAIN, EINVAL, ELOOP, ENOENT, ENOSYS, EXDEV};
 use system_calls::{kind_of, reopen_flags};
 
@@ -195,7 +194,7 @@ impl Progress<'_> {
             return Ok(Err(look_error(&about)));
         }
         Ok(match self.gives(Question::ReadLink(fd))? {
-            Err(_) if kind_of(about.mode as u32) != LINK => Err(EINVAL),
+            Err(_) if kind_of(about.mode as u32) != A_LINK => Err(EINVAL),
             read => read,
         })
     }

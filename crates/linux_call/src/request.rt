@@ -120,6 +120,11 @@ pub(crate) const S_IFMT: u32 = 0o170000;
 
 pub(crate) const S_IFREG: u32 = 0o100000;
 
+// Kinds of objects (`kind_of`).
+pub(crate) const A_DIRECTORY: u8 = 1;
+
+pub(crate) const A_LINK: u8 = 3;
+
 /// Descriptors that are closed: so many.
 #[repr(C)]
 #[derive(Clone, Copy)]
