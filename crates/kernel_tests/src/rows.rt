@@ -61,3 +61,29 @@ pub(crate) fn goes<R: Room>(
     }
     Ok(())
 }
+
+/// A room for a path has so many bytes.
+pub(crate) const ROOM: usize = 4096;
+
+static LETTERS: [u8; ROOM] = [b'a'; ROOM];
+
+/// A room with this path at its beginning.
+pub(crate) fn laid(path: &str) -> [u8; ROOM] {
+    let mut room = [0; ROOM];
+    let length = path.len().min(ROOM);
+    room[..length].copy_from_slice(&path.as_bytes()[..length]);
+    room
+}
+
+/// The path of so many bytes, or how many they are.
+pub(crate) fn shown(alloc: Global, room: &[u8; ROOM], length: usize) -> Result<String, AllocError> {
+    if length > 99 {
+        return format!(in alloc; "{length} bytes");
+    }
+    String::from_utf8_lossy(alloc, &room[..length])
+}
+
+/// So many letters, 4,096 at most.
+pub(crate) fn letters(count: &str) -> Option<&'static [u8]> {
+    LETTERS.get(..count.parse().ok()?)
+}

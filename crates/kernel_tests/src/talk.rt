@@ -1,10 +1,10 @@
 //! Code that asks, as a room: what is due of a call by as many answers.
+use crate::openings::X86_64;
 use crate::rows::{Room, name_of, number};
 use dialogue::{Answer, Asked, Question};
 use find_proc::{File, Kept, Known, find, hand_in, has_floor, is_lost, make_private};
 use give_entry::{Made, give};
 use std::alloc::{AllocError, Global};
-use system_calls::MachineFlags;
 
 const DONE: Result<(u32, bool), u32> = Ok((0, false));
 
@@ -142,12 +142,7 @@ impl<'t> Talk<'t> {
                     handed_in: call.contains("handed"),
                     claimed: there,
                 },
-                machine: MachineFlags {
-                    directory: 0o200000,
-                    nofollow: 0o400000,
-                    direct: 0o40000,
-                    largefile: 0,
-                },
+                machine: X86_64,
                 has_floor: call.contains("floor"),
             },
             answers: [works(); 16],
