@@ -52,7 +52,7 @@ impl Room for File {
     }
 
     // An error's name; a link's text, or so many letters.
-    fn take(&mut self, gave: &str) -> Option<()> {
+    fn take(&mut self, gave: &'static str) -> Option<()> {
         if self.course.length > ROOM {
             return None;
         }
@@ -77,7 +77,8 @@ a once: find a = ENOENT; create a = ENOENT; ends a
 a once: find a = ENOENT; create a = EEXIST; read a
 # links are followed; a name alone has no directory
 dir/link: find dir/link = ENOENT; create dir/link = EEXIST; read dir/link = is on/next; \
-find dir/on/next by 1 = ENOENT; create dir/on/next by 1 = EEXIST; read dir/on/next by 1 = is /f; find /f by 2 = ENOENT; create /f by 2 = EEXIST; \
+find dir/on/next by 1 = ENOENT; create dir/on/next by 1 = EEXIST; \
+read dir/on/next by 1 = is /f; find /f by 2 = ENOENT; create /f by 2 = EEXIST; \
 read /f by 2 = is g; find /g by 3 = ok; ends /g by 3
 link: find link = ENOENT; create link = EEXIST; read link = is ab; find ab by 1
 # no link is read without leave

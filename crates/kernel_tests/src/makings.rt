@@ -54,7 +54,7 @@ impl Room for Made {
     }
 
     // A descriptor, or an error's name; a link's text, or so many letters; a descriptor, and how much is there.
-    fn take(&mut self, gave: &str) -> Option<()> {
+    fn take(&mut self, gave: &'static str) -> Option<()> {
         let making = self.making;
         if making.above > making.length || making.length > ROOM || making.size > making.length {
             return None;

@@ -30,7 +30,7 @@ impl Room for Removal {
 
     // How many entries a call removed, and its error if it has one. `refused`: the kernel refused a step of it by that;
     // `deeper`: it came to a place.
-    fn take(&mut self, gave: &str) -> Option<()> {
+    fn take(&mut self, gave: &'static str) -> Option<()> {
         let (removed, why) = gave.split_once(' ').unwrap_or((gave, "ok"));
         let (how, error) = why.split_once(' ').unwrap_or(("", why));
         let deeper = why == "deeper";

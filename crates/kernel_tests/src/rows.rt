@@ -42,7 +42,7 @@ pub(crate) trait Room {
     fn due(&self, alloc: Global) -> Result<String, AllocError>;
 
     /// Takes an answer, or nothing of words that are none.
-    fn take(&mut self, gave: &str) -> Option<()>;
+    fn take(&mut self, gave: &'static str) -> Option<()>;
 }
 
 /// Each part of a talk, `DUE = GAVE`, is due by the answers before it; the last part may have no answer.
@@ -50,7 +50,7 @@ pub(crate) fn goes<R: Room>(
     rt: &impl Abort,
     alloc: Global,
     room: &mut R,
-    talk: &str,
+    talk: &'static str,
 ) -> Result<(), AllocError> {
     for part in talk.split("; ") {
         let (wanted, gave) = part.split_once(" = ").unwrap_or((part, ""));
@@ -76,11 +76,11 @@ pub(crate) fn laid(path: &str) -> [u8; ROOM] {
 }
 
 /// The path of so many bytes, or how many they are.
-pub(crate) fn shown(alloc: Global, room: &[u8; ROOM], length: usize) -> Result<String, AllocError> {
+pub(crate) fn shown(alloc: Global, room: &[u8], length: usize) -> Result<String, AllocError> {
     if length > 99 {
         return format!(in alloc; "{length} bytes");
     }
-    String::from_utf8_lossy(alloc, &room[..length])
+    String::from_utf8_lossy(alloc, room.get(..length).unwrap_or(b"?"))
 }
 
 /// So many letters, 4,096 at most.

@@ -178,7 +178,7 @@ impl Room for Talk<'_> {
         }
     }
 
-    fn take(&mut self, gave: &str) -> Option<()> {
+    fn take(&mut self, gave: &'static str) -> Option<()> {
         if self.count >= 16 {
             return None;
         }
