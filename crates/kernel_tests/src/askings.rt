@@ -1,120 +1,81 @@
 //! Which system call comes next as a place is asked for, by answers that the kernel gives; and how often it is.
-use ask_place::{
-    Answer, Asking, CLOSE, COPY, DEAD, ENDS, FAILS, FIND, LOOK, Question, begin, calls_are_few,
-    next, next_question, questions_are_few, the_copy_is_closed_once, what_is_there_is_told,
-    what_is_told_was_found, why_it_fails,
-};
+use crate::rows::{Room, goes, name_of, number, word_of};
+use ask_place::{Answer, Asking, ENDS, begin, next, next_question};
+use std::alloc::{AllocError, Global};
 use std::test::Fail;
 
-const ENOENT: u32 = 2;
+const GAVE: Answer = Answer {
+    links: 0,
+    error: 0,
+    yes: false,
+};
 
-const EIO: u32 = 5;
+impl Room for Asking {
+    fn due(&self, alloc: Global) -> Result<String, AllocError> {
+        let word = word_of(self.next, "look copy find dead close ends fails");
+        format!(in alloc; "{word} {}", name_of(self.error))
+    }
 
-const EBADF: u32 = 9;
-
-const EAGAIN: u32 = 11;
-
-const EXDEV: u32 = 18;
-
-const EMFILE: u32 = 24;
-
-const ERANGE: u32 = 34;
-
-fn gave(error: u32) -> Answer {
-    Answer {
-        links: 0,
-        error,
-        yes: false,
+    // An error's name; so many links of a `file` or a `directory`; or whether it is `dead` or `alive`.
+    fn take(&mut self, gave: &'static str) -> Option<()> {
+        let mut answer = GAVE;
+        match gave.split_once(' ') {
+            Some((kind, links)) => {
+                answer.links = links.parse().ok()?;
+                answer.yes = kind == "directory";
+            }
+            None if gave == "dead" || gave == "alive" => answer.yes = gave == "dead",
+            None => answer.error = number(gave)?,
+        }
+        *self = next(*self, &answer);
+        Some(())
     }
 }
 
-fn says(yes: bool) -> Answer {
-    Answer { yes, ..gave(0) }
-}
+const ASKINGS: &str = "\
+# a place that is found is told
+look ok = file 1; copy ok = ok; find ok = ok; close ok = EIO; ends ok
+# what has no place was removed or moved
+look ok = file 1; copy ok = ok; find ok = EAGAIN; close EAGAIN = ok; fails EAGAIN
+look ok = file 0; copy ok = ok; find ok = EAGAIN; close ENOENT
+look ok = directory 2; copy ok = ok; find ok = EAGAIN; dead ok = dead; close ENOENT
+look ok = directory 2; copy ok = ok; find ok = EAGAIN; dead ok = alive; close EAGAIN
+look ok = directory 0; copy ok = ok; find ok = EAGAIN; dead ok = alive; close ENOENT
+# each other error is told as it is
+look ok = EBADF; fails EBADF
+look ok = file 1; copy ok = EMFILE; fails EMFILE
+look ok = directory 0; copy ok = ok; find ok = EIO; close EIO = ok; fails EIO";
 
-fn seen(links: u64, directory: bool) -> Answer {
-    Answer {
-        links,
-        ..says(directory)
+#[test]
+fn a_place_is_asked_for(rt: HostRuntime) -> Result<(), Fail> {
+    for row in ASKINGS.lines() {
+        if !row.starts_with('#') {
+            let mut asking = begin();
+            goes(&rt, rt.alloc(), &mut asking, row)?;
+            // where nothing comes any more, nothing changes
+            assert!(rt;
+                asking.next < ENDS || next(asking, &GAVE) == asking,
+                "{row}"
+            );
+        }
     }
-}
-
-// It was looked at, and copied.
-fn copied(answer: &Answer) -> Asking {
-    next(next(begin(), answer), &gave(0))
-}
-
-fn is(asking: &Asking, next: u8, error: u32) -> bool {
-    asking.next == next && asking.error == error
-}
-
-#[test]
-fn a_place_that_is_found_is_told(rt: HostRuntime) -> Result<(), Fail> {
-    let begun = begin();
-    assert!(rt; is(&begun, LOOK, 0));
-    let looked = next(begun, &seen(1, false));
-    assert!(rt; is(&looked, COPY, 0));
-    let asked = next(looked, &gave(0));
-    assert!(rt; is(&asked, FIND, 0));
-    let told = next(asked, &gave(0));
-    assert!(rt; is(&told, CLOSE, 0));
-    let end = next(told, &gave(EIO));
-    assert!(rt; is(&end, ENDS, 0));
-    assert!(rt; next(end, &gave(EIO)) == end);
     Ok(())
-}
-
-#[test]
-fn what_has_no_place_was_removed_or_moved(rt: HostRuntime) -> Result<(), Fail> {
-    let moved = next(copied(&seen(1, false)), &gave(EAGAIN));
-    assert!(rt; is(&moved, CLOSE, EAGAIN) && is(&next(moved, &gave(0)), FAILS, EAGAIN));
-    assert!(rt; is(&next(copied(&seen(0, false)), &gave(EAGAIN)), CLOSE, ENOENT));
-    let directory = next(copied(&seen(2, true)), &gave(EAGAIN));
-    assert!(rt; is(&directory, DEAD, 0));
-    assert!(rt; is(&next(directory, &says(true)), CLOSE, ENOENT));
-    assert!(rt; is(&next(directory, &says(false)), CLOSE, EAGAIN));
-    let nameless = next(copied(&seen(0, true)), &gave(EAGAIN));
-    assert!(rt; is(&nameless, DEAD, 0) && is(&next(nameless, &says(false)), CLOSE, ENOENT));
-    Ok(())
-}
-
-#[test]
-fn each_other_error_is_told_as_it_is(rt: HostRuntime) -> Result<(), Fail> {
-    assert!(rt; is(&next(begin(), &gave(EBADF)), FAILS, EBADF));
-    assert!(rt;
-        is(
-            &next(next(begin(), &seen(1, false)), &gave(EMFILE)),
-            FAILS,
-            EMFILE
-        )
-    );
-    let failed = next(copied(&seen(0, true)), &gave(EIO));
-    assert!(rt; is(&failed, CLOSE, EIO) && is(&next(failed, &gave(0)), FAILS, EIO));
-    Ok(())
-}
-
-fn ends(question: Question, error: u32) -> bool {
-    !question.again && question.error == error
 }
 
 #[test]
 fn a_place_is_asked_for_eight_times(rt: HostRuntime) -> Result<(), Fail> {
-    let again = next_question(7, EAGAIN, 0, 9);
-    assert!(rt; again.again && again.error == 0);
-    assert!(rt; ends(next_question(8, EAGAIN, 0, 9), EXDEV));
-    assert!(rt; ends(next_question(1, EIO, 0, 9), EIO));
-    assert!(rt; ends(next_question(1, 0, 8, 9), 0));
-    assert!(rt; ends(next_question(1, 0, 9, 9), ERANGE));
+    for (asked, error, length, again, why) in [
+        (7, 11, 0, true, 0),
+        (8, 11, 0, false, 18),
+        (1, 5, 0, false, 5),
+        (1, 0, 8, false, 0),
+        (1, 0, 9, false, 34),
+    ] {
+        let question = next_question(asked, error, length, 9);
+        assert!(rt;
+            question.again == again && question.error == why,
+            "{question:?}"
+        );
+    }
     Ok(())
-}
-
-// The laws are called as a caller has them at hand. They do nothing.
-#[test]
-fn laws_of_a_place_are_at_hand() {
-    calls_are_few();
-    questions_are_few();
-    the_copy_is_closed_once();
-    what_is_there_is_told();
-    what_is_told_was_found();
-    why_it_fails();
 }

@@ -7,8 +7,6 @@ mod askings;
 #[cfg(test)]
 mod courses;
 #[cfg(test)]
-mod givings;
-#[cfg(test)]
 mod held;
 #[cfg(test)]
 mod laws;
@@ -30,6 +28,8 @@ mod protocol;
 mod records;
 #[cfg(test)]
 mod removals;
+#[cfg(test)]
+mod rows;
 #[cfg(test)]
 mod searches;
 #[cfg(test)]

@@ -1,30 +1,11 @@
 //! Which call comes next as all missing parts of a path are made, by answers that a kernel gives.
-use make_through_links::{
-    CREATE, ENDS, FAILS, FIND, MAKE, MAKE_ABOVE, Making, Outcome, PARTIAL, READ_END, READ_LINK,
-    SPLIT, begin, next,
-};
+use crate::rows::{ROOM, Room, goes, laid, letters, name_of, number, shown, word_of};
+use make_through_links::{FIND, Making, Outcome, begin, next};
+use std::alloc::{AllocError, Global};
 use std::test::Fail;
 use system_calls::next_try;
 
-const ROOM: usize = 4096;
-
-const ENOENT: u32 = 2;
-
 const EAGAIN: u32 = 11;
-
-const EACCES: u32 = 13;
-
-const EEXIST: u32 = 17;
-
-const EISDIR: u32 = 21;
-
-const EINVAL: u32 = 22;
-
-const ENOTDIR: u32 = 20;
-
-const ENAMETOOLONG: u32 = 36;
-
-const ELOOP: u32 = 40;
 
 const OPENED: Outcome = Outcome {
     rest: 0,
@@ -33,360 +14,167 @@ const OPENED: Outcome = Outcome {
     directory: false,
 };
 
-// What a call gave: this descriptor.
-fn opened(descriptor: u32) -> Outcome {
-    Outcome {
-        descriptor,
-        ..OPENED
+#[derive(Clone, Copy)]
+struct Made {
+    making: Making,
+    room: [u8; ROOM],
+}
+
+// A path, and what is wanted there: `stays`, with no link followed; `once`, in one try.
+fn begun(words: &str) -> Made {
+    let (path, wanted) = words.split_once(' ').unwrap_or((words, ""));
+    let (follows, retry) = (!wanted.contains("stays"), !wanted.contains("once"));
+    Made {
+        making: begin(path.len(), wanted.contains("file"), follows, retry),
+        room: laid(path),
     }
 }
 
-fn failed(error: u32) -> Outcome {
-    Outcome { error, ..OPENED }
-}
+impl Room for Made {
+    fn due(&self, alloc: Global) -> Result<String, AllocError> {
+        let Making {
+            error,
+            step,
+            gives,
+            closes,
+            pause,
+            ..
+        } = self.making;
+        let path = shown(alloc, &self.room, self.making.size)?;
+        match word_of(
+            self.making.next,
+            "find split above make partial link create end ends fails",
+        ) {
+            "ends" => format!(in alloc; "ends {gives} {closes}"),
+            "fails" if gives > 0 => format!(in alloc; "fails and gives {gives}"),
+            "fails" => format!(in alloc; "fails {} at {step} of {path} {closes}", name_of(error)),
+            word if pause > 0 => format!(in alloc; "{word} {path} {closes} after {pause}"),
+            word => format!(in alloc; "{word} {path} {closes}"),
+        }
+    }
 
-// So many bytes come before the name.
-fn parted(rest: usize) -> Outcome {
-    Outcome { rest, ..OPENED }
-}
-
-// So many bytes are there, up to this directory.
-fn partly(descriptor: u32, rest: usize) -> Outcome {
-    Outcome {
-        rest,
-        descriptor,
-        ..OPENED
+    // A descriptor, or an error's name; a link's text, or so many letters; a descriptor, and how much is there.
+    fn take(&mut self, gave: &'static str) -> Option<()> {
+        let making = self.making;
+        if making.above > making.length || making.length > ROOM || making.size > making.length {
+            return None;
+        }
+        let (what, rest) = gave.split_once(' ').unwrap_or((gave, ""));
+        let mut outcome = OPENED;
+        let mut text = b"".as_slice();
+        match what {
+            "reads" => text = rest.as_bytes(),
+            "letters" => text = letters(rest)?,
+            "parted" => outcome.rest = rest.parse().ok()?,
+            "is" | "directory" => {
+                outcome.descriptor = number(rest)?;
+                outcome.directory = what == "directory";
+            }
+            "there" => {
+                let (descriptor, rest) = rest.split_once(' ')?;
+                outcome.descriptor = number(descriptor)?;
+                outcome.rest = rest.parse().ok()?;
+            }
+            error => outcome.error = number(error)?,
+        }
+        self.making = next(making, outcome, text, &mut self.room);
+        Some(())
     }
 }
 
-// What comes next after an outcome.
-fn after(making: Making, outcome: Outcome, text: &[u8], room: &mut [u8]) -> Making {
-    let is_within = making.above <= making.length
-        && making.length <= room.len()
-        && making.size <= making.length;
-    if !is_within || room.len() < ROOM {
-        return making;
+/// Each call has its path behind it, and the descriptor that is closed, or 0; so has an end, behind the reply.
+const MAKINGS: &str = "\
+# directories are made
+a/b directory: make a/b 0 = is 5; ends 5 0
+a/b directory: make a/b 0 = EACCES; ends 0 0
+a/b directory: make a/b 0 = ENOENT; partial a/b 0
+a/b directory stays: make a/b 0 = ENOENT; ends 0 0
+ directory: make  0 = ENOENT; ends 0 0
+# a link to a directory is followed
+var/run//lock/x directory: make var/run//lock/x 0 = ENOENT; partial var/run//lock/x 0 = there 7 4; \
+link var/run 7 = reads /run; make /run/lock/x 0 = ENOENT; partial /run/lock/x 0 = there 9 10; \
+link /run/lock/x 9 = reads y; make /run/lock/y 0 = is 4; ends 4 0
+# a file is made, and what is above
+a/x/f file stays: find a/x/f 0 = is 6; ends 6 0
+a/x/f file stays: find a/x/f 0 = ENOENT; split a/x/f 0 = parted 4; above a/x/ 0 = ENOENT; ends 0 0
+a/x/f file stays: find a/x/f 0 = ENOENT; split a/x/f 0 = parted 4; above a/x/ 0 = is 8; create a/x/f 8 = is 9; ends 9 0
+a/x/f file stays: find a/x/f 0 = ENOENT; split a/x/f 0 = parted 4; above a/x/ 0 = is 8; \
+create a/x/f 8 = EACCES; ends 0 0
+# a directory is no file; a path has a last name
+a file: find a 0 = directory 6; fails EISDIR at 0 of a 6
+a/ file: find a/ 0 = ENOENT; split a/ 0 = ENOTDIR; fails ENOTDIR at 0 of a/ 0
+ file: find  0 = ENOENT; ends 0 0
+# a link at the end is followed
+etc/resolv file: find etc/resolv 0 = ENOENT; split etc/resolv 0 = parted 4; above etc/ 0 = is 8; \
+create etc/resolv 8 = EEXIST; end etc/resolv 0 = EACCES; ends 0 0
+etc/resolv file: find etc/resolv 0 = ENOENT; split etc/resolv 0 = parted 4; above etc/ 0 = is 8; \
+create etc/resolv 8 = EEXIST; end etc/resolv 0 = reads ../run/stub; find etc/../run/stub 0 = ENOENT; \
+split etc/../run/stub 0 = parted 11; above etc/../run/ 0 = ENOENT; partial etc/../run/ 0 = there 9 7; \
+link etc/../run 9 = reads /r; above /r/ 0 = is 10; create /r/stub 10
+# a link is not followed without leave, and one without a text leads nowhere
+l file stays: find l 0 = ENOENT; split l 0 = parted 0; above  0 = is 8; create l 8 = EEXIST; end l 0 = reads x; \
+fails ENOENT at 9 of l 0
+l file stays: find l 0 = ENOENT; split l 0 = parted 0; above  0 = is 8; create l 8 = EEXIST; end l 0 = EINVAL; find l 0
+l file stays: find l 0 = ENOENT; split l 0 = parted 0; above  0 = is 8; create l 8 = EEXIST; end l 0 = ENOENT; find l 0
+l directory: make l 0 = ENOENT; partial l 0 = there 3 0; link l 3 = ok; fails ENOENT at 4 of l 0
+l directory: make l 0 = ENOENT; partial l 0 = there 3 0; link l 3 = ENOENT; ends 0 0
+# a path has 4,095 bytes; a relative text stands behind the path of the link's directory
+l directory: make l 0 = ENOENT; partial l 0 = there 3 0; link l 3 = letters 4095; make 4095 bytes 0
+l directory: make l 0 = ENOENT; partial l 0 = there 3 0; link l 3 = letters 4096; fails ENAMETOOLONG at 4 of l 0
+l/x directory: make l/x 0 = ENOENT; partial l/x 0 = there 3 0; link l 3 = letters 4094; fails ENAMETOOLONG at 4 of l 0
+l/x directory: make l/x 0 = ENOENT; partial l/x 0 = there 3 0; link l 3 = letters 4093; make 4095 bytes 0
+d/l directory: make d/l 0 = ENOENT; partial d/l 0 = there 3 2; link d/l 3 = letters 4093; make 4095 bytes 0
+d/l directory: make d/l 0 = ENOENT; partial d/l 0 = there 3 2; link d/l 3 = letters 4094; \
+fails ENAMETOOLONG at 4 of d/l 0
+# what came in between is walked again, and once if one try is all
+d/n directory: make d/n 0 = ENOENT; partial d/n 0 = there 3 3; make d/n 3
+d/n directory: make d/n 0 = ENOENT; partial d/n 0 = there 3 2; link d/n 3 = EINVAL; make d/n 0
+d/n directory: make d/n 0 = ENOENT; partial d/n 0 = EACCES; ends 0 0
+d directory once: make d 0 = ENOENT; partial d 0 = there 3 1; fails EAGAIN at 8 of d 3";
+
+#[test]
+fn all_missing_parts_are_made(rt: HostRuntime) -> Result<(), Fail> {
+    for row in MAKINGS.lines() {
+        let (head, talk) = row.split_once(": ").unwrap_or(("", "a row"));
+        if !row.starts_with('#') {
+            goes(&rt, rt.alloc(), &mut begun(head), talk)?;
+        }
     }
-    next(making, outcome, text, room)
-}
-
-// This call comes next, on this path, in this directory.
-fn asks(making: &Making, room: &[u8], call: u8, path: &[u8]) -> bool {
-    making.next == call && is_about(making, room, path)
-}
-
-fn is_about(making: &Making, room: &[u8], path: &[u8]) -> bool {
-    making.size <= room.len() && &room[..making.size] == path
-}
-
-fn fails(making: &Making, room: &[u8], error: u32, step: u8, path: &[u8]) -> bool {
-    making.next == FAILS
-        && making.error == error
-        && making.step == step
-        && making.gives == 0
-        && is_about(making, room, path)
-}
-
-fn ends(making: &Making, gives: u32) -> bool {
-    making.next == ENDS && making.gives == gives
-}
-
-// A room with this path.
-fn laid(path: &[u8], room: &mut [u8]) {
-    if path.len() <= room.len() {
-        room[..path.len()].copy_from_slice(path);
-    }
-}
-
-#[test]
-fn makes_directories(rt: HostRuntime) -> Result<(), Fail> {
-    let mut room = [0; ROOM];
-    laid(b"a/b", &mut room);
-    let making = begin(3, false, true, true);
-    assert!(rt; asks(&making, &room, MAKE, b"a/b"));
-    assert!(rt; making.pause == 0);
-    assert!(rt; ends(&after(making, opened(5), b"", &mut room), 5));
-    assert!(rt; ends(&after(making, failed(EACCES), b"", &mut room), 0));
-    assert!(rt;
-        asks(
-            &after(making, failed(ENOENT), b"", &mut room),
-            &room,
-            PARTIAL,
-            b"a/b"
-        )
-    );
-    let without = begin(3, false, false, true);
-    assert!(rt; ends(&after(without, failed(ENOENT), b"", &mut room), 0));
-    let nothing = begin(0, false, true, true);
-    assert!(rt; ends(&after(nothing, failed(ENOENT), b"", &mut room), 0));
     Ok(())
-}
-
-#[test]
-fn follows_a_link_to_a_directory(rt: HostRuntime) -> Result<(), Fail> {
-    let mut room = [0; ROOM];
-    laid(b"var/run//lock/x", &mut room);
-    let gone = after(begin(15, false, true, true), failed(ENOENT), b"", &mut room);
-    let reads = after(gone, partly(7, 4), b"", &mut room);
-    assert!(rt; asks(&reads, &room, READ_LINK, b"var/run"));
-    let led = after(reads, opened(0), b"/run", &mut room);
-    assert!(rt; asks(&led, &room, MAKE, b"/run/lock/x"));
-    assert!(rt; led.links == 1);
-    let again = after(led, failed(ENOENT), b"", &mut room);
-    assert!(rt; asks(&again, &room, PARTIAL, b"/run/lock/x"));
-    let last = after(
-        after(again, partly(9, 10), b"", &mut room),
-        opened(0),
-        b"y",
-        &mut room,
-    );
-    assert!(rt; asks(&last, &room, MAKE, b"/run/lock/y"));
-    assert!(rt; ends(&after(last, opened(4), b"", &mut room), 4));
-    Ok(())
-}
-
-#[test]
-fn makes_a_file_and_what_is_above(rt: HostRuntime) -> Result<(), Fail> {
-    let mut room = [0; ROOM];
-    laid(b"a/x/f", &mut room);
-    let making = begin(5, true, false, true);
-    assert!(rt; asks(&making, &room, FIND, b"a/x/f"));
-    assert!(rt; ends(&after(making, opened(6), b"", &mut room), 6));
-    let splits = after(making, failed(ENOENT), b"", &mut room);
-    assert!(rt; asks(&splits, &room, SPLIT, b"a/x/f"));
-    let above = after(splits, parted(4), b"", &mut room);
-    assert!(rt; asks(&above, &room, MAKE_ABOVE, b"a/x/"));
-    assert!(rt; ends(&after(above, failed(ENOENT), b"", &mut room), 0));
-    let creates = after(above, opened(8), b"", &mut room);
-    assert!(rt; asks(&creates, &room, CREATE, b"a/x/f"));
-    assert!(rt; ends(&after(creates, opened(9), b"", &mut room), 9));
-    assert!(rt; ends(&after(creates, failed(EACCES), b"", &mut room), 0));
-    Ok(())
-}
-
-#[test]
-fn a_directory_is_no_file(rt: HostRuntime) -> Result<(), Fail> {
-    let mut room = [b'a'; ROOM];
-    let found = Outcome {
-        directory: true,
-        ..opened(6)
-    };
-    let end = after(begin(1, true, true, true), found, b"", &mut room);
-    assert!(rt; fails(&end, &room, EISDIR, 0, b"a"));
-    Ok(())
-}
-
-#[test]
-fn a_path_has_a_last_name(rt: HostRuntime) -> Result<(), Fail> {
-    let mut room = [b'/'; ROOM];
-    laid(b"a/", &mut room);
-    let splits = after(begin(2, true, true, true), failed(ENOENT), b"", &mut room);
-    assert!(rt;
-        fails(
-            &after(splits, failed(ENOTDIR), b"", &mut room),
-            &room,
-            ENOTDIR,
-            0,
-            b"a/"
-        )
-    );
-    assert!(rt;
-        ends(
-            &after(begin(0, true, true, true), failed(ENOENT), b"", &mut room),
-            0
-        )
-    );
-    Ok(())
-}
-
-// The directories above the file are there by now, and an entry is at its name.
-fn stands(making: Making, rest: usize, room: &mut [u8]) -> Making {
-    let splits = after(making, failed(ENOENT), b"", room);
-    let above = after(splits, parted(rest), b"", room);
-    let creates = after(above, opened(8), b"", room);
-    after(creates, failed(EEXIST), b"", room)
-}
-
-#[test]
-fn follows_a_link_at_the_end(rt: HostRuntime) -> Result<(), Fail> {
-    let mut room = [0; ROOM];
-    laid(b"etc/resolv", &mut room);
-    let reads = stands(begin(10, true, true, true), 4, &mut room);
-    assert!(rt; asks(&reads, &room, READ_END, b"etc/resolv"));
-    assert!(rt; ends(&after(reads, failed(EACCES), b"", &mut room), 0));
-    let led = after(reads, opened(0), b"../run/stub", &mut room);
-    assert!(rt; asks(&led, &room, FIND, b"etc/../run/stub"));
-    let splits = after(led, failed(ENOENT), b"", &mut room);
-    let above = after(splits, parted(11), b"", &mut room);
-    assert!(rt; asks(&above, &room, MAKE_ABOVE, b"etc/../run/"));
-    let gone = after(above, failed(ENOENT), b"", &mut room);
-    let link = after(gone, partly(9, 7), b"", &mut room);
-    assert!(rt; asks(&link, &room, READ_LINK, b"etc/../run"));
-    let behind = after(link, opened(0), b"/r", &mut room);
-    assert!(rt; asks(&behind, &room, MAKE_ABOVE, b"/r/"));
-    let creates = after(behind, opened(10), b"", &mut room);
-    assert!(rt; asks(&creates, &room, CREATE, b"/r/stub"));
-    Ok(())
-}
-
-#[test]
-fn a_link_is_not_followed_without_leave(rt: HostRuntime) -> Result<(), Fail> {
-    let mut room = [b'l'; ROOM];
-    let reads = stands(begin(1, true, false, true), 0, &mut room);
-    assert!(rt; asks(&reads, &room, READ_END, b"l"));
-    assert!(rt;
-        fails(
-            &after(reads, opened(0), b"x", &mut room),
-            &room,
-            ENOENT,
-            9,
-            b"l"
-        )
-    );
-    assert!(rt; after(reads, failed(EINVAL), b"", &mut room).next == FIND);
-    assert!(rt; after(reads, failed(ENOENT), b"", &mut room).next == FIND);
-    Ok(())
-}
-
-#[test]
-fn a_link_without_a_text_leads_nowhere(rt: HostRuntime) -> Result<(), Fail> {
-    let mut room = [b'l'; ROOM];
-    let gone = after(begin(1, false, true, true), failed(ENOENT), b"", &mut room);
-    let reads = after(gone, partly(3, 0), b"", &mut room);
-    assert!(rt;
-        fails(
-            &after(reads, opened(0), b"", &mut room),
-            &room,
-            ENOENT,
-            4,
-            b"l"
-        )
-    );
-    assert!(rt; ends(&after(reads, failed(ENOENT), b"", &mut room), 0));
-    Ok(())
-}
-
-// A link in the directories' path is read, which has this text.
-fn followed(making: Making, text: &[u8], room: &mut [u8]) -> Making {
-    let gone = after(making, failed(ENOENT), b"", room);
-    let reads = after(gone, partly(3, 0), b"", room);
-    after(reads, opened(0), text, room)
 }
 
 #[test]
 fn follows_forty_links(rt: HostRuntime) -> Result<(), Fail> {
-    let mut room = [b'a'; ROOM];
-    let mut making = begin(1, false, true, true);
-    for _ in 0..40 {
-        making = followed(making, b"b", &mut room);
+    let mut made = begun("a directory");
+    for links in 1..41 {
+        for gave in ["ENOENT", "there 3 0", "reads b"] {
+            assert!(rt; made.take(gave).is_some());
+        }
+        assert!(rt; made.making.links == links);
     }
-    assert!(rt; making.next == MAKE);
-    let end = followed(making, b"c", &mut room);
-    assert!(rt; fails(&end, &room, ELOOP, 4, b"b"));
-    Ok(())
-}
-
-#[test]
-fn a_path_has_4095_bytes(rt: HostRuntime) -> Result<(), Fail> {
-    let mut room = [b'l'; ROOM];
-    let text = [b'a'; 4096];
-    let alone = begin(1, false, true, true);
-    assert!(rt; followed(alone, &text[..4095], &mut room).length == 4095);
-    let end = followed(alone, &text[..4096], &mut room);
-    assert!(rt; fails(&end, &room, ENAMETOOLONG, 4, b"a"));
-    laid(b"l/x", &mut room);
-    let end = followed(begin(3, false, true, true), &text[..4094], &mut room);
-    assert!(rt; fails(&end, &room, ENAMETOOLONG, 4, b"l"));
-    let longest = followed(begin(3, false, true, true), &text[..4093], &mut room);
-    assert!(rt; longest.next == MAKE);
-    assert!(rt; longest.length == 4095);
-    // A relative text stands behind the path of the link's directory.
-    laid(b"d/l", &mut room);
-    let gone = after(begin(3, false, true, true), failed(ENOENT), b"", &mut room);
-    let reads = after(gone, partly(3, 2), b"", &mut room);
-    assert!(rt; after(reads, opened(0), &text[..4093], &mut room).length == 4095);
-    laid(b"d/l", &mut room);
-    let end = after(reads, opened(0), &text[..4094], &mut room);
-    assert!(rt; fails(&end, &room, ENAMETOOLONG, 4, b"d/l"));
-    Ok(())
-}
-
-#[test]
-fn what_came_in_between_is_walked_again(rt: HostRuntime) -> Result<(), Fail> {
-    let mut room = [0; ROOM];
-    laid(b"d/n", &mut room);
-    let gone = after(begin(3, false, true, true), failed(ENOENT), b"", &mut room);
-    assert!(rt;
-        asks(
-            &after(gone, partly(3, 3), b"", &mut room),
-            &room,
-            MAKE,
-            b"d/n"
-        )
-    );
-    let reads = after(gone, partly(3, 2), b"", &mut room);
-    assert!(rt;
-        asks(
-            &after(reads, failed(EINVAL), b"", &mut room),
-            &room,
-            MAKE,
-            b"d/n"
-        )
-    );
-    assert!(rt; ends(&after(gone, failed(EACCES), b"", &mut room), 0));
+    let talk =
+        "make b 0 = ENOENT; partial b 0 = there 3 0; link b 3 = reads c; fails ELOOP at 4 of b 0";
+    goes(&rt, rt.alloc(), &mut made, talk)?;
     Ok(())
 }
 
 #[test]
 fn gives_up_after_32_tries(rt: HostRuntime) -> Result<(), Fail> {
-    let mut room = [0; ROOM];
-    laid(b"d/n", &mut room);
-    let mut making = begin(3, true, true, true);
-    for times in 1..32 {
-        making = after(stands(making, 2, &mut room), failed(ENOENT), b"", &mut room);
-        assert!(rt; asks(&making, &room, FIND, b"d/n"));
-        assert!(rt; making.between == times);
-        assert!(rt; making.pause == next_try(times, true, EAGAIN, false).pause);
+    let mut made = begun("d/n file");
+    for times in 1..33 {
+        for gave in ["ENOENT", "parted 2", "is 8", "EEXIST", "ENOENT"] {
+            assert!(rt; made.take(gave).is_some());
+        }
+        if times < 32 {
+            let pause = next_try(times, true, EAGAIN, false).pause;
+            assert!(rt;
+                made.making.next == FIND
+                    && made.making.between == times
+                    && made.making.pause == pause
+            );
+            assert!(rt; shown(rt.alloc(), &made.room, made.making.size)?.as_str() == "d/n");
+        }
     }
-    let end = after(stands(making, 2, &mut room), failed(ENOENT), b"", &mut room);
-    assert!(rt; fails(&end, &room, EAGAIN, 8, b"d/n"));
-    Ok(())
-}
-
-#[test]
-fn makes_one_try_if_told_so(rt: HostRuntime) -> Result<(), Fail> {
-    let mut room = [b'd'; ROOM];
-    let gone = after(begin(1, false, true, false), failed(ENOENT), b"", &mut room);
-    let end = after(gone, partly(3, 1), b"", &mut room);
-    assert!(rt; fails(&end, &room, EAGAIN, 8, b"d"));
-    Ok(())
-}
-
-#[test]
-fn closes_what_is_not_the_reply(rt: HostRuntime) -> Result<(), Fail> {
-    let mut room = [0; ROOM];
-    laid(b"l/f", &mut room);
-    let splits = after(begin(3, true, true, true), failed(ENOENT), b"", &mut room);
-    let above = after(splits, parted(2), b"", &mut room);
-    let creates = after(above, opened(8), b"", &mut room);
-    assert!(rt; above.closes == 0 && creates.closes == 8);
-    let made = after(creates, opened(9), b"", &mut room);
-    assert!(rt; ends(&made, 9) && made.closes == 0);
-    Ok(())
-}
-
-#[test]
-fn closes_what_was_found_and_is_not_given(rt: HostRuntime) -> Result<(), Fail> {
-    let mut room = [b'a'; ROOM];
-    let found = Outcome {
-        directory: true,
-        ..opened(6)
-    };
-    let end = after(begin(1, true, true, true), found, b"", &mut room);
-    assert!(rt; end.next == FAILS && end.closes == 6);
-    // The whole path is there by now, and is walked again.
-    let gone = after(begin(1, false, true, true), failed(ENOENT), b"", &mut room);
-    let again = after(gone, partly(7, 1), b"", &mut room);
-    assert!(rt; again.next == MAKE && again.closes == 7);
+    goes(&rt, rt.alloc(), &mut made, "fails EAGAIN at 8 of d/n 0")?;
     Ok(())
 }

@@ -5,7 +5,7 @@ use system_calls::{
     reopen_flags, use_of,
 };
 
-const X86_64: MachineFlags = MachineFlags {
+pub(crate) const X86_64: MachineFlags = MachineFlags {
     directory: 0o200000,
     nofollow: 0o400000,
     direct: 0o40000,

@@ -1,249 +1,126 @@
-//! A /proc is found, looked at, handed in or made, by answers that Linux gives.
-use crate::talk::{fails, is_same, opened, works};
-use dialogue::{Answer, Asked, Question};
+//! A /proc is found, looked at, handed in or made, by answers that Linux gives; and an entry that was made is opened.
+use crate::rows::goes;
+use crate::talk::Talk;
 use find_proc::{
-    AT_FDCWD, File, Kept, Known, Proc, a_proc_is_found, a_proc_is_handed_in, a_proc_is_made, find,
-    hand_in, has_floor, is_lost, make_private, the_kept_one_is_looked_at,
+    File, a_proc_is_found, a_proc_is_handed_in, a_proc_is_made, the_kept_one_is_looked_at,
 };
-use std::process::Abort;
-use system_calls::MachineFlags;
+use std::test::Fail;
 
-const EPERM: u32 = 1;
+/// Conversations about a /proc. Descriptor 4294967196 is AT_FDCWD, and 4294967295 is none.
+const PROCS: &str = "\
+# the one at hand is on its mount; a signal says nothing
+find there floor: Stat(9) = EINTR; Stat(9) = sees 77 41; is 9 false
+find there floor surely: Stat(9) = sees 1 41; is 9 false
+find there floor handed surely: Stat(9) = EBADF; fails ENOSYS
+find there floor handed surely: Stat(9) = sees 77 41; fails ENOSYS
+find there floor handed surely: Stat(9) = sees 1 42; fails ENOSYS
+find there floor handed surely: Stat(9) = sees 1 0; fails ENOSYS
+find there floor handed surely: Stat(9) = unnumbered 1 41; fails ENOSYS
+# another one is the call's
+find there floor: Stat(9) = sees 1 42; Open(4294967196, /proc, 12600000, 0) = is 11; FileSystem(11) = proc; \
+Stat(11) = sees 1 43; Claim(false) = EBUSY; is 11 true
+# a kernel may lack what is needed
+find there surely: LookUp(4294967295, ., 200000, 2) = ok; fails ENOSYS
+find there surely: LookUp(4294967295, ., 200000, 2) = EPERM; fails ENOSYS
+find there surely: LookUp(4294967295, ., 200000, 2) = ENOSYS; fails ENOSYS
+find there surely: LookUp(4294967295, ., 200000, 2) = EBADF; Stat(4294967196) = ENOSYS; fails ENOSYS
+lost there: LookUp(4294967295, ., 200000, 2) = EBADF; Stat(4294967196) = ENOSYS; is 0 true
+hand_in there: Claim(true) = ok; LookUp(4294967295, ., 200000, 2) = ENOSYS; Release = ok; fails ENOSYS
+floor floor: is 0 true
+# why there is no new one
+find floor: Open(4294967196, /proc, 12600000, 0) = EMFILE; fails EMFILE
+find floor: Open(4294967196, /proc, 12600000, 0) = ENOENT; fails ENOSYS
+find floor: Open(4294967196, /proc, 12600000, 0) = is 0; CopyAbove(0) = EINVAL; Close(0) = ok; fails EMFILE
+find floor: Open(4294967196, /proc, 12600000, 0) = is 11; FileSystem(11) = ext4; Close(11) = ok; fails ENOSYS
+find floor: Open(4294967196, /proc, 12600000, 0) = is 11; FileSystem(11) = proc_without_links; Close(11) = ok; \
+fails ENOSYS
+find floor: Open(4294967196, /proc, 12600000, 0) = is 11; FileSystem(11) = EIO; Close(11) = ok; fails ENOSYS
+find floor: Open(4294967196, /proc, 12600000, 0) = is 11; FileSystem(11) = proc; Stat(11) = EIO; Close(11) = ok; \
+fails EIO
+# the kept one may be lost
+lost_another there floor: is 0 false
+lost floor: is 0 false
+lost there floor: Stat(9) = sees 1 41; is 0 false
+lost there floor: Stat(9) = sees 77 41; is 0 true
+# what a program hands in is copied; the place may be taken, and else is free again where nothing is kept
+hand_in floor: Claim(true) = ok; FileSystem(7) = proc; Open(7, ., 12200000, 0) = is 11; Stat(11) = sees 1 41; \
+Keep(11, 5, 1, 41, true) = ok; is 0 false
+hand_in floor: Claim(true) = EBUSY; FileSystem(7) = proc; Open(7, ., 12200000, 0) = is 11; Stat(11) = sees 1 41; \
+Close(11) = ok; fails EBUSY
+hand_in floor: Claim(true) = EBUSY; FileSystem(7) = EBADF; fails EBADF
+hand_in floor: Claim(true) = ok; FileSystem(7) = ext4; Release = ok; fails EINVAL
+hand_in floor: Claim(true) = ok; FileSystem(7) = proc; Open(7, ., 12200000, 0) = is 11; Stat(11) = EIO; \
+Close(11) = ok; Release = ok; fails EIO
+# a new one is made and handed in
+make there floor: fails EBUSY
+make floor: NewProc = is 20; Configure(20, true) = EINVAL; Configure(20, false) = ok; Mount(20) = is 21; \
+Close(20) = ok; FileSystem(21) = proc; ReadThread(21) = ok; Claim(true) = ok; FileSystem(21) = proc; \
+Open(21, ., 12200000, 0) = is 22; Stat(22) = sees 1 44; Keep(22, 5, 1, 44, true) = ok; Close(21) = ok; is 0 false
+# the first error of making counts; a copy may have no such thread
+make floor: NewProc = EPERM; CopyProc = ENOSYS; fails EPERM
+make floor: NewProc = EPERM; CopyProc = is 21; FileSystem(21) = proc; ReadThread(21) = ENOENT; Close(21) = ok; \
+fails ENOSYS
+make floor: NewProc = is 20; Configure(20, true) = ok; Configure(20, false) = EIO; Close(20) = ok; CopyProc = EPERM; \
+fails EIO";
 
-const ENOENT: u32 = 2;
+/// What was made, and how it is opened.
+const GIVINGS: &str = "\
+# a directory is given by its kind, a device by its number, and a link by its text
+directory: Open(3, name, 12400000, 0) = is 8; Stat(8) = sees 5 9 sticky; is 8 false
+directory: Open(3, name, 12400000, 0) = is 8; Stat(8) = sees 5 9 fifo; Close(8) = EIO; fails EAGAIN
+device: Open(3, name, 12400000, 0) = is 8; Stat(8) = sees 5 9 device 259; is 8 false
+device: Open(3, name, 12400000, 0) = is 8; Stat(8) = sees 5 9 device 261; Close(8) = ok; fails EAGAIN
+device: Open(3, name, 12400000, 0) = is 8; Stat(8) = sees 5 9 disk 259; Close(8) = ok; fails EAGAIN
+fifo: Open(3, name, 12400000, 0) = is 8; Stat(8) = sees 5 9 fifo 1; is 8 false
+link: Open(3, name, 12400000, 0) = is 8; Stat(8) = sees 5 9 link; ReadLink(8) = is 7; is 8 false
+link: Open(3, name, 12400000, 0) = is 8; Stat(8) = sees 5 9 link; ReadLink(8) = is 6; Close(8) = ok; fails EAGAIN
+link: Open(3, name, 12400000, 0) = is 8; Stat(8) = sees 5 9 link; ReadLink(8) = is 8; Close(8) = ok; fails EAGAIN
+link: Open(3, name, 12400000, 0) = is 8; Stat(8) = sees 5 9 link; ReadLink(8) = is 99; Close(8) = ok; fails EAGAIN
+link: Open(3, name, 12400000, 0) = is 8; Stat(8) = sees 5 9 link; ReadLink(8) = EIO; Close(8) = ok; fails EIO
+# a file is the one that was made
+new_file: Open(3, name, 12400000, 0) = is 8; Stat(8) = sees 5 9 file; Stat(6) = sees 5 9 file; Close(6) = EIO; \
+is 8 false
+new_file: Open(3, name, 12400000, 0) = is 8; Stat(8) = sees 5 9 file; Stat(6) = sees 6 9 file; Close(8) = ok; \
+Close(6) = ok; fails EAGAIN
+new_file: Open(3, name, 12400000, 0) = is 8; Stat(8) = sees 5 9 file; Stat(6) = sees 5 8 file; Close(8) = ok; \
+Close(6) = ok; fails EAGAIN
+new_file: Open(3, name, 12400000, 0) = is 8; Stat(8) = sees 5 9 file; Stat(6) = EIO; Close(8) = ok; Close(6) = ok; \
+fails EIO
+new_file: Open(3, name, 12400000, 0) = is 8; Stat(8) = sees 5 9 fifo; Close(8) = ok; Close(6) = ok; fails EAGAIN
+# another name is of any kind of that object
+name: Open(3, name, 12400000, 0) = is 8; Stat(8) = sees 5 9 link; Stat(6) = sees 5 9 link; is 8 false
+name: Open(3, name, 12400000, 0) = is 8; Stat(8) = sees 5 9 link; Stat(6) = sees 6 9 link; Close(8) = ok; fails EAGAIN
+# each error is told as it is, and a signal says nothing
+directory: Open(3, name, 12400000, 0) = EINTR; Open(3, name, 12400000, 0) = is 8; Stat(8) = EINTR; \
+Stat(8) = sees 5 9 directory; is 8 false
+directory: Open(3, name, 12400000, 0) = ENOENT; fails EAGAIN
+directory: Open(3, name, 12400000, 0) = EMFILE; fails EMFILE
+new_file: Open(3, name, 12400000, 0) = EMFILE; Close(6) = ok; fails EMFILE
+directory: Open(3, name, 12400000, 0) = is 8; Stat(8) = ENOENT; Close(8) = EIO; fails ENOENT
+directory: Open(3, name, 12400000, 0) = is 8; Stat(8) = unnumbered 5 9 directory; Close(8) = ok; fails ENOSYS";
 
-const EINTR: u32 = 4;
-
-const EIO: u32 = 5;
-
-const EBADF: u32 = 9;
-
-const EBUSY: u32 = 16;
-
-const EINVAL: u32 = 22;
-
-const EMFILE: u32 = 24;
-
-const ENOSYS: u32 = 38;
-
-// O_PATH, O_CLOEXEC and O_DIRECTORY, as x86-64 has them.
-const COPY: u32 = 0o12200000;
-
-// And O_NOFOLLOW.
-const FIRST: u32 = 0o12600000;
-
-#[derive(Clone, Copy, Debug)]
-enum Call {
-    Floor,
-    Search(bool),
-    Lost(u32),
-    Hand(u32),
-    Make,
-}
-
-#[derive(Clone, Copy, Debug, PartialEq, Eq)]
-enum End {
-    Is(bool),
-    Got(Proc),
-    Done,
-    Error(u32),
-}
-
-fn system(file_system: u64, flags: u64) -> Answer {
-    Answer {
-        file_system,
-        flags,
-        ..works()
-    }
-}
-
-fn a_proc() -> Answer {
-    system(0x9fa0, 0)
-}
-
-fn file(inode: u64, mount: u64) -> Answer {
-    Answer {
-        device: 5,
-        inode,
-        mount,
-        has_mount: true,
-        ..works()
-    }
-}
-
-fn kept(there: bool) -> Kept {
-    Kept {
-        file: File {
-            device: 5,
-            inode: 1,
-            mount: 41,
-        },
-        fd: 9,
-        there,
-        handed_in: false,
-        claimed: there,
-    }
-}
-
-fn knows(kept: Kept, has_floor: bool) -> Known {
-    let machine = MachineFlags {
-        directory: 0o200000,
-        nofollow: 0o400000,
-        direct: 0o40000,
-        largefile: 0,
-    };
-    Known {
-        kept,
-        machine,
-        has_floor,
-    }
-}
-
-fn ended(outcome: Result<(), u32>) -> End {
-    use End::{Done, Error};
-    match outcome {
-        Ok(()) => Done,
-        Err(error) => Error(error),
-    }
-}
-
-fn run<'n>(call: Call, known: &mut Known, answers: &[Answer]) -> Asked<'n, End> {
-    use Call::{Floor, Hand, Lost, Make, Search};
-    use End::{Error, Got, Is};
-    let mut left = answers;
-    Ok(match call {
-        Floor => Is(has_floor(&mut left, known)?),
-        Search(surely) => match find(&mut left, known, surely)? {
-            Ok(proc) => Got(proc),
-            Err(error) => Error(error),
-        },
-        Lost(fd) => Is(is_lost(&mut left, known, fd)?),
-        Hand(fd) => ended(hand_in(&mut left, known, fd)?),
-        Make => ended(make_private(&mut left, known)?),
-    })
-}
-
-// Each of these is asked, by the answers before it; then this is the end. What is known then.
-fn goes(
-    rt: &impl Abort,
-    call: Call,
-    first: Known,
-    wants: &[Question<'_>],
-    answers: &[Answer],
-    end: End,
-) -> Known {
-    for at in 0..wants.len() {
-        let mut known = first;
-        match run(call, &mut known, &answers[..at.min(answers.len())]) {
-            Err(question) => assert!(rt; is_same(&question, &wants[at]), "{question:?}"),
-            Ok(end) => panic!(rt; "{end:?} by {at} answers"),
+#[test]
+fn calls_ask_in_this_order(rt: HostRuntime) -> Result<(), Fail> {
+    for row in PROCS.lines().chain(GIVINGS.lines()) {
+        let (call, exchanges) = row.split_once(": ").unwrap_or(("", "a row"));
+        if !row.starts_with('#') {
+            let mut talk = Talk::begun(call);
+            goes(&rt, rt.alloc(), &mut talk, exchanges)?;
+            assert!(rt; talk.after() == talk.known, "{row}");
         }
-        assert!(rt; known == first);
     }
-    let mut known = first;
-    match run(call, &mut known, answers) {
-        Err(question) => panic!(rt; "{question:?} is due"),
-        Ok(came) => assert_eq!(rt; came, end),
-    }
-    known
-}
-
-fn the_kept_one(own: bool) -> End {
-    use End::Got;
-    Got(Proc { fd: 9, own })
+    Ok(())
 }
 
 #[test]
-fn the_one_at_hand_is_on_its_mount(rt: HostRuntime) {
-    use Call::Search;
-    use End::Error;
-    let known = knows(kept(true), true);
-    let asks = [Question::Stat(9), Question::Stat(9)];
-    // a signal says nothing
-    let says = [fails(EINTR), file(77, 41)];
-    goes(&rt, Search(false), known, &asks, &says, the_kept_one(false));
-    let says = [file(1, 41)];
-    goes(
-        &rt,
-        Search(true),
-        known,
-        &asks[..1],
-        &says,
-        the_kept_one(false),
-    );
-    // the same numbers of a kernel that says none of mounts
-    let handed = knows(
-        Kept {
-            handed_in: true,
-            ..kept(true)
-        },
-        true,
-    );
-    let unnumbered = Answer {
-        has_mount: false,
-        ..file(1, 41)
-    };
-    for other in [
-        fails(EBADF),
-        file(77, 41),
-        file(1, 42),
-        file(1, 0),
-        unnumbered,
-    ] {
-        let says = [other];
-        goes(&rt, Search(true), handed, &asks[..1], &says, Error(ENOSYS));
-    }
-}
-
-#[test]
-fn another_one_is_the_calls(rt: HostRuntime) {
-    use Call::Search;
-    use End::Got;
-    let known = knows(kept(true), true);
-    let asks = [
-        Question::Stat(9),
-        Question::Open(AT_FDCWD, b"/proc", FIRST, 0),
-        Question::FileSystem(11),
-        Question::Stat(11),
-        Question::Claim(false),
-    ];
-    let says = [file(1, 42), opened(11), a_proc(), file(1, 43), fails(EBUSY)];
-    let end = Got(Proc { fd: 11, own: true });
-    let after = goes(&rt, Search(false), known, &asks, &says, end);
-    assert!(rt; after == known);
-}
-
-#[test]
-fn the_first_one_is_the_programs(rt: HostRuntime) {
-    use Call::Search;
-    use End::Got;
-    let known = knows(kept(false), false);
-    let asks = [
-        Question::LookUp(0xffff_ffff, b".", 0o200000, 2),
-        Question::Stat(AT_FDCWD),
-        Question::Know(true),
-        Question::Open(AT_FDCWD, b"/proc", FIRST, 0),
-        Question::CopyAbove(2),
-        Question::Close(2),
-        Question::FileSystem(12),
-        Question::Stat(12),
-        Question::Claim(false),
-        Question::Keep(12, 5, 1, 43, false),
-    ];
-    let says = [
-        fails(EBADF),
-        file(8, 40),
-        works(),
-        opened(2),
-        opened(12),
-        works(),
-        a_proc(),
-        file(1, 43),
-        works(),
-        works(),
-    ];
-    let end = Got(Proc { fd: 12, own: false });
-    let after = goes(&rt, Search(true), known, &asks, &says, end);
+fn the_first_one_is_the_programs(rt: HostRuntime) -> Result<(), Fail> {
+    let mut talk = Talk::begun("find surely");
+    let exchanges =
+        "LookUp(4294967295, ., 200000, 2) = EBADF; Stat(4294967196) = sees 8 40; Know(true) = ok; \
+        Open(4294967196, /proc, 12600000, 0) = is 2; CopyAbove(2) = is 12; Close(2) = ok; FileSystem(12) = proc; \
+        Stat(12) = sees 1 43; Claim(false) = ok; Keep(12, 5, 1, 43, false) = ok; is 12 false";
+    goes(&rt, rt.alloc(), &mut talk, exchanges)?;
+    let after = talk.after();
     let file = File {
         device: 5,
         inode: 1,
@@ -251,171 +128,8 @@ fn the_first_one_is_the_programs(rt: HostRuntime) {
     };
     assert!(rt; after.kept.there && after.kept.claimed && !after.kept.handed_in);
     assert!(rt; after.kept.fd == 12 && after.kept.file == file);
-    assert!(rt; after.machine == known.machine && !after.has_floor);
-}
-
-#[test]
-fn a_kernel_may_lack_what_is_needed(rt: HostRuntime) {
-    use Call::{Hand, Lost, Search};
-    use End::{Error, Is};
-    let known = knows(kept(true), false);
-    let asks = [
-        Question::LookUp(0xffff_ffff, b".", 0o200000, 2),
-        Question::Stat(AT_FDCWD),
-    ];
-    for error in [0, EPERM, ENOSYS] {
-        let says = [fails(error)];
-        goes(&rt, Search(true), known, &asks[..1], &says, Error(ENOSYS));
-    }
-    let says = [fails(EBADF), fails(ENOSYS)];
-    goes(&rt, Search(true), known, &asks, &says, Error(ENOSYS));
-    goes(&rt, Lost(9), known, &asks, &says, Is(true));
-    let asks = [Question::Claim(true), asks[0], Question::Release];
-    let says = [works(), fails(ENOSYS), works()];
-    goes(&rt, Hand(7), known, &asks, &says, Error(ENOSYS));
-}
-
-#[test]
-fn why_there_is_no_new_one(rt: HostRuntime) {
-    use Call::Search;
-    use End::Error;
-    let known = knows(kept(false), true);
-    let open = Question::Open(AT_FDCWD, b"/proc", FIRST, 0);
-    for (error, why) in [(EMFILE, EMFILE), (ENOENT, ENOSYS)] {
-        let says = [fails(error)];
-        goes(&rt, Search(false), known, &[open], &says, Error(why));
-    }
-    let low = [open, Question::CopyAbove(0), Question::Close(0)];
-    let says = [opened(0), fails(EINVAL), works()];
-    goes(&rt, Search(false), known, &low, &says, Error(EMFILE));
-    let no_proc = [open, Question::FileSystem(11), Question::Close(11)];
-    for other in [system(0xef53, 0), system(0x9fa0, 0x2000), fails(EIO)] {
-        let says = [opened(11), other, works()];
-        goes(&rt, Search(false), known, &no_proc, &says, Error(ENOSYS));
-    }
-    let unknown = [
-        open,
-        Question::FileSystem(11),
-        Question::Stat(11),
-        Question::Close(11),
-    ];
-    let says = [opened(11), a_proc(), fails(EIO), works()];
-    goes(&rt, Search(false), known, &unknown, &says, Error(EIO));
-}
-
-#[test]
-fn the_kept_one_may_be_lost(rt: HostRuntime) {
-    use Call::Lost;
-    use End::Is;
-    let known = knows(kept(true), true);
-    goes(&rt, Lost(10), known, &[], &[], Is(false));
-    goes(&rt, Lost(9), knows(kept(false), true), &[], &[], Is(false));
-    let asks = [Question::Stat(9)];
-    goes(&rt, Lost(9), known, &asks, &[file(1, 41)], Is(false));
-    goes(&rt, Lost(9), known, &asks, &[file(77, 41)], Is(true));
-}
-
-#[test]
-fn what_a_program_hands_in_is_copied(rt: HostRuntime) {
-    use Call::Hand;
-    use End::{Done, Error};
-    let known = knows(kept(false), true);
-    let (claim, look) = (Question::Claim(true), Question::FileSystem(7));
-    let (copy, stat) = (Question::Open(7, b".", COPY, 0), Question::Stat(11));
-    let close = Question::Close(11);
-    let asks = [claim, look, copy, stat, Question::Keep(11, 5, 1, 41, true)];
-    let says = [works(), a_proc(), opened(11), file(1, 41), works()];
-    goes(&rt, Hand(7), known, &asks, &says, Done);
-    // the place is taken
-    let says = [fails(EBUSY), a_proc(), opened(11), file(1, 41), works()];
-    let asks = [claim, look, copy, stat, close];
-    goes(&rt, Hand(7), known, &asks, &says, Error(EBUSY));
-    let says = [fails(EBUSY), fails(EBADF)];
-    goes(&rt, Hand(7), known, &[claim, look], &says, Error(EBADF));
-    // it is free again
-    let free = Question::Release;
-    let says = [works(), system(0xef53, 0), works()];
-    let asks = [claim, look, free];
-    goes(&rt, Hand(7), known, &asks, &says, Error(EINVAL));
-    let says = [works(), a_proc(), opened(11), fails(EIO), works(), works()];
-    let asks = [claim, look, copy, stat, close, free];
-    goes(&rt, Hand(7), known, &asks, &says, Error(EIO));
-}
-
-#[test]
-fn a_new_one_is_made_and_handed_in(rt: HostRuntime) {
-    use Call::Make;
-    use End::{Done, Error};
-    let known = knows(kept(false), true);
-    let asks = [
-        Question::NewProc,
-        Question::Configure(20, true),
-        Question::Configure(20, false),
-        Question::Mount(20),
-        Question::Close(20),
-        Question::FileSystem(21),
-        Question::ReadThread(21),
-        Question::Claim(true),
-        Question::FileSystem(21),
-        Question::Open(21, b".", COPY, 0),
-        Question::Stat(22),
-        Question::Keep(22, 5, 1, 44, true),
-        Question::Close(21),
-    ];
-    let says = [
-        opened(20),
-        fails(EINVAL),
-        works(),
-        opened(21),
-        works(),
-        a_proc(),
-        works(),
-        works(),
-        a_proc(),
-        opened(22),
-        file(1, 44),
-        works(),
-        works(),
-    ];
-    goes(&rt, Make, known, &asks, &says, Done);
-    goes(&rt, Make, knows(kept(true), true), &[], &[], Error(EBUSY));
-}
-
-#[test]
-fn the_first_error_of_making_counts(rt: HostRuntime) {
-    use Call::Make;
-    use End::Error;
-    let known = knows(kept(false), true);
-    let (new, copy) = (Question::NewProc, Question::CopyProc);
-    let says = [fails(EPERM), fails(ENOSYS)];
-    goes(&rt, Make, known, &[new, copy], &says, Error(EPERM));
-    // the copy has no such thread
-    let thread = Question::ReadThread(21);
-    let asks = [
-        new,
-        copy,
-        Question::FileSystem(21),
-        thread,
-        Question::Close(21),
-    ];
-    let says = [fails(EPERM), opened(21), a_proc(), fails(ENOENT), works()];
-    goes(&rt, Make, known, &asks, &says, Error(ENOSYS));
-    let context = [
-        new,
-        Question::Configure(20, true),
-        Question::Configure(20, false),
-        Question::Close(20),
-        copy,
-    ];
-    let says = [opened(20), works(), fails(EIO), works(), fails(EPERM)];
-    goes(&rt, Make, known, &context, &says, Error(EIO));
-}
-
-#[test]
-fn a_thread_may_know_that_the_kernel_has_it(rt: HostRuntime) {
-    use Call::Floor;
-    use End::Is;
-    goes(&rt, Floor, knows(kept(false), true), &[], &[], Is(true));
+    assert!(rt; after.machine == talk.known.machine && !after.has_floor);
+    Ok(())
 }
 
 // The laws are called as a caller has them at hand. They do nothing.

@@ -1,175 +1,107 @@
 //! Which call comes next as a tree is removed by several, by answers that calls give.
-use remove_by_calls::{AT_ROOT, Answer, CLOSE, ENDS, FAILS, IN_PLACE, KEEP, Removal, begin, next};
+use crate::rows::{Room, goes, name_of, number, word_of};
+use remove_by_calls::{AT_ROOT, Answer, ENDS, Removal, begin, next};
+use std::alloc::{AllocError, Global};
 use std::test::Fail;
 use system_calls::next_try;
 
 const EAGAIN: u32 = 11;
 
-const EACCES: u32 = 13;
-
-const EBUSY: u32 = 16;
-
-const ENFILE: u32 = 23;
-
-const EMFILE: u32 = 24;
-
 // A call removed so many entries, and ended by this error or by none.
-fn ended(removal: Removal, removed: u64, error: u32) -> Removal {
-    next(
-        removal,
-        &Answer {
-            removed,
-            error,
-            unmade: 0,
-            deeper: false,
-        },
-    )
-}
-
-// The kernel refused a step of it by this error.
-fn refused(removal: Removal, error: u32) -> Removal {
-    next(
-        removal,
-        &Answer {
-            removed: 1,
-            error,
-            unmade: error,
-            deeper: false,
-        },
-    )
-}
-
-// A call came to a place.
-fn deeper(removal: Removal, removed: u64) -> Removal {
-    next(
-        removal,
-        &Answer {
-            removed,
-            error: 12,
-            unmade: 12,
-            deeper: true,
-        },
-    )
-}
-
-// A place was kept, or closed.
-fn done(removal: Removal) -> Removal {
-    ended(removal, 0, 0)
-}
-
-fn is(removal: &Removal, next: u8, place: u8) -> bool {
-    removal.next == next && removal.place == place && removal.pause == 0
-}
-
-fn fails(removal: &Removal, error: u32) -> bool {
-    removal.next == FAILS && removal.error == error
-}
-
-// A removal in a place, below others that are kept too: in so many.
-fn in_places(places: u8) -> Removal {
-    let mut removal = begin(true);
-    for _ in 0..places {
-        removal = done(deeper(removal, 1));
+fn ended(removed: u64, error: u32) -> Answer {
+    Answer {
+        removed,
+        error,
+        unmade: 0,
+        deeper: false,
     }
-    removal
 }
 
-#[test]
-fn one_call_removes_a_tree(rt: HostRuntime) -> Result<(), Fail> {
-    let first = begin(true);
-    assert!(rt; is(&first, AT_ROOT, 0));
-    let end = ended(first, 3, 0);
-    assert!(rt; end.next == ENDS);
-    assert!(rt; end.removed == 3);
-    assert!(rt; ended(end, 5, EACCES) == end);
-    assert!(rt; fails(&ended(first, 2, EACCES), EACCES));
-    Ok(())
-}
-
-#[test]
-fn goes_on_in_the_place_that_a_call_came_to(rt: HostRuntime) -> Result<(), Fail> {
-    let kept = deeper(begin(false), 2);
-    assert!(rt; is(&kept, KEEP, 0));
-    let inside = done(kept);
-    assert!(rt; is(&inside, IN_PLACE, 0));
-    let second = deeper(inside, 0);
-    assert!(rt; is(&second, KEEP, 1));
-    let inner = done(second);
-    assert!(rt; is(&inner, IN_PLACE, 1));
-    let closed = ended(inner, 10, 0);
-    assert!(rt; is(&closed, CLOSE, 1));
-    let outer = done(closed);
-    assert!(rt; is(&outer, IN_PLACE, 0));
-    let last = ended(outer, 20, 0);
-    assert!(rt; is(&last, CLOSE, 0));
-    let again = done(last);
-    assert!(rt; is(&again, AT_ROOT, 0));
-    let end = ended(again, 30, 0);
-    assert!(rt; end.next == ENDS);
-    assert!(rt; end.removed == 62);
-    Ok(())
-}
-
-#[test]
-fn goes_on_behind_its_own_bound_alone(rt: HostRuntime) -> Result<(), Fail> {
-    let first = begin(false);
-    assert!(rt; is(&ended(first, 1, EBUSY), AT_ROOT, 0));
-    assert!(rt; fails(&ended(first, 0, EBUSY), EBUSY));
-    assert!(rt; fails(&refused(first, EBUSY), EBUSY));
-    let inside = in_places(2);
-    assert!(rt; is(&ended(inside, 1, EBUSY), IN_PLACE, 1));
-    assert!(rt; is(&ended(inside, 0, EBUSY), CLOSE, 1));
-    assert!(rt; is(&refused(inside, EBUSY), CLOSE, 1));
-    Ok(())
-}
-
-#[test]
-fn closes_every_place_after_an_error(rt: HostRuntime) -> Result<(), Fail> {
-    let failed = ended(in_places(3), 1, EACCES);
-    assert!(rt; is(&failed, CLOSE, 2));
-    let second = done(failed);
-    assert!(rt; is(&second, CLOSE, 1));
-    let third = done(second);
-    assert!(rt; is(&third, CLOSE, 0));
-    assert!(rt; fails(&done(third), EACCES));
-    Ok(())
-}
-
-#[test]
-fn keeps_sixteen_places(rt: HostRuntime) -> Result<(), Fail> {
-    let full = in_places(16);
-    assert!(rt; is(&full, IN_PLACE, 15));
-    let outermost = deeper(full, 1);
-    assert!(rt; is(&outermost, CLOSE, 0));
-    let kept = done(outermost);
-    assert!(rt; is(&kept, KEEP, 0));
-    let inside = done(kept);
-    assert!(rt; is(&inside, IN_PLACE, 0));
-    assert!(rt; is(&deeper(inside, 1), CLOSE, 1));
-    let closed = ended(inside, 1, 0);
-    assert!(rt; is(&closed, CLOSE, 0));
-    let mut around = done(closed);
-    for place in 0..15 {
-        assert!(rt; is(&around, IN_PLACE, 15 - place));
-        around = done(ended(around, 1, 0));
+impl Room for Removal {
+    fn due(&self, alloc: Global) -> Result<String, AllocError> {
+        let word = word_of(self.next, "root in keep close ends fails");
+        match word {
+            "ends" => format!(in alloc; "ends {}", self.removed),
+            "fails" => format!(in alloc; "fails {}", name_of(self.error)),
+            _ if self.pause > 0 => format!(in alloc; "{word} {} after {}", self.place, self.pause),
+            _ => format!(in alloc; "{word} {}", self.place),
+        }
     }
-    assert!(rt; is(&around, AT_ROOT, 0));
-    assert!(rt; is(&deeper(in_places(15), 1), KEEP, 15));
-    Ok(())
+
+    // How many entries a call removed, and its error if it has one. `refused`: the kernel refused a step of it by that;
+    // `deeper`: it came to a place.
+    fn take(&mut self, gave: &'static str) -> Option<()> {
+        let (removed, why) = gave.split_once(' ').unwrap_or((gave, "ok"));
+        let (how, error) = why.split_once(' ').unwrap_or(("", why));
+        let deeper = why == "deeper";
+        let error = if deeper { 12 } else { number(error)? };
+        let answer = Answer {
+            unmade: if deeper || how == "refused" { error } else { 0 },
+            deeper,
+            ..ended(removed.parse().ok()?, error)
+        };
+        *self = next(*self, &answer);
+        Some(())
+    }
 }
 
+/// Whether another try may be made, and in how many places the removal is; and a conversation.
+const TALKS: &str = "\
+# one call removes a tree
+retry 0: root 0 = 3; ends 3
+retry 0: root 0 = 2 EACCES; fails EACCES
+# the removal goes on in the place that a call came to
+once 0: root 0 = 2 deeper; keep 0 = 0; in 0 = 0 deeper; keep 1 = 0; in 1 = 10; close 1 = 0; in 0 = 20; close 0 = 0; \
+root 0 = 30; ends 62
+# it goes on behind its own bound alone
+once 0: root 0 = 1 EBUSY; root 0
+once 0: root 0 = 0 EBUSY; fails EBUSY
+once 0: root 0 = 1 refused EBUSY; fails EBUSY
+retry 2: in 1 = 1 EBUSY; in 1
+retry 2: in 1 = 0 EBUSY; close 1
+retry 2: in 1 = 1 refused EBUSY; close 1
+# it closes every place after an error
+retry 3: in 2 = 1 EACCES; close 2 = 0; close 1 = 0; close 0 = 0; fails EACCES
+# it keeps sixteen places
+retry 15: in 14 = 1 deeper; keep 15
+retry 16: in 15 = 1 deeper; close 0 = 0; keep 0 = 0; in 0 = 1 deeper; close 1
+retry 16: in 15 = 1 deeper; close 0 = 0; keep 0 = 0; in 0 = 1; close 0 = 0; in 15 = 1; close 15 = 0; in 14 = 1; \
+close 14 = 0; in 13 = 1; close 13 = 0; in 12 = 1; close 12 = 0; in 11 = 1; close 11 = 0; in 10 = 1; close 10 = 0; \
+in 9 = 1; close 9 = 0; in 8 = 1; close 8 = 0; in 7 = 1; close 7 = 0; in 6 = 1; close 6 = 0; in 5 = 1; close 5 = 0; \
+in 4 = 1; close 4 = 0; in 3 = 1; close 3 = 0; in 2 = 1; close 2 = 0; in 1 = 1; close 1 = 0; root 0
+# it spares the outermost place
+retry 2: in 1 = 0 ENFILE; close 0
+retry 2: in 1 = 0 EMFILE; close 0 = 0; in 1 = 0 EMFILE; close 1 = 0; fails EMFILE
+retry 0: root 0 = 0 EMFILE; fails EMFILE
+# what others removed is another try
+once 0: root 0 = 1 EAGAIN; fails EAGAIN
+once 0: root 0 = 0 deeper; keep 0 = 0; in 0 = 0; close 0 = 0; fails EAGAIN
+once 0: root 0 = 0 deeper; keep 0 = 0; in 0 = 1; close 0 = 0; root 0
+retry 0: root 0 = 0 deeper; keep 0 = 0; in 0 = 0; close 0 = 0; root 0
+# a count has 63 bits
+retry 0: root 0 = 9223372036854775806 EBUSY; root 0 = 1; ends 9223372036854775807
+retry 0: root 0 = 9223372036854775806 EBUSY; root 0 = 2; ends 9223372036854775807
+retry 0: root 0 = 9223372036854775806 EBUSY; root 0 = 18446744073709551615; ends 9223372036854775807";
+
 #[test]
-fn spares_the_outermost_place(rt: HostRuntime) -> Result<(), Fail> {
-    let two = in_places(2);
-    assert!(rt; is(&ended(two, 0, ENFILE), CLOSE, 0));
-    let spared = ended(two, 0, EMFILE);
-    assert!(rt; is(&spared, CLOSE, 0));
-    let inside = done(spared);
-    assert!(rt; is(&inside, IN_PLACE, 1));
-    let last = ended(inside, 0, EMFILE);
-    assert!(rt; is(&last, CLOSE, 1));
-    assert!(rt; fails(&done(last), EMFILE));
-    assert!(rt; fails(&ended(begin(true), 0, EMFILE), EMFILE));
+fn removes_by_calls(rt: HostRuntime) -> Result<(), Fail> {
+    for row in TALKS.lines() {
+        if row.starts_with('#') {
+            continue;
+        }
+        let (head, talk) = row.split_once(": ").unwrap_or(("", "a row"));
+        let (tries, places) = head.split_once(' ').unwrap_or(("", ""));
+        let mut removal = begin(tries == "retry");
+        for _ in 0..number(places).unwrap_or(0) {
+            assert!(rt; removal.take("1 deeper").is_some() && removal.take("0").is_some());
+        }
+        goes(&rt, rt.alloc(), &mut removal, talk)?;
+        // where nothing comes any more, nothing changes
+        assert!(rt;
+            removal.next < ENDS || next(removal, &ended(5, 13)) == removal,
+            "{row}"
+        );
+    }
     Ok(())
 }
 
@@ -177,34 +109,22 @@ fn spares_the_outermost_place(rt: HostRuntime) -> Result<(), Fail> {
 fn makes_32_tries_in_a_row(rt: HostRuntime) -> Result<(), Fail> {
     let mut removal = begin(true);
     for tries in 1..32 {
-        removal = ended(removal, 0, EAGAIN);
-        assert!(rt; removal.next == AT_ROOT);
-        assert!(rt; removal.pause == next_try(tries, true, EAGAIN, false).pause);
+        removal = next(removal, &ended(0, EAGAIN));
+        let pause = next_try(tries, true, EAGAIN, false).pause;
+        assert!(rt; removal.next == AT_ROOT && removal.pause == pause);
     }
-    assert!(rt; removal.pause == 1_000_000);
-    assert!(rt; fails(&ended(removal, 0, EAGAIN), EAGAIN));
-    let further = ended(removal, 1, EAGAIN);
-    assert!(rt; is(&further, AT_ROOT, 0));
-    assert!(rt; is(&ended(further, 0, EAGAIN), AT_ROOT, 0));
-    assert!(rt; fails(&ended(begin(false), 1, EAGAIN), EAGAIN));
-    Ok(())
-}
-
-#[test]
-fn what_others_removed_is_another_try(rt: HostRuntime) -> Result<(), Fail> {
-    let place = done(deeper(begin(false), 0));
-    assert!(rt; fails(&done(ended(place, 0, 0)), EAGAIN));
-    assert!(rt; is(&done(ended(place, 1, 0)), AT_ROOT, 0));
-    let other = done(deeper(begin(true), 0));
-    assert!(rt; is(&done(ended(other, 0, 0)), AT_ROOT, 0));
-    Ok(())
-}
-
-#[test]
-fn a_count_has_63_bits(rt: HostRuntime) -> Result<(), Fail> {
-    let most = ended(begin(true), 0x7fff_ffff_ffff_fffe, EBUSY);
-    assert!(rt; ended(most, 1, 0).removed == 0x7fff_ffff_ffff_ffff);
-    assert!(rt; ended(most, 2, 0).removed == 0x7fff_ffff_ffff_ffff);
-    assert!(rt; ended(most, 0xffff_ffff_ffff_ffff, 0).removed == 0x7fff_ffff_ffff_ffff);
+    let mut end = removal;
+    goes(
+        &rt,
+        rt.alloc(),
+        &mut end,
+        "root 0 after 1000000 = 0 EAGAIN; fails EAGAIN",
+    )?;
+    goes(
+        &rt,
+        rt.alloc(),
+        &mut removal,
+        "root 0 after 1000000 = 1 EAGAIN; root 0 = 0 EAGAIN; root 0",
+    )?;
     Ok(())
 }

@@ -1,151 +1,117 @@
 //! How much of a path is tried next, by what tries before gave.
-use open_partial::{CLOSE, ENDS, FAILS, Search, TRY, Trial, begin, beginning, next, trial_of};
+use crate::rows::{Room, goes, name_of, number, word_of};
+use open_partial::{ENDS, Search, TRY, begin, beginning, next, trial_of};
+use std::alloc::{AllocError, Global};
 use std::test::Fail;
 
 const ENOENT: u32 = 2;
 
-const EACCES: u32 = 13;
-
-const ENOTDIR: u32 = 20;
-
-fn tries(search: &Search, pieces: usize) -> bool {
-    search.next == TRY && search.tried == pieces
+#[derive(Drop)]
+struct Path<'t> {
+    text: &'t str,
+    search: Search,
+    follows: bool,
 }
 
-fn closes(search: &Search, descriptor: u32) -> bool {
-    search.next == CLOSE && search.about == descriptor
+impl Room for Path<'_> {
+    // Of a try so many pieces and bytes, the operation, and whether it must be a directory, maybe `.`.
+    fn due(&self, alloc: Global) -> Result<String, AllocError> {
+        let Search {
+            tried,
+            there,
+            descriptor,
+            about,
+            error,
+            ..
+        } = self.search;
+        match word_of(self.search.next, "try close ends fails") {
+            "close" => format!(in alloc; "close {about}"),
+            "ends" => format!(in alloc; "ends {there} {descriptor}"),
+            "fails" => format!(in alloc; "fails {}", name_of(error)),
+            word => {
+                let trial = trial_of(&self.search, self.text.as_bytes(), self.follows);
+                let directory = if trial.directory { " directory" } else { "" };
+                let dot = if trial.dot { " dot" } else { "" };
+                format!(in alloc;
+                    "{word} {tried} {} {}{directory}{dot}",
+                    trial.length, trial.op
+                )
+            }
+        }
+    }
+
+    // A descriptor, or an error's name.
+    fn take(&mut self, gave: &'static str) -> Option<()> {
+        self.search = match gave.split_once(' ') {
+            Some((_, descriptor)) => next(self.search, 0, number(descriptor)?),
+            None => next(self.search, number(gave)?, 0),
+        };
+        Some(())
+    }
 }
 
-fn ends(search: &Search, there: usize, descriptor: u32) -> bool {
-    search.next == ENDS && search.there == there && search.descriptor == descriptor
+/// A path, whose link at the end is followed or not; and a conversation.
+const SEARCHES: &str = "\
+# the whole path is tried first
+/a//b/c/ followed: try 3 8 1 = is 7; ends 3 7
+/a//b/c/ followed: try 3 8 1 = EACCES; fails EACCES
+# a path of no piece is tried once
+ itself: try 0 0 2 = ENOENT; fails ENOENT
+// itself: try 0 2 2 = is 7; ends 0 7
+# halves are tried up to what is missing
+a/b/c/d/e followed: try 5 9 1 = ENOENT; try 2 4 1 directory = is 7; try 3 6 1 directory = is 8; close 7 = ok; \
+try 4 8 1 directory = ENOTDIR; ends 3 8
+a/b/c/d/e followed: try 5 9 1 = ENOENT; try 2 4 1 directory = is 7; try 3 6 1 directory = is 8; close 7 = ok; \
+try 4 8 1 directory = is 9; close 8 = EACCES; ends 4 9
+# where nothing is there the beginning is given, and a part is opened as a directory
+a/b followed: try 2 3 1 = ENOENT; try 1 2 1 directory = ENOTDIR; try 0 0 1 directory dot = is 7; ends 0 7
+a/b itself: try 2 3 2 = ENOENT; try 1 2 1 directory = ENOENT; try 0 0 1 directory dot = ENOENT; fails ENOENT
+/a/b followed: try 2 4 1 = ENOENT; try 1 3 1 directory = ENOENT; try 0 1 1 directory
+# another error closes what is open
+a/b/c/d followed: try 4 7 1 = ENOENT; try 2 4 1 directory = EACCES; fails EACCES
+a/b/c/d followed: try 4 7 1 = ENOENT; try 2 4 1 directory = is 7; try 3 6 1 directory = EACCES; close 7 = ok; \
+fails EACCES";
+
+#[test]
+fn parts_are_tried(rt: HostRuntime) -> Result<(), Fail> {
+    for row in SEARCHES.lines() {
+        let (head, talk) = row.split_once(": ").unwrap_or(("", "a row"));
+        let (text, link) = head.split_once(' ').unwrap_or(("", ""));
+        let search = begin(text.as_bytes());
+        let follows = link == "followed";
+        let mut path = Path {
+            text,
+            search,
+            follows,
+        };
+        if !row.starts_with('#') {
+            goes(&rt, rt.alloc(), &mut path, talk)?;
+            // where nothing comes any more, nothing changes
+            assert!(rt;
+                path.search.next < ENDS || next(path.search, 13, 8) == path.search,
+                "{row}"
+            );
+        }
+    }
+    Ok(())
 }
 
-fn fails(search: &Search, error: u32) -> bool {
-    search.next == FAILS && search.error == error
-}
+// How many bytes come before the piece of this number, in turn: with the slashes behind the one before.
+const BEGINNINGS: [(&str, &[usize]); 4] = [
+    ("//ab/c///d", &[2, 5, 9, 10, 10]),
+    ("a/", &[0, 2]),
+    ("///", &[3]),
+    ("", &[0, 0, 0, 0]),
+];
 
 #[test]
 fn a_beginning_has_the_slashes_behind_it(rt: HostRuntime) -> Result<(), Fail> {
-    let text = b"//ab/c///d".as_slice();
-    assert!(rt; beginning(text, 0) == 2);
-    assert!(rt; beginning(text, 1) == 5);
-    assert!(rt; beginning(text, 2) == 9);
-    assert!(rt; beginning(text, 3) == 10);
-    assert!(rt; beginning(text, usize::MAX) == 10);
-    assert!(rt; beginning(b"a/", 0) == 0 && beginning(b"a/", 1) == 2 && beginning(b"///", 0) == 3);
-    assert!(rt; beginning(&[], 0) == 0 && beginning(&[], 3) == 0);
-    Ok(())
-}
-
-#[test]
-fn the_whole_path_is_tried_first(rt: HostRuntime) -> Result<(), Fail> {
-    let begun = begin(b"/a//b/c/");
-    assert!(rt; tries(&begun, 3));
-    let there = next(begun, 0, 7);
-    assert!(rt; ends(&there, 3, 7));
-    assert!(rt; next(there, EACCES, 8) == there);
-    assert!(rt; fails(&next(begun, EACCES, 0), EACCES));
-    Ok(())
-}
-
-#[test]
-fn a_path_of_no_piece_is_tried_once(rt: HostRuntime) -> Result<(), Fail> {
-    assert!(rt; tries(&begin(&[]), 0) && tries(&begin(b"//"), 0));
-    assert!(rt; ends(&next(begin(b"//"), 0, 7), 0, 7));
-    assert!(rt; fails(&next(begin(&[]), ENOENT, 0), ENOENT));
-    Ok(())
-}
-
-#[test]
-fn halves_are_tried_up_to_what_is_missing(rt: HostRuntime) -> Result<(), Fail> {
-    let begun = begin(b"a/b/c/d/e");
-    assert!(rt; tries(&begun, 5));
-    let two = next(begun, ENOENT, 0);
-    assert!(rt; tries(&two, 2));
-    let three = next(two, 0, 7);
-    assert!(rt; tries(&three, 3));
-    let open = next(three, 0, 8);
-    assert!(rt; closes(&open, 7));
-    let four = next(open, 0, 0);
-    assert!(rt; tries(&four, 4));
-    assert!(rt; ends(&next(four, ENOTDIR, 0), 3, 8));
-    let more = next(four, 0, 9);
-    assert!(rt; closes(&more, 8) && ends(&next(more, EACCES, 0), 4, 9));
-    Ok(())
-}
-
-#[test]
-fn where_nothing_is_there_the_beginning_is_given(rt: HostRuntime) -> Result<(), Fail> {
-    let one = next(begin(b"a/b"), ENOENT, 0);
-    assert!(rt; tries(&one, 1));
-    let none = next(one, ENOTDIR, 0);
-    assert!(rt; tries(&none, 0));
-    assert!(rt; ends(&next(none, 0, 7), 0, 7));
-    assert!(rt; fails(&next(none, ENOENT, 0), ENOENT));
-    Ok(())
-}
-
-#[test]
-fn another_error_closes_what_is_open(rt: HostRuntime) -> Result<(), Fail> {
-    let two = next(begin(b"a/b/c/d"), ENOENT, 0);
-    assert!(rt; tries(&two, 2));
-    assert!(rt; fails(&next(two, EACCES, 0), EACCES));
-    let failed = next(next(two, 0, 7), EACCES, 0);
-    assert!(rt; closes(&failed, 7) && fails(&next(failed, 0, 0), EACCES));
-    Ok(())
-}
-
-#[test]
-fn a_part_is_opened_as_a_directory(rt: HostRuntime) -> Result<(), Fail> {
-    let text = b"a/b".as_slice();
-    let whole = begin(text);
-    let as_meant = Trial {
-        length: 3,
-        op: 1,
-        directory: false,
-        dot: false,
-    };
-    assert!(rt; trial_of(&whole, text, true) == as_meant);
-    assert!(rt; trial_of(&whole, text, false) == Trial { op: 2, ..as_meant });
-    let one = next(whole, ENOENT, 0);
-    let part = Trial {
-        length: 2,
-        op: 1,
-        directory: true,
-        dot: false,
-    };
-    assert!(rt; trial_of(&one, text, false) == part && trial_of(&one, text, true) == part);
-    let none = next(one, ENOENT, 0);
-    let here = Trial {
-        length: 0,
-        dot: true,
-        ..part
-    };
-    assert!(rt; tries(&none, 0) && trial_of(&none, text, false) == here);
-    Ok(())
-}
-
-#[test]
-fn no_piece_may_be_the_whole_path_or_a_slash(rt: HostRuntime) -> Result<(), Fail> {
-    let whole = Trial {
-        length: 0,
-        op: 2,
-        directory: false,
-        dot: false,
-    };
-    assert!(rt; trial_of(&begin(&[]), &[], false) == whole);
-    assert!(rt; trial_of(&begin(b"//"), b"//", false) == Trial { length: 2, ..whole });
-    let text = b"/a/b".as_slice();
-    let none = next(next(begin(text), ENOENT, 0), ENOENT, 0);
-    assert!(rt;
-        trial_of(&none, text, true)
-            == Trial {
-                length: 1,
-                op: 1,
-                directory: true,
-                dot: false
-            }
-    );
+    for (text, lengths) in &BEGINNINGS {
+        for (pieces, length) in lengths.iter().enumerate() {
+            assert!(rt; beginning(text.as_bytes(), pieces) == *length, "{text}");
+        }
+    }
+    assert!(rt; beginning(b"//ab/c///d", usize::MAX) == 10);
     Ok(())
 }
 
@@ -162,6 +128,6 @@ fn thirteen_tries_are_the_most(rt: HostRuntime) -> Result<(), Fail> {
             search = next(search, error, 7);
         }
     }
-    assert!(rt; count == 13 && ends(&search, 0, 7));
+    assert!(rt; count == 13 && search.next == ENDS && search.there == 0 && search.descriptor == 7);
     Ok(())
 }

@@ -1,0 +1,89 @@
+//! Conversations as rows of text: what is due, and what it gave.
+use std::alloc::{AllocError, Global};
+use std::process::Abort;
+
+const ERRORS: &str =
+    "ok=0 EPERM=1 ENOENT=2 EINTR=4 EIO=5 EBADF=9 EAGAIN=11 ENOMEM=12 EACCES=13 EBUSY=16 EEXIST=17 \
+    EXDEV=18 ENOTDIR=20 EISDIR=21 EINVAL=22 ENFILE=23 EMFILE=24 ERANGE=34 ENAMETOOLONG=36 ENOSYS=38 ELOOP=40";
+
+/// The number of the error that has this name; else a word's own. Nothing of any other word.
+pub(crate) fn number(word: &str) -> Option<u32> {
+    for error in ERRORS.split(' ') {
+        let (name, number) = error.split_once('=')?;
+        if name == word {
+            return number.parse().ok();
+        }
+    }
+    word.parse().ok()
+}
+
+/// The error's name.
+pub(crate) fn name_of(error: u32) -> &'static str {
+    for row in ERRORS.split(' ') {
+        let (name, _) = row.split_once('=').unwrap_or(("", ""));
+        if number(name) == Some(error) {
+            return name;
+        }
+    }
+    "no error of these tables"
+}
+
+/// The word of this number, from 1 on.
+pub(crate) fn word_of<'w>(number: u8, words: &'w str) -> &'w str {
+    words
+        .split(' ')
+        .nth(usize::from(number).saturating_sub(1))
+        .unwrap_or("?")
+}
+
+/// What answers come to.
+pub(crate) trait Room {
+    /// What is due by the answers so far.
+    fn due(&self, alloc: Global) -> Result<String, AllocError>;
+
+    /// Takes an answer, or nothing of words that are none.
+    fn take(&mut self, gave: &'static str) -> Option<()>;
+}
+
+/// Each part of a talk, `DUE = GAVE`, is due by the answers before it; the last part may have no answer.
+pub(crate) fn goes<R: Room>(
+    rt: &impl Abort,
+    alloc: Global,
+    room: &mut R,
+    talk: &'static str,
+) -> Result<(), AllocError> {
+    for part in talk.split("; ") {
+        let (wanted, gave) = part.split_once(" = ").unwrap_or((part, ""));
+        let due = room.due(alloc)?;
+        assert!(rt; due.as_str() == wanted, "{talk}: {due}");
+        let is_taken = gave.is_empty() || room.take(gave).is_some();
+        assert!(rt; is_taken, "{talk}: {gave}");
+    }
+    Ok(())
+}
+
+/// A room for a path has so many bytes.
+pub(crate) const ROOM: usize = 4096;
+
+static LETTERS: [u8; ROOM] = [b'a'; ROOM];
+
+/// A room with this path at its beginning.
+pub(crate) fn laid(path: &str) -> [u8; ROOM] {
+    let mut room = [0; ROOM];
+    let length = path.len().min(ROOM);
+    room[..length].copy_from_slice(&path.as_bytes()[..length]);
+    room
+}
+
+/// The path of so many bytes, or how many they are.
+pub(crate) fn shown(alloc: Global, room: &[u8], length: usize) -> Result<String, AllocError> {
+    if length > 99 {
+        return format!(in alloc; "{length} bytes");
+    }
+    String::from_utf8_lossy(alloc, room.get(..length).unwrap_or(b"?"))
+}
+
+/// So many letters, 4,096 at most.
+pub(crate) fn letters(count: &str) -> Option<&'static [u8]> {
+    LETTERS.get(..count.parse().ok()?)
+}
