@@ -1,8 +1,8 @@
 //! What is done to an object by its link in /proc, if the kernel takes no descriptor that only names it.
 use crate::progress::{Number, Progress};
-use crate::walk::look_error;
 use dialogue::{Answer, Asked, Question, ask};
 use find_proc::{Known, Proc, find, is_lost};
+use linux_steps::look_error;
 use system_calls::errors::{EACCES, EBADF, ENOENT, ENOSYS, ENOTDIR, EPERM};
 use system_calls::{Object, is_same_object};
 

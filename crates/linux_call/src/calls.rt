@@ -164,7 +164,7 @@ impl Progress<'_> {
             return self.blamed(refused(look_error(&about)));
         }
         let mut target = b"".as_slice();
-        if kind_of(about.mode as u32) == step_calls::LINK {
+        if kind_of(about.mode as u32) == A_LINK {
             let text = self.ask(Question::ReadLink(asked.fd))?;
             if text.error != 0 {
                 return self.blamed(refused(text.error));

@@ -7,7 +7,6 @@ use dialogue::{Asked, Question};
 use kernel_walks::split;
 use make_through_links::{CREATE, FIND, MAKE, MAKE_ABOVE, Making, Outcome, PARTIAL, SPLIT};
 use open_partial::{CLOSE, ENDS, Search, TRY, beginning, trial_of};
-use step_calls::DIRECTORY;
 
 // More than the tries and closes of one path.
 const SEARCHES: u32 = 64;
@@ -36,7 +35,7 @@ pub(crate) fn outcome_of(reply: &Reply<'_>, rest: usize, call: u8) -> Outcome {
         } else {
             0
         },
-        directory: call == FIND && found / 0x1_0000_0000 == DIRECTORY as u64,
+        directory: call == FIND && found / 0x1_0000_0000 == A_DIRECTORY as u64,
     }
 }
 
