@@ -81,24 +81,14 @@ impl Progress<'_> {
             return Ok(Err(Reply::Steps));
         }
         let name = at.path.piece(parted.name, parted.length);
-        let path = match above(at.path, &parted) {
-            Some(path) => path,
-            None => {
-                return Ok(Ok(Entry {
-                    dir: at.root,
-                    own: false,
-                    name,
-                }));
-            }
-        };
         let how = O_PATH | self.known.machine.directory;
-        Ok(match self.walk(&Below { path, ..*at }, how, 0)? {
-            Ok(dir) => Ok(Entry {
-                dir,
-                own: true,
-                name,
-            }),
-            Err(reply) => Err(reply),
-        })
+        let (dir, own) = match above(at.path, &parted) {
+            Some(path) => match self.walk(&Below { path, ..*at }, how, 0)? {
+                Ok(dir) => (dir, true),
+                Err(reply) => return Ok(Err(reply)),
+            },
+            None => (at.root, false),
+        };
+        Ok(Ok(Entry { dir, own, name }))
     }
 }

@@ -7,7 +7,7 @@ use crate::request::{
     MKDIR, MKFILE, RESOLVE_NOFOLLOW, RMDIR, Reply, Request, SYMLINK, UNLINK, value,
 };
 use crate::steps;
-use crate::walk::{Below, O_PATH};
+use crate::walk::{Below, O_PATH, bit};
 use dialogue::{Asked, Question};
 use find_proc::has_floor;
 use linux_steps::look_error;
@@ -60,13 +60,8 @@ impl Progress<'_> {
     #[inline(always)]
     pub(crate) fn resolve<'n>(&mut self, request: &Request, at: &Below<'n>) -> Said<'n> {
         let machine = self.known.machine;
-        let is_last = request.what == RESOLVE_NOFOLLOW;
-        let last = if is_last { machine.nofollow } else { 0 };
-        let wanted = if request.directory {
-            machine.directory
-        } else {
-            0
-        };
+        let last = bit(request.what == RESOLVE_NOFOLLOW, machine.nofollow);
+        let wanted = bit(request.directory, machine.directory);
         match self.walk(at, O_PATH | last | wanted, 0)? {
             Ok(fd) if request.asks_kind => self.with_kind(fd),
             Ok(fd) => Ok(value(fd)),

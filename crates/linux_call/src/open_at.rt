@@ -5,7 +5,7 @@ use crate::path::Texts;
 use crate::progress::{Progress, Said};
 use crate::request::*;
 use crate::steps;
-use crate::walk::{EXACT, NO_LINKS, NO_RETRY, O_PATH, has, path_below};
+use crate::walk::{EXACT, NO_LINKS, NO_RETRY, O_PATH, bit, has, path_below};
 use dialogue::Question;
 use linux_steps::look_error;
 use open_or_make::{Course, FIND, begin, request_of};
@@ -44,22 +44,14 @@ pub(crate) fn how_of(machine: &MachineFlags, opening: &Opening) -> u32 {
     } else {
         now.flags
     };
-    let nofollow = if opening.follows { 0 } else { machine.nofollow };
-    let directory = if opening.directory {
-        machine.directory
-    } else {
-        0
-    };
-    flags | nofollow | directory
+    let nofollow = bit(!opening.follows, machine.nofollow);
+    flags | nofollow | bit(opening.directory, machine.directory)
 }
 
 /// And by which mode.
 pub(crate) fn mode_of(request: &Request, opening: &Opening) -> u32 {
-    if use_of(opening, usual_kind(opening)).what == USE_MAKES {
-        request.mode
-    } else {
-        0
-    }
+    let now = use_of(opening, usual_kind(opening));
+    bit(now.what == USE_MAKES, request.mode)
 }
 
 fn asked_by(request: &Request, opening: &Opening, call: u8) -> Request {

@@ -7,7 +7,7 @@ use crate::progress::{Number, Progress, Said};
 use crate::request::{A_LINK, Request, given, refused};
 use crate::steps;
 use crate::walk::{
-    O_CLOEXEC, O_PATH, RESOLVE_BENEATH, RESOLVE_NO_MAGICLINKS, RESOLVE_NO_XDEV, has, opened,
+    O_PATH, RESOLVE_BENEATH, RESOLVE_NO_MAGICLINKS, RESOLVE_NO_XDEV, bit, has, openat2, opened,
 };
 use dialogue::{Asked, Question};
 use find_proc::{Known, Proc, find};
@@ -43,11 +43,7 @@ fn is_refused(known: &Known, base: u32, how: u32) -> bool {
 impl Progress<'_> {
     // Opens by a path below a directory. The kernel gives up `..` while anything is renamed or mounted.
     fn open_below<'n>(&mut self, dir: u32, path: &'n [u8], flags: u32) -> Number<'n> {
-        let question = if has(flags, O_PATH) {
-            Question::LookUp(dir, path, flags, BELOW)
-        } else {
-            Question::OpenPath(dir, path, flags | O_CLOEXEC, 0, BELOW)
-        };
+        let question = openat2(dir, path, flags, 0, BELOW);
         for _ in 0..TRIES {
             let result = opened(&mut self.answers, &mut self.known, question)?;
             if result != Err(EAGAIN) {
@@ -133,12 +129,7 @@ impl Progress<'_> {
             Err(error) => return Ok(Err(error)),
         };
         let name = path.piece(parted.name, parted.length);
-        let how = if parted.slash {
-            flags | directory
-        } else {
-            flags
-        };
-        let followed = self.follow(dir, name, how)?;
+        let followed = self.follow(dir, name, flags | bit(parted.slash, directory))?;
         self.close(dir)?;
         Ok(followed)
     }
@@ -151,13 +142,8 @@ impl Progress<'_> {
         flags: u32,
         follows: bool,
     ) -> Number<'n> {
-        let kept = if has(flags, O_PATH) {
-            flags & !O_NOCTTY
-        } else {
-            flags
-        };
-        let nofollow = self.known.machine.nofollow;
-        let how = if follows { kept } else { kept | nofollow };
+        let kept = flags & !bit(has(flags, O_PATH), O_NOCTTY);
+        let how = kept | bit(!follows, self.known.machine.nofollow);
         let opened = self.open_below(base, path.text(), how)?;
         if opened == Err(ELOOP) && follows {
             self.follow_last(base, path, flags)

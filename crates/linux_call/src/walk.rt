@@ -67,8 +67,9 @@ pub(crate) fn has(flags: u32, flag: u32) -> bool {
     flags & flag != 0
 }
 
+/// These bits, if that holds.
 #[inline(always)]
-fn bit(holds: bool, bits: u32) -> u32 {
+pub(crate) fn bit(holds: bool, bits: u32) -> u32 {
     if holds { bits } else { 0 }
 }
 
@@ -131,13 +132,19 @@ pub(crate) fn opened<'n>(
     Ok(Err(opened.error))
 }
 
+/// openat2(2) of a path in a directory.
 #[inline(always)]
-fn question_of<'n>(at: &Below<'n>, how: u32, mode: u32, resolve: u32) -> Question<'n> {
-    let text = at.path.text();
+pub(crate) fn openat2<'n>(
+    dir: u32,
+    path: &'n [u8],
+    how: u32,
+    mode: u32,
+    resolve: u32,
+) -> Question<'n> {
     if has(how, O_PATH) {
-        Question::LookUp(at.root, text, how, resolve)
+        Question::LookUp(dir, path, how, resolve)
     } else {
-        Question::OpenPath(at.root, text, how | O_CLOEXEC, mode, resolve)
+        Question::OpenPath(dir, path, how | O_CLOEXEC, mode, resolve)
     }
 }
 
@@ -148,7 +155,7 @@ impl Progress<'_> {
         if !at.looked && !may_walk(at) {
             return Ok(Err(0));
         }
-        let question = question_of(at, how, mode, resolve_of(at.flags));
+        let question = openat2(at.root, at.path.text(), how, mode, resolve_of(at.flags));
         opened(&mut self.answers, &mut self.known, question)
     }
 
@@ -159,7 +166,7 @@ impl Progress<'_> {
             return Ok(false);
         }
         let resolve = resolve_of(at.flags) | RESOLVE_NO_SYMLINKS;
-        let question = question_of(at, O_PATH, 0, resolve);
+        let question = openat2(at.root, at.path.text(), O_PATH, 0, resolve);
         match opened(&mut self.answers, &mut self.known, question)? {
             Ok(fd) => {
                 self.close(fd)?;
