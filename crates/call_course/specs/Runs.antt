@@ -63,8 +63,8 @@ done facts r a =
 
 abbrev pub replied : Facts → Run → Answer → Run
 replied facts r a =
-    if a.reply == TEXT then record r { value = a.length }
-    else (if a.reply == DONE then done facts r a
+    if a.reply == DONE then done facts r a
+    else (if a.reply == TEXT then record r { value = a.length }
     else (if a.reply == COUNT then record r { value = a.value } else record r { error = reply_error a }))
 
 -- what it opened is taken
@@ -75,7 +75,7 @@ conversed facts r a =
 
 -- what was made isn't handed out
 abbrev pub is_left : Facts → Answer → Bool
-is_left facts a = not (a.made == 0) && not (facts.gives && (a.reply == DONE))
+is_left facts a = not (a.made == 0) && not ((a.reply == DONE) && facts.gives)
 
 abbrev pub close_left : Facts → Answer → Run → Course Run
 close_left facts a r =

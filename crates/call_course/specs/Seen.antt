@@ -57,15 +57,14 @@ unopened_error facts a =
 -- the error of a reply, or 0
 abbrev pub error_of : Facts → Answer → ℕ
 error_of facts a =
-    if (a.reply == OPENED) || (a.reply == TEXT) || (a.reply == COUNT) then 0
-    else (if a.reply == DONE then unopened_error facts a else reply_error a)
+    if a.reply == OPENED then 0
+    else (if a.reply == DONE then unopened_error facts a
+    else (if (a.reply == TEXT) || (a.reply == COUNT) then 0 else reply_error a))
 
 abbrev pub reply_value : Facts → Answer → ℕ → ℕ
 reply_value facts a before =
-    if a.reply == TEXT then a.length
-    else (if a.reply == COUNT then a.value
-    else (if not (a.reply == DONE) then before
-    else (if not facts.gives then 0 else (if a.made == 0 then before else a.made - 1))))
+    if a.reply == DONE then (if not facts.gives || (a.made == 0) then before else a.made - 1)
+    else (if a.reply == TEXT then a.length else (if a.reply == COUNT then a.value else before))
 
 abbrev pub last_error : ℕ → ℕ → ℕ
 last_error error before = if error == 0 then before else error
@@ -83,11 +82,11 @@ known facts s a = record s {
 
 abbrev pub taken_by : Seen → Answer → Seen
 taken_by s a =
-    if a.error == 0 then record s { held = a.value ∷ s.held; why = a.error; value = a.value }
+    if a.error == 0 then record s { held = a.value ∷ s.held; why = 0; value = a.value }
     else record s { why = a.error }
 
 abbrev pub placed_by : Seen → Answer → Seen
-placed_by s a = if a.error == 0 then record s { why = a.error; value = a.length } else record s { why = a.error }
+placed_by s a = if a.error == 0 then record s { why = 0; value = a.length } else record s { why = a.error }
 
 abbrev pub conversed_by : Facts → Seen → Answer → Seen
 conversed_by facts s a = record s {

@@ -1,7 +1,14 @@
 //! What holds of every call: laws, each the contract of a function without a body.
 ghost use Rattle.std.specs.Prelude.{◌≡◌, ◌≢◌, ◌++◌, ℕ, Bool, false, Option, Some};
 ghost use Rattle.system_calls.specs.Errors.{ENOMEM};
+ghost use Rattle.call_course.specs.Promises.{CallsHold};
 ghost use Rattle.call_course.specs.Taking.{given_by, had, listed, opened_by, taken, IsOwn};
+
+/// What holds of each whole call, from its first try to the last one's end. There are 13 things for each of 32 tries at
+/// most, and each comes where it may (`May` of `specs/Seen.antt`). `Ends` says what is left in the end.
+pub fn calls_hold()
+    ensures { CallsHold }
+{}
 
 /// What a call takes out of a handle is the handle's descriptor, which isn't the caller's own; or one that was opened
 /// anew. The handle's descriptor, unless it is the caller's own, and the one that was opened are each given, once.

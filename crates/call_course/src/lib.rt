@@ -11,7 +11,7 @@ mod taking;
 mod things;
 mod tries;
 
-pub use laws::what_is_taken_is_the_calls_own;
+pub use laws::{calls_hold, what_is_taken_is_the_calls_own};
 pub use runs::Run;
 pub use taking::{Taking, take};
 pub use things::{Answer, Asked, Facts, Thing, ask};

@@ -133,11 +133,11 @@ fn replied(facts: Facts, r: Run, a: Answer) -> Run
     ensures { result ≡ replied facts r a }
 {
     match a.reply {
+        DONE => done(facts, r, a),
         TEXT => Run {
             value: a.length,
             ..r
         },
-        DONE => done(facts, r, a),
         COUNT => Run {
             value: a.value,
             ..r
@@ -164,7 +164,7 @@ fn conversed(answers: &mut &[Answer], facts: Facts, r: Run, a: Answer) -> Asked<
 fn is_left(facts: Facts, a: Answer) -> bool
     ensures { result ≡ is_left facts a }
 {
-    a.made != 0 && !(facts.gives && a.reply == DONE)
+    a.made != 0 && !(a.reply == DONE && facts.gives)
 }
 
 #[tactic(auto, using(dialogue::proofs::TalkLemmas::ran_then, dialogue::proofs::TalkLemmas::ran_ends), unfolding(crate::specs::Runs::closed))]
