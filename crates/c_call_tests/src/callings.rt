@@ -1,8 +1,6 @@
 //! Which thing comes next in a call, by what those before gave.
 
-use call_course::{
-    Answer, Asked, Facts, LAST, Taking, Thing, Tried, a_try, pause_before, take,
-};
+use call_course::{Answer, Asked, Facts, LAST, Taking, Thing, Tried, a_try, pause_before, take};
 use std::test::Fail;
 
 const EIO: u32 = 5;
@@ -126,7 +124,13 @@ fn what_a_reply_opened_is_taken(rt: HostRuntime) -> Result<(), Fail> {
     assert!(rt; asks(due(plain(), &[fine(), opened]), Thing::Take));
     assert!(rt; asks(due(plain(), &[fine(), opened, taken]), Thing::LetGo));
     assert!(rt; ends(due(plain(), &[fine(), opened, taken, fine()]), 5, true));
-    assert!(rt; fails_by(due(plain(), &[fine(), opened, fails(EMFILE), fine()]), EMFILE, false));
+    assert!(rt;
+        fails_by(
+            due(plain(), &[fine(), opened, fails(EMFILE), fine()]),
+            EMFILE,
+            false
+        )
+    );
     Ok(())
 }
 
@@ -137,7 +141,13 @@ fn a_text_and_a_count_are_given(rt: HostRuntime) -> Result<(), Fail> {
         ..replies(TEXT, 0)
     };
     assert!(rt; ends(due(plain(), &[fine(), text, fine()]), 3, false));
-    assert!(rt; ends(due(plain(), &[fine(), replies(COUNT, 12), fine()]), 12, false));
+    assert!(rt;
+        ends(
+            due(plain(), &[fine(), replies(COUNT, 12), fine()]),
+            12,
+            false
+        )
+    );
     Ok(())
 }
 
@@ -152,7 +162,13 @@ fn a_step_that_was_not_made_fails_by_the_kernels_error(rt: HostRuntime) -> Resul
         ..faults(EACCES)
     };
     assert!(rt; fails_by(due(plain(), &[fine(), unmade, fine()]), EMFILE, false));
-    assert!(rt; fails_by(due(plain(), &[fine(), faults(ENOMEM), fine()]), ENOMEM, false));
+    assert!(rt;
+        fails_by(
+            due(plain(), &[fine(), faults(ENOMEM), fine()]),
+            ENOMEM,
+            false
+        )
+    );
     assert!(rt; fails_by(due(plain(), &[fine(), other, fine()]), EACCES, false));
     assert!(rt; fails_by(due(plain(), &[fine(), faults(0), fine()]), EIO, false));
     Ok(())
@@ -199,7 +215,13 @@ fn another_try_follows_eagain_alone(rt: HostRuntime) -> Result<(), Fail> {
         ..plain()
     };
     assert!(rt; fails_by(due(once, &eagain), EAGAIN, false));
-    assert!(rt; fails_by(due(plain(), &[fine(), faults(EACCES), fine()]), EACCES, false));
+    assert!(rt;
+        fails_by(
+            due(plain(), &[fine(), faults(EACCES), fine()]),
+            EACCES,
+            false
+        )
+    );
     let changed = Answer {
         changed: true,
         ..faults(EAGAIN)
@@ -226,10 +248,20 @@ fn another_proc_is_tried_once(rt: HostRuntime) -> Result<(), Fail> {
     };
     assert!(rt; asks(due(plain(), &[fine(), lost, fine()]), Thing::LookAtProc));
     assert!(rt; fails_by(due(plain(), &[fine(), lost, fine(), fine()]), ENOSYS, false));
-    assert!(rt; asks(due(plain(), &[fine(), lost, fine(), gone]), Thing::AnotherProc));
+    assert!(rt;
+        asks(
+            due(plain(), &[fine(), lost, fine(), gone]),
+            Thing::AnotherProc
+        )
+    );
     let none = [fine(), lost, fine(), gone, fails(EMFILE)];
     assert!(rt; fails_by(due(plain(), &none), EMFILE, false));
-    assert!(rt; asks(due(plain(), &[fine(), lost, fine(), gone, own]), Thing::Converse));
+    assert!(rt;
+        asks(
+            due(plain(), &[fine(), lost, fine(), gone, own]),
+            Thing::Converse
+        )
+    );
     let again = [fine(), lost, fine(), gone, own, lost, fine(), fine()];
     assert!(rt; asks(due(plain(), &again[..7]), Thing::CloseProc));
     assert!(rt; fails_by(due(plain(), &again), ENOSYS, false));
@@ -255,9 +287,21 @@ fn the_roots_errors_come_before_those_of_the_path(rt: HostRuntime) -> Result<(),
     let directory = Answer { value: 1, ..fine() };
     let file = Answer { value: 2, ..fine() };
     assert!(rt; asks(due(plain(), &[fine(), unseen, fine()]), Thing::LookAtRoot));
-    assert!(rt; fails_by(due(plain(), &[fine(), unseen, fine(), directory]), EACCES, false));
+    assert!(rt;
+        fails_by(
+            due(plain(), &[fine(), unseen, fine(), directory]),
+            EACCES,
+            false
+        )
+    );
     assert!(rt; fails_by(due(plain(), &[fine(), unseen, fine(), file]), ENOTDIR, true));
-    assert!(rt; fails_by(due(plain(), &[fine(), unseen, fine(), fails(EBADF)]), EBADF, true));
+    assert!(rt;
+        fails_by(
+            due(plain(), &[fine(), unseen, fine(), fails(EBADF)]),
+            EBADF,
+            true
+        )
+    );
     Ok(())
 }
 

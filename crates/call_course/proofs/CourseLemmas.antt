@@ -1,6 +1,6 @@
 -- What each part of a call leaves behind it.
 use Rattle.std.proofs.Common.{◌≡◌, ◌≢◌, ◌≤◌, ◌⊎◌, inl, inr, ℕ, zero, suc, ◌+◌, ◌-◌, ◌*◌, List, [], ◌∷◌, ◌++◌, Bool, true, false, not, ◌&&◌, ◌||◌, if◌then◌else◌, refl, sym, ap, subst, ◌∙◌, arith}
-use Rattle.std.proofs.lemmas.Bool.{false≢true}
+use Rattle.std.proofs.lemmas.Bool.{eqb-true, false≢true}
 use Rattle.std.specs.Prelude.{◌==◌, nat_lt, Option, Some, None}
 use Rattle.system_calls.specs.Errors.{EAGAIN, ENOSYS, ENOTDIR}
 use Rattle.system_calls.specs.Held.{without}
@@ -11,7 +11,7 @@ use Rattle.dialogue.proofs.HeldLemmas.{first_in, second_in, without_first, witho
 use Rattle.dialogue.proofs.HoldLemmas.{Goes, asks_then, both, choose, goes_on, over, weak}
 use Rattle.call_course.specs.Course.{Course, Exchange, doing, things}
 use Rattle.call_course.specs.Promises.{CallsHold, Ends, given}
-use Rattle.call_course.specs.Runs.{by_one, close_left, closed, conversed, is_left, new_run, noted, placed, replied, took, walked, DONE, OPENED}
+use Rattle.call_course.specs.Runs.{by_one, close_left, closed, conversed, is_left, new_run, noted, placed, replied, took, reply_error, walked, COUNT, DONE, OPENED, TEXT}
 use Rattle.call_course.specs.Seen.{MayBegin, Seen, at_first, conversed_by, known, seen_by, taken_by, watch}
 use Rattle.call_course.specs.Tries.{LAST, a_try, another_found, by_another, call, call_from, closing, directory_error, is_again, judged, made, may_go_by_another, once_more, over as ended, pause_before, proc_seen, root_error, rooted}
 use Rattle.call_course.specs.declared.runs.Run.{Run}
@@ -60,16 +60,77 @@ fine st ch has owns = record {
   owns_proc = owns;
 }
 
+-- what the proved call's reply leaves, by what is asked of its number and of what was made
+replied_so : (b p o fd error length count unopened : ℕ) (st ch has owns d g m u t c : Bool)
+    → Left b p o (if not m && not (d && g) then fd ∷ [] else [])
+    (record (beside b p o [] (fine st ch has owns)) {
+      held = (if m then [] else fd ∷ []);
+      why =
+          (if d then (if not g then 0 else (if not m then 0 else (if u then EAGAIN else unopened)))
+          else (if t || c then 0 else error));
+      value = (if d then (if not g || m then 0 else fd) else (if t then length else (if c then count else 0)));
+    })
+    (if d
+    then (if not g then fine st ch has owns
+    else (if not m then record (fine st ch has owns) { value = fd; holds = true }
+    else (if u then record (fine st ch has owns) { error = EAGAIN }
+    else record (fine st ch has owns) { error = unopened })))
+    else (if t then record (fine st ch has owns) { value = length }
+    else (if c then record (fine st ch has owns) { value = count }
+    else record (fine st ch has owns) { error = error })))
+replied_so b p o fd error length count unopened st ch has owns true false true u t c =
+    record { at = refl; bare = λ _. refl }
+replied_so b p o fd error length count unopened st ch has owns true false false u t c =
+    record { at = refl; bare = λ _. refl }
+replied_so b p o fd error length count unopened st ch has owns true true false u t c =
+    record { at = refl; bare = λ some. absurd (some refl) }
+replied_so b p o fd error length count unopened st ch has owns true true true true t c =
+    record { at = refl; bare = λ _. refl }
+replied_so b p o fd error length count unopened st ch has owns true true true false t c =
+    record { at = refl; bare = λ _. refl }
+replied_so b p o fd error length count unopened st ch has owns false g true u true c =
+    record { at = refl; bare = λ _. refl }
+replied_so b p o fd error length count unopened st ch has owns false g false u true c =
+    record { at = refl; bare = λ _. refl }
+replied_so b p o fd error length count unopened st ch has owns false g true u false true =
+    record { at = refl; bare = λ _. refl }
+replied_so b p o fd error length count unopened st ch has owns false g false u false true =
+    record { at = refl; bare = λ _. refl }
+replied_so b p o fd error length count unopened st ch has owns false g true u false false =
+    record { at = refl; bare = λ _. refl }
+replied_so b p o fd error length count unopened st ch has owns false g false u false false =
+    record { at = refl; bare = λ _. refl }
+
 replies : (facts : Facts) (b p o : ℕ) (st ch has owns : Bool) (a : Answer) → (a.reply == OPENED) ≡ false
     → Left b p o (left_open facts a) (conversed_by facts (beside b p o [] (fine st ch has owns)) a)
     (replied facts (fine st ch has owns) a)
-replies facts b p o st ch has owns a no = record { at = grind (arith, no); bare = grind (arith, no) }
+replies facts b p o st ch has owns a no =
+    rw no
+    (replied_so b p o (a.made - 1) (reply_error a) a.length a.value a.unopened st ch has owns (a.reply == DONE)
+    facts.gives (a.made == 0) (a.unopened == 0) (a.reply == TEXT) (a.reply == COUNT))
+
+took_so : (b p o fd v error : ℕ) (st ch has owns m well : Bool)
+    → Left b p o (if not m && true then fd ∷ [] else [])
+    (if well then record (beside b p o [] (fine st ch has owns)) { held = v ∷ (if m then [] else fd ∷ []); value = v }
+    else record (beside b p o [] (fine st ch has owns)) { held = (if m then [] else fd ∷ []); why = error })
+    (if well then record (fine st ch has owns) { value = v; holds = true }
+    else record (fine st ch has owns) { error = error })
+took_so b p o fd v error st ch has owns true true = record { at = refl; bare = λ some. absurd (some refl) }
+took_so b p o fd v error st ch has owns false true = record { at = refl; bare = λ some. absurd (some refl) }
+took_so b p o fd v error st ch has owns true false = record { at = refl; bare = λ _. refl }
+took_so b p o fd v error st ch has owns false false = record { at = refl; bare = λ _. refl }
 
 takes : (facts : Facts) (b p o : ℕ) (st ch has owns : Bool) (a c : Answer) → (a.reply == OPENED) ≡ true
     → Left b p o (left_open facts a)
     (taken_by (known facts (conversed_by facts (beside b p o [] (fine st ch has owns)) a) c) c)
     (took (noted facts (fine st ch has owns) c) c)
-takes facts b p o st ch has owns a c is = record { at = grind (arith, is); bare = grind (arith, is) }
+takes facts b p o st ch has owns a c is =
+    subst (λ n. Left b p o (left_open facts (record a { reply = n }))
+    (taken_by (known facts (conversed_by facts (beside b p o [] (fine st ch has owns)) (record a { reply = n })) c) c)
+    (took (noted facts (fine st ch has owns) c) c))
+    (sym (eqb-true a.reply OPENED is))
+    (took_so b p o (a.made - 1) c.value c.error (st || c.stepped) (ch || (c.changed && not facts.finds_again)) c.has_proc
+    (owns || c.owns_proc) (a.made == 0) (c.error == 0))
 
 -- ---- the proved call
 
@@ -132,10 +193,20 @@ walks facts b p o has owns none =
 
 -- ---- a run
 
+placed_so : (b p o length error : ℕ) (st ch has owns well : Bool)
+    → Left b p o []
+    (if well then record (beside b p o [] (fine st ch has owns)) { value = length }
+    else record (beside b p o [] (fine st ch has owns)) { why = error })
+    (if well then record (fine st ch has owns) { value = length } else record (fine st ch has owns) { error = error })
+placed_so b p o length error st ch has owns true = record { at = refl; bare = λ _. refl }
+placed_so b p o length error st ch has owns false = record { at = refl; bare = λ _. refl }
+
 places : (facts : Facts) (b p o : ℕ) (has owns : Bool) (a : Answer)
     → Left b p o [] (seen_by facts (beside b p o [] (fine false false has owns)) Place a)
     (placed (noted facts (fine false false has owns) a) a)
-places facts b p o has owns a = record { at = grind arith; bare = grind arith }
+places facts b p o has owns a =
+    placed_so b p o a.length a.error a.stepped (a.changed && not facts.finds_again) a.has_proc (owns || a.owns_proc)
+    (a.error == 0)
 
 abbrev begun_by : Facts → ℕ → Bool → Bool → Run
 begun_by facts error has owns = record (fine false false has owns) { error = error }

@@ -2,9 +2,10 @@
 use Rattle.std.proofs.Common.{◌≡◌, ◌≢◌, ◌≤◌, ◌⊎◌, inl, inr, ℕ, zero, suc, ◌+◌, ◌-◌, ◌*◌, List, [], ◌∷◌, ◌++◌, Bool, true, false, not, ◌&&◌, ◌||◌, if◌then◌else◌, refl, sym, ap, subst, ◌∙◌, arith}
 use Rattle.std.specs.Prelude.{◌==◌, nat_lt, Option, Some, None}
 use Rattle.std.proofs.Math.Nat.{add-suc, add-zero}
-use Rattle.std.proofs.lemmas.Bool.{false≢true}
+use Rattle.std.proofs.lemmas.Bool.{eqb-true, false≢true}
 use Rattle.system_calls.specs.Errors.{EAGAIN}
 use Rattle.system_calls.specs.Tries.{is_due, next_try, pause_after, pauses_after, TRIES}
+use Rattle.system_calls.specs.declared.tries.NextTry.{NextTry}
 use Rattle.dialogue.specs.Dialogue.{and_then, ends, without_signals}
 use Rattle.dialogue.specs.Holds.{Holds}
 use Rattle.dialogue.proofs.HoldLemmas.{Goes, asks_then, both, choose, over, weak}
@@ -36,18 +37,30 @@ record Tries (facts : Facts) (b p : ℕ) (t : Seen) (e : Tried) : Type 0 where
   again : e.again ≡ true → Again facts t
   ends : t.begun ≤ TRIES → t.pauses ≤ 18270000 → Ends facts t e
 
+abbrev due_by : Bool → ℕ → NextTry
+due_by due pause = record { due = due; pause = pause }
+
 record Due (may : Bool) (error : ℕ) : Type 0 where
   may : may ≡ true
   error : error ≡ EAGAIN
 
-due_is : (tries : ℕ) (may : Bool) (error : ℕ) → (next_try tries may error false).due ≡ true → Due may error
-due_is tries may error h = record { may = grind (arith, h); error = grind (arith, h) }
+due_so : (may others few : Bool) (pause : ℕ)
+    → (if may && (others && (true && few)) then due_by true pause else due_by false 0).due ≡ true
+    → (may ≡ true) × (others ≡ true)
+due_so true true few pause h = (refl, refl)
+due_so true false few pause h = absurd cc
+due_so false others few pause h = absurd cc
 
-retried : (may changed : Bool) → may && not changed ≡ true → may ≡ true
+due_is : (tries : ℕ) (may : Bool) (error : ℕ) → (next_try tries may error false).due ≡ true → Due may error
+due_is tries may error h =
+    let is = due_so may (error == EAGAIN) (nat_lt tries TRIES) (pause_after tries) h in
+    record { may = is.0; error = eqb-true error EAGAIN is.1 }
+
+retried : (may changed : Bool) → (may && not changed) ≡ true → may ≡ true
 retried true changed h = refl
 retried false changed h = absurd cc
 
-unchanged : (may changed : Bool) → may && not changed ≡ true → changed ≡ false
+unchanged : (may changed : Bool) → (may && not changed) ≡ true → changed ≡ false
 unchanged may false h = refl
 unchanged true true h = absurd cc
 unchanged false true h = absurd cc
@@ -121,13 +134,13 @@ roots facts left b p o r error false is some bare before = record {
   };
 }
 
-seen_step : (r : Run) → (r.error == 0) || r.stepped ≡ true → r.error ≢ 0 → r.stepped ≡ false → ⊥
+seen_step : (r : Run) → ((r.error == 0) || r.stepped) ≡ true → r.error ≢ 0 → r.stepped ≡ false → ⊥
 seen_step r h some no = grind (arith, h, some, no)
 
-no_step : (r : Run) → (r.error == 0) || r.stepped ≡ false → r.stepped ≡ false
+no_step : (r : Run) → ((r.error == 0) || r.stepped) ≡ false → r.stepped ≡ false
 no_step r h = grind (arith, h)
 
-some_error : (r : Run) → (r.error == 0) || r.stepped ≡ false → r.error ≢ 0
+some_error : (r : Run) → ((r.error == 0) || r.stepped) ≡ false → r.error ≢ 0
 some_error r h = λ none. absurd (grind (arith, h, none))
 
 judges : (facts : Facts) (left b p o : ℕ) (r : Run) → Bare r → (facts.error ≢ 0 → r.error ≡ facts.error)
@@ -190,7 +203,12 @@ ends_here facts left s t e at h =
     h.ends (omega (arith, few, begun)) (subst (λ n. n ≤ 18270000) (sym (h.pauses ∙ at.pauses)) most)
 
 paused : (tries : ℕ) → tries ≤ LAST → (next_try tries true EAGAIN false).pause ≡ pause_after tries
-paused tries h = grind (arith, h)
+paused tries h = by_case (nat_lt tries TRIES) refl
+  where
+    by_case : (b : Bool) → nat_lt tries TRIES ≡ b
+        → (if b then due_by true (pause_after tries) else due_by false 0).pause ≡ pause_after tries
+    by_case true is = refl
+    by_case false is = absurd (grind (arith, is, h))
 
 goes_behind : (facts : Facts) (left : ℕ) (s t : Seen) (e : Tried) → Behind (suc left) s
     → Tries facts (suc s.begun) (s.pauses + pause_before (suc left)) t e → Behind left t

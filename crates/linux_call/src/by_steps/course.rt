@@ -145,7 +145,14 @@ impl Steps {
                 self.attempt.step = 0;
             }
             let failed = tried.error != 0;
-            return self.run_over(if failed { Err(tried.error) } else { Ok(tried.value) }, read);
+            return self.run_over(
+                if failed {
+                    Err(tried.error)
+                } else {
+                    Ok(tried.value)
+                },
+                read,
+            );
         }
         if self.course.next == Thing::Place {
             self.attempt.step = steps::NAME_BELOW;
