@@ -1,9 +1,6 @@
 //! Which thing comes next in a call, by what those before gave.
 
-use call_course::{
-    ANOTHER_PROC, Answer, BEGIN, CLOSE, CLOSE_PROC, CONVERSE, Calling, ENDS, FAILS, Facts, LET_GO,
-    LOOK_AT_PROC, LOOK_AT_ROOT, PLACE, TAKE, Taking, begin, next, take,
-};
+use call_course::{Answer, Asked, Facts, LAST, Taking, Thing, Tried, a_try, pause_before, take};
 use std::test::Fail;
 
 const EIO: u32 = 5;
@@ -81,40 +78,59 @@ fn faults(error: u32) -> Answer {
     }
 }
 
-fn goes(calling: Calling, answer: Answer) -> Calling {
-    next(calling, &answer)
+// What is due in the first try, or what it came to, by what its things gave.
+fn due(facts: Facts, given: &[Answer]) -> Asked<Tried> {
+    let mut answers = given;
+    a_try(&mut answers, facts, LAST)
 }
 
-fn no_step() -> Answer {
-    Answer {
-        stepped: false,
-        ..fine()
+fn asks(came: Asked<Tried>, thing: Thing) -> bool {
+    came == Err(thing)
+}
+
+fn ends(came: Asked<Tried>, value: u64, holds: bool) -> bool {
+    came == Ok(Tried {
+        value,
+        error: 0,
+        holds,
+        is_root: false,
+        again: false,
+    })
+}
+
+fn fails_by(came: Asked<Tried>, error: u32, is_root: bool) -> bool {
+    came == Ok(Tried {
+        value: 0,
+        error,
+        holds: false,
+        is_root,
+        again: false,
+    })
+}
+
+fn is_again(came: Asked<Tried>) -> bool {
+    match came {
+        Ok(tried) => tried.again,
+        Err(_) => false,
     }
-}
-
-// Where the proved call is due.
-fn due(facts: Facts) -> Calling {
-    goes(begin(&facts), fine())
-}
-
-fn is(calling: &Calling, next: u8, error: u32) -> bool {
-    calling.next == next && calling.error == error
 }
 
 #[test]
 fn what_a_reply_opened_is_taken(rt: HostRuntime) -> Result<(), Fail> {
-    let begun = begin(&plain());
-    assert!(rt; is(&begun, BEGIN, 0) && begun.about == 0);
-    let walk = goes(begun, fine());
-    assert!(rt; is(&walk, CONVERSE, 0) && walk.tries == 1);
-    let opened = goes(walk, replies(OPENED, 99));
-    assert!(rt; is(&opened, TAKE, 0));
-    let taken = goes(opened, Answer { value: 5, ..fine() });
-    assert!(rt; is(&taken, LET_GO, 0) && taken.value == 5);
-    let end = goes(taken, fine());
-    assert!(rt; is(&end, ENDS, 0) && end.holds && goes(end, fails(EIO)) == end);
-    let not_taken = goes(goes(opened, fails(EMFILE)), fine());
-    assert!(rt; is(&not_taken, FAILS, EMFILE));
+    let opened = replies(OPENED, 99);
+    let taken = Answer { value: 5, ..fine() };
+    assert!(rt; asks(due(plain(), &[]), Thing::Begin(0)));
+    assert!(rt; asks(due(plain(), &[fine()]), Thing::Converse));
+    assert!(rt; asks(due(plain(), &[fine(), opened]), Thing::Take));
+    assert!(rt; asks(due(plain(), &[fine(), opened, taken]), Thing::LetGo));
+    assert!(rt; ends(due(plain(), &[fine(), opened, taken, fine()]), 5, true));
+    assert!(rt;
+        fails_by(
+            due(plain(), &[fine(), opened, fails(EMFILE), fine()]),
+            EMFILE,
+            false
+        )
+    );
     Ok(())
 }
 
@@ -124,10 +140,14 @@ fn a_text_and_a_count_are_given(rt: HostRuntime) -> Result<(), Fail> {
         length: 3,
         ..replies(TEXT, 0)
     };
-    let end = goes(goes(due(plain()), text), fine());
-    assert!(rt; is(&end, ENDS, 0) && end.value == 3 && !end.holds);
-    let count = goes(goes(due(plain()), replies(COUNT, 12)), fine());
-    assert!(rt; is(&count, ENDS, 0) && count.value == 12);
+    assert!(rt; ends(due(plain(), &[fine(), text, fine()]), 3, false));
+    assert!(rt;
+        ends(
+            due(plain(), &[fine(), replies(COUNT, 12), fine()]),
+            12,
+            false
+        )
+    );
     Ok(())
 }
 
@@ -137,20 +157,20 @@ fn a_step_that_was_not_made_fails_by_the_kernels_error(rt: HostRuntime) -> Resul
         unmade: EMFILE,
         ..faults(ENOMEM)
     };
-    assert!(rt; is(&goes(goes(due(plain()), unmade), fine()), FAILS, EMFILE));
-    assert!(rt;
-        is(
-            &goes(goes(due(plain()), faults(ENOMEM)), fine()),
-            FAILS,
-            ENOMEM
-        )
-    );
     let other = Answer {
         unmade: EMFILE,
         ..faults(EACCES)
     };
-    assert!(rt; is(&goes(goes(due(plain()), other), fine()), FAILS, EACCES));
-    assert!(rt; is(&goes(goes(due(plain()), faults(0)), fine()), FAILS, EIO));
+    assert!(rt; fails_by(due(plain(), &[fine(), unmade, fine()]), EMFILE, false));
+    assert!(rt;
+        fails_by(
+            due(plain(), &[fine(), faults(ENOMEM), fine()]),
+            ENOMEM,
+            false
+        )
+    );
+    assert!(rt; fails_by(due(plain(), &[fine(), other, fine()]), EACCES, false));
+    assert!(rt; fails_by(due(plain(), &[fine(), faults(0), fine()]), EIO, false));
     Ok(())
 }
 
@@ -165,61 +185,53 @@ fn what_was_made_is_given_or_closed(rt: HostRuntime) -> Result<(), Fail> {
         changed: true,
         ..replies(DONE, 0)
     };
-    let end = goes(goes(due(gives), made), fine());
-    assert!(rt; is(&end, ENDS, 0) && end.value == 7 && end.holds);
-    let close = goes(goes(due(plain()), made), fine());
-    assert!(rt; is(&close, CLOSE, 0) && close.about == 7);
-    assert!(rt; is(&goes(close, fine()), ENDS, 0) && goes(close, fine()).value == 0);
+    assert!(rt; ends(due(gives, &[fine(), made, fine()]), 7, true));
+    assert!(rt; asks(due(plain(), &[fine(), made, fine()]), Thing::Close(7)));
+    assert!(rt; ends(due(plain(), &[fine(), made, fine(), fine()]), 0, false));
     let lost = Answer { made: 0, ..made };
-    assert!(rt; is(&goes(goes(due(gives), lost), fine()), FAILS, EAGAIN));
     let unopened = Answer {
         unopened: EMFILE,
         ..lost
     };
-    assert!(rt; is(&goes(goes(due(gives), unopened), fine()), FAILS, EMFILE));
+    assert!(rt; fails_by(due(gives, &[fine(), lost, fine()]), EAGAIN, false));
+    assert!(rt; fails_by(due(gives, &[fine(), unopened, fine()]), EMFILE, false));
     Ok(())
 }
 
 #[test]
 fn another_try_follows_eagain_alone(rt: HostRuntime) -> Result<(), Fail> {
-    let mut now = due(plain());
+    let eagain = [fine(), faults(EAGAIN), fine()];
     let mut pauses: u64 = 0;
-    for tries in 1..32 {
-        let again = goes(goes(now, faults(EAGAIN)), fine());
-        assert!(rt; again.next == BEGIN && again.tries == tries);
-        pauses = pauses.saturating_add(again.about);
-        now = goes(again, fine());
+    for tries in 0..31 {
+        let mut answers = &eagain[..];
+        assert!(rt; is_again(a_try(&mut answers, plain(), LAST - tries)));
+        pauses = pauses.saturating_add(u64::from(pause_before(30 - tries)));
     }
     assert!(rt; pauses == 18_270_000);
-    assert!(rt; is(&goes(goes(now, faults(EAGAIN)), fine()), FAILS, EAGAIN));
+    let mut answers = &eagain[..];
+    assert!(rt; fails_by(a_try(&mut answers, plain(), 0), EAGAIN, false));
     let once = Facts {
         may_retry: false,
         ..plain()
     };
+    assert!(rt; fails_by(due(once, &eagain), EAGAIN, false));
     assert!(rt;
-        is(
-            &goes(goes(due(once), faults(EAGAIN)), fine()),
-            FAILS,
-            EAGAIN
-        )
-    );
-    assert!(rt;
-        is(
-            &goes(goes(due(plain()), faults(EACCES)), fine()),
-            FAILS,
-            EACCES
+        fails_by(
+            due(plain(), &[fine(), faults(EACCES), fine()]),
+            EACCES,
+            false
         )
     );
     let changed = Answer {
         changed: true,
         ..faults(EAGAIN)
     };
-    assert!(rt; is(&goes(goes(due(plain()), changed), fine()), FAILS, EAGAIN));
+    assert!(rt; fails_by(due(plain(), &[fine(), changed, fine()]), EAGAIN, false));
     let all_parts = Facts {
         finds_again: true,
         ..plain()
     };
-    assert!(rt; goes(goes(due(all_parts), changed), fine()).next == BEGIN);
+    assert!(rt; is_again(due(all_parts, &[fine(), changed, fine()])));
     Ok(())
 }
 
@@ -229,31 +241,40 @@ fn another_proc_is_tried_once(rt: HostRuntime) -> Result<(), Fail> {
         has_proc: true,
         ..faults(ENOSYS)
     };
-    let look = goes(goes(due(plain()), lost), fine());
-    assert!(rt; is(&look, LOOK_AT_PROC, ENOSYS));
-    assert!(rt; is(&goes(look, fine()), FAILS, ENOSYS));
-    let other = goes(look, fails(NO_ANSWER));
-    assert!(rt; is(&other, ANOTHER_PROC, ENOSYS));
-    assert!(rt; is(&goes(other, fails(EMFILE)), FAILS, EMFILE));
+    let gone = fails(NO_ANSWER);
     let own = Answer {
         owns_proc: true,
         ..fine()
     };
-    let anew = goes(other, own);
-    assert!(rt; is(&anew, CONVERSE, 0) && anew.tries == 1);
-    let again = goes(goes(anew, lost), fine());
-    assert!(rt; is(&again, CLOSE_PROC, ENOSYS));
-    assert!(rt; is(&goes(again, fine()), FAILS, ENOSYS));
+    assert!(rt; asks(due(plain(), &[fine(), lost, fine()]), Thing::LookAtProc));
+    assert!(rt; fails_by(due(plain(), &[fine(), lost, fine(), fine()]), ENOSYS, false));
+    assert!(rt;
+        asks(
+            due(plain(), &[fine(), lost, fine(), gone]),
+            Thing::AnotherProc
+        )
+    );
+    let none = [fine(), lost, fine(), gone, fails(EMFILE)];
+    assert!(rt; fails_by(due(plain(), &none), EMFILE, false));
+    assert!(rt;
+        asks(
+            due(plain(), &[fine(), lost, fine(), gone, own]),
+            Thing::Converse
+        )
+    );
+    let again = [fine(), lost, fine(), gone, own, lost, fine(), fine()];
+    assert!(rt; asks(due(plain(), &again[..7]), Thing::CloseProc));
+    assert!(rt; fails_by(due(plain(), &again), ENOSYS, false));
     let changed = Answer {
         changed: true,
         ..lost
     };
-    assert!(rt; is(&goes(goes(due(plain()), changed), fine()), FAILS, ENOSYS));
-    let none = Answer {
+    let without = Answer {
         has_proc: false,
         ..lost
     };
-    assert!(rt; is(&goes(goes(due(plain()), none), fine()), FAILS, ENOSYS));
+    assert!(rt; fails_by(due(plain(), &[fine(), changed, fine()]), ENOSYS, false));
+    assert!(rt; fails_by(due(plain(), &[fine(), without, fine()]), ENOSYS, false));
     Ok(())
 }
 
@@ -263,33 +284,42 @@ fn the_roots_errors_come_before_those_of_the_path(rt: HostRuntime) -> Result<(),
         stepped: false,
         ..faults(EACCES)
     };
-    let look = goes(goes(due(plain()), unseen), fine());
-    assert!(rt; is(&look, LOOK_AT_ROOT, EACCES));
     let directory = Answer { value: 1, ..fine() };
-    assert!(rt; is(&goes(look, directory), FAILS, EACCES) && !goes(look, directory).is_root);
     let file = Answer { value: 2, ..fine() };
-    assert!(rt; is(&goes(look, file), FAILS, ENOTDIR) && goes(look, file).is_root);
-    assert!(rt; is(&goes(look, fails(EBADF)), FAILS, EBADF) && goes(look, fails(EBADF)).is_root);
+    assert!(rt; asks(due(plain(), &[fine(), unseen, fine()]), Thing::LookAtRoot));
+    assert!(rt;
+        fails_by(
+            due(plain(), &[fine(), unseen, fine(), directory]),
+            EACCES,
+            false
+        )
+    );
+    assert!(rt; fails_by(due(plain(), &[fine(), unseen, fine(), file]), ENOTDIR, true));
+    assert!(rt;
+        fails_by(
+            due(plain(), &[fine(), unseen, fine(), fails(EBADF)]),
+            EBADF,
+            true
+        )
+    );
     Ok(())
 }
 
 #[test]
 fn an_error_from_before_comes_behind_the_roots(rt: HostRuntime) -> Result<(), Fail> {
-    let before = begin(&Facts {
+    let before = Facts {
         error: EACCES,
         places: true,
         ..plain()
-    });
-    assert!(rt; is(&before, BEGIN, EACCES) && before.about == 0);
-    let nothing = goes(before, fine());
-    assert!(rt; is(&nothing, LET_GO, EACCES));
-    let look = goes(nothing, fine());
-    assert!(rt; is(&look, LOOK_AT_ROOT, EACCES));
+    };
     let directory = Answer { value: 1, ..fine() };
     let file = Answer { value: 2, ..fine() };
-    assert!(rt; is(&goes(look, directory), FAILS, EACCES));
-    assert!(rt; is(&goes(look, file), FAILS, ENOTDIR) && goes(look, file).is_root);
-    assert!(rt; is(&goes(look, fails(EBADF)), FAILS, EBADF));
+    assert!(rt; asks(due(before, &[]), Thing::Begin(0)));
+    assert!(rt; asks(due(before, &[fine()]), Thing::LetGo));
+    assert!(rt; asks(due(before, &[fine(), fine()]), Thing::LookAtRoot));
+    assert!(rt; fails_by(due(before, &[fine(), fine(), directory]), EACCES, false));
+    assert!(rt; fails_by(due(before, &[fine(), fine(), file]), ENOTDIR, true));
+    assert!(rt; fails_by(due(before, &[fine(), fine(), fails(EBADF)]), EBADF, true));
     Ok(())
 }
 
@@ -299,17 +329,13 @@ fn a_place_is_asked_for(rt: HostRuntime) -> Result<(), Fail> {
         places: true,
         ..plain()
     };
-    let asked = goes(begin(&places), fine());
-    assert!(rt; is(&asked, PLACE, 0));
-    let there = goes(
-        asked,
-        Answer {
-            length: 4,
-            ..fine()
-        },
-    );
-    assert!(rt; is(&there, ENDS, 0) && there.value == 4 && !there.holds);
-    assert!(rt; is(&goes(asked, fails(EACCES)), FAILS, EACCES));
+    let there = Answer {
+        length: 4,
+        ..fine()
+    };
+    assert!(rt; asks(due(places, &[fine()]), Thing::Place));
+    assert!(rt; ends(due(places, &[fine(), there]), 4, false));
+    assert!(rt; fails_by(due(places, &[fine(), fails(EACCES)]), EACCES, false));
     Ok(())
 }
 

@@ -3,16 +3,8 @@
 
 #[test]
 fn laws_of_whole_calls() {
-    call_course::what_is_given_is_all_that_stays_open();
+    call_course::calls_hold();
     call_course::what_is_taken_is_the_calls_own();
-    call_course::its_own_proc_is_closed();
-    call_course::what_was_changed_is_not_begun_again();
-    call_course::another_proc_is_tried_once();
-    call_course::tries_are_few();
-    call_course::the_roots_errors_come_first();
-    call_course::what_has_failed_before_fails();
-    call_course::why_it_fails();
-    call_course::exchanges_are_few();
 }
 
 #[test]

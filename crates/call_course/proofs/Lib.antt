@@ -1,11 +1,2 @@
-pub mod Asked
-pub mod Ends
-pub mod Fields
-pub mod Given
-pub mod LawLemmas
-pub mod Leads
-pub mod Open
-pub mod Others
-pub mod Pauses
-pub mod Rule
-pub mod Sound
+pub mod CourseLemmas
+pub mod TryLemmas

@@ -1,4 +1,6 @@
-pub mod History
+pub mod Course
 pub mod Promises
+pub mod Runs
+pub mod Seen
 pub mod Taking
-pub mod Turns
+pub mod Tries

@@ -118,73 +118,107 @@ is_look _ = false
 abbrev pub again : SystemCall → Answer → Bool
 again q a = is_look q && (a.error == EINTR)
 
+-- ---- protocols
+
+-- what code may ask for, and what answers that; and after which answer the same is asked again
+pub record Protocol : Type 1 where
+  pub Asked : Type 0
+  pub Gave : Type 0
+  pub again : Asked → Gave → Bool
+
+abbrev pub protocol : {Q A : Type 0} → (Q → A → Bool) → Protocol
+protocol {Q} {A} again = record { Asked = Q; Gave = A; again = again }
+
+abbrev pub system_calls : Protocol
+system_calls = protocol again
+
 -- ---- dialogues
 
--- the end; or a system call, and what comes behind its answer
-pub data Dialogue (E : Type 0) : Type 0 where
-  ends : E → Dialogue E
-  asks : SystemCall → (Answer → Dialogue E) → Dialogue E
+-- the end; or a question, and what comes behind its answer
+pub data DialogueOf (P : Protocol) (E : Type 0) : Type 0 where
+  ends : E → DialogueOf P E
+  asks : P.Asked → (P.Gave → DialogueOf P E) → DialogueOf P E
 
--- what it comes to by these answers, and those that are left; or the system call that is due
-pub data Ran (E : Type 0) : Type 0 where
-  came : E → List Answer → Ran E
-  due : SystemCall → Ran E
+-- one that asks for system calls
+abbrev pub Dialogue : Type 0 → Type 0
+Dialogue E = DialogueOf system_calls E
+
+-- what it comes to by these answers, and those that are left; or the question that is due
+pub data RanOf (P : Protocol) (E : Type 0) : Type 0 where
+  came : E → List P.Gave → RanOf P E
+  due : P.Asked → RanOf P E
+
+abbrev pub Ran : Type 0 → Type 0
+Ran E = RanOf system_calls E
 
 -- what is left behind an answer
-abbrev pub behind : {E : Type 0} → SystemCall → (Answer → Dialogue E) → Answer → Dialogue E
-behind q after a = if again q a then asks q after else after a
+abbrev pub behind : {P : Protocol} {E : Type 0} → P.Asked → (P.Gave → DialogueOf P E) → P.Gave → DialogueOf P E
+behind {P} q after a = if P.again q a then asks q after else after a
 
-unfoldable pub ran : {E : Type 0} → Dialogue E → List Answer → Ran E
+unfoldable pub ran : {P : Protocol} {E : Type 0} → DialogueOf P E → List P.Gave → RanOf P E
 ran (ends e) answers = came e answers
 ran (asks q after) [] = due q
 ran (asks q after) (a ∷ answers) = ran (behind q after a) answers
 
 -- what code has come to, by how its value and its question are seen
-abbrev pub ran_by : {E P T : Type 0} → (T → E) → (P → SystemCall) → Result T P → List Answer → Ran E
-ran_by see asked (Ok value) left = came (see value) left
-ran_by see asked (Err question) left = due (asked question)
+abbrev pub ran_by_of : (P : Protocol) {E Q T : Type 0} → (T → E) → (Q → P.Asked) → Result T Q → List P.Gave → RanOf P E
+ran_by_of P see asked (Ok value) left = came (see value) left
+ran_by_of P see asked (Err question) left = due (asked question)
+
+abbrev pub ran_by : {E Q T : Type 0} → (T → E) → (Q → SystemCall) → Result T Q → List Answer → Ran E
+ran_by see asked r left = ran_by_of system_calls see asked r left
+
+-- one question
+unfoldable pub asking : (P : Protocol) → P.Asked → DialogueOf P P.Gave
+asking P q = asks q (λ a. ends a)
 
 -- one system call
-unfoldable pub calling : SystemCall → Dialogue Answer
-calling q = asks q (λ a. ends a)
+abbrev pub calling : SystemCall → Dialogue Answer
+calling q = asking system_calls q
 
 -- one dialogue, and then another one by what it has come to
-unfoldable pub and_then : {E F : Type 0} → Dialogue E → (E → Dialogue F) → Dialogue F
+unfoldable pub and_then : {P : Protocol} {E F : Type 0} → DialogueOf P E → (E → DialogueOf P F) → DialogueOf P F
 and_then (ends e) f = f e
 and_then (asks q after) f = asks q (λ a. and_then (after a) f)
 
-abbrev pub going : {E F : Type 0} → Ran E → (E → Dialogue F) → Ran F
+abbrev pub going : {P : Protocol} {E F : Type 0} → RanOf P E → (E → DialogueOf P F) → RanOf P F
 going (came e left) f = ran (f e) left
 going (due q) f = due q
 
 -- ---- conversations
 
+-- what was asked, and what that gave
+pub record ExchangeOf (P : Protocol) : Type 0 where
+  pub asked : P.Asked
+  pub answer : P.Gave
+
 -- a system call that was made, and what it gave
-pub record Exchange : Type 0 where
-  pub asked : SystemCall
-  pub answer : Answer
+abbrev pub Exchange : Type 0
+Exchange = ExchangeOf system_calls
 
 -- These exchanges may come, one after another: what is due is asked. What is left of the dialogue has End.
-unfoldable pub Talks : {E : Type 0} → Dialogue E → List Exchange → (Dialogue E → Type 0) → Type 0
+unfoldable pub Talks : {P : Protocol} {E : Type 0} → DialogueOf P E → List (ExchangeOf P) → (DialogueOf P E → Type 0)
+    → Type 0
 Talks s [] End = End s
 Talks (ends e) (x ∷ xs) End = ⊥
 Talks (asks q after) (x ∷ xs) End = (x.asked ≡ q) × Talks (behind q after x.answer) xs End
 
 -- these exchanges are a whole conversation, and it has come to this
-abbrev pub Whole : {E : Type 0} → Dialogue E → List Exchange → E → Type 0
+abbrev pub Whole : {P : Protocol} {E : Type 0} → DialogueOf P E → List (ExchangeOf P) → E → Type 0
 Whole s es e = Talks s es (λ rest. rest ≡ ends e)
 
 -- ---- who drives it
 
-abbrev pub answers_of : List Exchange → List Answer
+abbrev pub answers_of : {P : Protocol} → List (ExchangeOf P) → List P.Gave
 answers_of [] = []
 answers_of (x ∷ xs) = x.answer ∷ answers_of xs
 
 -- what is due is asked, by those answers and by one more each time
-abbrev pub IsDriven : {E : Type 0} → Dialogue E → List Answer → List Exchange → Type 0
+abbrev pub IsDriven : {P : Protocol} {E : Type 0} → DialogueOf P E → List P.Gave → List (ExchangeOf P) → Type 0
 IsDriven s before [] = Unit {0}
 IsDriven s before (x ∷ xs) = (ran s before ≡ due x.asked) × IsDriven s (before ++ x.answer ∷ []) xs
 
-abbrev pub without_signals : List Exchange → List Exchange
+-- except for what was asked again
+abbrev pub without_signals : {P : Protocol} → List (ExchangeOf P) → List (ExchangeOf P)
 without_signals [] = []
-without_signals (x ∷ xs) = if again x.asked x.answer then without_signals xs else x ∷ without_signals xs
+without_signals {P} (x ∷ xs) = if P.again x.asked x.answer then without_signals xs else x ∷ without_signals xs

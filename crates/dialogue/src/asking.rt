@@ -43,7 +43,7 @@ fn is_again(question: &Question<'_>, answer: &Answer) -> bool
 
 /// Takes the next answer, except for signals (EINTR), after which a system call that only looks is made again; or the
 /// system call is due, since it wasn't made yet.
-#[tactic(auto, unfolding(crate::specs::Dialogue::ran, crate::specs::Dialogue::calling))]
+#[tactic(auto, unfolding(crate::specs::Dialogue::ran, crate::specs::Dialogue::asking))]
 #[inline(always)]
 pub fn ask<'n>(answers: &mut &[Answer], question: Question<'n>) -> Asked<'n, Answer>
     ensures { ran_by (λ a. a) asked_of result answers.new.now

@@ -18,6 +18,7 @@ mod state;
 mod step;
 mod talk;
 mod there;
+mod tries;
 mod work;
 
 pub(crate) use state::{Ended, Part, Steps};

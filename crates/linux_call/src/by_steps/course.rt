@@ -2,6 +2,7 @@
 use crate::by_steps::slots::{ROOT, Slot};
 use crate::by_steps::state::{Ended, Part, Stage, Steps};
 use crate::by_steps::talk::Talk;
+use crate::by_steps::tries::{Course, nothing};
 use crate::by_steps::work::{Work, make};
 use crate::path::front;
 use crate::request::{
@@ -10,10 +11,7 @@ use crate::request::{
 };
 use crate::steps;
 use crate::walk::{BENEATH, NO_LINKS, has};
-use call_course::{
-    ANOTHER_PROC, Answer, BEGIN, CLOSE, CLOSE_PROC, CONVERSE, ENDS, FAILS, LET_GO, LOOK_AT_PROC,
-    LOOK_AT_ROOT, PLACE, TAKE, begin, next, take,
-};
+use call_course::{Answer, Thing, take};
 use dialogue::{Answer as Gave, Asked, Question, ask};
 use find_proc::{Known, Proc, find, is_lost};
 use linux_steps::{Ended as Made, look_error};
@@ -104,23 +102,22 @@ impl Steps {
         known: &mut Known,
         answers: &mut &[Gave],
     ) -> Asked<'s, Part> {
-        let about = (self.course.about & 0xffff_ffff) as u32;
         match self.course.next {
-            BEGIN => {
-                if about > 0 {
-                    ask(answers, Question::Wait(about))?;
+            Thing::Begin(pause) => {
+                if pause > 0 {
+                    ask(answers, Question::Wait(pause))?;
                 }
                 Ok(Part::Thing(0, 0))
             }
-            TAKE => self.take_due(known, answers),
-            CLOSE => self.close_due(answers, Some(about)),
-            CLOSE_PROC => self.close_due(answers, self.own_proc()),
-            LOOK_AT_PROC => match self.attempt.proc {
+            Thing::Take => self.take_due(known, answers),
+            Thing::Close(fd) => self.close_due(answers, Some(fd)),
+            Thing::CloseProc => self.close_due(answers, self.own_proc()),
+            Thing::LookAtProc => match self.attempt.proc {
                 Some(proc) => Ok(Part::Thing(is_lost(answers, known, proc.fd)? as u32, 0)),
                 None => Ok(Part::Thing(0, 0)),
             },
-            ANOTHER_PROC => Ok(Part::Another(find(answers, known, true)?)),
-            LOOK_AT_ROOT => self.look_at_root(answers),
+            Thing::AnotherProc => Ok(Part::Another(find(answers, known, true)?)),
+            Thing::LookAtRoot => self.look_at_root(answers),
             _ => Ok(Part::Thing(0, 0)),
         }
     }
@@ -131,29 +128,36 @@ impl Steps {
     fn noted(&self, error: u32, value: u64) -> Answer {
         Answer {
             value,
-            length: 0,
             error,
-            unmade: 0,
-            unopened: 0,
-            made: 0,
-            reply: 0,
             stepped: self.attempt.stepped,
             changed: self.attempt.changed,
             has_proc: self.attempt.proc.is_some(),
             owns_proc: self.attempt.owns_proc(),
+            ..nothing()
         }
     }
 
-    fn advance(&mut self, answer: &Answer, read: &mut [u8]) -> Option<Ended> {
-        self.course = next(self.course, answer);
-        match self.course.next {
-            ENDS => return self.run_over(Ok(self.course.value), read),
-            FAILS => return self.run_over(Err(self.course.error), read),
-            PLACE => {
-                self.attempt.step = steps::NAME_BELOW;
-                self.begin_to_ask();
+    // No step of the call is to blame for the root's own error.
+    fn advance(&mut self, answer: Answer, read: &mut [u8]) -> Option<Ended> {
+        if let Some(tried) = self.course.take(self.facts, answer) {
+            if tried.is_root {
+                self.attempt.step = 0;
             }
-            _ => self.stage = Stage::Course,
+            let failed = tried.error != 0;
+            return self.run_over(
+                if failed {
+                    Err(tried.error)
+                } else {
+                    Ok(tried.value)
+                },
+                read,
+            );
+        }
+        if self.course.next == Thing::Place {
+            self.attempt.step = steps::NAME_BELOW;
+            self.begin_to_ask();
+        } else {
+            self.stage = Stage::Course;
         }
         None
     }
@@ -217,20 +221,20 @@ impl Steps {
         read: &mut [u8],
     ) -> Option<Ended> {
         match self.course.next {
-            CONVERSE => {
+            Thing::Converse => {
                 self.converse(alloc);
                 return None;
             }
-            BEGIN => self.attempt.reset(&self.request),
-            TAKE => self.taken(),
-            LET_GO => {
+            Thing::Begin(_) => self.attempt.reset(&self.request),
+            Thing::Take => self.taken(),
+            Thing::LetGo => {
                 self.attempt.handles.clear();
                 self.attempt.names = Vec::new(alloc);
             }
             _ => (),
         }
         let answer = self.noted(error, value);
-        self.advance(&answer, read)
+        self.advance(answer, read)
     }
 
     /// The try begins anew by another /proc, if there is one.
@@ -248,7 +252,7 @@ impl Steps {
             Err(error) => error,
         };
         let answer = self.noted(error, 0);
-        self.advance(&answer, read)
+        self.advance(answer, read)
     }
 
     /// The place of the request's object was asked for.
@@ -257,7 +261,7 @@ impl Steps {
             length,
             ..self.noted(error, length)
         };
-        self.advance(&answer, read)
+        self.advance(answer, read)
     }
 
     /// The proved call has replied.
@@ -275,12 +279,12 @@ impl Steps {
             reply,
             ..self.noted(error, value)
         };
-        self.advance(&answer, read)
+        self.advance(answer, read)
     }
 
     /// Nothing is done where the kernel lacks what the library needs.
     pub(crate) fn floor_seen(&mut self, has: bool, read: &mut [u8]) -> Option<Ended> {
-        self.course = begin(&self.facts);
+        self.course = Course::begin();
         if has {
             self.stage = Stage::Course;
             return None;
@@ -292,11 +296,7 @@ impl Steps {
 
     // ---- the end
 
-    // No step of the call is to blame for the root's own error.
     fn run_over(&mut self, outcome: Result<u64, u32>, read: &mut [u8]) -> Option<Ended> {
-        if self.course.is_root {
-            self.attempt.step = 0;
-        }
         let is_removal = self.removing.is_some();
         match outcome {
             Ok(_) if is_removal => self.run_removed(0),

@@ -90,7 +90,7 @@ impl Steps {
         if !self.search.is_over() {
             return None;
         }
-        if self.course.next == call_course::PLACE {
+        if self.course.next == call_course::Thing::Place {
             self.object = self.search.held();
             self.stage = Stage::Asking;
             self.asking = ask_place::next(self.asking, &plain(self.search.error().unwrap_or(0)));

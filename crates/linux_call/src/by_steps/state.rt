@@ -6,10 +6,11 @@ use crate::by_steps::removal::Removing;
 use crate::by_steps::search::{Found, Search};
 use crate::by_steps::slots::Slot;
 use crate::by_steps::talk::Talk;
+use crate::by_steps::tries::Course;
 use crate::request::{FAILED, MKDIR_ALL, PLACE, REMOVE_ALL, Request};
 use crate::walk::{NO_RETRY, has};
 use ask_place::Asking;
-use call_course::{Calling, Facts};
+use call_course::Facts;
 use dialogue::{Answer, Asked};
 use find_proc::{Known, Proc, has_floor};
 use path_text::Errno;
@@ -89,7 +90,7 @@ pub(crate) struct Steps {
     pub(crate) within: Option<Name>,
     pub(crate) facts: Facts,
     pub(crate) stage: Stage,
-    pub(crate) course: Calling,
+    pub(crate) course: Course,
     pub(crate) attempt: Attempt,
     pub(crate) talk: Talk,
     pub(crate) search: Search,
@@ -179,7 +180,7 @@ impl Steps {
             within: None,
             facts,
             stage: first_stage(request),
-            course: call_course::begin(&facts),
+            course: Course::begin(),
             attempt: Attempt::new(alloc),
             talk: Talk::failed(alloc, Errno::NoMemory),
             search: Search::new(alloc),
