@@ -1,9 +1,7 @@
 //! A /proc is found, looked at, handed in or made, by answers that Linux gives; and an entry that was made is opened.
 use crate::rows::goes;
 use crate::talk::Talk;
-use find_proc::{
-    File, a_proc_is_found, a_proc_is_handed_in, a_proc_is_made, the_kept_one_is_looked_at,
-};
+use find_proc::File;
 use std::test::Fail;
 
 /// Conversations about a /proc. Descriptor 4294967196 is AT_FDCWD, and 4294967295 is none.
@@ -130,13 +128,4 @@ fn the_first_one_is_the_programs(rt: HostRuntime) -> Result<(), Fail> {
     assert!(rt; after.kept.fd == 12 && after.kept.file == file);
     assert!(rt; after.machine == talk.known.machine && !after.has_floor);
     Ok(())
-}
-
-// The laws are called as a caller has them at hand. They do nothing.
-#[test]
-fn laws_of_a_proc_are_at_hand() {
-    a_proc_is_found();
-    the_kept_one_is_looked_at();
-    a_proc_is_handed_in();
-    a_proc_is_made();
 }
