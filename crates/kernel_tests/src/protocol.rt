@@ -1,5 +1,5 @@
 //! Conversations about an object's place: what a kernel answers, and to what it comes.
-use crate::rows::{Room, goes, name_of, number, word_of};
+use crate::rows::{Room, all_go, name_of, number, word_of};
 use place_protocol::{Answer, Facts, Told, begin, next};
 use std::alloc::{AllocError, Global};
 use std::test::Fail;
@@ -27,19 +27,22 @@ struct Place {
 }
 
 impl Room for Place {
+    fn begun(_: Global, words: &'static str) -> Place {
+        let (directory, seen) = (words.ends_with("directory"), words.starts_with("seen"));
+        Place {
+            facts: Facts { directory, seen },
+            told: begin(),
+            read: [b""; 6],
+        }
+    }
+
     // Where the names stand in the text, and how long they are.
     fn due(&self, alloc: Global) -> Result<String, AllocError> {
-        let Told {
-            start,
-            length,
-            error,
-            what,
-            is_root,
-        } = self.told;
-        match word_of(what, "root text look again dead stands fails") {
-            "fails" => format!(in alloc; "fails {}", name_of(error)),
-            "stands" if is_root => format!(in alloc; "is the root, {start} {length}"),
-            word if what == 3 || what == 6 => format!(in alloc; "{word} {start} {length}"),
+        let (start, length) = (self.told.start, self.told.length);
+        match word_of(self.told.what, "root text look again dead stands fails") {
+            "fails" => format!(in alloc; "fails {}", name_of(self.told.error)),
+            "stands" if self.told.is_root => format!(in alloc; "is the root, {start} {length}"),
+            word @ ("look" | "stands") => format!(in alloc; "{word} {start} {length}"),
             word => format!(in alloc; "{word}"),
         }
     }
@@ -58,6 +61,10 @@ impl Room for Place {
         let [_, root, text, _, again, _] = self.read;
         self.told = next(&self.facts, asked, &answer, root, text, again);
         Some(())
+    }
+
+    fn is_right(&mut self) -> bool {
+        true
     }
 }
 
@@ -101,20 +108,7 @@ directory: root = reads /srv/root; text = ENOENT; fails ENOSYS";
 
 #[test]
 fn witnesses_tell_a_place(rt: HostRuntime) -> Result<(), Fail> {
-    for row in PLACES.lines() {
-        let (kinds, talk) = row.split_once(": ").unwrap_or(("", "a row"));
-        for kind in kinds.split(", ") {
-            let (directory, seen) = (kind.ends_with("directory"), kind.starts_with("seen"));
-            let mut place = Place {
-                facts: Facts { directory, seen },
-                told: begin(),
-                read: [b""; 6],
-            };
-            if !row.starts_with('#') {
-                goes(&rt, rt.alloc(), &mut place, talk)?;
-            }
-        }
-    }
+    all_go::<Place>(&rt, rt.alloc(), PLACES)?;
     Ok(())
 }
 
