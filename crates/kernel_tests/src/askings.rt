@@ -1,5 +1,5 @@
 //! Which system call comes next as a place is asked for, by answers that the kernel gives; and how often it is.
-use crate::rows::{Room, goes, name_of, number, word_of};
+use crate::rows::{Room, all_go, name_of, number, word_of};
 use ask_place::{Answer, Asking, ENDS, begin, next, next_question};
 use std::alloc::{AllocError, Global};
 use std::test::Fail;
@@ -11,6 +11,10 @@ const GAVE: Answer = Answer {
 };
 
 impl Room for Asking {
+    fn begun(_: Global, _: &'static str) -> Asking {
+        begin()
+    }
+
     fn due(&self, alloc: Global) -> Result<String, AllocError> {
         let word = word_of(self.next, "look copy find dead close ends fails");
         format!(in alloc; "{word} {}", name_of(self.error))
@@ -30,6 +34,11 @@ impl Room for Asking {
         *self = next(*self, &answer);
         Some(())
     }
+
+    // Where nothing comes any more, nothing changes.
+    fn is_right(&mut self) -> bool {
+        self.next < ENDS || next(*self, &GAVE) == *self
+    }
 }
 
 const ASKINGS: &str = "\
@@ -48,17 +57,7 @@ look ok = directory 0; copy ok = ok; find ok = EIO; close EIO = ok; fails EIO";
 
 #[test]
 fn a_place_is_asked_for(rt: HostRuntime) -> Result<(), Fail> {
-    for row in ASKINGS.lines() {
-        if !row.starts_with('#') {
-            let mut asking = begin();
-            goes(&rt, rt.alloc(), &mut asking, row)?;
-            // where nothing comes any more, nothing changes
-            assert!(rt;
-                asking.next < ENDS || next(asking, &GAVE) == asking,
-                "{row}"
-            );
-        }
-    }
+    all_go::<Asking>(&rt, rt.alloc(), ASKINGS)?;
     Ok(())
 }
 

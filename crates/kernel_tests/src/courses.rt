@@ -1,6 +1,6 @@
 //! Which call comes next as a file is opened, or made where it is missing, by answers that a kernel gives.
 use crate::openings::X86_64;
-use crate::rows::{ROOM, Room, goes, laid, letters, name_of, number, shown, word_of};
+use crate::rows::{ROOM, Room, all_go, goes, laid, letters, name_of, number, shown, word_of};
 use open_or_make::{CREATE, Course, FIND, READ_LINK, Request, begin, next, request_of};
 use std::alloc::{AllocError, Global};
 use std::test::Fail;
@@ -14,36 +14,33 @@ struct File {
     room: [u8; ROOM],
 }
 
-// A path, and what is wanted there: `once`, in one try; `no_links`, through none.
-fn begun(words: &str) -> File {
-    let (path, wanted) = words.split_once(' ').unwrap_or((words, ""));
-    let (flags, mode) = match wanted {
-        "found" => (0, 0),
-        "new" => (0o300, 0o600),
-        "excl" => (0o200, 0),
-        "mode" => (0, 0o600),
-        "nofollow" => (0o400100, 0o600),
-        _ => (0o100, 0o600),
-    };
-    let opening = opening_of(&X86_64, flags, mode);
-    File {
-        course: begin(path.len(), &opening, wanted == "no_links", wanted != "once"),
-        room: laid(path),
-    }
-}
-
 impl Room for File {
+    // A path, and what is wanted there: `once`, in one try; `no_links`, through none.
+    fn begun(_: Global, words: &'static str) -> File {
+        let (path, wanted) = words.split_once(' ').unwrap_or((words, ""));
+        let (flags, mode) = match wanted {
+            "found" => (0, 0),
+            "new" => (0o300, 0o600),
+            "excl" => (0o200, 0),
+            "mode" => (0, 0o600),
+            "nofollow" => (0o400100, 0o600),
+            _ => (0o100, 0o600),
+        };
+        let opening = opening_of(&X86_64, flags, mode);
+        File {
+            course: begin(path.len(), &opening, wanted == "no_links", wanted != "once"),
+            room: laid(path),
+        }
+    }
+
     fn due(&self, alloc: Global) -> Result<String, AllocError> {
-        let Course {
-            error,
-            step,
-            links,
-            pause,
-            ..
-        } = self.course;
+        let (step, links, pause) = (self.course.step, self.course.links, self.course.pause);
         let path = shown(alloc, &self.room, self.course.length)?;
         match word_of(self.course.next, "find create read ends fails") {
-            "fails" => format!(in alloc; "fails {} at {step} of {path}", name_of(u32::from(error))),
+            "fails" => format!(in alloc;
+                "fails {} at {step} of {path}",
+                name_of(self.course.error.into())
+            ),
             word if self.course.once => format!(in alloc; "only {word} {path}"),
             word if pause > 0 => format!(in alloc; "{word} {path} after {pause}"),
             word if links > 0 => format!(in alloc; "{word} {path} by {links}"),
@@ -63,6 +60,10 @@ impl Room for File {
             error => next(self.course, number(error)?, b"", &mut self.room),
         };
         Some(())
+    }
+
+    fn is_right(&mut self) -> bool {
+        true
     }
 }
 
@@ -106,18 +107,13 @@ a mode: fails EINVAL at 0 of a";
 
 #[test]
 fn a_file_is_found_or_made(rt: HostRuntime) -> Result<(), Fail> {
-    for row in COURSES.lines() {
-        let (head, talk) = row.split_once(": ").unwrap_or(("", "a row"));
-        if !row.starts_with('#') {
-            goes(&rt, rt.alloc(), &mut begun(head), talk)?;
-        }
-    }
+    all_go::<File>(&rt, rt.alloc(), COURSES)?;
     Ok(())
 }
 
 #[test]
 fn follows_forty_links(rt: HostRuntime) -> Result<(), Fail> {
-    let mut file = begun("a");
+    let mut file = File::begun(rt.alloc(), "a");
     for _ in 0..40 {
         for gave in ["ENOENT", "EEXIST", "is b"] {
             assert!(rt; file.take(gave).is_some());
@@ -131,7 +127,7 @@ fn follows_forty_links(rt: HostRuntime) -> Result<(), Fail> {
 
 #[test]
 fn gives_up_after_32_tries(rt: HostRuntime) -> Result<(), Fail> {
-    let mut file = begun("a");
+    let mut file = File::begun(rt.alloc(), "a");
     for times in 1..32 {
         for gave in ["ENOENT", "EEXIST", "ENOENT"] {
             assert!(rt; file.take(gave).is_some());

@@ -1,98 +1,62 @@
 //! What comes before the first question about the place of what a walk holds.
+use crate::rows::word_of;
 use place_protocol::{
-    ASK, AT_NAMES, AT_ROOT, BY_NAME, BY_PARENT, BY_ROOT, Held, LOOK_UP, SEEN_BELOW,
-    before_questions, behind_look_up, names_are_looked_up_first,
-    names_are_told_by_the_kernels_check, only_the_root_is_at_itself,
+    BY_NAME, BY_PARENT, BY_ROOT, Held, SEEN_BELOW, before_questions, behind_look_up,
 };
 use std::test::Fail;
 
-// A file that a name led to, in a call that wants both witnesses.
-const FILE: Held = Held {
-    way: BY_NAME,
-    above: false,
-    directory: false,
-    named: true,
-    below: false,
-};
+/// By which way a walk holds something, of which kind that is, whether the kernel's check is enough (`below`), whether
+/// the walk has gone up, and whether its names aren't known. And what comes first; behind a look-up that found it and
+/// one that didn't.
+const HELD: &str = "\
+# the kernel's check is enough where it is asked for
+name file below, name directory below: look at_names ask
+seen file below, seen directory below: at_names
+seen file, seen directory: ask
+# a file is looked up before its text is read
+name file: look ask ask
+name directory, parent directory below: ask
+# no names are looked up behind `..`, and where the walk's names aren't known
+name file up, name directory up, name file below up, name directory below up: ask
+name file unnamed, name directory unnamed, name file below unnamed, name directory below unnamed: ask
+seen file up, seen directory up, seen file below up, seen directory below up: ask
+seen file unnamed, seen directory unnamed, seen file below unnamed, seen directory below unnamed: ask
+parent file up, parent directory up, parent file below up, parent directory below up: ask
+parent file unnamed, parent directory unnamed, parent file below unnamed, parent directory below unnamed: ask
+# the root is below itself at no names
+root directory, root directory below, root directory unnamed: at_root";
 
-const DIRECTORY: Held = Held {
-    directory: true,
-    ..FILE
-};
-
-// The same where the kernel's check is enough.
-fn below(held: Held) -> Held {
+fn held_of(words: &str) -> Held {
     Held {
-        below: true,
-        ..held
+        way: match words.split_once(' ') {
+            Some(("name", _)) => BY_NAME,
+            Some(("seen", _)) => SEEN_BELOW,
+            Some(("parent", _)) => BY_PARENT,
+            _ => BY_ROOT,
+        },
+        above: words.ends_with("up"),
+        directory: words.contains("directory"),
+        named: !words.ends_with("unnamed"),
+        below: words.contains("below"),
     }
 }
 
-fn by(way: u8, held: Held) -> Held {
-    Held { way, ..held }
-}
-
 #[test]
-fn the_kernels_check_is_enough_where_it_is_asked_for(rt: HostRuntime) -> Result<(), Fail> {
-    for held in &[FILE, DIRECTORY] {
-        assert!(rt; before_questions(&below(*held)) == LOOK_UP);
-        assert!(rt; behind_look_up(&below(*held), true) == AT_NAMES);
-        assert!(rt; behind_look_up(&below(*held), false) == ASK);
-        assert!(rt; before_questions(&below(by(SEEN_BELOW, *held))) == AT_NAMES);
-        assert!(rt; before_questions(&by(SEEN_BELOW, *held)) == ASK);
-    }
-    Ok(())
-}
-
-#[test]
-fn a_file_is_looked_up_before_its_text_is_read(rt: HostRuntime) -> Result<(), Fail> {
-    assert!(rt; before_questions(&FILE) == LOOK_UP);
-    assert!(rt; behind_look_up(&FILE, true) == ASK);
-    assert!(rt; behind_look_up(&FILE, false) == ASK);
-    assert!(rt; before_questions(&DIRECTORY) == ASK);
-    Ok(())
-}
-
-// Behind `..`, and where the walk's names aren't known.
-#[test]
-fn no_names_are_looked_up_elsewhere(rt: HostRuntime) -> Result<(), Fail> {
-    for way in &[BY_NAME, SEEN_BELOW, BY_PARENT] {
-        for held in &[FILE, DIRECTORY, below(FILE), below(DIRECTORY)] {
-            let held = by(*way, *held);
-            assert!(rt;
-                before_questions(&Held {
-                    above: true,
-                    ..held
-                }) == ASK
-            );
-            assert!(rt;
-                before_questions(&Held {
-                    named: false,
-                    ..held
-                }) == ASK
-            );
+fn names_are_looked_up_first(rt: HostRuntime) -> Result<(), Fail> {
+    for row in HELD.lines() {
+        let (all, comes) = row.split_once(": ").unwrap_or(("", ""));
+        let mut comes = comes.split(' ');
+        let first = comes.next();
+        let behind = (comes.next(), comes.next());
+        for words in all.split(", ") {
+            let held = held_of(words);
+            let before = Some(word_of(before_questions(&held), "at_root look at_names ask"));
+            assert!(rt; row.starts_with('#') || before == first, "{words}");
+            for (found, wanted) in [(true, behind.0), (false, behind.1)] {
+                let due = Some(word_of(behind_look_up(&held, found), "at_root look at_names ask"));
+                assert!(rt; wanted.is_none() || due == wanted, "{words} {found}");
+            }
         }
     }
-    assert!(rt; before_questions(&below(by(BY_PARENT, DIRECTORY))) == ASK);
     Ok(())
-}
-
-#[test]
-fn the_root_is_below_itself_at_no_names(rt: HostRuntime) -> Result<(), Fail> {
-    let root = by(BY_ROOT, DIRECTORY);
-    assert!(rt; before_questions(&root) == AT_ROOT);
-    assert!(rt; before_questions(&below(root)) == AT_ROOT);
-    let unnamed = Held {
-        named: false,
-        ..root
-    };
-    assert!(rt; before_questions(&unnamed) == AT_ROOT);
-    Ok(())
-}
-
-#[test]
-fn laws_of_names_are_called() {
-    names_are_told_by_the_kernels_check();
-    names_are_looked_up_first();
-    only_the_root_is_at_itself();
 }

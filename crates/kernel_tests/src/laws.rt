@@ -1,4 +1,4 @@
-//! The laws of files, trees and directories are called as a caller has them at hand. They do nothing.
+//! The laws are called as a caller has them at hand. They do nothing.
 
 #[test]
 fn laws_of_files() {
@@ -58,4 +58,45 @@ fn laws_of_listings() {
     list_directory::a_signal_ends_nothing();
     list_directory::what_is_listed_was_sorted();
     list_directory::calls_are_few();
+}
+
+#[test]
+fn laws_of_system_calls() {
+    system_calls::contradictions_are_refused();
+    system_calls::kinds_are_asked_for();
+    system_calls::pauses_add_up();
+    system_calls::what_is_found_is_only_opened();
+    system_calls::what_is_found_is_used_so();
+    system_calls::what_is_made_is_new();
+}
+
+#[test]
+fn laws_of_a_proc() {
+    find_proc::a_proc_is_found();
+    find_proc::the_kept_one_is_looked_at();
+    find_proc::a_proc_is_handed_in();
+    find_proc::a_proc_is_made();
+}
+
+#[test]
+fn laws_of_places_asked_for() {
+    ask_place::calls_are_few();
+    ask_place::questions_are_few();
+    ask_place::the_copy_is_closed_once();
+    ask_place::what_is_there_is_told();
+    ask_place::what_is_told_was_found();
+    ask_place::why_it_fails();
+}
+
+#[test]
+fn laws_of_places() {
+    place_protocol::places_are_witnessed();
+    place_protocol::places_stood();
+    place_protocol::places_were_passed();
+    place_protocol::agreeing_witnesses_are_told();
+    place_protocol::names_lie_in_the_text();
+    place_protocol::questions_come_to_an_end();
+    place_protocol::names_are_told_by_the_kernels_check();
+    place_protocol::names_are_looked_up_first();
+    place_protocol::only_the_root_is_at_itself();
 }

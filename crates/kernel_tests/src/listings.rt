@@ -1,6 +1,6 @@
 //! Which system call comes next as a directory is listed, by answers that the kernel gives.
 use crate::records::put_record;
-use crate::rows::{Room, goes, name_of, number, shown, word_of};
+use crate::rows::{Room, all_go, name_of, number, shown, word_of};
 use list_directory::{ENDS, Listing, begin, next};
 use std::alloc::{AllocError, Global};
 use std::test::Fail;
@@ -29,6 +29,14 @@ impl Directory {
 }
 
 impl Room for Directory {
+    fn begun(alloc: Global, _: &'static str) -> Directory {
+        Directory {
+            alloc,
+            listing: begin(4 * MIB),
+            room: DASHES,
+        }
+    }
+
     // With the names that were read, or a dash.
     fn due(&self, alloc: Global) -> Result<String, AllocError> {
         let word = word_of(self.listing.next, "open read close sort ends fails");
@@ -61,6 +69,13 @@ impl Room for Directory {
         }
         self.go_on(0, records.as_slice())
     }
+
+    // No byte behind the names was written. Where nothing comes any more, nothing changes.
+    fn is_right(&mut self) -> bool {
+        let end = self.listing;
+        let is_kept = self.room.get(end.used..) == DASHES.get(end.used..);
+        is_kept && (end.next < ENDS || self.go_on(13, b"").is_some() && self.listing == end)
+    }
 }
 
 const LISTINGS: &str = "\
@@ -87,27 +102,7 @@ open - = EINTR; open - = ok; read - = EINTR; read - = ok; close -";
 
 #[test]
 fn a_directory_is_listed(rt: HostRuntime) -> Result<(), Fail> {
-    for row in LISTINGS.lines() {
-        if row.starts_with('#') {
-            continue;
-        }
-        let mut directory = Directory {
-            alloc: rt.alloc(),
-            listing: begin(4 * MIB),
-            room: DASHES,
-        };
-        goes(&rt, rt.alloc(), &mut directory, row)?;
-        let end = directory.listing;
-        assert!(rt;
-            directory.room.get(end.used..) == DASHES.get(end.used..),
-            "{row}"
-        );
-        // where nothing comes any more, nothing changes
-        assert!(rt;
-            end.next < ENDS || directory.go_on(13, b"").is_some() && directory.listing == end,
-            "{row}"
-        );
-    }
+    all_go::<Directory>(&rt, rt.alloc(), LISTINGS)?;
     Ok(())
 }
 

@@ -1,11 +1,13 @@
 //! Which call comes next as all missing parts of a path are made, by answers that a kernel gives.
-use crate::rows::{ROOM, Room, goes, laid, letters, name_of, number, shown, word_of};
+use crate::rows::{ROOM, Room, all_go, goes, laid, letters, name_of, number, shown, word_of};
 use make_through_links::{FIND, Making, Outcome, begin, next};
 use std::alloc::{AllocError, Global};
 use std::test::Fail;
 use system_calls::next_try;
 
 const EAGAIN: u32 = 11;
+
+const CALLS: &str = "find split above make partial link create end ends fails";
 
 const OPENED: Outcome = Outcome {
     rest: 0,
@@ -20,34 +22,28 @@ struct Made {
     room: [u8; ROOM],
 }
 
-// A path, and what is wanted there: `stays`, with no link followed; `once`, in one try.
-fn begun(words: &str) -> Made {
-    let (path, wanted) = words.split_once(' ').unwrap_or((words, ""));
-    let (follows, retry) = (!wanted.contains("stays"), !wanted.contains("once"));
-    Made {
-        making: begin(path.len(), wanted.contains("file"), follows, retry),
-        room: laid(path),
-    }
-}
-
 impl Room for Made {
+    // A path, and what is wanted there: `stays`, with no link followed; `once`, in one try.
+    fn begun(_: Global, words: &'static str) -> Made {
+        let (path, wanted) = words.split_once(' ').unwrap_or((words, ""));
+        let (follows, retry) = (!wanted.contains("stays"), !wanted.contains("once"));
+        Made {
+            making: begin(path.len(), wanted.contains("file"), follows, retry),
+            room: laid(path),
+        }
+    }
+
     fn due(&self, alloc: Global) -> Result<String, AllocError> {
-        let Making {
-            error,
-            step,
-            gives,
-            closes,
-            pause,
-            ..
-        } = self.making;
+        let Making { gives, closes, .. } = self.making;
+        let (step, pause) = (self.making.step, self.making.pause);
         let path = shown(alloc, &self.room, self.making.size)?;
-        match word_of(
-            self.making.next,
-            "find split above make partial link create end ends fails",
-        ) {
+        match word_of(self.making.next, CALLS) {
             "ends" => format!(in alloc; "ends {gives} {closes}"),
             "fails" if gives > 0 => format!(in alloc; "fails and gives {gives}"),
-            "fails" => format!(in alloc; "fails {} at {step} of {path} {closes}", name_of(error)),
+            "fails" => format!(in alloc;
+                "fails {} at {step} of {path} {closes}",
+                name_of(self.making.error)
+            ),
             word if pause > 0 => format!(in alloc; "{word} {path} {closes} after {pause}"),
             word => format!(in alloc; "{word} {path} {closes}"),
         }
@@ -79,6 +75,10 @@ impl Room for Made {
         }
         self.making = next(making, outcome, text, &mut self.room);
         Some(())
+    }
+
+    fn is_right(&mut self) -> bool {
+        true
     }
 }
 
@@ -134,18 +134,13 @@ d directory once: make d 0 = ENOENT; partial d 0 = there 3 1; fails EAGAIN at 8 
 
 #[test]
 fn all_missing_parts_are_made(rt: HostRuntime) -> Result<(), Fail> {
-    for row in MAKINGS.lines() {
-        let (head, talk) = row.split_once(": ").unwrap_or(("", "a row"));
-        if !row.starts_with('#') {
-            goes(&rt, rt.alloc(), &mut begun(head), talk)?;
-        }
-    }
+    all_go::<Made>(&rt, rt.alloc(), MAKINGS)?;
     Ok(())
 }
 
 #[test]
 fn follows_forty_links(rt: HostRuntime) -> Result<(), Fail> {
-    let mut made = begun("a directory");
+    let mut made = Made::begun(rt.alloc(), "a directory");
     for links in 1..41 {
         for gave in ["ENOENT", "there 3 0", "reads b"] {
             assert!(rt; made.take(gave).is_some());
@@ -160,7 +155,7 @@ fn follows_forty_links(rt: HostRuntime) -> Result<(), Fail> {
 
 #[test]
 fn gives_up_after_32_tries(rt: HostRuntime) -> Result<(), Fail> {
-    let mut made = begun("d/n file");
+    let mut made = Made::begun(rt.alloc(), "d/n file");
     for times in 1..33 {
         for gave in ["ENOENT", "parted 2", "is 8", "EEXIST", "ENOENT"] {
             assert!(rt; made.take(gave).is_some());

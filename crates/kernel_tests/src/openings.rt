@@ -1,4 +1,5 @@
 //! What a call does by flags of open(2), by their numbers on both machines.
+use std::alloc::{AllocError, Global};
 use std::test::Fail;
 use system_calls::{
     MachineFlags, Opening, USE_FAILS, USE_GIVES, USE_MAKES, USE_REOPENS, Use, opening_of,
@@ -21,118 +22,111 @@ const ARM64: MachineFlags = MachineFlags {
 
 const EINVAL: u8 = 22;
 
-fn on_x86_64(flags: u32, mode: u32) -> Opening {
-    opening_of(&X86_64, flags, mode)
+// The number that a word is in octal, and the mode behind a slash.
+fn octal(word: &str) -> Option<(u32, u32)> {
+    let (flags, mode) = word.split_once('/').unwrap_or((word, "0"));
+    Some((
+        u32::from_str_radix(flags, 8).ok()?,
+        u32::from_str_radix(mode, 8).ok()?,
+    ))
 }
 
-// Flags and a mode, and whether they are taken, with the numbers of x86-64.
-const TAKEN: [(u32, u32, bool); 36] = [
-    // To read, to write, both; and all three at once.
-    (0o0, 0, true),
-    (0o1, 0, true),
-    (0o2, 0, true),
-    (0o3, 0, false),
-    // Each flag alone that an open may have, and each bit between them.
-    (0o3000, 0, true),
-    (0o4400, 0, true),
-    (0o10000, 0, true),
-    (0o4010000, 0, true),
-    (0o140000, 0, true),
-    (0o3000000, 0, true),
-    (0o4, 0, false),
-    (0o40, 0, false),
-    (0o20000, 0, false),
-    (0o40000000, 0, false),
-    (0o20000000000, 0, false),
-    // O_CREAT and its mode; and a mode without it.
-    (0o101, 0, true),
-    (0o101, 0o7777, true),
-    (0o101, 0o10000, false),
-    (0o1, 0o1, false),
-    (0o200000, 0o644, false),
-    // O_EXCL, O_DIRECTORY and O_NOFOLLOW, each with it and without.
-    (0o301, 0o644, true),
-    (0o201, 0, false),
-    (0o200100, 0o644, false),
-    (0o200000, 0, true),
-    (0o400101, 0o644, true),
-    (0o400000, 0, true),
-    // O_TMPFILE: written, read, with O_EXCL, with O_CREAT, and without O_DIRECTORY's bit.
-    (0o20200001, 0o600, true),
-    (0o20200002, 0o600, true),
-    (0o20200000, 0o600, false),
-    (0o20600201, 0o600, true),
-    (0o20200102, 0o600, false),
-    (0o20000002, 0o600, false),
-    // O_PATH has few beside it.
-    (0o10600000, 0, true),
-    (0o12400300, 0o644, true),
-    (0o10000001, 0, false),
-    (0o30200000, 0, false),
-];
+/// Flags and modes, with the numbers of x86-64; behind `!` those that are refused.
+const TAKEN: &str = "\
+# to read, to write, both; and all three at once
+0 1 2 !3
+# each flag alone that an open may have, and each bit between them
+3000 4400 10000 4010000 140000 3000000 !4 !40 !20000 !40000000 !20000000000
+# O_CREAT and its mode; and a mode without it
+101 101/7777 !101/10000 !1/1 !200000/644
+# O_EXCL, O_DIRECTORY and O_NOFOLLOW, each with it and without
+301/644 !201 !200100/644 200000 400101/644 400000
+# O_TMPFILE: written, read, with O_EXCL, with O_CREAT, and without O_DIRECTORY's bit
+20200001/600 20200002/600 !20200000/600 20600201/600 !20200102/600 !20000002/600
+# O_PATH has few beside it
+10600000 12400300/644 !10000001 !30200000";
 
 #[test]
 fn takes_the_flags_that_fit(rt: HostRuntime) -> Result<(), Fail> {
-    for (flags, mode, taken) in &TAKEN {
-        let opening = on_x86_64(*flags, *mode);
-        assert!(rt; opening.error == if *taken { 0 } else { EINVAL });
+    for row in TAKEN.lines() {
+        for word in row.split(' ') {
+            let refused = word.strip_prefix('!');
+            if row.starts_with('#') {
+                continue;
+            }
+            let Some((flags, mode)) = octal(refused.unwrap_or(word)) else {
+                panic!(rt; "no number: {word}");
+            };
+            let error = opening_of(&X86_64, flags, mode).error;
+            assert!(rt;
+                error == if refused.is_some() { EINVAL } else { 0 },
+                "{word}"
+            );
+        }
     }
     Ok(())
 }
 
-// What is refused is nothing else.
-#[test]
-fn does_nothing_by_what_it_refuses(rt: HostRuntime) -> Result<(), Fail> {
-    let opening = on_x86_64(0o600303, 0o644);
-    assert!(rt; opening.error == EINVAL && !opening.finds && !opening.makes);
-    assert!(rt; opening.found_flags == 0 && opening.made_flags == 0);
-    Ok(())
+/// A machine, flags and a mode: what is so by them, the errors of a directory and of anything else; by which flags an
+/// object that was found is opened, and one is made.
+const OPENINGS: &str = "\
+# O_WRONLY, O_TRUNC, O_NOFOLLOW
+x86-64 401001: finds 0 0 found by 2001401
+# O_DIRECTORY: the kernel itself looks, as it opens; with O_PATH it doesn't
+x86-64 200000: finds follows directory asks 0 0 found by 2200400
+x86-64 10200000: finds follows directory asks path 0 20
+# O_CREAT and O_RDWR: a directory isn't opened so; with O_EXCL nothing is looked for
+x86-64 102/644: finds makes follows asks 21 0 found by 2000402 made by 2400702
+x86-64 302/644: makes follows asks 21 0 made by 2400702
+# O_TMPFILE and O_EXCL: no name is made
+x86-64 20600201/600: finds directory asks nameless 0 0 found by 22200601
+# what is refused is nothing else
+x86-64 600303/644: refused 0 0 found by 0 made by 0
+# the same flag has another number there
+arm64 40000: finds follows directory asks 0 0 found by 2040400
+arm64 100102/644: finds makes asks 21 0 found by 2000402 made by 2100702
+arm64 40100/644: refused 0 0 found by 0 made by 0
+arm64 20040002/600: finds follows directory asks nameless 0 0 found by 22040402
+arm64 600000: finds follows 0 0 found by 2600400";
+
+fn said(alloc: Global, opening: &Opening) -> Result<String, AllocError> {
+    let mut said = String::new(alloc);
+    let is_refused = opening.error == EINVAL;
+    for (is_so, word) in [
+        (is_refused, "refused "),
+        (opening.finds, "finds "),
+        (opening.makes, "makes "),
+        (opening.follows, "follows "),
+        (opening.directory, "directory "),
+        (opening.asks_kind, "asks "),
+        (opening.by_path, "path "),
+        (opening.nameless, "nameless "),
+    ] {
+        said.push_str(if is_so { word } else { "" })?;
+    }
+    write!(said, "{} {}", opening.directory_error, opening.other_error)?;
+    if is_refused || opening.finds && !opening.by_path {
+        write!(said, " found by {:o}", opening.found_flags)?;
+    }
+    if is_refused || opening.makes {
+        write!(said, " made by {:o}", opening.made_flags)?;
+    }
+    Ok(said)
 }
 
 #[test]
-fn opens_what_is_there(rt: HostRuntime) -> Result<(), Fail> {
-    // O_WRONLY, O_TRUNC, O_NOFOLLOW.
-    let opening = on_x86_64(0o401001, 0);
-    assert!(rt; opening.finds && !opening.makes && !opening.follows && !opening.asks_kind);
-    assert!(rt; opening.found_flags == 0o2001401);
-    // O_DIRECTORY: the kernel itself looks, as it opens.
-    let opening = on_x86_64(0o200000, 0);
-    assert!(rt; opening.follows && opening.directory && opening.asks_kind);
-    assert!(rt; opening.directory_error == 0 && opening.other_error == 0);
-    assert!(rt; opening.found_flags == 0o2200400);
-    // With O_PATH it doesn't.
-    let opening = on_x86_64(0o10200000, 0);
-    assert!(rt; opening.by_path && opening.directory_error == 0 && opening.other_error == 20);
-    Ok(())
-}
-
-#[test]
-fn makes_what_is_missing(rt: HostRuntime) -> Result<(), Fail> {
-    // O_CREAT and O_RDWR: a directory isn't opened so.
-    let opening = on_x86_64(0o102, 0o644);
-    assert!(rt; opening.finds && opening.makes && opening.follows && opening.asks_kind);
-    assert!(rt; opening.directory_error == 21 && opening.other_error == 0);
-    assert!(rt; opening.found_flags == 0o2000402 && opening.made_flags == 0o2400702);
-    // With O_EXCL nothing is looked for.
-    let opening = on_x86_64(0o302, 0o644);
-    assert!(rt; !opening.finds && opening.makes && opening.made_flags == 0o2400702);
-    // O_TMPFILE and O_EXCL: no name is made.
-    let opening = on_x86_64(0o20600201, 0o600);
-    assert!(rt; opening.finds && !opening.makes && opening.nameless);
-    assert!(rt; opening.found_flags == 0o22200601);
-    Ok(())
-}
-
-// The same flag has another number there.
-#[test]
-fn reads_the_numbers_of_arm64(rt: HostRuntime) -> Result<(), Fail> {
-    let opening = opening_of(&ARM64, 0o40000, 0);
-    assert!(rt; opening.directory && opening.follows && opening.found_flags == 0o2040400);
-    let opening = opening_of(&ARM64, 0o100102, 0o644);
-    assert!(rt; !opening.follows && opening.made_flags == 0o2100702);
-    assert!(rt; opening_of(&ARM64, 0o40100, 0o644).error == EINVAL);
-    assert!(rt; opening_of(&ARM64, 0o20040002, 0o600).nameless);
-    assert!(rt; opening_of(&ARM64, 0o600000, 0).error == 0);
+fn opens_and_makes_by_flags(rt: HostRuntime) -> Result<(), Fail> {
+    for row in OPENINGS.lines() {
+        let (head, wanted) = row.split_once(": ").unwrap_or(("", ""));
+        let (machine, word) = head.split_once(' ').unwrap_or(("", ""));
+        let machine = if machine == "arm64" { &ARM64 } else { &X86_64 };
+        let (flags, mode) = octal(word).unwrap_or((0, 0));
+        let said = said(rt.alloc(), &opening_of(machine, flags, mode))?;
+        assert!(rt;
+            row.starts_with('#') || said.as_str() == wanted,
+            "{row}: {said}"
+        );
+    }
     Ok(())
 }
 
@@ -140,39 +134,33 @@ const DIRECTORY: u8 = 1;
 
 const FILE: u8 = 2;
 
-fn uses(flags: u32, mode: u32, kind: u8) -> Use {
-    use_of(&on_x86_64(flags, mode), kind)
-}
-
-fn does(found: Use, what: u8, flags: u32) -> bool {
-    found.what == what && found.flags == flags && found.error == 0
-}
+// Flags, a mode, and the kind of what is there; what is done with it, by which flags, and the error.
+const USES: [(u32, u32, u8, (u8, u32, u8)); 9] = [
+    // O_RDWR, and O_CREAT of a file.
+    (0o2, 0, FILE, (USE_REOPENS, 0o2000402, 0)),
+    (0o102, 0o644, FILE, (USE_REOPENS, 0o2000402, 0)),
+    // O_DIRECTORY: the kernel refuses a file as it opens.
+    (0o200000, 0, FILE, (USE_REOPENS, 0o2200400, 0)),
+    // O_PATH: the descriptor itself.
+    (0o10000000, 0, FILE, (USE_GIVES, 0, 0)),
+    (0o10200000, 0, DIRECTORY, (USE_GIVES, 0, 0)),
+    // O_TMPFILE and O_EXCL.
+    (0o20600201, 0o600, DIRECTORY, (USE_MAKES, 0o22200601, 0)),
+    // What is there is refused by its kind.
+    (0o102, 0o644, DIRECTORY, (USE_FAILS, 0, 21)),
+    (0o10000100, 0o644, DIRECTORY, (USE_FAILS, 0, 21)),
+    (0o10200000, 0, FILE, (USE_FAILS, 0, 20)),
+];
 
 #[test]
 fn does_one_thing_with_what_is_there(rt: HostRuntime) -> Result<(), Fail> {
-    // O_RDWR, and O_CREAT of a file.
-    assert!(rt; does(uses(0o2, 0, FILE), USE_REOPENS, 0o2000402));
-    assert!(rt; does(uses(0o102, 0o644, FILE), USE_REOPENS, 0o2000402));
-    // O_DIRECTORY: the kernel refuses a file as it opens.
-    assert!(rt; does(uses(0o200000, 0, FILE), USE_REOPENS, 0o2200400));
-    // O_PATH: the descriptor itself.
-    assert!(rt;
-        does(uses(0o10000000, 0, FILE), USE_GIVES, 0)
-            && does(uses(0o10200000, 0, DIRECTORY), USE_GIVES, 0)
-    );
-    // O_TMPFILE and O_EXCL.
-    assert!(rt; does(uses(0o20600201, 0o600, DIRECTORY), USE_MAKES, 0o22200601));
-    Ok(())
-}
-
-#[test]
-fn refuses_what_is_there_by_its_kind(rt: HostRuntime) -> Result<(), Fail> {
-    let created = uses(0o102, 0o644, DIRECTORY);
-    assert!(rt; created.what == USE_FAILS && created.error == 21 && created.flags == 0);
-    let named = uses(0o10000100, 0o644, DIRECTORY);
-    assert!(rt; named.what == USE_FAILS && named.error == 21);
-    let directory = uses(0o10200000, 0, FILE);
-    assert!(rt; directory.what == USE_FAILS && directory.error == 20 && directory.flags == 0);
+    for (opened, mode, kind, (what, flags, error)) in USES {
+        let found = use_of(&opening_of(&X86_64, opened, mode), kind);
+        assert!(rt;
+            found == Use { flags, what, error },
+            "{opened:o}: {found:?}"
+        );
+    }
     Ok(())
 }
 
@@ -180,12 +168,9 @@ fn refuses_what_is_there_by_its_kind(rt: HostRuntime) -> Result<(), Fail> {
 fn opens_once_more(rt: HostRuntime) -> Result<(), Fail> {
     assert!(rt; reopen_flags(&X86_64, 0o2) == 0o2000402);
     assert!(rt; reopen_flags(&X86_64, 0o10200000) == 0o12200400);
-    assert!(rt; reopen_flags(&X86_64, 0o3) == 0);
-    assert!(rt; reopen_flags(&X86_64, 0o10000001) == 0);
     // O_CREAT, O_EXCL, O_NOFOLLOW and O_TMPFILE say nothing of what is open.
-    assert!(rt; reopen_flags(&X86_64, 0o102) == 0);
-    assert!(rt; reopen_flags(&X86_64, 0o202) == 0);
-    assert!(rt; reopen_flags(&X86_64, 0o400000) == 0);
-    assert!(rt; reopen_flags(&X86_64, 0o20200002) == 0);
+    for flags in [0o3, 0o10000001, 0o102, 0o202, 0o400000, 0o20200002] {
+        assert!(rt; reopen_flags(&X86_64, flags) == 0, "{flags:o}");
+    }
     Ok(())
 }

@@ -1,9 +1,7 @@
 //! A /proc is found, looked at, handed in or made, by answers that Linux gives; and an entry that was made is opened.
-use crate::rows::goes;
-use crate::talk::Talk;
-use find_proc::{
-    File, a_proc_is_found, a_proc_is_handed_in, a_proc_is_made, the_kept_one_is_looked_at,
-};
+use crate::rows::{Room, all_go, goes};
+use crate::talk::{FILE, Talk};
+use find_proc::File;
 use std::test::Fail;
 
 /// Conversations about a /proc. Descriptor 4294967196 is AT_FDCWD, and 4294967295 is none.
@@ -101,42 +99,23 @@ directory: Open(3, name, 12400000, 0) = is 8; Stat(8) = unnumbered 5 9 directory
 
 #[test]
 fn calls_ask_in_this_order(rt: HostRuntime) -> Result<(), Fail> {
-    for row in PROCS.lines().chain(GIVINGS.lines()) {
-        let (call, exchanges) = row.split_once(": ").unwrap_or(("", "a row"));
-        if !row.starts_with('#') {
-            let mut talk = Talk::begun(call);
-            goes(&rt, rt.alloc(), &mut talk, exchanges)?;
-            assert!(rt; talk.after() == talk.known, "{row}");
-        }
-    }
+    all_go::<Talk>(&rt, rt.alloc(), PROCS)?;
+    all_go::<Talk>(&rt, rt.alloc(), GIVINGS)?;
     Ok(())
 }
 
 #[test]
 fn the_first_one_is_the_programs(rt: HostRuntime) -> Result<(), Fail> {
-    let mut talk = Talk::begun("find surely");
+    let mut talk = Talk::begun(rt.alloc(), "find surely");
     let exchanges =
         "LookUp(4294967295, ., 200000, 2) = EBADF; Stat(4294967196) = sees 8 40; Know(true) = ok; \
         Open(4294967196, /proc, 12600000, 0) = is 2; CopyAbove(2) = is 12; Close(2) = ok; FileSystem(12) = proc; \
         Stat(12) = sees 1 43; Claim(false) = ok; Keep(12, 5, 1, 43, false) = ok; is 12 false";
     goes(&rt, rt.alloc(), &mut talk, exchanges)?;
     let after = talk.after();
-    let file = File {
-        device: 5,
-        inode: 1,
-        mount: 43,
-    };
+    let file = File { mount: 43, ..FILE };
     assert!(rt; after.kept.there && after.kept.claimed && !after.kept.handed_in);
     assert!(rt; after.kept.fd == 12 && after.kept.file == file);
     assert!(rt; after.machine == talk.known.machine && !after.has_floor);
     Ok(())
-}
-
-// The laws are called as a caller has them at hand. They do nothing.
-#[test]
-fn laws_of_a_proc_are_at_hand() {
-    a_proc_is_found();
-    the_kept_one_is_looked_at();
-    a_proc_is_handed_in();
-    a_proc_is_made();
 }

@@ -1,5 +1,5 @@
 //! Which call comes next as a tree is removed by several, by answers that calls give.
-use crate::rows::{Room, goes, name_of, number, word_of};
+use crate::rows::{Room, all_go, goes, name_of, number, word_of};
 use remove_by_calls::{AT_ROOT, Answer, ENDS, Removal, begin, next};
 use std::alloc::{AllocError, Global};
 use std::test::Fail;
@@ -18,6 +18,16 @@ fn ended(removed: u64, error: u32) -> Answer {
 }
 
 impl Room for Removal {
+    fn begun(_: Global, words: &'static str) -> Removal {
+        let (tries, places) = words.split_once(' ').unwrap_or(("", ""));
+        let mut removal = begin(tries == "retry");
+        for _ in 0..number(places).unwrap_or(0) {
+            let _ = removal.take("1 deeper");
+            let _ = removal.take("0");
+        }
+        removal
+    }
+
     fn due(&self, alloc: Global) -> Result<String, AllocError> {
         let word = word_of(self.next, "root in keep close ends fails");
         match word {
@@ -42,6 +52,11 @@ impl Room for Removal {
         };
         *self = next(*self, &answer);
         Some(())
+    }
+
+    // Where nothing comes any more, nothing changes.
+    fn is_right(&mut self) -> bool {
+        self.next < ENDS || next(*self, &ended(5, 13)) == *self
     }
 }
 
@@ -85,23 +100,7 @@ retry 0: root 0 = 9223372036854775806 EBUSY; root 0 = 18446744073709551615; ends
 
 #[test]
 fn removes_by_calls(rt: HostRuntime) -> Result<(), Fail> {
-    for row in TALKS.lines() {
-        if row.starts_with('#') {
-            continue;
-        }
-        let (head, talk) = row.split_once(": ").unwrap_or(("", "a row"));
-        let (tries, places) = head.split_once(' ').unwrap_or(("", ""));
-        let mut removal = begin(tries == "retry");
-        for _ in 0..number(places).unwrap_or(0) {
-            assert!(rt; removal.take("1 deeper").is_some() && removal.take("0").is_some());
-        }
-        goes(&rt, rt.alloc(), &mut removal, talk)?;
-        // where nothing comes any more, nothing changes
-        assert!(rt;
-            removal.next < ENDS || next(removal, &ended(5, 13)) == removal,
-            "{row}"
-        );
-    }
+    all_go::<Removal>(&rt, rt.alloc(), TALKS)?;
     Ok(())
 }
 

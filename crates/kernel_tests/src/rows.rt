@@ -37,12 +37,18 @@ pub(crate) fn word_of<'w>(number: u8, words: &'w str) -> &'w str {
 }
 
 /// What answers come to.
-pub(crate) trait Room {
+pub(crate) trait Room: Sized {
+    /// Begun by the words before a conversation.
+    fn begun(alloc: Global, words: &'static str) -> Self;
+
     /// What is due by the answers so far.
     fn due(&self, alloc: Global) -> Result<String, AllocError>;
 
     /// Takes an answer, or nothing of words that are none.
     fn take(&mut self, gave: &'static str) -> Option<()>;
+
+    /// In the end, what else must hold.
+    fn is_right(&mut self) -> bool;
 }
 
 /// Each part of a talk, `DUE = GAVE`, is due by the answers before it; the last part may have no answer.
@@ -58,6 +64,25 @@ pub(crate) fn goes<R: Room>(
         assert!(rt; due.as_str() == wanted, "{talk}: {due}");
         let is_taken = gave.is_empty() || room.take(gave).is_some();
         assert!(rt; is_taken, "{talk}: {gave}");
+    }
+    Ok(())
+}
+
+/// Each row is a conversation, by all the words before it, or a comment.
+pub(crate) fn all_go<R: Room + Drop>(
+    rt: &impl Abort,
+    alloc: Global,
+    rows: &'static str,
+) -> Result<(), AllocError> {
+    for row in rows.lines() {
+        let (words, talk) = row.split_once(": ").unwrap_or(("", row));
+        for words in words.split(", ") {
+            if !row.starts_with('#') {
+                let mut room = R::begun(alloc, words);
+                goes(rt, alloc, &mut room, talk)?;
+                assert!(rt; room.is_right(), "{row}");
+            }
+        }
     }
     Ok(())
 }

@@ -1,5 +1,5 @@
 //! How much of a path is tried next, by what tries before gave.
-use crate::rows::{Room, goes, name_of, number, word_of};
+use crate::rows::{Room, all_go, name_of, number, word_of};
 use open_partial::{ENDS, Search, TRY, begin, beginning, next, trial_of};
 use std::alloc::{AllocError, Global};
 use std::test::Fail;
@@ -7,29 +7,33 @@ use std::test::Fail;
 const ENOENT: u32 = 2;
 
 #[derive(Drop)]
-struct Path<'t> {
-    text: &'t str,
+struct Path {
+    text: &'static str,
     search: Search,
     follows: bool,
 }
 
-impl Room for Path<'_> {
+impl Room for Path {
+    fn begun(_: Global, words: &'static str) -> Path {
+        let (text, link) = words.split_once(' ').unwrap_or(("", ""));
+        let search = begin(text.as_bytes());
+        let follows = link == "followed";
+        Path {
+            text,
+            search,
+            follows,
+        }
+    }
+
     // Of a try so many pieces and bytes, the operation, and whether it must be a directory, maybe `.`.
     fn due(&self, alloc: Global) -> Result<String, AllocError> {
-        let Search {
-            tried,
-            there,
-            descriptor,
-            about,
-            error,
-            ..
-        } = self.search;
         match word_of(self.search.next, "try close ends fails") {
-            "close" => format!(in alloc; "close {about}"),
-            "ends" => format!(in alloc; "ends {there} {descriptor}"),
-            "fails" => format!(in alloc; "fails {}", name_of(error)),
+            "close" => format!(in alloc; "close {}", self.search.about),
+            "ends" => format!(in alloc; "ends {} {}", self.search.there, self.search.descriptor),
+            "fails" => format!(in alloc; "fails {}", name_of(self.search.error)),
             word => {
                 let trial = trial_of(&self.search, self.text.as_bytes(), self.follows);
+                let (tried, length, op) = (self.search.tried, trial.length, trial.op);
                 let directory = if trial.directory { " directory" } else { "" };
                 let dot = if trial.dot { " dot" } else { "" };
                 format!(in alloc;
@@ -47,6 +51,11 @@ impl Room for Path<'_> {
             None => next(self.search, number(gave)?, 0),
         };
         Some(())
+    }
+
+    // Where nothing comes any more, nothing changes.
+    fn is_right(&mut self) -> bool {
+        self.search.next < ENDS || next(self.search, 13, 8) == self.search
     }
 }
 
@@ -74,25 +83,7 @@ fails EACCES";
 
 #[test]
 fn parts_are_tried(rt: HostRuntime) -> Result<(), Fail> {
-    for row in SEARCHES.lines() {
-        let (head, talk) = row.split_once(": ").unwrap_or(("", "a row"));
-        let (text, link) = head.split_once(' ').unwrap_or(("", ""));
-        let search = begin(text.as_bytes());
-        let follows = link == "followed";
-        let mut path = Path {
-            text,
-            search,
-            follows,
-        };
-        if !row.starts_with('#') {
-            goes(&rt, rt.alloc(), &mut path, talk)?;
-            // where nothing comes any more, nothing changes
-            assert!(rt;
-                path.search.next < ENDS || next(path.search, 13, 8) == path.search,
-                "{row}"
-            );
-        }
-    }
+    all_go::<Path>(&rt, rt.alloc(), SEARCHES)?;
     Ok(())
 }
 

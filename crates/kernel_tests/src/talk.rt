@@ -6,12 +6,19 @@ use find_proc::{File, Kept, Known, find, hand_in, has_floor, is_lost, make_priva
 use give_entry::{Made, give};
 use std::alloc::{AllocError, Global};
 
+/// The file that a kept /proc is.
+pub(crate) const FILE: File = File {
+    device: 5,
+    inode: 1,
+    mount: 41,
+};
+
 const DONE: Result<(u32, bool), u32> = Ok((0, false));
 
 /// A call by its words, and what came so far.
 #[derive(Clone, Copy)]
-pub(crate) struct Talk<'t> {
-    call: &'t str,
+pub(crate) struct Talk {
+    call: &'static str,
     pub known: Known,
     answers: [Answer; 16],
     count: usize,
@@ -124,24 +131,30 @@ fn run<'n>(
     })
 }
 
-impl<'t> Talk<'t> {
+impl Talk {
+    /// What is known in the end.
+    pub(crate) fn after(&self) -> Known {
+        let mut known = self.known;
+        let _ = run(self.call, &mut known, &self.answers[..self.count.min(16)]);
+        known
+    }
+}
+
+impl Room for Talk {
     /// A call by its words. `there`: a /proc is kept, which may be handed in; `floor`: the kernel has what is needed.
-    pub(crate) fn begun(call: &'t str) -> Talk<'t> {
+    fn begun(_: Global, call: &'static str) -> Talk {
         let there = call.contains("there");
+        let kept = Kept {
+            file: FILE,
+            fd: 9,
+            there,
+            handed_in: call.contains("handed"),
+            claimed: there,
+        };
         Talk {
             call,
             known: Known {
-                kept: Kept {
-                    file: File {
-                        device: 5,
-                        inode: 1,
-                        mount: 41,
-                    },
-                    fd: 9,
-                    there,
-                    handed_in: call.contains("handed"),
-                    claimed: there,
-                },
+                kept,
                 machine: X86_64,
                 has_floor: call.contains("floor"),
             },
@@ -150,16 +163,6 @@ impl<'t> Talk<'t> {
         }
     }
 
-    /// What is known in the end.
-    pub(crate) fn after(&self) -> Known {
-        let mut known = self.known;
-        let answers = &self.answers[..self.count.min(16)];
-        let _ = run(self.call, &mut known, answers);
-        known
-    }
-}
-
-impl Room for Talk<'_> {
     fn due(&self, alloc: Global) -> Result<String, AllocError> {
         let mut known = self.known;
         match run(self.call, &mut known, &self.answers[..self.count.min(16)]) {
@@ -185,5 +188,10 @@ impl Room for Talk<'_> {
         self.answers[self.count] = answer_of(gave)?;
         self.count += 1;
         Some(())
+    }
+
+    // No other /proc is kept.
+    fn is_right(&mut self) -> bool {
+        self.after() == self.known
     }
 }
