@@ -146,7 +146,8 @@ pub record DirectoryRemovalSays (nodes : List Inode) (d : ℕ) (name : List ℕ)
 
 -- without flags
 pub record PlainSays (nodes : List Inode) (b : Both) (error : ℕ) : Type 0 where
-  pub renamed : error ≡ 0 → (MayMove nodes b × HasNoEntry nodes b.e b.new) ⊎ ((both : HasBoth nodes b) × MayReplace both)
+  pub renamed : error ≡ 0 → (MayMove nodes b × HasNoEntry nodes b.e b.new)
+      ⊎ ((both : HasBoth nodes b) × MayReplace both)
   pub missing : error ≡ ENOENT → IsMissing nodes b
   pub other : error ≡ ENOTDIR → (both : HasBoth nodes b) × AreDirectories both true false
   pub directory : error ≡ EISDIR → (both : HasBoth nodes b) × AreDirectories both false true
