@@ -61,10 +61,6 @@ impl Room for File {
         };
         Some(())
     }
-
-    fn is_right(&mut self) -> bool {
-        true
-    }
 }
 
 const COURSES: &str = "\

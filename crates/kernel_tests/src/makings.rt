@@ -76,10 +76,6 @@ impl Room for Made {
         self.making = next(making, outcome, text, &mut self.room);
         Some(())
     }
-
-    fn is_right(&mut self) -> bool {
-        true
-    }
 }
 
 /// Each call has its path behind it, and the descriptor that is closed, or 0; so has an end, behind the reply.

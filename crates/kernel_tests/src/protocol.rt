@@ -62,10 +62,6 @@ impl Room for Place {
         self.told = next(&self.facts, asked, &answer, root, text, again);
         Some(())
     }
-
-    fn is_right(&mut self) -> bool {
-        true
-    }
 }
 
 /// Of which kinds the object is, and whether it was opened by names from the root right before; and a conversation.

@@ -48,7 +48,9 @@ pub(crate) trait Room: Sized {
     fn take(&mut self, gave: &'static str) -> Option<()>;
 
     /// In the end, what else must hold.
-    fn is_right(&mut self) -> bool;
+    fn is_right(&mut self) -> bool {
+        true
+    }
 }
 
 /// Each part of a talk, `DUE = GAVE`, is due by the answers before it; the last part may have no answer.
