@@ -2,7 +2,6 @@
 use crate::rows::{Room, all_go, name_of, number, word_of};
 use ask_place::{Answer, Asking, ENDS, begin, next, next_question};
 use std::alloc::{AllocError, Global};
-use std::test::Fail;
 
 const GAVE: Answer = Answer {
     links: 0,
@@ -56,13 +55,12 @@ look ok = file 1; copy ok = EMFILE; fails EMFILE
 look ok = directory 0; copy ok = ok; find ok = EIO; close EIO = ok; fails EIO";
 
 #[test]
-fn a_place_is_asked_for(rt: HostRuntime) -> Result<(), Fail> {
-    all_go::<Asking>(&rt, rt.alloc(), ASKINGS)?;
-    Ok(())
+fn a_place_is_asked_for(rt: HostRuntime) -> Result<(), AllocError> {
+    all_go::<Asking>(&rt, rt.alloc(), ASKINGS)
 }
 
 #[test]
-fn a_place_is_asked_for_eight_times(rt: HostRuntime) -> Result<(), Fail> {
+fn a_place_is_asked_for_eight_times(rt: HostRuntime) -> Result<(), AllocError> {
     for (asked, error, length, again, why) in [
         (7, 11, 0, true, 0),
         (8, 11, 0, false, 18),

@@ -1,12 +1,11 @@
 //! Which call comes next as a file is opened, or made where it is missing, by answers that a kernel gives.
 use crate::openings::X86_64;
-use crate::rows::{ROOM, Room, all_go, goes, laid, letters, name_of, number, shown, word_of};
+use crate::rows::{
+    EAGAIN, ROOM, Room, all_go, goes, laid, letters, name_of, number, shown, word_of,
+};
 use open_or_make::{CREATE, Course, FIND, READ_LINK, Request, begin, next, request_of};
 use std::alloc::{AllocError, Global};
-use std::test::Fail;
 use system_calls::{next_try, opening_of};
-
-const EAGAIN: u32 = 11;
 
 #[derive(Clone, Copy)]
 struct File {
@@ -61,10 +60,6 @@ impl Room for File {
         };
         Some(())
     }
-
-    fn is_right(&mut self) -> bool {
-        true
-    }
 }
 
 const COURSES: &str = "\
@@ -106,13 +101,12 @@ a excl: fails EINVAL at 0 of a
 a mode: fails EINVAL at 0 of a";
 
 #[test]
-fn a_file_is_found_or_made(rt: HostRuntime) -> Result<(), Fail> {
-    all_go::<File>(&rt, rt.alloc(), COURSES)?;
-    Ok(())
+fn a_file_is_found_or_made(rt: HostRuntime) -> Result<(), AllocError> {
+    all_go::<File>(&rt, rt.alloc(), COURSES)
 }
 
 #[test]
-fn follows_forty_links(rt: HostRuntime) -> Result<(), Fail> {
+fn follows_forty_links(rt: HostRuntime) -> Result<(), AllocError> {
     let mut file = File::begun(rt.alloc(), "a");
     for _ in 0..40 {
         for gave in ["ENOENT", "EEXIST", "is b"] {
@@ -121,12 +115,11 @@ fn follows_forty_links(rt: HostRuntime) -> Result<(), Fail> {
     }
     let talk =
         "find b by 40 = ENOENT; create b by 40 = EEXIST; read b by 40 = is c; fails ELOOP at 4 of b";
-    goes(&rt, rt.alloc(), &mut file, talk)?;
-    Ok(())
+    goes(&rt, rt.alloc(), &mut file, talk)
 }
 
 #[test]
-fn gives_up_after_32_tries(rt: HostRuntime) -> Result<(), Fail> {
+fn gives_up_after_32_tries(rt: HostRuntime) -> Result<(), AllocError> {
     let mut file = File::begun(rt.alloc(), "a");
     for times in 1..32 {
         for gave in ["ENOENT", "EEXIST", "ENOENT"] {
@@ -139,8 +132,7 @@ fn gives_up_after_32_tries(rt: HostRuntime) -> Result<(), Fail> {
     }
     let talk =
         "find a = ENOENT; create a after 1000000 = EEXIST; read a = ENOENT; find a = ENOENT; fails EAGAIN at 9 of a";
-    goes(&rt, rt.alloc(), &mut file, talk)?;
-    Ok(())
+    goes(&rt, rt.alloc(), &mut file, talk)
 }
 
 // Flags, and a call; of what is asked for the mode's bits, the flags, the operation, and what else is so.
@@ -156,7 +148,7 @@ const REQUESTS: [(u32, u8, (u32, u32, u8), &str); 7] = [
 ];
 
 #[test]
-fn a_call_is_asked_for_by_the_flags(rt: HostRuntime) -> Result<(), Fail> {
+fn a_call_is_asked_for_by_the_flags(rt: HostRuntime) -> Result<(), AllocError> {
     for (opened, call, (bits, flags, op), so) in &REQUESTS {
         let mode = if opened & 0o100 == 0 { 0 } else { 0o640 };
         let request = Request {

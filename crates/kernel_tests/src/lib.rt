@@ -34,5 +34,3 @@ mod rows;
 mod searches;
 #[cfg(test)]
 mod talk;
-#[cfg(test)]
-mod tries;

@@ -3,7 +3,6 @@ use crate::records::put_record;
 use crate::rows::{Room, all_go, name_of, number, shown, word_of};
 use list_directory::{ENDS, Listing, begin, next};
 use std::alloc::{AllocError, Global};
-use std::test::Fail;
 
 const MIB: usize = 1_048_576;
 
@@ -101,9 +100,8 @@ open - = ENFILE; fails - ENFILE
 open - = EINTR; open - = ok; read - = EINTR; read - = ok; close -";
 
 #[test]
-fn a_directory_is_listed(rt: HostRuntime) -> Result<(), Fail> {
-    all_go::<Directory>(&rt, rt.alloc(), LISTINGS)?;
-    Ok(())
+fn a_directory_is_listed(rt: HostRuntime) -> Result<(), AllocError> {
+    all_go::<Directory>(&rt, rt.alloc(), LISTINGS)
 }
 
 // How many bytes of names a call holds, and how many there may be in a room, and in one of records.
@@ -120,7 +118,7 @@ const PARTS: [(usize, usize, usize); 9] = [
 ];
 
 #[test]
-fn each_part_is_a_fourth_of_what_is_left(rt: HostRuntime) -> Result<(), Fail> {
+fn each_part_is_a_fourth_of_what_is_left(rt: HostRuntime) -> Result<(), AllocError> {
     for (held, size, records) in &PARTS {
         let listing = begin(*held);
         assert!(rt;

@@ -1,11 +1,10 @@
 //! Which call comes next as all missing parts of a path are made, by answers that a kernel gives.
-use crate::rows::{ROOM, Room, all_go, goes, laid, letters, name_of, number, shown, word_of};
+use crate::rows::{
+    EAGAIN, ROOM, Room, all_go, goes, laid, letters, name_of, number, shown, word_of,
+};
 use make_through_links::{FIND, Making, Outcome, begin, next};
 use std::alloc::{AllocError, Global};
-use std::test::Fail;
 use system_calls::next_try;
-
-const EAGAIN: u32 = 11;
 
 const CALLS: &str = "find split above make partial link create end ends fails";
 
@@ -76,10 +75,6 @@ impl Room for Made {
         self.making = next(making, outcome, text, &mut self.room);
         Some(())
     }
-
-    fn is_right(&mut self) -> bool {
-        true
-    }
 }
 
 /// Each call has its path behind it, and the descriptor that is closed, or 0; so has an end, behind the reply.
@@ -133,13 +128,12 @@ d/n directory: make d/n 0 = ENOENT; partial d/n 0 = EACCES; ends 0 0
 d directory once: make d 0 = ENOENT; partial d 0 = there 3 1; fails EAGAIN at 8 of d 3";
 
 #[test]
-fn all_missing_parts_are_made(rt: HostRuntime) -> Result<(), Fail> {
-    all_go::<Made>(&rt, rt.alloc(), MAKINGS)?;
-    Ok(())
+fn all_missing_parts_are_made(rt: HostRuntime) -> Result<(), AllocError> {
+    all_go::<Made>(&rt, rt.alloc(), MAKINGS)
 }
 
 #[test]
-fn follows_forty_links(rt: HostRuntime) -> Result<(), Fail> {
+fn follows_forty_links(rt: HostRuntime) -> Result<(), AllocError> {
     let mut made = Made::begun(rt.alloc(), "a directory");
     for links in 1..41 {
         for gave in ["ENOENT", "there 3 0", "reads b"] {
@@ -149,12 +143,11 @@ fn follows_forty_links(rt: HostRuntime) -> Result<(), Fail> {
     }
     let talk =
         "make b 0 = ENOENT; partial b 0 = there 3 0; link b 3 = reads c; fails ELOOP at 4 of b 0";
-    goes(&rt, rt.alloc(), &mut made, talk)?;
-    Ok(())
+    goes(&rt, rt.alloc(), &mut made, talk)
 }
 
 #[test]
-fn gives_up_after_32_tries(rt: HostRuntime) -> Result<(), Fail> {
+fn gives_up_after_32_tries(rt: HostRuntime) -> Result<(), AllocError> {
     let mut made = Made::begun(rt.alloc(), "d/n file");
     for times in 1..33 {
         for gave in ["ENOENT", "parted 2", "is 8", "EEXIST", "ENOENT"] {
@@ -170,6 +163,5 @@ fn gives_up_after_32_tries(rt: HostRuntime) -> Result<(), Fail> {
             assert!(rt; shown(rt.alloc(), &made.room, made.making.size)?.as_str() == "d/n");
         }
     }
-    goes(&rt, rt.alloc(), &mut made, "fails EAGAIN at 8 of d/n 0")?;
-    Ok(())
+    goes(&rt, rt.alloc(), &mut made, "fails EAGAIN at 8 of d/n 0")
 }

@@ -130,26 +130,23 @@ fn opens_and_makes_by_flags(rt: HostRuntime) -> Result<(), Fail> {
     Ok(())
 }
 
-const DIRECTORY: u8 = 1;
-
-const FILE: u8 = 2;
-
-// Flags, a mode, and the kind of what is there; what is done with it, by which flags, and the error.
+// Flags, a mode, and the kind of what is there, a directory (1) or a file (2); what is done with it, by which flags, and
+// the error.
 const USES: [(u32, u32, u8, (u8, u32, u8)); 9] = [
     // O_RDWR, and O_CREAT of a file.
-    (0o2, 0, FILE, (USE_REOPENS, 0o2000402, 0)),
-    (0o102, 0o644, FILE, (USE_REOPENS, 0o2000402, 0)),
+    (0o2, 0, 2, (USE_REOPENS, 0o2000402, 0)),
+    (0o102, 0o644, 2, (USE_REOPENS, 0o2000402, 0)),
     // O_DIRECTORY: the kernel refuses a file as it opens.
-    (0o200000, 0, FILE, (USE_REOPENS, 0o2200400, 0)),
+    (0o200000, 0, 2, (USE_REOPENS, 0o2200400, 0)),
     // O_PATH: the descriptor itself.
-    (0o10000000, 0, FILE, (USE_GIVES, 0, 0)),
-    (0o10200000, 0, DIRECTORY, (USE_GIVES, 0, 0)),
-    // O_TMPFILE and O_EXCL.
-    (0o20600201, 0o600, DIRECTORY, (USE_MAKES, 0o22200601, 0)),
+    (0o10000000, 0, 2, (USE_GIVES, 0, 0)),
+    (0o10200000, 0, 1, (USE_GIVES, 0, 0)),
+    // O_TMP2 and O_EXCL.
+    (0o20600201, 0o600, 1, (USE_MAKES, 0o22200601, 0)),
     // What is there is refused by its kind.
-    (0o102, 0o644, DIRECTORY, (USE_FAILS, 0, 21)),
-    (0o10000100, 0o644, DIRECTORY, (USE_FAILS, 0, 21)),
-    (0o10200000, 0, FILE, (USE_FAILS, 0, 20)),
+    (0o102, 0o644, 1, (USE_FAILS, 0, 21)),
+    (0o10000100, 0o644, 1, (USE_FAILS, 0, 21)),
+    (0o10200000, 0, 2, (USE_FAILS, 0, 20)),
 ];
 
 #[test]

@@ -1,6 +1,4 @@
 //! Where an object stands, by texts as proc(5) has them, and by others.
-ghost use Rattle.std.specs.Prelude.{◌≤◌};
-
 use kernel_text::{ends_as_gone, is_named, place_told};
 use std::test::Fail;
 
@@ -25,36 +23,23 @@ const PLACES: [(&str, &str, &str); 16] = [
 ];
 
 fn place_of<'a>(root: &str, path: &'a str) -> &'a [u8] {
-    match place_told(root.as_bytes(), path.as_bytes()) {
-        Some(place) => place,
-        None => b"",
-    }
+    place_told(root.as_bytes(), path.as_bytes()).unwrap_or(b"")
 }
 
 #[test]
 fn finds_places(rt: HostRuntime) -> Result<(), Fail> {
     for (root, path, place) in &PLACES {
-        assert!(rt; place_of(root, path) == place.as_bytes());
+        assert!(rt; place_of(root, path) == place.as_bytes(), "{root} {path}");
     }
     Ok(())
 }
 
-// How long the place is below a top whose path has one byte, of a path of so many.
-fn size_of(length: usize) -> usize
-    requires { length ≤ 4096 }
-{
-    let mut path = [b'a'; 4096];
-    path[0] = b'/';
-    match place_told(b"/", &path[..length]) {
-        Some(place) => place.len(),
-        None => 0,
-    }
-}
-
 #[test]
 fn a_path_has_at_most_4095_bytes(rt: HostRuntime) -> Result<(), Fail> {
-    assert!(rt; size_of(4095) == 4095);
-    assert!(rt; size_of(4096) == 0);
+    let mut path = [b'a'; 4096];
+    path[0] = b'/';
+    assert!(rt; place_told(b"/", &path[..4095]) == Some(&path[..4095]));
+    assert!(rt; place_told(b"/", &path) == None);
     Ok(())
 }
 

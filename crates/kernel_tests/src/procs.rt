@@ -2,7 +2,7 @@
 use crate::rows::{Room, all_go, goes};
 use crate::talk::{FILE, Talk};
 use find_proc::File;
-use std::test::Fail;
+use std::alloc::AllocError;
 
 /// Conversations about a /proc. Descriptor 4294967196 is AT_FDCWD, and 4294967295 is none.
 const PROCS: &str = "\
@@ -98,14 +98,13 @@ directory: Open(3, name, 12400000, 0) = is 8; Stat(8) = ENOENT; Close(8) = EIO; 
 directory: Open(3, name, 12400000, 0) = is 8; Stat(8) = unnumbered 5 9 directory; Close(8) = ok; fails ENOSYS";
 
 #[test]
-fn calls_ask_in_this_order(rt: HostRuntime) -> Result<(), Fail> {
+fn calls_ask_in_this_order(rt: HostRuntime) -> Result<(), AllocError> {
     all_go::<Talk>(&rt, rt.alloc(), PROCS)?;
-    all_go::<Talk>(&rt, rt.alloc(), GIVINGS)?;
-    Ok(())
+    all_go::<Talk>(&rt, rt.alloc(), GIVINGS)
 }
 
 #[test]
-fn the_first_one_is_the_programs(rt: HostRuntime) -> Result<(), Fail> {
+fn the_first_one_is_the_programs(rt: HostRuntime) -> Result<(), AllocError> {
     let mut talk = Talk::begun(rt.alloc(), "find surely");
     let exchanges =
         "LookUp(4294967295, ., 200000, 2) = EBADF; Stat(4294967196) = sees 8 40; Know(true) = ok; \

@@ -2,7 +2,6 @@
 use crate::rows::{Room, all_go, name_of, number, word_of};
 use place_protocol::{Answer, Facts, Told, begin, next};
 use std::alloc::{AllocError, Global};
-use std::test::Fail;
 use system_calls::Object;
 
 const OBJECT: Object = Object {
@@ -62,10 +61,6 @@ impl Room for Place {
         self.told = next(&self.facts, asked, &answer, root, text, again);
         Some(())
     }
-
-    fn is_right(&mut self) -> bool {
-        true
-    }
 }
 
 /// Of which kinds the object is, and whether it was opened by names from the root right before; and a conversation.
@@ -107,13 +102,12 @@ directory: root = EMFILE; fails EMFILE
 directory: root = reads /srv/root; text = ENOENT; fails ENOSYS";
 
 #[test]
-fn witnesses_tell_a_place(rt: HostRuntime) -> Result<(), Fail> {
-    all_go::<Place>(&rt, rt.alloc(), PLACES)?;
-    Ok(())
+fn witnesses_tell_a_place(rt: HostRuntime) -> Result<(), AllocError> {
+    all_go::<Place>(&rt, rt.alloc(), PLACES)
 }
 
 #[test]
-fn no_other_answers_are_taken(rt: HostRuntime) -> Result<(), Fail> {
+fn no_other_answers_are_taken(rt: HostRuntime) -> Result<(), AllocError> {
     let long = [b'/'; 4096];
     for (asked, text, error) in [(2, long.as_slice(), 36), (6, b"/a", 22), (0, b"/a", 22)] {
         let facts = Facts {

@@ -1,4 +1,5 @@
 //! Records as getdents64(2) writes them, and others; and names in order.
+use crate::rows::{letters, name_of};
 use kernel_text::{Coming, next_entry, sort_names, take_names};
 use std::alloc::{AllocError, Global};
 use std::test::Fail;
@@ -16,95 +17,83 @@ pub(crate) fn put_record(
     records.extend_from_slice(name)
 }
 
-// The names and lengths of records; the text to which they are taken, and why it ended; the first entry, or
-// `fault`, and how many bytes are behind it.
-const RECORDS: [(&[(&str, u16)], &str, (bool, u8), &str, usize); 17] = [
-    (&[], "", (false, 0), "nothing", 0),
-    (
-        &[
-            (".\0\0\0\0", 24),
-            ("a\0\0\0\0", 24),
-            ("..\0\0\0", 24),
-            ("..b\0", 23),
-        ],
-        "/a/..b",
-        (false, 0),
-        "a",
-        47,
-    ),
-    (
-        &[(".\0", 21), ("ab\0", 22), ("..\0", 22)],
-        "/ab",
-        (false, 0),
-        "ab",
-        22,
-    ),
-    (&[("abcdefg\0", 27)], "/abcdefg", (false, 0), "abcdefg", 0),
-    (&[("abcdefgh\0", 28)], "", (true, 0), "abcdefgh", 0),
-    (
-        &[("ab\0\0", 23), ("cdefgh\0\0", 27), ("c\0", 21)],
-        "/ab",
-        (true, 0),
-        "ab",
-        48,
-    ),
-    (&[("..\0", 22)], "", (false, 0), "nothing", 0),
-    // A length of zero would go on without end, and others past the records' end or beside the next one.
-    (&[("a\0", 21), ("b\0", 0)], "/a", (false, 5), "a", 21),
-    (&[("..\0", 22), ("c\0", 22)], "", (false, 5), "fault", 0),
-    (&[("a\0", 22)], "", (false, 5), "fault", 0),
-    (&[("a\0", 19)], "", (false, 5), "fault", 0),
-    (&[("", 19)], "", (false, 5), "fault", 0),
-    // No NUL within the record, no name, and a name with a slash.
-    (&[("ab\0", 21)], "", (false, 5), "fault", 0),
-    (&[("ab", 21)], "", (false, 5), "fault", 0),
-    (&[("\0", 20)], "", (false, 5), "fault", 0),
-    (&[("a/b\0", 23)], "", (false, 5), "fault", 0),
-    (&[("a\0", 21), ("a/b\0", 23)], "/a", (false, 5), "a", 23),
-];
+/// Records by their lengths and names; the text to which they are taken, whether that is full, and the error; and the
+/// first entry, with how many bytes are behind it.
+const RECORDS: &str = "\
+: nothing, false ok; nothing
+24 .\0\0\0\0, 24 a\0\0\0\0, 24 ..\0\0\0, 23 ..b\0: /a/..b, false ok; a 4, 47
+21 .\0, 22 ab\0, 22 ..\0: /ab, false ok; ab 4, 22
+27 abcdefg\0: /abcdefg, false ok; abcdefg 4, 0
+28 abcdefgh\0: nothing, true ok; abcdefgh 4, 0
+23 ab\0\0, 27 cdefgh\0\0, 21 c\0: /ab, true ok; ab 4, 48
+22 ..\0: nothing, false ok; nothing
+# a length of zero would go on without end, and others past the records' end or beside the next one
+21 a\0, 0 b\0: /a, false EIO; a 4, 21
+22 ..\0, 22 c\0: nothing, false EIO; fault
+22 a\0: nothing, false EIO; fault
+19 a\0: nothing, false EIO; fault
+19 : nothing, false EIO; fault
+# no NUL within the record, no name, and a name with a slash
+21 ab\0: nothing, false EIO; fault
+21 ab: nothing, false EIO; fault
+20 \0: nothing, false EIO; fault
+23 a/b\0: nothing, false EIO; fault
+21 a\0, 23 a/b\0: /a, false EIO; a 4, 23";
+
+fn said(alloc: Global, records: &[u8]) -> Result<String, AllocError> {
+    let mut room = [b'-'; 8];
+    let taken = take_names(records, &mut room);
+    let text = if taken.used == 0 {
+        b"nothing"
+    } else {
+        room.get(..taken.used).unwrap_or(b"?")
+    };
+    let text = String::from_utf8_lossy(alloc, text)?;
+    let (full, error) = (taken.full, name_of(taken.error.into()));
+    match next_entry(records) {
+        Coming::Entry(name, entry_type, behind) => {
+            let name = String::from_utf8_lossy(alloc, name)?;
+            format!(in alloc;
+                "{text}, {full} {error}; {name} {entry_type}, {}",
+                behind.len()
+            )
+        }
+        Coming::Nothing => format!(in alloc; "{text}, {full} {error}; nothing"),
+        Coming::Fault => format!(in alloc; "{text}, {full} {error}; fault"),
+    }
+}
 
 #[test]
 fn takes_the_names_of_entries(rt: HostRuntime) -> Result<(), Fail> {
-    for (told, wanted, (full, error), first, left) in &RECORDS {
+    for row in RECORDS.lines() {
+        let (told, wanted) = row.split_once(": ").unwrap_or(("", ""));
         let mut records = Vec::new(rt.alloc());
-        for (name, length) in *told {
-            put_record(&mut records, name.as_bytes(), *length)?;
-        }
-        let mut room = [b'-'; 8];
-        let taken = take_names(records.as_slice(), &mut room);
-        assert!(rt; taken.full == *full && taken.error == *error, "{told:?}");
-        assert!(rt;
-            room.get(..taken.used) == Some(wanted.as_bytes()),
-            "{told:?}"
-        );
-        let is_first = match next_entry(records.as_slice()) {
-            Coming::Entry(name, entry_type, behind) => {
-                name == first.as_bytes() && entry_type == 4 && behind.len() == *left
+        for record in told.split(", ") {
+            if let Some((length, name)) = record.split_once(' ') {
+                put_record(&mut records, name.as_bytes(), length.parse().unwrap_or(0))?;
             }
-            Coming::Nothing => *first == "nothing",
-            Coming::Fault => *first == "fault",
-        };
-        assert!(rt; is_first, "{told:?}");
+        }
+        let said = said(rt.alloc(), records.as_slice())?;
+        assert!(rt;
+            row.starts_with('#') || said.as_str() == wanted,
+            "{row:?}: {said}"
+        );
     }
     Ok(())
 }
 
-// The error of a record whose name has so many bytes.
-fn error_of(alloc: Global, size: u16) -> Result<u8, AllocError> {
-    let mut records = Vec::new(alloc);
-    put_record(&mut records, b"", size.saturating_add(20))?;
-    for _ in 0..size {
-        records.push(b'a')?;
-    }
-    records.push(0)?;
-    let mut room = [0; 300];
-    Ok(take_names(records.as_slice(), &mut room).error)
-}
-
 #[test]
 fn a_name_has_at_most_255_bytes(rt: HostRuntime) -> Result<(), Fail> {
-    assert!(rt; error_of(rt.alloc(), 255)? == 0);
-    assert!(rt; error_of(rt.alloc(), 256)? == 36);
+    for (size, length, error) in [("255", 275, 0), ("256", 276, 36)] {
+        let mut records = Vec::new(rt.alloc());
+        put_record(&mut records, letters(size).unwrap_or(b""), length)?;
+        records.push(0)?;
+        let mut room = [0; 300];
+        assert!(rt;
+            take_names(records.as_slice(), &mut room).error == error,
+            "{size}"
+        );
+    }
     Ok(())
 }
 

@@ -1,11 +1,8 @@
 //! Which call comes next as a tree is removed by several, by answers that calls give.
-use crate::rows::{Room, all_go, goes, name_of, number, word_of};
+use crate::rows::{EAGAIN, Room, all_go, goes, name_of, number, word_of};
 use remove_by_calls::{AT_ROOT, Answer, ENDS, Removal, begin, next};
 use std::alloc::{AllocError, Global};
-use std::test::Fail;
 use system_calls::next_try;
-
-const EAGAIN: u32 = 11;
 
 // A call removed so many entries, and ended by this error or by none.
 fn ended(removed: u64, error: u32) -> Answer {
@@ -99,13 +96,12 @@ retry 0: root 0 = 9223372036854775806 EBUSY; root 0 = 2; ends 922337203685477580
 retry 0: root 0 = 9223372036854775806 EBUSY; root 0 = 18446744073709551615; ends 9223372036854775807";
 
 #[test]
-fn removes_by_calls(rt: HostRuntime) -> Result<(), Fail> {
-    all_go::<Removal>(&rt, rt.alloc(), TALKS)?;
-    Ok(())
+fn removes_by_calls(rt: HostRuntime) -> Result<(), AllocError> {
+    all_go::<Removal>(&rt, rt.alloc(), TALKS)
 }
 
 #[test]
-fn makes_32_tries_in_a_row(rt: HostRuntime) -> Result<(), Fail> {
+fn makes_32_tries_in_a_row(rt: HostRuntime) -> Result<(), AllocError> {
     let mut removal = begin(true);
     for tries in 1..32 {
         removal = next(removal, &ended(0, EAGAIN));

@@ -2,7 +2,6 @@
 use crate::rows::{Room, all_go, name_of, number, word_of};
 use open_partial::{ENDS, Search, TRY, begin, beginning, next, trial_of};
 use std::alloc::{AllocError, Global};
-use std::test::Fail;
 
 const ENOENT: u32 = 2;
 
@@ -82,9 +81,8 @@ a/b/c/d followed: try 4 7 1 = ENOENT; try 2 4 1 directory = is 7; try 3 6 1 dire
 fails EACCES";
 
 #[test]
-fn parts_are_tried(rt: HostRuntime) -> Result<(), Fail> {
-    all_go::<Path>(&rt, rt.alloc(), SEARCHES)?;
-    Ok(())
+fn parts_are_tried(rt: HostRuntime) -> Result<(), AllocError> {
+    all_go::<Path>(&rt, rt.alloc(), SEARCHES)
 }
 
 // How many bytes come before the piece of this number, in turn: with the slashes behind the one before.
@@ -96,7 +94,7 @@ const BEGINNINGS: [(&str, &[usize]); 4] = [
 ];
 
 #[test]
-fn a_beginning_has_the_slashes_behind_it(rt: HostRuntime) -> Result<(), Fail> {
+fn a_beginning_has_the_slashes_behind_it(rt: HostRuntime) -> Result<(), AllocError> {
     for (text, lengths) in &BEGINNINGS {
         for (pieces, length) in lengths.iter().enumerate() {
             assert!(rt; beginning(text.as_bytes(), pieces) == *length, "{text}");
@@ -108,7 +106,7 @@ fn a_beginning_has_the_slashes_behind_it(rt: HostRuntime) -> Result<(), Fail> {
 
 // Each try but the last finds something missing: of 2,048 pieces, as a path of 4,095 bytes may have.
 #[test]
-fn thirteen_tries_are_the_most(rt: HostRuntime) -> Result<(), Fail> {
+fn thirteen_tries_are_the_most(rt: HostRuntime) -> Result<(), AllocError> {
     let text = [[b'a', b'/']; 2048];
     let mut search = begin(text.as_flattened());
     let mut count: u32 = 0;
