@@ -12,7 +12,7 @@ use crate::make_all::Gave;
 use crate::path::{PathOf, Texts};
 use crate::request::*;
 use crate::run::run;
-use crate::several::{begin, keep, make_all_part, next_call, open_at_part};
+use crate::several::{Then, begin, keep_gave, make_all_part, next_call, open_at_part};
 use crate::walk::{Below, EXACT, NOFOLLOW, O_PATH, has, look_up};
 use crate::{open_at, steps};
 use dialogue::{Answer, Asked, Question};
@@ -92,8 +92,8 @@ enum Came {
     BySteps(Box<Steps>),
     // No memory for that.
     NoMemory,
-    // What a call of several gave.
-    Gave(usize),
+    // A part of a call of several is over.
+    Gave(Then),
 }
 
 fn path_in(first: &[u8], length: usize) -> PathOf<'_> {
@@ -241,11 +241,11 @@ fn go(
         }
         Ok(Ok(reply)) => Came::Due(end_and_close(&reply, &beside.closes, room)),
         Ok(Err(gave)) => {
-            keep(state, &gave.reply, room);
+            let then = keep_gave(state, &gave, room);
             request.known = known;
             state.count = 0;
             state.looked = false;
-            Came::Gave(gave.rest)
+            Came::Gave(then)
         }
     }
 }
@@ -256,7 +256,6 @@ fn go(
 #[inline(always)]
 fn follow(
     came: Came,
-    request: &Request,
     state: &mut State,
     steps: &mut Option<Box<Steps>>,
     first: &mut [u8],
@@ -271,8 +270,8 @@ fn follow(
             lay(room, NAME, b"");
             end_steps(state, Ended::Fails(ENOMEM, steps::NONE), answers);
         }
-        Came::Gave(rest) => {
-            if !next_call(request, state, rest, first, read) {
+        Came::Gave(then) => {
+            if !next_call(state, then, first, read) {
                 return Some(end_of(&refused(EIO), room));
             }
         }
@@ -303,7 +302,7 @@ fn go_on(
                 let came = go(
                     alloc, request, state, first, second, read, number, answers, room,
                 );
-                follow(came, request, state, steps, first, read, answers, room)
+                follow(came, state, steps, first, read, answers, room)
             }
         };
         if let Some(due) = due {
@@ -341,7 +340,7 @@ fn next_due(
         let came = go(
             alloc, request, state, first, second, read, number, answers, room,
         );
-        if let Some(due) = follow(came, request, state, steps, first, read, answers, room) {
+        if let Some(due) = follow(came, state, steps, first, read, answers, room) {
             return due;
         }
     }
