@@ -1,8 +1,5 @@
 //! Which call comes next as all missing parts of a path are made, by answers that a kernel gives.
-use make_through_links::{
-    CREATE, ENDS, FAILS, FIND, MAKE, MAKE_ABOVE, Making, Outcome, PARTIAL, READ_END, READ_LINK,
-    SPLIT, begin, next,
-};
+use make_through_links::{Came, Making, Outcome, Question, begin, lay_link, pass};
 use std::test::Fail;
 use system_calls::next_try;
 
@@ -46,12 +43,12 @@ fn failed(error: u32) -> Outcome {
 }
 
 // So many bytes come before the name.
-fn parted(rest: usize) -> Outcome {
+fn parted(rest: u32) -> Outcome {
     Outcome { rest, ..OPENED }
 }
 
 // So many bytes are there, up to this directory.
-fn partly(descriptor: u32, rest: usize) -> Outcome {
+fn partly(descriptor: u32, rest: u32) -> Outcome {
     Outcome {
         rest,
         descriptor,
@@ -59,36 +56,74 @@ fn partly(descriptor: u32, rest: usize) -> Outcome {
     }
 }
 
-// What comes next after an outcome.
-fn after(making: Making, outcome: Outcome, text: &[u8], room: &mut [u8]) -> Making {
-    let is_within = making.above <= making.length
-        && making.length <= room.len()
-        && making.size <= making.length;
-    if !is_within || room.len() < ROOM {
-        return making;
+// What a question asks for: the call by a letter, and of CLOSE and WAIT the number.
+fn told<'n>(question: Question<'n>) -> (u8, &'n [u8], u32) {
+    match question {
+        Question::Find(path) => (b'f', path, 0),
+        Question::Split(path) => (b's', path, 0),
+        Question::MakeAbove(path) => (b'a', path, 0),
+        Question::Make(path) => (b'm', path, 0),
+        Question::Partial(path) => (b'p', path, 0),
+        Question::ReadLink(path) => (b'l', path, 0),
+        Question::Create(path) => (b'c', path, 0),
+        Question::ReadEnd(path) => (b'e', path, 0),
+        Question::Close(fd) => (b'-', b"", fd),
+        Question::Wait(pause) => (b'w', b"", pause),
     }
-    next(making, outcome, text, room)
 }
 
-// This call comes next, on this path, in this directory.
-fn asks(making: &Making, room: &[u8], call: u8, path: &[u8]) -> bool {
-    making.next == call && is_about(making, room, path)
+// This call comes next after these outcomes of a pass, on this path.
+fn asks(making: &Making, room: &[u8], outcomes: &[Outcome], call: u8, path: &[u8]) -> bool {
+    if making.length > room.len() {
+        return false;
+    }
+    let mut left = outcomes;
+    match pass(&mut left, making, &room[..making.length], b"") {
+        Err(question) => {
+            let (asked, on, _) = told(question);
+            asked == call && on == path
+        }
+        Ok(_) => false,
+    }
 }
 
-fn is_about(making: &Making, room: &[u8], path: &[u8]) -> bool {
-    making.size <= room.len() && &room[..making.size] == path
+// This descriptor is closed next.
+fn closes(making: &Making, room: &[u8], outcomes: &[Outcome], fd: u32) -> bool {
+    if making.length > room.len() {
+        return false;
+    }
+    let mut left = outcomes;
+    match pass(&mut left, making, &room[..making.length], b"") {
+        Err(question) => {
+            let (asked, _, closed) = told(question);
+            asked == b'-' && closed == fd
+        }
+        Ok(_) => false,
+    }
 }
 
-fn fails(making: &Making, room: &[u8], error: u32, step: u8, path: &[u8]) -> bool {
-    making.next == FAILS
-        && making.error == error
-        && making.step == step
-        && making.gives == 0
-        && is_about(making, room, path)
+// How a pass ends by these outcomes, if that text was read last.
+fn came(making: &Making, room: &[u8], outcomes: &[Outcome], text: &[u8]) -> Option<Came> {
+    if making.length > room.len() {
+        return None;
+    }
+    let mut left = outcomes;
+    match pass(&mut left, making, &room[..making.length], text) {
+        Ok(came) => Some(came),
+        Err(_) => None,
+    }
 }
 
-fn ends(making: &Making, gives: u32) -> bool {
-    making.next == ENDS && making.gives == gives
+// The next pass behind that one, or the same.
+fn after(making: Making, outcomes: &[Outcome], text: &[u8], room: &mut [u8]) -> Making {
+    match came(&making, room, outcomes, text) {
+        Some(Came::Led(next, front, at)) => {
+            lay_link(text, front, at, making.length, room);
+            next
+        }
+        Some(Came::Again(next)) => next,
+        _ => making,
+    }
 }
 
 // A room with this path.
@@ -103,22 +138,14 @@ fn makes_directories(rt: HostRuntime) -> Result<(), Fail> {
     let mut room = [0; ROOM];
     laid(b"a/b", &mut room);
     let making = begin(3, false, true, true);
-    assert!(rt; asks(&making, &room, MAKE, b"a/b"));
-    assert!(rt; making.pause == 0);
-    assert!(rt; ends(&after(making, opened(5), b"", &mut room), 5));
-    assert!(rt; ends(&after(making, failed(EACCES), b"", &mut room), 0));
-    assert!(rt;
-        asks(
-            &after(making, failed(ENOENT), b"", &mut room),
-            &room,
-            PARTIAL,
-            b"a/b"
-        )
-    );
+    assert!(rt; asks(&making, &room, &[], b'm', b"a/b"));
+    assert!(rt; came(&making, &room, &[opened(5)], b"") == Some(Came::Given(5)));
+    assert!(rt; came(&making, &room, &[failed(EACCES)], b"") == Some(Came::Failed(EACCES)));
+    assert!(rt; asks(&making, &room, &[failed(ENOENT)], b'p', b"a/b"));
     let without = begin(3, false, false, true);
-    assert!(rt; ends(&after(without, failed(ENOENT), b"", &mut room), 0));
+    assert!(rt; came(&without, &room, &[failed(ENOENT)], b"") == Some(Came::Failed(ENOENT)));
     let nothing = begin(0, false, true, true);
-    assert!(rt; ends(&after(nothing, failed(ENOENT), b"", &mut room), 0));
+    assert!(rt; came(&nothing, &room, &[failed(ENOENT)], b"") == Some(Came::Failed(ENOENT)));
     Ok(())
 }
 
@@ -126,22 +153,18 @@ fn makes_directories(rt: HostRuntime) -> Result<(), Fail> {
 fn follows_a_link_to_a_directory(rt: HostRuntime) -> Result<(), Fail> {
     let mut room = [0; ROOM];
     laid(b"var/run//lock/x", &mut room);
-    let gone = after(begin(15, false, true, true), failed(ENOENT), b"", &mut room);
-    let reads = after(gone, partly(7, 4), b"", &mut room);
-    assert!(rt; asks(&reads, &room, READ_LINK, b"var/run"));
-    let led = after(reads, opened(0), b"/run", &mut room);
-    assert!(rt; asks(&led, &room, MAKE, b"/run/lock/x"));
+    let making = begin(15, false, true, true);
+    let reads = [failed(ENOENT), partly(7, 4), OPENED];
+    assert!(rt; asks(&making, &room, &reads, b'l', b"var/run"));
+    let link = [failed(ENOENT), partly(7, 4), OPENED, OPENED];
+    let led = after(making, &link, b"/run", &mut room);
+    assert!(rt; asks(&led, &room, &[], b'm', b"/run/lock/x"));
     assert!(rt; led.links == 1);
-    let again = after(led, failed(ENOENT), b"", &mut room);
-    assert!(rt; asks(&again, &room, PARTIAL, b"/run/lock/x"));
-    let last = after(
-        after(again, partly(9, 10), b"", &mut room),
-        opened(0),
-        b"y",
-        &mut room,
-    );
-    assert!(rt; asks(&last, &room, MAKE, b"/run/lock/y"));
-    assert!(rt; ends(&after(last, opened(4), b"", &mut room), 4));
+    assert!(rt; asks(&led, &room, &[failed(ENOENT)], b'p', b"/run/lock/x"));
+    let link = [failed(ENOENT), partly(9, 10), OPENED, OPENED];
+    let last = after(led, &link, b"y", &mut room);
+    assert!(rt; asks(&last, &room, &[], b'm', b"/run/lock/y"));
+    assert!(rt; came(&last, &room, &[opened(4)], b"") == Some(Came::Given(4)));
     Ok(())
 }
 
@@ -150,29 +173,31 @@ fn makes_a_file_and_what_is_above(rt: HostRuntime) -> Result<(), Fail> {
     let mut room = [0; ROOM];
     laid(b"a/x/f", &mut room);
     let making = begin(5, true, false, true);
-    assert!(rt; asks(&making, &room, FIND, b"a/x/f"));
-    assert!(rt; ends(&after(making, opened(6), b"", &mut room), 6));
-    let splits = after(making, failed(ENOENT), b"", &mut room);
-    assert!(rt; asks(&splits, &room, SPLIT, b"a/x/f"));
-    let above = after(splits, parted(4), b"", &mut room);
-    assert!(rt; asks(&above, &room, MAKE_ABOVE, b"a/x/"));
-    assert!(rt; ends(&after(above, failed(ENOENT), b"", &mut room), 0));
-    let creates = after(above, opened(8), b"", &mut room);
-    assert!(rt; asks(&creates, &room, CREATE, b"a/x/f"));
-    assert!(rt; ends(&after(creates, opened(9), b"", &mut room), 9));
-    assert!(rt; ends(&after(creates, failed(EACCES), b"", &mut room), 0));
+    let outcomes = [failed(ENOENT), parted(4), opened(8), OPENED, opened(9)];
+    assert!(rt; asks(&making, &room, &[], b'f', b"a/x/f"));
+    assert!(rt; came(&making, &room, &[opened(6)], b"") == Some(Came::Given(6)));
+    assert!(rt; asks(&making, &room, &outcomes[..1], b's', b"a/x/f"));
+    assert!(rt; asks(&making, &room, &outcomes[..2], b'a', b"a/x/"));
+    let denied = [failed(ENOENT), parted(4), failed(ENOENT)];
+    assert!(rt; came(&making, &room, &denied, b"") == Some(Came::Failed(ENOENT)));
+    assert!(rt; closes(&making, &room, &outcomes[..3], 8));
+    assert!(rt; asks(&making, &room, &outcomes[..4], b'c', b"a/x/f"));
+    assert!(rt; came(&making, &room, &outcomes, b"") == Some(Came::Given(9)));
+    let denied = [failed(ENOENT), parted(4), opened(8), OPENED, failed(EACCES)];
+    assert!(rt; came(&making, &room, &denied, b"") == Some(Came::Failed(EACCES)));
     Ok(())
 }
 
 #[test]
 fn a_directory_is_no_file(rt: HostRuntime) -> Result<(), Fail> {
-    let mut room = [b'a'; ROOM];
+    let room = [b'a'; ROOM];
     let found = Outcome {
         directory: true,
         ..opened(6)
     };
-    let end = after(begin(1, true, true, true), found, b"", &mut room);
-    assert!(rt; fails(&end, &room, EISDIR, 0, b"a"));
+    let making = begin(1, true, true, true);
+    assert!(rt; closes(&making, &room, &[found], 6));
+    assert!(rt; came(&making, &room, &[found, OPENED], b"") == Some(Came::Fails(EISDIR, 0)));
     Ok(())
 }
 
@@ -180,97 +205,79 @@ fn a_directory_is_no_file(rt: HostRuntime) -> Result<(), Fail> {
 fn a_path_has_a_last_name(rt: HostRuntime) -> Result<(), Fail> {
     let mut room = [b'/'; ROOM];
     laid(b"a/", &mut room);
-    let splits = after(begin(2, true, true, true), failed(ENOENT), b"", &mut room);
-    assert!(rt;
-        fails(
-            &after(splits, failed(ENOTDIR), b"", &mut room),
-            &room,
-            ENOTDIR,
-            0,
-            b"a/"
-        )
-    );
-    assert!(rt;
-        ends(
-            &after(begin(0, true, true, true), failed(ENOENT), b"", &mut room),
-            0
-        )
-    );
+    let refused = [failed(ENOENT), failed(ENOTDIR)];
+    let end = came(&begin(2, true, true, true), &room, &refused, b"");
+    assert!(rt; end == Some(Came::Fails(ENOTDIR, 0)));
+    let nothing = begin(0, true, true, true);
+    assert!(rt; came(&nothing, &room, &[failed(ENOENT)], b"") == Some(Came::Failed(ENOENT)));
     Ok(())
 }
 
-// The directories above the file are there by now, and an entry is at its name.
-fn stands(making: Making, rest: usize, room: &mut [u8]) -> Making {
-    let splits = after(making, failed(ENOENT), b"", room);
-    let above = after(splits, parted(rest), b"", room);
-    let creates = after(above, opened(8), b"", room);
-    after(creates, failed(EEXIST), b"", room)
+// The directories above the file are there by now, an entry is at its name, and is read.
+fn stands(rest: u32, read: Outcome) -> [Outcome; 6] {
+    [
+        failed(ENOENT),
+        parted(rest),
+        opened(8),
+        OPENED,
+        failed(EEXIST),
+        read,
+    ]
 }
 
 #[test]
 fn follows_a_link_at_the_end(rt: HostRuntime) -> Result<(), Fail> {
     let mut room = [0; ROOM];
     laid(b"etc/resolv", &mut room);
-    let reads = stands(begin(10, true, true, true), 4, &mut room);
-    assert!(rt; asks(&reads, &room, READ_END, b"etc/resolv"));
-    assert!(rt; ends(&after(reads, failed(EACCES), b"", &mut room), 0));
-    let led = after(reads, opened(0), b"../run/stub", &mut room);
-    assert!(rt; asks(&led, &room, FIND, b"etc/../run/stub"));
-    let splits = after(led, failed(ENOENT), b"", &mut room);
-    let above = after(splits, parted(11), b"", &mut room);
-    assert!(rt; asks(&above, &room, MAKE_ABOVE, b"etc/../run/"));
-    let gone = after(above, failed(ENOENT), b"", &mut room);
-    let link = after(gone, partly(9, 7), b"", &mut room);
-    assert!(rt; asks(&link, &room, READ_LINK, b"etc/../run"));
-    let behind = after(link, opened(0), b"/r", &mut room);
-    assert!(rt; asks(&behind, &room, MAKE_ABOVE, b"/r/"));
-    let creates = after(behind, opened(10), b"", &mut room);
-    assert!(rt; asks(&creates, &room, CREATE, b"/r/stub"));
+    let making = begin(10, true, true, true);
+    assert!(rt; asks(&making, &room, &stands(4, OPENED)[..5], b'e', b"etc/resolv"));
+    let denied = came(&making, &room, &stands(4, failed(EACCES)), b"");
+    assert!(rt; denied == Some(Came::Failed(EACCES)));
+    let led = after(making, &stands(4, OPENED), b"../run/stub", &mut room);
+    assert!(rt; asks(&led, &room, &[], b'f', b"etc/../run/stub"));
+    let gone = [
+        failed(ENOENT),
+        parted(11),
+        failed(ENOENT),
+        partly(9, 7),
+        OPENED,
+        OPENED,
+    ];
+    assert!(rt; asks(&led, &room, &gone[..2], b'a', b"etc/../run/"));
+    assert!(rt; asks(&led, &room, &gone[..5], b'l', b"etc/../run"));
+    let behind = after(led, &gone, b"/r", &mut room);
+    assert!(rt; asks(&behind, &room, &[], b'a', b"/r/"));
+    assert!(rt; asks(&behind, &room, &[opened(10), OPENED], b'c', b"/r/stub"));
     Ok(())
 }
 
 #[test]
 fn a_link_is_not_followed_without_leave(rt: HostRuntime) -> Result<(), Fail> {
     let mut room = [b'l'; ROOM];
-    let reads = stands(begin(1, true, false, true), 0, &mut room);
-    assert!(rt; asks(&reads, &room, READ_END, b"l"));
-    assert!(rt;
-        fails(
-            &after(reads, opened(0), b"x", &mut room),
-            &room,
-            ENOENT,
-            9,
-            b"l"
-        )
-    );
-    assert!(rt; after(reads, failed(EINVAL), b"", &mut room).next == FIND);
-    assert!(rt; after(reads, failed(ENOENT), b"", &mut room).next == FIND);
+    let making = begin(1, true, false, true);
+    let end = came(&making, &room, &stands(0, OPENED), b"x");
+    assert!(rt; end == Some(Came::Fails(ENOENT, 9)));
+    let none = after(making, &stands(0, failed(EINVAL)), b"", &mut room);
+    assert!(rt; asks(&none, &room, &[], b'f', b"l"));
+    let gone = after(making, &stands(0, failed(ENOENT)), b"", &mut room);
+    assert!(rt; asks(&gone, &room, &[], b'f', b"l"));
     Ok(())
 }
 
 #[test]
 fn a_link_without_a_text_leads_nowhere(rt: HostRuntime) -> Result<(), Fail> {
-    let mut room = [b'l'; ROOM];
-    let gone = after(begin(1, false, true, true), failed(ENOENT), b"", &mut room);
-    let reads = after(gone, partly(3, 0), b"", &mut room);
-    assert!(rt;
-        fails(
-            &after(reads, opened(0), b"", &mut room),
-            &room,
-            ENOENT,
-            4,
-            b"l"
-        )
-    );
-    assert!(rt; ends(&after(reads, failed(ENOENT), b"", &mut room), 0));
+    let room = [b'l'; ROOM];
+    let making = begin(1, false, true, true);
+    let link = [failed(ENOENT), partly(3, 0), OPENED, OPENED];
+    assert!(rt; came(&making, &room, &link, b"") == Some(Came::Fails(ENOENT, 4)));
+    let gone = [failed(ENOENT), partly(3, 0), OPENED, failed(ENOENT)];
+    assert!(rt; came(&making, &room, &gone, b"") == Some(Came::Failed(ENOENT)));
     Ok(())
 }
 
-// A link in the directories' path is read, which has this text.
-fn followed(making: Making, text: &[u8], room: &mut [u8]) -> Making {
-    let gone = after(making, failed(ENOENT), b"", room);
-    let reads = after(gone, partly(3, 0), b"", room);
-    after(reads, opened(0), text, room)
+// A link is read of which so many bytes of the directories' path come before.
+fn link(rest: u32) -> [Outcome; 4] {
+    [failed(ENOENT), partly(3, rest), OPENED, OPENED]
 }
 
 #[test]
@@ -278,11 +285,11 @@ fn follows_forty_links(rt: HostRuntime) -> Result<(), Fail> {
     let mut room = [b'a'; ROOM];
     let mut making = begin(1, false, true, true);
     for _ in 0..40 {
-        making = followed(making, b"b", &mut room);
+        making = after(making, &link(0), b"b", &mut room);
     }
-    assert!(rt; making.next == MAKE);
-    let end = followed(making, b"c", &mut room);
-    assert!(rt; fails(&end, &room, ELOOP, 4, b"b"));
+    assert!(rt; asks(&making, &room, &[], b'm', b"b"));
+    assert!(rt; making.links == 40);
+    assert!(rt; came(&making, &room, &link(0), b"c") == Some(Came::Fails(ELOOP, 4)));
     Ok(())
 }
 
@@ -290,24 +297,19 @@ fn follows_forty_links(rt: HostRuntime) -> Result<(), Fail> {
 fn a_path_has_4095_bytes(rt: HostRuntime) -> Result<(), Fail> {
     let mut room = [b'l'; ROOM];
     let text = [b'a'; 4096];
+    let too_long = Some(Came::Fails(ENAMETOOLONG, 4));
     let alone = begin(1, false, true, true);
-    assert!(rt; followed(alone, &text[..4095], &mut room).length == 4095);
-    let end = followed(alone, &text[..4096], &mut room);
-    assert!(rt; fails(&end, &room, ENAMETOOLONG, 4, b"a"));
+    assert!(rt; came(&alone, &room, &link(0), &text[..4096]) == too_long);
+    assert!(rt; after(alone, &link(0), &text[..4095], &mut room).length == 4095);
     laid(b"l/x", &mut room);
-    let end = followed(begin(3, false, true, true), &text[..4094], &mut room);
-    assert!(rt; fails(&end, &room, ENAMETOOLONG, 4, b"l"));
-    let longest = followed(begin(3, false, true, true), &text[..4093], &mut room);
-    assert!(rt; longest.next == MAKE);
-    assert!(rt; longest.length == 4095);
+    let before = begin(3, false, true, true);
+    assert!(rt; came(&before, &room, &link(0), &text[..4094]) == too_long);
+    let longest = after(before, &link(0), &text[..4093], &mut room);
+    assert!(rt; longest.length == 4095 && room[4093] == b'/' && room[4094] == b'x');
     // A relative text stands behind the path of the link's directory.
     laid(b"d/l", &mut room);
-    let gone = after(begin(3, false, true, true), failed(ENOENT), b"", &mut room);
-    let reads = after(gone, partly(3, 2), b"", &mut room);
-    assert!(rt; after(reads, opened(0), &text[..4093], &mut room).length == 4095);
-    laid(b"d/l", &mut room);
-    let end = after(reads, opened(0), &text[..4094], &mut room);
-    assert!(rt; fails(&end, &room, ENAMETOOLONG, 4, b"d/l"));
+    assert!(rt; came(&before, &room, &link(2), &text[..4094]) == too_long);
+    assert!(rt; after(before, &link(2), &text[..4093], &mut room).length == 4095);
     Ok(())
 }
 
@@ -315,25 +317,17 @@ fn a_path_has_4095_bytes(rt: HostRuntime) -> Result<(), Fail> {
 fn what_came_in_between_is_walked_again(rt: HostRuntime) -> Result<(), Fail> {
     let mut room = [0; ROOM];
     laid(b"d/n", &mut room);
-    let gone = after(begin(3, false, true, true), failed(ENOENT), b"", &mut room);
-    assert!(rt;
-        asks(
-            &after(gone, partly(3, 3), b"", &mut room),
-            &room,
-            MAKE,
-            b"d/n"
-        )
-    );
-    let reads = after(gone, partly(3, 2), b"", &mut room);
-    assert!(rt;
-        asks(
-            &after(reads, failed(EINVAL), b"", &mut room),
-            &room,
-            MAKE,
-            b"d/n"
-        )
-    );
-    assert!(rt; ends(&after(gone, failed(EACCES), b"", &mut room), 0));
+    let making = begin(3, false, true, true);
+    // The whole path is there by now.
+    let whole = [failed(ENOENT), partly(3, 3), OPENED];
+    assert!(rt; closes(&making, &room, &whole[..2], 3));
+    let again = after(making, &whole, b"", &mut room);
+    assert!(rt; again.tries == 2 && asks(&again, &room, &[], b'm', b"d/n"));
+    let none = [failed(ENOENT), partly(3, 2), OPENED, failed(EINVAL)];
+    let again = after(making, &none, b"", &mut room);
+    assert!(rt; again.tries == 2 && asks(&again, &room, &[], b'm', b"d/n"));
+    let denied = [failed(ENOENT), failed(EACCES)];
+    assert!(rt; came(&making, &room, &denied, b"") == Some(Came::Failed(EACCES)));
     Ok(())
 }
 
@@ -342,51 +336,35 @@ fn gives_up_after_32_tries(rt: HostRuntime) -> Result<(), Fail> {
     let mut room = [0; ROOM];
     laid(b"d/n", &mut room);
     let mut making = begin(3, true, true, true);
+    let gone = stands(2, failed(ENOENT));
+    let waited = [
+        OPENED, gone[0], gone[1], gone[2], gone[3], gone[4], gone[5],
+    ];
     for times in 1..32 {
-        making = after(stands(making, 2, &mut room), failed(ENOENT), b"", &mut room);
-        assert!(rt; asks(&making, &room, FIND, b"d/n"));
-        assert!(rt; making.between == times);
+        let outcomes = if making.pause > 0 {
+            &waited[..]
+        } else {
+            &gone[..]
+        };
+        making = after(making, outcomes, b"", &mut room);
+        assert!(rt; making.tries == times + 1);
         assert!(rt; making.pause == next_try(times, true, EAGAIN, false).pause);
+        if making.pause > 0 {
+            assert!(rt; asks(&making, &room, &[], b'w', b""));
+            assert!(rt; asks(&making, &room, &[OPENED], b'f', b"d/n"));
+        } else {
+            assert!(rt; asks(&making, &room, &[], b'f', b"d/n"));
+        }
     }
-    let end = after(stands(making, 2, &mut room), failed(ENOENT), b"", &mut room);
-    assert!(rt; fails(&end, &room, EAGAIN, 8, b"d/n"));
+    assert!(rt; came(&making, &room, &waited, b"") == Some(Came::Fails(EAGAIN, 8)));
     Ok(())
 }
 
 #[test]
 fn makes_one_try_if_told_so(rt: HostRuntime) -> Result<(), Fail> {
-    let mut room = [b'd'; ROOM];
-    let gone = after(begin(1, false, true, false), failed(ENOENT), b"", &mut room);
-    let end = after(gone, partly(3, 1), b"", &mut room);
-    assert!(rt; fails(&end, &room, EAGAIN, 8, b"d"));
-    Ok(())
-}
-
-#[test]
-fn closes_what_is_not_the_reply(rt: HostRuntime) -> Result<(), Fail> {
-    let mut room = [0; ROOM];
-    laid(b"l/f", &mut room);
-    let splits = after(begin(3, true, true, true), failed(ENOENT), b"", &mut room);
-    let above = after(splits, parted(2), b"", &mut room);
-    let creates = after(above, opened(8), b"", &mut room);
-    assert!(rt; above.closes == 0 && creates.closes == 8);
-    let made = after(creates, opened(9), b"", &mut room);
-    assert!(rt; ends(&made, 9) && made.closes == 0);
-    Ok(())
-}
-
-#[test]
-fn closes_what_was_found_and_is_not_given(rt: HostRuntime) -> Result<(), Fail> {
-    let mut room = [b'a'; ROOM];
-    let found = Outcome {
-        directory: true,
-        ..opened(6)
-    };
-    let end = after(begin(1, true, true, true), found, b"", &mut room);
-    assert!(rt; end.next == FAILS && end.closes == 6);
-    // The whole path is there by now, and is walked again.
-    let gone = after(begin(1, false, true, true), failed(ENOENT), b"", &mut room);
-    let again = after(gone, partly(7, 1), b"", &mut room);
-    assert!(rt; again.next == MAKE && again.closes == 7);
+    let room = [b'd'; ROOM];
+    let making = begin(1, false, true, false);
+    let whole = [failed(ENOENT), partly(3, 1), OPENED];
+    assert!(rt; came(&making, &room, &whole, b"") == Some(Came::Fails(EAGAIN, 8)));
     Ok(())
 }
