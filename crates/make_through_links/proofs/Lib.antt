@@ -1,1 +1,4 @@
+pub mod CallLemmas
+pub mod LinkLemmas
+pub mod PassLemmas
 pub mod PathLemmas

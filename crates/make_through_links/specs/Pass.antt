@@ -37,15 +37,15 @@ link_read m path dir read a =
     else (if is_empty read then Fails ENOENT STEP_READ_LINK else followed m path dir read))
 
 unfoldable pub read_link : Making → List ℕ → ℕ → ℕ → List ℕ → Talk Came
-read_link m path dir name read =
-    and_then (asking makings (reads_link (take (dir + name) (take m.above path))))
+read_link m path dir end read =
+    and_then (asking makings (reads_link (take end (take m.above path))))
     (λ a. ends (link_read m path dir read a))
 
 -- A name comes behind what is there. Where none does, somebody made what was missing.
 abbrev pub behind_there : Making → List ℕ → List ℕ → ℕ → Talk Came
 behind_there m path read dir =
     let name = name_size (drop dir (take m.above path)) in
-    if name == 0 then ends (again m) else read_link m path dir name read
+    if name == 0 then ends (again m) else read_link m path dir (dir + name) read
 
 abbrev pub looked : Making → List ℕ → List ℕ → Outcome → Talk Came
 looked m path read a =

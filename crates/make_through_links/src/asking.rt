@@ -50,7 +50,7 @@ pub type Asked<'n, T> = Result<T, Question<'n>>;
 #[inline(always)]
 pub(crate) fn ask<'n>(outcomes: &mut &[Outcome], question: Question<'n>) -> Asked<'n, Outcome>
     ensures { ran_by_of makings (λ a. a) asked_of result outcomes.new.now
-        ≡ ran (asking makings (asked_of question)) outcomes.old.now }
+        ≡ ran (asking makings (asked_of question.entry)) outcomes.old.now }
 {
     match outcomes.split_first() {
         Some((outcome, rest)) => {

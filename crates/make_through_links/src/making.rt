@@ -135,6 +135,7 @@ fn link_error(links: u32, length: usize) -> u32
 // A link of a directory whose path has so many bytes is followed, if it may be: what comes behind the link begins
 // there.
 fn led(making: &Making, path: &[u8], dir: usize, at: usize, text: &[u8]) -> Came
+    requires { dir ≤ at }
     ensures { result ≡ led making.now path.now dir at text.now }
 {
     let before = front(path, front_length(text, dir));
@@ -159,7 +160,7 @@ pub(crate) fn followed(making: &Making, path: &[u8], dir: usize, text: &[u8]) ->
     ensures { result ≡ followed making.now path.now dir text.now }
 {
     let missing = behind(front(path, making.above), dir);
-    led(making, path, dir, dir.saturating_add(rest_at(missing)), text)
+    led(making, path, dir, dir + rest_at(missing), text)
 }
 
 // A link stands at the path's end.

@@ -59,24 +59,21 @@ fn create<'n>(
     }
 }
 
-// So much of the directories' path is there, and a name of so many bytes comes behind.
+// So much of the directories' path is there, and the name behind that ends there.
 #[tactic(auto, using(dialogue::proofs::TalkLemmas::ran_then, dialogue::proofs::TalkLemmas::ran_ends), unfolding(crate::specs::Pass::read_link))]
 fn read_link<'n>(
     outcomes: &mut &[Outcome],
     making: &Making,
     path: &'n [u8],
     dir: usize,
-    name: usize,
+    end: usize,
     read: &[u8],
 ) -> Asked<'n, Came>
     ensures { ran_by_of makings (λ x. x) asked_of result outcomes.new.now
-        ≡ ran (read_link making.now path.now dir name read.now) outcomes.old.now }
+        ≡ ran (read_link making.now path.now dir end read.now) outcomes.old.now }
 {
     let above = front(path, making.above);
-    let link = ask(
-        outcomes,
-        Question::ReadLink(front(above, dir.saturating_add(name))),
-    )?;
+    let link = ask(outcomes, Question::ReadLink(front(above, end)))?;
     if link.error == EINVAL {
         return Ok(again(making));
     }
@@ -111,7 +108,7 @@ fn look<'n>(
     if name == 0 {
         return Ok(again(making));
     }
-    read_link(outcomes, making, path, dir, name, read)
+    read_link(outcomes, making, path, dir, dir + name, read)
 }
 
 fn make_question<'n>(file: bool, above: &'n [u8]) -> Question<'n>

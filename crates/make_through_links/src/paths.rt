@@ -48,7 +48,8 @@ pub(crate) fn rest_at(text: &[u8]) -> usize
 
 // How long the path of a link's directory is, of so many bytes, before this text.
 pub(crate) fn front_length(text: &[u8], dir: usize) -> usize
-    ensures { result ≡ (if begins_with_slash text.now then 0 else dir) }
+    ensures exact { result ≡ (if begins_with_slash text.now then 0 else dir) }
+    ensures within { result ≤ dir }
 {
     if begins_with_slash(text) { 0 } else { dir }
 }
@@ -103,6 +104,15 @@ fn lay_before(text: &[u8], at: usize, path_length: usize, room: &mut [u8])
     lay(text, room);
 }
 
+fn way_length(text: &[u8], front: usize, at: usize, path_length: usize, room: &[u8]) -> usize
+    requires front { front ≤ at }
+    requires at { at ≤ path_length }
+    requires path { path_length ≤ length room.now }
+    ensures { result ≡ length (way (take path_length room.now) text.now front at) }
+{
+    joined_length(&room[..front], text, &room[at..path_length])
+}
+
 /// Lays a link's text into the path of so many bytes at the beginning of a room: behind its first FRONT bytes, and
 /// before what comes from AT on. Nothing changes where there is no room for that. Takes no memory.
 pub fn lay_link(text: &[u8], front: usize, at: usize, path_length: usize, room: &mut [u8])
@@ -113,7 +123,7 @@ pub fn lay_link(text: &[u8], front: usize, at: usize, path_length: usize, room: 
     ensures size { length room.new ≡ length room.old }
 {
     let is_within = front <= at && at <= path_length && path_length <= room.len();
-    if is_within && joined_length(&room[..front], text, &room[at..path_length]) <= room.len() {
+    if is_within && way_length(text, front, at, path_length, room) <= room.len() {
         lay_before(text, at - front, path_length - front, &mut room[front..]);
     }
 }
