@@ -14,6 +14,8 @@ fn laws_of_files() {
 
 #[test]
 fn laws_of_missing_parts() {
+    make_through_links::calls_hold();
+    make_through_links::links_are_followed_in_turn();
 }
 
 #[test]

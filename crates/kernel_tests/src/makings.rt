@@ -337,9 +337,7 @@ fn gives_up_after_32_tries(rt: HostRuntime) -> Result<(), Fail> {
     laid(b"d/n", &mut room);
     let mut making = begin(3, true, true, true);
     let gone = stands(2, failed(ENOENT));
-    let waited = [
-        OPENED, gone[0], gone[1], gone[2], gone[3], gone[4], gone[5],
-    ];
+    let waited = [OPENED, gone[0], gone[1], gone[2], gone[3], gone[4], gone[5]];
     for times in 1..32 {
         let outcomes = if making.pause > 0 {
             &waited[..]

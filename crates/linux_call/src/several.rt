@@ -77,9 +77,7 @@ pub(crate) fn make_all_part<'n>(
     let came = match pass(&mut heard, &state.making, texts.first.text(), read) {
         Ok(came) => came,
         Err(question) => {
-            return Ok(Err(make_all::call(
-                answers, known, beside, request, &question, texts,
-            )?));
+            return Ok(Err(make_all::call(answers, known, beside, request, &question, texts)?));
         }
     };
     Ok(match came {

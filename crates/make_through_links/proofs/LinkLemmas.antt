@@ -38,6 +38,7 @@ led_leads w s dir link m n rest links h =
   where
     front : ℕ
     front = front_for s.path (text_for w s.making) n
+
     by_case : (error : ℕ) → Leads w s dir link
         (if error == 0 then Led (led_by m s.path front rest (text_for w s.making)) front rest
         else Fails error STEP_READ_LINK)
@@ -139,6 +140,7 @@ on_the_way w s p a may =
   where
     dir : List ℕ
     dir = take s.there (take s.making.above s.path)
+
     by_case : (none bad empty : Bool) → Leads w s dir p
         (if none then again s.making
         else (if bad then Failed a.error
@@ -161,6 +163,7 @@ at_the_end w s p a may =
   where
     dir : List ℕ
     dir = take s.making.above s.path
+
     by_case : (none bad stays empty : Bool) → Leads w s dir p
         (if none then again (unparted s.making)
         else (if bad then Failed a.error

@@ -22,24 +22,29 @@ use Rattle.make_through_links.specs.declared.making.Making.{Making}
 
 -- ---- how a pass ends
 
--- where the next one begins, behind one more link or try
-pub record Next (w : Wish) (s : Seen) (m : Making) (path : List ℕ) : Type 0 where
+-- where the next one begins, behind so many links and tries
+pub record Next (w : Wish) (n : ℕ) (m : Making) (path : List ℕ) : Type 0 where
   pub way : IsOnItsWay w m path
-  pub more : m.links + m.tries ≡ suc (s.making.links + s.making.tries)
+  pub more : m.links + m.tries ≡ suc n
 
--- what an answer says fits the state before it, with this open then
+-- what an answer says fits a pass over this path, with this text and this open then
+abbrev FitsIn : Wish → List ℕ → List ℕ → ℕ → List ℕ → Came → Type 0
+FitsIn w path text n held (Again m) = Next w n m path
+FitsIn w path text n held (Led m front rest) = Next w n m (way path text front rest)
+FitsIn w path text n held other = held ≡ given other
+
+abbrev ComesIn : Wish → List ℕ → List ℕ → ℕ → ℕ → Seen → Came → Type 0
+ComesIn w path text n k t (Again m) = (t ≡ at m path t.calls) × ((t.calls ≤ k) × Next w n m path)
+ComesIn w path text n k t (Led m front rest) =
+    (t ≡ at m (way path text front rest) t.calls) × ((t.calls ≤ k) × Next w n m (way path text front rest))
+ComesIn w path text n k t other = (t.came ≡ Some other) × ((t.calls ≤ k) × (t.held ≡ given other))
+
+-- the same from a state of the pass on
 abbrev Fits : Wish → Seen → List ℕ → Came → Type 0
-Fits w s held (Again m) = Next w s m s.path
-Fits w s held (Led m front rest) = Next w s m (way s.path (text_for w s.making) front rest)
-Fits w s held other = held ≡ given other
+Fits w s held c = FitsIn w s.path (text_for w s.making) (s.making.links + s.making.tries) held c
 
--- of a pass that has begun so
 abbrev pub Comes : Wish → Seen → ℕ → Seen → Came → Type 0
-Comes w s k t (Again m) = (t ≡ at m s.path t.calls) × ((t.calls ≤ k) × Next w s m s.path)
-Comes w s k t (Led m front rest) =
-    (t ≡ at m (way s.path (text_for w s.making) front rest) t.calls)
-    × ((t.calls ≤ k) × Next w s m (way s.path (text_for w s.making) front rest))
-Comes w s k t other = (t.came ≡ Some other) × ((t.calls ≤ k) × (t.held ≡ given other))
+Comes w s k t c = ComesIn w s.path (text_for w s.making) (s.making.links + s.making.tries) k t c
 
 says_so : (w : Wish) (s : Seen) (q : Call) (a : Outcome) (k : ℕ) (c : Came)
     → text_for w (making_by s.making q a) ≡ text_for w s.making → calls_by s.calls q ≤ k → Fits w s (held_by q a) c
@@ -60,6 +65,10 @@ ended_fits w s a = by_case (a.error == 0)
         (if b then Given a.descriptor else Failed a.error)
     by_case true = refl
     by_case false = refl
+
+few_tries : (n : ℕ) (may : Bool) → is_due n may EAGAIN false ≡ true → n + 1 ≤ TRIES
+few_tries n true is = let few = ltb-true n TRIES is in omega (arith, few)
+few_tries n false is = absurd (false≢true is)
 
 -- another try, of a path that is walked by this or without its file's name apart
 again_fits : (w : Wish) (s : Seen) (m : Making) → IsOnItsWay w m s.path → m.links ≡ s.making.links
@@ -85,9 +94,6 @@ again_fits w s m h links tries = by_case (is_due m.tries m.may_retry EAGAIN fals
           more = omega (arith, links, tries);
         }
     by_case false is = refl
-    few_tries : (n : ℕ) (may : Bool) → is_due n may EAGAIN false ≡ true → n + 1 ≤ TRIES
-    few_tries n true is = let few = ltb-true n TRIES is in omega (arith, few)
-    few_tries n false is = absurd (false≢true is)
 
 -- with the file's name apart or not
 same_way : (w : Wish) (m : Making) (path : List ℕ) (above : ℕ) (parted : Bool) → IsOnItsWay w m path
@@ -116,10 +122,13 @@ led_fits w s m dir rest h links tries leave =
   where
     text : List ℕ
     text = text_for w s.making
+
     front : ℕ
     front = front_for s.path text dir
+
     new : List ℕ
     new = way s.path text front rest
+
     by_case : (room long : Bool) → nat_lt m.links LINKS ≡ room → nat_lt TEXT_MAX (length new) ≡ long
         → Fits w s []
         (let error = if room then (if long then ENAMETOOLONG else 0) else ELOOP in
@@ -183,7 +192,7 @@ end_fits w s a h =
 -- behind an answer that ends nothing
 onwards : (w : Wish) (s : Seen) (q : Call) (a : Outcome) → IsOnItsWay w (making_by s.making q a) s.path
     → held_by q a ≡ [] → GoesOn w (told w s q a None)
-onwards w s q a h closed = record { way = h; closed = closed; open = refl }
+onwards w s q a h closed = record { way = h; closed = closed; unsaid = refl }
 
 -- what was opened is closed
 closes_then : {E : Type 0} (w : Wish) (s : Seen) (fd n : ℕ) (m : Talk E) (Post : Seen → E → Type 0) → s.held ≡ fd ∷ []
@@ -259,8 +268,10 @@ sees_goes w s k a h leave few good =
   where
     t : Seen
     t = told w s (opens_partly (take s.making.above s.path)) a None
+
     there_is : t.between ≡ (name_size (drop a.rest (take s.making.above s.path)) == 0)
     there_is = ap (λ x. x && (name_size (drop a.rest (take s.making.above s.path)) == 0)) good
+
     by_case : (b : Outcome) (none : Bool) → (name_size (drop a.rest (take s.making.above s.path)) == 0) ≡ none
         → Goes (watch w) 1 (told w t (closes a.descriptor) b (if none then Some (again s.making) else None))
         (if none then ends (again s.making) else read_link s.making s.path a.rest
@@ -306,6 +317,7 @@ makes_above_goes w s k a h few = by_case (a.error == 0) (a.error == ENOENT) s.ma
   where
     q : Call
     q = makes_above (take s.making.above s.path)
+
     by_case : (zero gone leave : Bool) → (a.error == 0) ≡ zero → (a.error == ENOENT) ≡ gone → s.making.follows ≡ leave
         → Goes (watch w) 3 (told w s q a (if zero || (gone && leave) then None else Some (Failed a.error)))
         (if gone && (leave && true) then look s.making s.path (text_for w s.making)
@@ -339,6 +351,7 @@ makes_wanted w s k a h few =
   where
     q : Call
     q = makes (take s.making.above s.path)
+
     by_case : (on zero : Bool)
         → ((a.error == ENOENT) && (s.making.follows && not (is_empty (take s.making.above s.path)))) ≡ on
         → Goes (watch w) 3 (told w s q a (if on then None else Some (ended a)))

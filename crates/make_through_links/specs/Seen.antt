@@ -164,7 +164,7 @@ pub record IsOnItsWay (w : Wish) (m : Making) (path : List ℕ) : Type 0 where
 pub record GoesOn (w : Wish) (s : Seen) : Type 0 where
   pub way : IsOnItsWay w s.making s.path
   pub closed : s.held ≡ []
-  pub open : s.came ≡ None
+  pub unsaid : s.came ≡ None
 
 -- the directories' path behind what is there
 abbrev pub missing : Seen → List ℕ
