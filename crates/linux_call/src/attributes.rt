@@ -1,19 +1,15 @@
 //! The mode, the owner, the times and the extended attributes of an object that was found; and that it is opened again.
-use crate::by_proc::{Act, by_proc};
-use crate::inner::refused;
-use crate::request::{Reply, Request, SET_ATTRIBUTE, told, value};
+use crate::by_proc::Act;
+use crate::progress::{Progress, Said};
+use crate::request::{MODE_BITS, Request, SET_ATTRIBUTE, given, refused, told, value};
 use crate::steps;
 use crate::walk::look_error;
-use dialogue::{Answer, Asked, Question, ask};
-use find_proc::Known;
+use dialogue::Question;
+use step_calls::LINK;
 use system_calls::errors::{EBADF, EINVAL, EOPNOTSUPP, ERANGE};
 use system_calls::{kind_of, reopen_flags};
 
 const E2BIG: u32 = 7;
-
-const MODE_BITS: u32 = 0o7777;
-
-const LINK: u8 = 3;
 
 const SECOND: u64 = 1_000_000_000;
 
@@ -32,76 +28,8 @@ fn is_none(fd: u32) -> bool {
     fd >= 0x8000_0000
 }
 
-fn result_of(answer: &Answer) -> Result<u32, u32> {
-    if answer.error == 0 {
-        Ok(answer.value)
-    } else {
-        Err(answer.error)
-    }
-}
-
-/// Some file systems changed a link's mode before Linux 6.6, and gave an error all the same: so it is looked at first.
-pub(crate) fn change_mode<'n>(
-    answers: &mut &[Answer],
-    known: &mut Known,
-    request: &Request,
-) -> Asked<'n, Reply<'n>> {
-    let fd = request.fd;
-    if request.mode > MODE_BITS {
-        return Ok(refused(EINVAL));
-    }
-    if is_none(fd) {
-        return Ok(refused(EBADF));
-    }
-    let about = ask(answers, Question::Stat(fd))?;
-    if look_error(&about) != 0 {
-        return Ok(told(Err(look_error(&about)), steps::ATTRIBUTE));
-    }
-    if kind_of(about.mode as u32) == LINK {
-        return Ok(told(Err(EOPNOTSUPP), steps::ATTRIBUTE));
-    }
-    let changed = by_proc(answers, known, fd, Act::Mode(request.mode))?;
-    Ok(told(changed, steps::ATTRIBUTE))
-}
-
-pub(crate) fn change_owner<'n>(answers: &mut &[Answer], request: &Request) -> Asked<'n, Reply<'n>> {
-    if is_none(request.fd) {
-        return Ok(refused(EBADF));
-    }
-    let change = Question::ChangeOwner(request.fd, request.user, request.group);
-    let changed = ask(answers, change)?;
-    Ok(told(result_of(&changed), steps::ATTRIBUTE))
-}
-
 fn is_time(nanoseconds: u64) -> bool {
     nanoseconds < SECOND || nanoseconds == UTIME_NOW || nanoseconds == UTIME_OMIT
-}
-
-/// If both times stay the kernel doesn't look at the descriptor.
-pub(crate) fn change_times<'n>(answers: &mut &[Answer], request: &Request) -> Asked<'n, Reply<'n>> {
-    if !is_time(request.accessed) || !is_time(request.changed) {
-        return Ok(refused(EINVAL));
-    }
-    if is_none(request.fd) {
-        return Ok(refused(EBADF));
-    }
-    let stay = request.accessed == UTIME_OMIT && request.changed == UTIME_OMIT;
-    let changed = ask(
-        answers,
-        if stay {
-            Question::IsOpen(request.fd)
-        } else {
-            Question::ChangeTimes(request.fd)
-        },
-    )?;
-    Ok(told(
-        if changed.error == 0 {
-            Ok(0)
-        } else {
-            Err(changed.error)
-        },
-        steps::ATTRIBUTE,
-    ))
 }
 
 fn attribute_fault(request: &Request) -> u32 {
@@ -116,51 +44,87 @@ fn attribute_fault(request: &Request) -> u32 {
     }
 }
 
-/// The kernel may refuse the attribute's name before it looks for the object.
-pub(crate) fn attribute<'n>(
-    answers: &mut &[Answer],
-    known: &mut Known,
-    request: &Request,
-) -> Asked<'n, Reply<'n>> {
-    let fault = attribute_fault(request);
-    if fault != 0 {
-        return Ok(refused(fault));
+impl Progress<'_> {
+    /// Some file systems changed a link's mode before Linux 6.6, and gave an error all the same: so it is looked at
+    /// first.
+    pub(crate) fn change_mode<'n>(&mut self, request: &Request) -> Said<'n> {
+        let fd = request.fd;
+        if request.mode > MODE_BITS {
+            return Ok(refused(EINVAL));
+        }
+        if is_none(fd) {
+            return Ok(refused(EBADF));
+        }
+        let about = self.ask(Question::Stat(fd))?;
+        let error = look_error(&about);
+        let changed = if error != 0 {
+            Err(error)
+        } else if kind_of(about.mode as u32) == LINK {
+            Err(EOPNOTSUPP)
+        } else {
+            self.by_proc(fd, Act::Mode(request.mode))?
+        };
+        Ok(told(changed, steps::ATTRIBUTE))
     }
-    let mut done = by_proc(answers, known, request.fd, Act::Attribute)?;
-    if done == Err(ERANGE) && ask(answers, Question::IsOpen(request.fd))?.error != 0 {
-        done = Err(EBADF);
-    }
-    Ok(told(done, steps::ATTRIBUTE))
-}
 
-/// Opens what is surely open once more, by its link in /proc.
-pub(crate) fn reopen_object<'n>(
-    answers: &mut &[Answer],
-    known: &mut Known,
-    fd: u32,
-    how: u32,
-) -> Asked<'n, Reply<'n>> {
-    let flags = reopen_flags(&known.machine, how);
-    if flags == 0 {
-        return Ok(refused(EINVAL));
+    pub(crate) fn change_owner<'n>(&mut self, request: &Request) -> Said<'n> {
+        if is_none(request.fd) {
+            return Ok(refused(EBADF));
+        }
+        let change = Question::ChangeOwner(request.fd, request.user, request.group);
+        Ok(told(self.gives(change)?, steps::ATTRIBUTE))
     }
-    Ok(match by_proc(answers, known, fd, Act::Open(flags))? {
-        Ok(fd) => value(fd),
-        Err(error) => Reply::Fails(error, steps::REOPEN, b""),
-    })
-}
 
-/// The same of what may not be open.
-pub(crate) fn reopen<'n>(
-    answers: &mut &[Answer],
-    known: &mut Known,
-    request: &Request,
-) -> Asked<'n, Reply<'n>> {
-    if reopen_flags(&known.machine, request.how) == 0 {
-        return Ok(refused(EINVAL));
+    /// If both times stay the kernel doesn't look at the descriptor.
+    pub(crate) fn change_times<'n>(&mut self, request: &Request) -> Said<'n> {
+        if !is_time(request.accessed) || !is_time(request.changed) {
+            return Ok(refused(EINVAL));
+        }
+        if is_none(request.fd) {
+            return Ok(refused(EBADF));
+        }
+        let stay = request.accessed == UTIME_OMIT && request.changed == UTIME_OMIT;
+        let changed = self.gives(if stay {
+            Question::IsOpen(request.fd)
+        } else {
+            Question::ChangeTimes(request.fd)
+        })?;
+        Ok(match changed {
+            Ok(_) => value(0),
+            failed => told(failed, steps::ATTRIBUTE),
+        })
     }
-    if ask(answers, Question::IsOpen(request.fd))?.error != 0 {
-        return Ok(refused(EBADF));
+
+    /// The kernel may refuse the attribute's name before it looks for the object.
+    pub(crate) fn attribute<'n>(&mut self, request: &Request) -> Said<'n> {
+        let fault = attribute_fault(request);
+        if fault != 0 {
+            return Ok(refused(fault));
+        }
+        let mut done = self.by_proc(request.fd, Act::Attribute)?;
+        if done == Err(ERANGE) && self.ask(Question::IsOpen(request.fd))?.error != 0 {
+            done = Err(EBADF);
+        }
+        Ok(told(done, steps::ATTRIBUTE))
     }
-    reopen_object(answers, known, request.fd, request.how)
+
+    /// Opens what is surely open once more, by its link in /proc.
+    pub(crate) fn reopen_object<'n>(&mut self, fd: u32, how: u32) -> Said<'n> {
+        let flags = reopen_flags(&self.known.machine, how);
+        if flags == 0 {
+            return Ok(refused(EINVAL));
+        }
+        Ok(given(self.by_proc(fd, Act::Open(flags))?, steps::REOPEN))
+    }
+
+    /// The same of what may not be open.
+    pub(crate) fn reopen<'n>(&mut self, request: &Request) -> Said<'n> {
+        if reopen_flags(&self.known.machine, request.how) == 0 {
+            return Ok(refused(EINVAL));
+        }
+        if self.ask(Question::IsOpen(request.fd))?.error != 0 {
+            return Ok(refused(EBADF));
+        }
+        self.reopen_object(request.fd, request.how)
+    }
 }

@@ -3,8 +3,7 @@ use crate::attributes::MOST_BYTES;
 use crate::path::front;
 use crate::request::{Reply, Request};
 use crate::walk::{O_CLOEXEC, O_PATH};
-use dialogue::{How, Question};
-use system_calls::MachineFlags;
+use dialogue::Question;
 use system_calls::errors::EIO;
 
 /// Where the second text of what is due lies in the room; the first lies at the room's beginning. A NUL ends each.
@@ -12,11 +11,6 @@ pub(crate) const SECOND: usize = 4352;
 
 /// Where the name lies that the error of a part was about.
 pub(crate) const NAME: usize = 8704;
-
-// RESOLVE_NO_XDEV; RESOLVE_BENEATH and RESOLVE_NO_MAGICLINKS.
-const NO_XDEV: u32 = 0x01;
-
-const FOLLOWED: u32 = 0x08 | 0x02;
 
 /// What is due. Which field is which argument stands at each number of WHAT in the header for C.
 #[repr(C)]
@@ -125,30 +119,6 @@ const VALUE: u8 = 32;
 
 const FAILS: u8 = 33;
 
-fn flags_of(machine: &MachineFlags, how: &How) -> u64 {
-    let path = if how.path { O_PATH } else { 0 };
-    let directory = if how.directory { machine.directory } else { 0 };
-    let nofollow = if how.no_follow { machine.nofollow } else { 0 };
-    (O_CLOEXEC | path | directory | nofollow) as u64
-}
-
-fn resolve_of(how: &How) -> u64 {
-    let followed = if how.no_follow { 0 } else { FOLLOWED };
-    let no_xdev = if how.no_xdev { NO_XDEV } else { 0 };
-    (followed | no_xdev) as u64
-}
-
-fn by_how(machine: &MachineFlags, dir: u32, how: &How) -> Due {
-    Due {
-        what: OPENAT2,
-        fd: dir,
-        number: flags_of(machine, how),
-        resolve: resolve_of(how),
-        again: true,
-        ..NOTHING
-    }
-}
-
 #[inline(always)]
 fn opens(dir: u32, flags: u32, mode: u32, resolve: u32, again: bool) -> Due {
     Due {
@@ -196,11 +166,8 @@ fn proc_place(fd: u32, device: u64, inode: u64, mount: u64, handed_in: bool) -> 
     }
 }
 
-fn look_due(question: &Question<'_>, machine: &MachineFlags) -> Option<Due> {
+fn look_due(question: &Question<'_>) -> Option<Due> {
     Some(match *question {
-        Question::OpenName(dir, _, how)
-        | Question::OpenSame(dir, how)
-        | Question::OpenAbove(dir, how) => { by_how(machine, dir, &how) }
         Question::Stat(fd) | Question::StatName(fd, _) => looks(STATX, fd),
         Question::FileSystem(fd) => looks(FSTATFS, fd),
         Question::ReadEntries(fd) => looks(GETDENTS, fd),
@@ -262,6 +229,7 @@ fn other_due(question: &Question<'_>, size: u64) -> Due {
         Question::Know(known) => on(KNOW, known as u32),
         Question::CopyAbove(fd) => on(DUPFD, fd),
         Question::Close(fd) => on(CLOSE, fd),
+        // Only `linux_steps` asks for the others.
         _ => NOTHING,
     }
 }
@@ -315,14 +283,12 @@ fn lay_object(room: &mut [u8], front: &[u8], fd: u32) {
 
 fn lay_texts(question: &Question<'_>, room: &mut [u8]) {
     match *question {
-        Question::OpenName(_, text, _)
-        | Question::Open(_, text, _, _)
+        Question::Open(_, text, _, _)
         | Question::StatName(_, text)
         | Question::MakeDirectory(_, text, _)
         | Question::MakeNode(_, text, _, _)
         | Question::Remove(_, text, _) => lay(room, 0, text),
-        Question::OpenSame(_, _) | Question::NoAttribute => lay(room, 0, b"."),
-        Question::OpenAbove(_, _) => lay(room, 0, b".."),
+        Question::NoAttribute => lay(room, 0, b"."),
         Question::ReadThread(_) => lay(room, 0, b"thread-self"),
         Question::MakeLink(_, name, text) | Question::Rename(_, name, _, text, _) => {
             lay(room, 0, name);
@@ -363,8 +329,7 @@ pub(crate) fn due_of(question: &Question<'_>, request: &Request, room: &mut [u8]
 #[inline(never)]
 fn due_of_other(question: &Question<'_>, request: &Request, room: &mut [u8]) -> Due {
     lay_texts(question, room);
-    let machine = &request.known.machine;
-    if let Some(due) = look_due(question, machine) {
+    if let Some(due) = look_due(question) {
         return due;
     }
     if let Some(due) = entry_due(question) {

@@ -1,21 +1,16 @@
 //! A call on paths within a call: the kernel walks, or single steps make it.
 use crate::by_steps::Ended;
-use crate::makes::{change_entry, open_all, rename, resolve};
 use crate::path::Texts;
+use crate::progress::{Progress, Said};
 use crate::request::*;
 use crate::steps;
-use crate::walk::{BENEATH, Below, EXACT, NO_LINKS, NO_RETRY, NO_XDEV, has};
-use dialogue::{Answer, Asked, Question, ask};
+use crate::walk::{BENEATH, EXACT, NO_LINKS, NO_RETRY, NO_XDEV, has, path_below};
+use dialogue::{Answer, Asked, Question};
 use find_proc::{File, Kept, Known, has_floor};
 use system_calls::errors::{EBADF, EINVAL, ENOSYS};
 
 // The flags of inroot.h that every call on a path takes.
 const ALL_CALLS: u32 = BENEATH | NO_LINKS | NO_RETRY | NO_XDEV | EXACT;
-
-/// An error for which no step is to blame.
-pub(crate) fn refused<'n>(error: u32) -> Reply<'n> {
-    Reply::Fails(error, steps::NONE, b"")
-}
 
 /// What is wrong with flags and root, or 0.
 #[inline(always)]
@@ -28,57 +23,6 @@ pub(crate) fn fault_of(flags: u32, root: u32) -> u32 {
         0
     }
 }
-
-#[inline(never)]
-fn blame<'n>(answers: &mut &[Answer], known: &Known, step: u8) -> Asked<'n, u8> {
-    let has = has_floor(answers, known)?;
-    Ok(if has { step } else { steps::KERNEL })
-}
-
-/// If the kernel lacks what the library needs, that is to blame. Of an entry that was made the step stays.
-#[inline(always)]
-pub(crate) fn blamed<'n>(
-    answers: &mut &[Answer],
-    known: &Known,
-    reply: Reply<'n>,
-) -> Asked<'n, Reply<'n>> {
-    Ok(match reply {
-        Reply::Fails(ENOSYS, step, name) if step != steps::GIVE => {
-            Reply::Fails(ENOSYS, blame(answers, known, step)?, name)
-        }
-        other => other,
-    })
-}
-
-#[inline(always)]
-fn by_kernel<'n>(
-    answers: &mut &[Answer],
-    known: &mut Known,
-    beside: &mut Beside,
-    asked: &Request,
-    texts: Texts<'n>,
-) -> Asked<'n, Reply<'n>> {
-    let at = Below {
-        root: asked.root,
-        flags: asked.flags,
-        path: texts.first,
-        looked: texts.looked,
-    };
-    if has(asked.flags, EXACT) {
-        return Ok(Reply::Steps);
-    }
-    match asked.what {
-        RESOLVE | RESOLVE_NOFOLLOW => resolve(answers, known, asked, &at),
-        MKDIR_ALL => open_all(answers, known, asked, &at),
-        RENAME => rename(answers, known, beside, asked, &at, texts.second),
-        MKFILE | MKDIR | SYMLINK | UNLINK | RMDIR => {
-            change_entry(answers, known, beside, asked, &at, texts)
-        }
-        _ => Ok(Reply::Steps),
-    }
-}
-
-// ---- single steps
 
 const THERE: u64 = 1;
 
@@ -136,48 +80,70 @@ fn known_by(answer: &Answer, known: &Known) -> Known {
     }
 }
 
-/// A call by single steps, which is then told beside.
-#[inline(never)]
-pub(crate) fn by_steps<'n>(
-    answers: &mut &[Answer],
-    known: &mut Known,
-    beside: &mut Beside,
-    asked: &Request,
-    texts: Texts<'n>,
-) -> Asked<'n, Reply<'n>> {
-    let second = if asked.what == RENAME {
-        texts.second.text()
-    } else {
-        texts.target
-    };
-    beside.inner = Some(Request {
-        known: *known,
-        ..*asked
-    });
-    let answer = ask(answers, Question::BySteps(texts.first.text(), second))?;
-    *known = known_by(&answer, known);
-    Ok(if answer.error == 0 {
-        Reply::Value(answer.file_system, b"")
-    } else {
-        Reply::Failed(answer.error, (answer.links % 256) as u8)
-    })
-}
-
-/// Makes a call on paths: by the kernel's walk, or by single steps where the kernel doesn't make it.
-#[inline(never)]
-pub(crate) fn carry_out<'n>(
-    answers: &mut &[Answer],
-    known: &mut Known,
-    beside: &mut Beside,
-    asked: &Request,
-    texts: Texts<'n>,
-) -> Asked<'n, Reply<'n>> {
-    let fault = fault_of(asked.flags, asked.root);
-    if fault != 0 {
-        return Ok(refused(fault));
+impl Progress<'_> {
+    #[inline(never)]
+    fn blame<'n>(&mut self, step: u8) -> Asked<'n, u8> {
+        let has = has_floor(&mut self.answers, &self.known)?;
+        Ok(if has { step } else { steps::KERNEL })
     }
-    match by_kernel(answers, known, beside, asked, texts)? {
-        Reply::Steps => by_steps(answers, known, beside, asked, texts),
-        reply => blamed(answers, known, reply),
+
+    /// If the kernel lacks what the library needs, that is to blame. Of an entry that was made the step stays.
+    #[inline(always)]
+    pub(crate) fn blamed<'n>(&mut self, reply: Reply<'n>) -> Said<'n> {
+        Ok(match reply {
+            Reply::Fails(ENOSYS, step, name) if step != steps::GIVE => {
+                Reply::Fails(ENOSYS, self.blame(step)?, name)
+            }
+            other => other,
+        })
+    }
+
+    #[inline(always)]
+    fn by_kernel<'n>(&mut self, asked: &Request, texts: Texts<'n>) -> Said<'n> {
+        let at = path_below(asked, &texts);
+        if has(asked.flags, EXACT) {
+            return Ok(Reply::Steps);
+        }
+        match asked.what {
+            RESOLVE | RESOLVE_NOFOLLOW => self.resolve(asked, &at),
+            MKDIR_ALL => self.open_all(asked, &at),
+            RENAME => self.rename(asked, &at, texts.second),
+            MKFILE | MKDIR | SYMLINK | UNLINK | RMDIR => self.change_entry(asked, &at, texts),
+            _ => Ok(Reply::Steps),
+        }
+    }
+
+    /// A call by single steps, which is then told beside.
+    #[inline(never)]
+    pub(crate) fn by_steps<'n>(&mut self, asked: &Request, texts: Texts<'n>) -> Said<'n> {
+        let second = if asked.what == RENAME {
+            texts.second.text()
+        } else {
+            texts.target
+        };
+        self.inner = Some(Request {
+            known: self.known,
+            ..*asked
+        });
+        let answer = self.ask(Question::BySteps(texts.first.text(), second))?;
+        self.known = known_by(&answer, &self.known);
+        Ok(if answer.error == 0 {
+            Reply::Value(answer.file_system, b"")
+        } else {
+            Reply::Failed(answer.error, (answer.links % 256) as u8)
+        })
+    }
+
+    /// Makes a call on paths: by the kernel's walk, or by single steps where the kernel doesn't make it.
+    #[inline(never)]
+    pub(crate) fn carry_out<'n>(&mut self, asked: &Request, texts: Texts<'n>) -> Said<'n> {
+        let fault = fault_of(asked.flags, asked.root);
+        if fault != 0 {
+            return Ok(refused(fault));
+        }
+        match self.by_kernel(asked, texts)? {
+            Reply::Steps => self.by_steps(asked, texts),
+            reply => self.blamed(reply),
+        }
     }
 }

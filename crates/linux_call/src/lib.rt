@@ -20,6 +20,7 @@ mod makes;
 mod open_at;
 mod path;
 mod proc_files;
+mod progress;
 mod request;
 mod run;
 mod several;

@@ -1,61 +1,21 @@
 //! Calls on paths that the kernel walks: what is at the end, an entry there, all directories.
-use crate::change::{Change, make_change};
-use crate::entry::{Entry, above, close, close_behind, find, is_closed_behind, parts};
+use crate::change::Change;
+use crate::entry::{Entry, above, parts};
 use crate::path::{PathOf, Texts};
+use crate::progress::{Number, Progress, Said};
 use crate::request::{
-    Beside, MKDIR, MKFILE, RESOLVE_NOFOLLOW, RMDIR, Reply, Request, SYMLINK, Tried, UNLINK, value,
+    MKDIR, MKFILE, RESOLVE_NOFOLLOW, RMDIR, Reply, Request, SYMLINK, UNLINK, value,
 };
 use crate::steps;
-use crate::walk::{Below, O_PATH, look_error, look_up, walk};
-use dialogue::{Answer, Asked, Question, ask};
-use find_proc::{Known, has_floor};
+use crate::walk::{Below, O_PATH, bit, look_error};
+use dialogue::{Asked, Question};
+use find_proc::has_floor;
 use path_text::TEXT_MAX;
 use system_calls::errors::{EEXIST, ENOENT};
 use system_calls::kind_of;
 
 // So many directories that are missing one in the other are made by look-ups from the root.
 const MISSING_MAX: u32 = 16;
-
-#[inline(always)]
-fn reply_of<'n>(tried: Tried<u32>) -> Reply<'n> {
-    match tried {
-        Tried::Is(fd) => value(fd),
-        Tried::Fails(error, step) => Reply::Fails(error, step, b""),
-        Tried::Steps => Reply::Steps,
-    }
-}
-
-// The kind of what was opened stands above the descriptor.
-#[inline(never)]
-fn with_kind<'n>(answers: &mut &[Answer], fd: u32) -> Asked<'n, Reply<'n>> {
-    let about = ask(answers, Question::Stat(fd))?;
-    if look_error(&about) != 0 {
-        ask(answers, Question::Close(fd))?;
-        return Ok(Reply::Steps);
-    }
-    let kind = kind_of(about.mode as u32);
-    Ok(Reply::Value(kind as u64 * 0x1_0000_0000 + fd as u64, b""))
-}
-
-#[inline(always)]
-pub(crate) fn resolve<'n>(
-    answers: &mut &[Answer],
-    known: &mut Known,
-    request: &Request,
-    at: &Below<'n>,
-) -> Asked<'n, Reply<'n>> {
-    let (nofollow, directory) = (known.machine.nofollow, known.machine.directory);
-    let last = if request.what == RESOLVE_NOFOLLOW {
-        nofollow
-    } else {
-        0
-    };
-    let wanted = if request.directory { directory } else { 0 };
-    match walk(answers, known, at, O_PATH | last | wanted, 0)? {
-        Tried::Is(fd) if request.asks_kind => with_kind(answers, fd),
-        other => Ok(reply_of(other)),
-    }
-}
 
 #[inline(always)]
 fn step_of(what: u8) -> u8 {
@@ -67,126 +27,6 @@ fn step_of(what: u8) -> u8 {
         _ => steps::REMOVE_DIR,
     }
 }
-
-// A link's text is the first that is wrong of a call that makes one; and what is given must be looked at.
-#[inline(always)]
-fn is_plain<'n>(
-    answers: &mut &[Answer],
-    known: &Known,
-    request: &Request,
-    text: &[u8],
-) -> Asked<'n, bool> {
-    let is_text = !text.is_empty() && text.len() <= TEXT_MAX;
-    if request.what == SYMLINK && !is_text {
-        return Ok(false);
-    }
-    Ok(!request.gives || has_floor(answers, known)?)
-}
-
-/// Makes or removes an entry.
-#[inline(always)]
-pub(crate) fn change_entry<'n>(
-    answers: &mut &[Answer],
-    known: &mut Known,
-    beside: &mut Beside,
-    request: &Request,
-    at: &Below<'n>,
-    texts: Texts<'n>,
-) -> Asked<'n, Reply<'n>> {
-    let text = texts.target;
-    if !is_plain(answers, known, request, text)? {
-        return Ok(Reply::Steps);
-    }
-    let takes_slash = request.what == MKDIR || request.what == RMDIR;
-    let entry = match find(answers, known, at, takes_slash)? {
-        Tried::Is(entry) => entry,
-        Tried::Fails(error, step) => return Ok(Reply::Fails(error, step, b"")),
-        Tried::Steps => return Ok(Reply::Steps),
-    };
-    let what = Change {
-        step: step_of(request.what),
-        dir: entry.dir,
-        name: entry.name,
-        other: 0,
-        text,
-    };
-    let is_behind = is_closed_behind(beside, entry);
-    beside.changes = is_behind && !request.gives;
-    let reply = make_change(answers, known, request, &what, texts.read)?;
-    beside.changes = false;
-    if !is_behind {
-        close(answers, entry)?;
-    }
-    Ok(reply)
-}
-
-fn rename_to<'n>(
-    answers: &mut &[Answer],
-    known: &mut Known,
-    beside: &mut Beside,
-    request: &Request,
-    from: Entry<'n>,
-    at: &Below<'n>,
-) -> Asked<'n, Reply<'n>> {
-    let to = match find(answers, known, at, false)? {
-        Tried::Is(to) => to,
-        Tried::Fails(error, step) => {
-            close_behind(answers, beside, from)?;
-            return Ok(Reply::Fails(error, step, b""));
-        }
-        Tried::Steps => {
-            close(answers, from)?;
-            return Ok(Reply::Steps);
-        }
-    };
-    let what = Change {
-        step: steps::RENAME,
-        dir: from.dir,
-        name: from.name,
-        other: to.dir,
-        text: to.name,
-    };
-    let is_to_behind = is_closed_behind(beside, to);
-    let is_from_behind = is_closed_behind(beside, from);
-    beside.changes = is_to_behind && is_from_behind;
-    let reply = make_change(answers, known, request, &what, b"")?;
-    beside.changes = false;
-    if !is_to_behind {
-        close(answers, to)?;
-    }
-    if !is_from_behind {
-        close(answers, from)?;
-    }
-    Ok(reply)
-}
-
-/// Renames an entry. What both paths end in comes first. With a slash there the steps look whether a directory is
-/// there.
-pub(crate) fn rename<'n>(
-    answers: &mut &[Answer],
-    known: &mut Known,
-    beside: &mut Beside,
-    request: &Request,
-    at: &Below<'n>,
-    to: PathOf<'n>,
-) -> Asked<'n, Reply<'n>> {
-    if !at.looked && parts(to, false).is_none() {
-        return Ok(Reply::Steps);
-    }
-    let from = match find(answers, known, at, false)? {
-        Tried::Is(from) => from,
-        Tried::Fails(error, step) => return Ok(Reply::Fails(error, step, b"")),
-        Tried::Steps => return Ok(Reply::Steps),
-    };
-    let second = Below {
-        path: to,
-        looked: false,
-        ..*at
-    };
-    rename_to(answers, known, beside, request, from, &second)
-}
-
-// ---- all directories of a path
 
 // The path of the directory so many levels above; none is the root.
 fn levels_above(path: PathOf<'_>, levels: u32) -> Option<Option<PathOf<'_>>> {
@@ -203,111 +43,217 @@ fn levels_above(path: PathOf<'_>, levels: u32) -> Option<Option<PathOf<'_>>> {
     Some(here)
 }
 
-// The directory so many levels above: the root, or one to be closed; or an error.
-fn open_above<'n>(
-    answers: &mut &[Answer],
-    known: &mut Known,
-    at: &Below<'n>,
-    levels: u32,
-) -> Asked<'n, Result<u32, u32>> {
-    let path = match levels_above(at.path, levels) {
-        Some(Some(path)) => path,
-        Some(None) => return Ok(Ok(at.root)),
-        None => return Ok(Err(0)),
-    };
-    let how = O_PATH | known.machine.directory;
-    look_up(answers, known, &Below { path, ..*at }, how, 0)
-}
+impl Progress<'_> {
+    // The kind of what was opened stands above the descriptor.
+    #[inline(never)]
+    fn with_kind<'n>(&mut self, fd: u32) -> Said<'n> {
+        let about = self.ask(Question::Stat(fd))?;
+        if look_error(&about) != 0 {
+            self.close(fd)?;
+            return Ok(Reply::Steps);
+        }
+        let kind = kind_of(about.mode as u32);
+        Ok(Reply::Value(kind as u64 * 0x1_0000_0000 + fd as u64, b""))
+    }
 
-// How many levels above a directory is there, which is open then; or none.
-fn lowest<'n>(
-    answers: &mut &[Answer],
-    known: &mut Known,
-    at: &Below<'n>,
-) -> Asked<'n, Option<(u32, u32)>> {
-    for levels in 1..MISSING_MAX + 1 {
-        match open_above(answers, known, at, levels)? {
-            Ok(dir) => return Ok(Some((levels, dir))),
-            Err(ENOENT) => (),
-            Err(_) => return Ok(None),
+    #[inline(always)]
+    pub(crate) fn resolve<'n>(&mut self, request: &Request, at: &Below<'n>) -> Said<'n> {
+        let machine = self.known.machine;
+        let last = bit(request.what == RESOLVE_NOFOLLOW, machine.nofollow);
+        let wanted = bit(request.directory, machine.directory);
+        match self.walk(at, O_PATH | last | wanted, 0)? {
+            Ok(fd) if request.asks_kind => self.with_kind(fd),
+            Ok(fd) => Ok(value(fd)),
+            Err(reply) => Ok(reply),
         }
     }
-    Ok(None)
-}
 
-// Makes the directory so many levels above, in the one above that, which is closed. One that others have made counts.
-fn make_one<'n>(
-    answers: &mut &[Answer],
-    at: &Below<'n>,
-    dir: u32,
-    levels: u32,
-    mode: u32,
-) -> Asked<'n, bool> {
-    let path = match levels_above(at.path, levels) {
-        Some(Some(path)) => path,
-        _ => at.path,
-    };
-    let made = match parts(path, true) {
-        Some(parted) => {
-            let name = path.piece(parted.name, parted.length);
-            let made = ask(answers, Question::MakeDirectory(dir, name, mode))?;
-            made.error == 0 || made.error == EEXIST
-        }
-        None => false,
-    };
-    if dir != at.root {
-        ask(answers, Question::Close(dir))?;
-    }
-    Ok(made)
-}
+    // ---- an entry
 
-// Makes the directories that are missing, from the top on: whether all are there.
-fn make_missing<'n>(
-    answers: &mut &[Answer],
-    known: &mut Known,
-    at: &Below<'n>,
-    mode: u32,
-) -> Asked<'n, bool> {
-    let (levels, mut dir) = match lowest(answers, known, at)? {
-        Some(found) => found,
-        None => return Ok(false),
-    };
-    for below in 0..levels {
-        let here = levels - 1 - below;
-        if !make_one(answers, at, dir, here, mode)? {
+    // A link's text is the first that is wrong of a call that makes one; and what is given must be looked at.
+    #[inline(always)]
+    fn is_plain<'n>(&mut self, request: &Request, text: &[u8]) -> Asked<'n, bool> {
+        let is_text = !text.is_empty() && text.len() <= TEXT_MAX;
+        if request.what == SYMLINK && !is_text {
             return Ok(false);
         }
-        if here == 0 {
-            return Ok(true);
-        }
-        dir = match open_above(answers, known, at, here)? {
-            Ok(next) => next,
-            Err(_) => return Ok(false),
-        };
+        Ok(!request.gives || has_floor(&mut self.answers, &self.known)?)
     }
-    Ok(true)
-}
 
-/// Opens the last directory of a path, and makes those that are missing first. If that can't be done so, the steps go
-/// on from what was made.
-#[inline(never)]
-pub(crate) fn open_all<'n>(
-    answers: &mut &[Answer],
-    known: &mut Known,
-    request: &Request,
-    at: &Below<'n>,
-) -> Asked<'n, Reply<'n>> {
-    let how = O_PATH | known.machine.directory;
-    match look_up(answers, known, at, how, 0)? {
-        Ok(fd) => return Ok(value(fd)),
-        Err(ENOENT) => (),
-        Err(_) => return Ok(Reply::Steps),
+    /// Makes or removes an entry.
+    #[inline(always)]
+    pub(crate) fn change_entry<'n>(
+        &mut self,
+        request: &Request,
+        at: &Below<'n>,
+        texts: Texts<'n>,
+    ) -> Said<'n> {
+        let text = texts.target;
+        if !self.is_plain(request, text)? {
+            return Ok(Reply::Steps);
+        }
+        let takes_slash = request.what == MKDIR || request.what == RMDIR;
+        let entry = match self.find_entry(at, takes_slash)? {
+            Ok(entry) => entry,
+            Err(reply) => return Ok(reply),
+        };
+        let what = Change {
+            step: step_of(request.what),
+            dir: entry.dir,
+            name: entry.name,
+            other: 0,
+            text,
+        };
+        let is_behind = self.is_closed_behind(entry);
+        self.changes = is_behind && !request.gives;
+        let reply = self.make_change(request, &what, texts.read)?;
+        self.changes = false;
+        self.leave(entry, is_behind)?;
+        Ok(reply)
     }
-    if !make_missing(answers, known, at, request.mode)? {
-        return Ok(Reply::Steps);
+
+    fn rename_to<'n>(&mut self, request: &Request, from: Entry<'n>, at: &Below<'n>) -> Said<'n> {
+        let to = match self.find_entry(at, false)? {
+            Ok(to) => to,
+            Err(reply) => {
+                let is_behind = match reply {
+                    Reply::Steps => false,
+                    _ => self.is_closed_behind(from),
+                };
+                self.leave(from, is_behind)?;
+                return Ok(reply);
+            }
+        };
+        let what = Change {
+            step: steps::RENAME,
+            dir: from.dir,
+            name: from.name,
+            other: to.dir,
+            text: to.name,
+        };
+        let is_to_behind = self.is_closed_behind(to);
+        let is_from_behind = self.is_closed_behind(from);
+        self.changes = is_to_behind && is_from_behind;
+        let reply = self.make_change(request, &what, b"")?;
+        self.changes = false;
+        self.leave(to, is_to_behind)?;
+        self.leave(from, is_from_behind)?;
+        Ok(reply)
     }
-    Ok(match look_up(answers, known, at, how, 0)? {
-        Ok(fd) => value(fd),
-        Err(_) => Reply::Steps,
-    })
+
+    /// Renames an entry. What both paths end in comes first. With a slash there the steps look whether a directory is
+    /// there.
+    pub(crate) fn rename<'n>(
+        &mut self,
+        request: &Request,
+        at: &Below<'n>,
+        to: PathOf<'n>,
+    ) -> Said<'n> {
+        if !at.looked && parts(to, false).is_none() {
+            return Ok(Reply::Steps);
+        }
+        let from = match self.find_entry(at, false)? {
+            Ok(from) => from,
+            Err(reply) => return Ok(reply),
+        };
+        let second = Below {
+            path: to,
+            looked: false,
+            ..*at
+        };
+        self.rename_to(request, from, &second)
+    }
+
+    // ---- all directories of a path
+
+    // The directory so many levels above: the root, or one to be closed; or an error.
+    fn open_above<'n>(&mut self, at: &Below<'n>, levels: u32) -> Number<'n> {
+        let path = match levels_above(at.path, levels) {
+            Some(Some(path)) => path,
+            Some(None) => return Ok(Ok(at.root)),
+            None => return Ok(Err(0)),
+        };
+        let how = O_PATH | self.known.machine.directory;
+        self.look_up(&Below { path, ..*at }, how, 0)
+    }
+
+    // How many levels above a directory is there, which is open then; or none.
+    fn lowest<'n>(&mut self, at: &Below<'n>) -> Asked<'n, Option<(u32, u32)>> {
+        for levels in 1..MISSING_MAX + 1 {
+            match self.open_above(at, levels)? {
+                Ok(dir) => return Ok(Some((levels, dir))),
+                Err(ENOENT) => (),
+                Err(_) => return Ok(None),
+            }
+        }
+        Ok(None)
+    }
+
+    // Makes the directory so many levels above, in the one above that, which is closed. One that others have made
+    // counts.
+    fn make_one<'n>(
+        &mut self,
+        at: &Below<'n>,
+        dir: u32,
+        levels: u32,
+        mode: u32,
+    ) -> Asked<'n, bool> {
+        let path = match levels_above(at.path, levels) {
+            Some(Some(path)) => path,
+            _ => at.path,
+        };
+        let made = match parts(path, true) {
+            Some(parted) => {
+                let name = path.piece(parted.name, parted.length);
+                let made = self.ask(Question::MakeDirectory(dir, name, mode))?;
+                made.error == 0 || made.error == EEXIST
+            }
+            None => false,
+        };
+        if dir != at.root {
+            self.close(dir)?;
+        }
+        Ok(made)
+    }
+
+    // Makes the directories that are missing, from the top on: whether all are there.
+    fn make_missing<'n>(&mut self, at: &Below<'n>, mode: u32) -> Asked<'n, bool> {
+        let (levels, mut dir) = match self.lowest(at)? {
+            Some(found) => found,
+            None => return Ok(false),
+        };
+        for below in 0..levels {
+            let here = levels - 1 - below;
+            if !self.make_one(at, dir, here, mode)? {
+                return Ok(false);
+            }
+            if here == 0 {
+                return Ok(true);
+            }
+            dir = match self.open_above(at, here)? {
+                Ok(next) => next,
+                Err(_) => return Ok(false),
+            };
+        }
+        Ok(true)
+    }
+
+    /// Opens the last directory of a path, and makes those that are missing first. If that can't be done so, the steps
+    /// go on from what was made.
+    #[inline(never)]
+    pub(crate) fn open_all<'n>(&mut self, request: &Request, at: &Below<'n>) -> Said<'n> {
+        let how = O_PATH | self.known.machine.directory;
+        match self.look_up(at, how, 0)? {
+            Ok(fd) => return Ok(value(fd)),
+            Err(ENOENT) => (),
+            Err(_) => return Ok(Reply::Steps),
+        }
+        if !self.make_missing(at, request.mode)? {
+            return Ok(Reply::Steps);
+        }
+        Ok(match self.look_up(at, how, 0)? {
+            Ok(fd) => value(fd),
+            Err(_) => Reply::Steps,
+        })
+    }
 }

@@ -1,22 +1,20 @@
 //! A path opened for use, by flags of open(2): what is there is found, or a file is made. Which call comes next, and
 //! what that is asked for, `open_or_make` says.
-use crate::attributes::reopen_object;
-use crate::inner::{blamed, carry_out, fault_of};
+use crate::inner::fault_of;
 use crate::path::Texts;
+use crate::progress::{Progress, Said};
 use crate::request::*;
 use crate::steps;
-use crate::walk::{Below, EXACT, NO_LINKS, NO_RETRY, O_PATH, has, look_error, walk};
-use dialogue::{Answer, Asked, Question, ask};
-use find_proc::Known;
+use crate::walk::{EXACT, NO_LINKS, NO_RETRY, O_PATH, bit, has, look_error, path_below};
+use dialogue::Question;
 use open_or_make::{Course, FIND, begin, request_of};
+use step_calls::DIRECTORY;
 use system_calls::{
     MachineFlags, Opening, USE_FAILS, USE_GIVES, USE_MAKES, USE_REOPENS, kind_of, opening_of,
     use_of,
 };
 
-// The kinds of an object (`kind_of`).
-const A_DIRECTORY: u8 = 1;
-
+// The kind of a file (`kind_of`).
 const A_FILE: u8 = 2;
 
 pub(crate) fn opening(request: &Request) -> Opening {
@@ -30,93 +28,9 @@ pub(crate) fn first(request: &Request, opening: &Opening) -> Course {
     begin(request.length as usize, opening, no_links, may_retry)
 }
 
-// ---- what was found
-
-fn fails<'n>(error: u8) -> Reply<'n> {
-    Reply::Fails(error as u32, steps::REOPEN, b"")
-}
-
-// A directory that O_CREAT opened to be read is none that the caller wants.
-#[inline(never)]
-fn checked<'n>(
-    answers: &mut &[Answer],
-    known: &Known,
-    opening: &Opening,
-    fd: u32,
-) -> Asked<'n, Reply<'n>> {
-    if !opening.asks_kind || opening.directory {
-        return Ok(value(fd));
-    }
-    let about = ask(answers, Question::Stat(fd))?;
-    let mut error = look_error(&about);
-    if error == 0 {
-        error = use_of(opening, kind_of(about.mode as u32)).error as u32;
-    }
-    if error == 0 {
-        return Ok(value(fd));
-    }
-    ask(answers, Question::Close(fd))?;
-    blamed(answers, known, Reply::Fails(error, steps::REOPEN, b""))
-}
-
-// The one thing that is due of what is open.
-#[inline(never)]
-fn used<'n>(
-    answers: &mut &[Answer],
-    known: &mut Known,
-    request: &Request,
-    opening: &Opening,
-    fd: u32,
-    kind: u8,
-) -> Asked<'n, Reply<'n>> {
-    let now = use_of(opening, kind);
-    match now.what {
-        USE_FAILS => Ok(fails(now.error)),
-        USE_GIVES => Ok(value(fd)),
-        USE_REOPENS => reopen_object(answers, known, fd, now.flags),
-        _ => {
-            let made = ask(answers, Question::Open(fd, b".", now.flags, request.mode))?;
-            Ok(if made.error == 0 {
-                value(made.value)
-            } else {
-                Reply::Fails(made.error, steps::REOPEN, b"")
-            })
-        }
-    }
-}
-
-// What was found is closed, unless it is the reply.
-#[inline(never)]
-fn given<'n>(
-    answers: &mut &[Answer],
-    known: &mut Known,
-    request: &Request,
-    opening: &Opening,
-    found: u64,
-) -> Asked<'n, Reply<'n>> {
-    let fd = (found % 0x1_0000_0000) as u32;
-    let told = (found / 0x1_0000_0000 % 256) as u8;
-    let kind = if told != 0 { told } else { usual_kind(opening) };
-    let reply = used(answers, known, request, opening, fd, kind)?;
-    let is_given = match reply {
-        Reply::Value(number, _) => number == fd as u64,
-        _ => false,
-    };
-    if !is_given {
-        ask(answers, Question::Close(fd))?;
-    }
-    blamed(answers, known, reply)
-}
-
 fn usual_kind(opening: &Opening) -> u8 {
-    if opening.directory {
-        A_DIRECTORY
-    } else {
-        A_FILE
-    }
+    if opening.directory { DIRECTORY } else { A_FILE }
 }
-
-// ---- the calls
 
 /// By which flags of open(2) the one look-up opens what is there; or what is found so is the reply.
 pub(crate) fn how_of(machine: &MachineFlags, opening: &Opening) -> u32 {
@@ -126,22 +40,14 @@ pub(crate) fn how_of(machine: &MachineFlags, opening: &Opening) -> u32 {
     } else {
         now.flags
     };
-    let nofollow = if opening.follows { 0 } else { machine.nofollow };
-    let directory = if opening.directory {
-        machine.directory
-    } else {
-        0
-    };
-    flags | nofollow | directory
+    let nofollow = bit(!opening.follows, machine.nofollow);
+    flags | nofollow | bit(opening.directory, machine.directory)
 }
 
 /// And by which mode.
 pub(crate) fn mode_of(request: &Request, opening: &Opening) -> u32 {
-    if use_of(opening, usual_kind(opening)).what == USE_MAKES {
-        request.mode
-    } else {
-        0
-    }
+    let now = use_of(opening, usual_kind(opening));
+    bit(now.what == USE_MAKES, request.mode)
 }
 
 fn asked_by(request: &Request, opening: &Opening, call: u8) -> Request {
@@ -158,83 +64,102 @@ fn asked_by(request: &Request, opening: &Opening, call: u8) -> Request {
     }
 }
 
-// Else a call finds it, and it is opened once more.
-#[inline(never)]
-fn found_first<'n>(
-    answers: &mut &[Answer],
-    known: &mut Known,
-    beside: &mut Beside,
-    request: &Request,
-    opening: &Opening,
-    texts: Texts<'n>,
-) -> Asked<'n, Reply<'n>> {
-    let asked = asked_by(request, opening, FIND);
-    match carry_out(answers, known, beside, &asked, texts)? {
-        Reply::Value(found, _) => given(answers, known, request, opening, found),
-        failed => Ok(failed),
+impl Progress<'_> {
+    // A directory that O_CREAT opened to be read is none that the caller wants.
+    #[inline(never)]
+    fn checked<'n>(&mut self, opening: &Opening, fd: u32) -> Said<'n> {
+        if !opening.asks_kind || opening.directory {
+            return Ok(value(fd));
+        }
+        let about = self.ask(Question::Stat(fd))?;
+        let mut error = look_error(&about);
+        if error == 0 {
+            error = use_of(opening, kind_of(about.mode as u32)).error as u32;
+        }
+        if error == 0 {
+            return Ok(value(fd));
+        }
+        self.close(fd)?;
+        self.blamed(Reply::Fails(error, steps::REOPEN, b""))
     }
-}
 
-// By one look-up with the caller's own flags.
-#[inline(always)]
-fn found<'n>(
-    answers: &mut &[Answer],
-    known: &mut Known,
-    beside: &mut Beside,
-    request: &Request,
-    opening: &Opening,
-    texts: Texts<'n>,
-) -> Asked<'n, Reply<'n>> {
-    let at = Below {
-        root: request.root,
-        flags: request.flags,
-        path: texts.first,
-        looked: texts.looked,
-    };
-    let is_walked = !has(request.flags, EXACT) && fault_of(request.flags, request.root) == 0;
-    if is_walked {
-        let (how, mode) = (how_of(&known.machine, opening), mode_of(request, opening));
-        match walk(answers, known, &at, how, mode)? {
-            Tried::Is(fd) => return checked(answers, known, opening, fd),
-            Tried::Fails(error, step) => {
-                return blamed(answers, known, Reply::Fails(error, step, b""));
+    // The one thing that is due of what is open.
+    #[inline(never)]
+    fn used<'n>(&mut self, request: &Request, opening: &Opening, fd: u32, kind: u8) -> Said<'n> {
+        let now = use_of(opening, kind);
+        match now.what {
+            USE_FAILS => Ok(Reply::Fails(now.error as u32, steps::REOPEN, b"")),
+            USE_GIVES => Ok(value(fd)),
+            USE_REOPENS => self.reopen_object(fd, now.flags),
+            _ => {
+                let made = self.gives(Question::Open(fd, b".", now.flags, request.mode))?;
+                Ok(given(made, steps::REOPEN))
             }
-            Tried::Steps => (),
         }
     }
-    found_first(answers, known, beside, request, opening, texts)
-}
 
-#[inline(never)]
-fn made<'n>(
-    answers: &mut &[Answer],
-    known: &mut Known,
-    beside: &mut Beside,
-    request: &Request,
-    opening: &Opening,
-    next: u8,
-    texts: Texts<'n>,
-) -> Asked<'n, Reply<'n>> {
-    let asked = asked_by(request, opening, next);
-    carry_out(answers, known, beside, &asked, texts)
-}
-
-/// The call that comes next: what it gives, of a link the length of the text.
-#[inline(always)]
-pub(crate) fn call<'n>(
-    answers: &mut &[Answer],
-    known: &mut Known,
-    beside: &mut Beside,
-    request: &Request,
-    course: &Course,
-    opening: &Opening,
-    texts: Texts<'n>,
-) -> Asked<'n, Reply<'n>> {
-    if course.pause > 0 {
-        ask(answers, Question::Wait(course.pause))?;
+    // What was found is closed, unless it is the reply.
+    #[inline(never)]
+    fn use_found<'n>(&mut self, request: &Request, opening: &Opening, found: u64) -> Said<'n> {
+        let fd = (found % 0x1_0000_0000) as u32;
+        let told = (found / 0x1_0000_0000 % 256) as u8;
+        let kind = if told != 0 { told } else { usual_kind(opening) };
+        let reply = self.used(request, opening, fd, kind)?;
+        let is_given = match reply {
+            Reply::Value(number, _) => number == fd as u64,
+            _ => false,
+        };
+        if !is_given {
+            self.close(fd)?;
+        }
+        self.blamed(reply)
     }
-    match course.next {
-        FIND => found(answers, known, beside, request, opening, texts),
-        next => made(answers, known, beside, request, opening, next, texts),
+
+    // Else a call finds it, and it is opened once more.
+    #[inline(never)]
+    fn found_first<'n>(
+        &mut self,
+        request: &Request,
+        opening: &Opening,
+        texts: Texts<'n>,
+    ) -> Said<'n> {
+        match self.carry_out(&asked_by(request, opening, FIND), texts)? {
+            Reply::Value(found, _) => self.use_found(request, opening, found),
+            failed => Ok(failed),
+        }
+    }
+
+    // By one look-up with the caller's own flags.
+    #[inline(always)]
+    fn found<'n>(&mut self, request: &Request, opening: &Opening, texts: Texts<'n>) -> Said<'n> {
+        let at = path_below(request, &texts);
+        let is_walked = !has(request.flags, EXACT) && fault_of(request.flags, request.root) == 0;
+        if is_walked {
+            let how = how_of(&self.known.machine, opening);
+            match self.walk(&at, how, mode_of(request, opening))? {
+                Ok(fd) => return self.checked(opening, fd),
+                Err(Reply::Steps) => (),
+                Err(failed) => return self.blamed(failed),
+            }
+        }
+        self.found_first(request, opening, texts)
+    }
+
+    /// The call that comes next: what it gives, of a link the length of the text.
+    #[inline(always)]
+    pub(crate) fn open_next<'n>(
+        &mut self,
+        request: &Request,
+        course: &Course,
+        opening: &Opening,
+        texts: Texts<'n>,
+    ) -> Said<'n> {
+        if course.pause > 0 {
+            self.ask(Question::Wait(course.pause))?;
+        }
+        match course.next {
+            FIND => self.found(request, opening, texts),
+            next => self.carry_out(&asked_by(request, opening, next), texts),
+        }
     }
 }

@@ -1,5 +1,7 @@
 //! What a call is asked for, and what it replies.
+use crate::steps;
 use find_proc::Known;
+use system_calls::errors::{EBADF, EIO};
 
 /// What a call is asked for: WHAT is one of the numbers below. Its texts come beside it.
 #[repr(C)]
@@ -111,17 +113,12 @@ pub(crate) const PROC_READ_LINK: u8 = 37;
 // A call that has failed by the error MODE, behind those of its root.
 pub(crate) const FAILED: u8 = 38;
 
-/// What a call has to say beside its reply, or its question.
-#[derive(Clone, Copy)]
-pub(crate) struct Beside {
-    /// The call that is to be made by single steps.
-    pub inner: Option<Request>,
-    /// What is closed behind the call's end, if the reply comes right behind the change of an entry.
-    pub closes: Closes,
-    pub ends: bool,
-    /// The change is due, and the reply is 0 if no error comes.
-    pub changes: bool,
-}
+// The bits of a mode (inode(7)).
+pub(crate) const MODE_BITS: u32 = 0o7777;
+
+pub(crate) const S_IFMT: u32 = 0o170000;
+
+pub(crate) const S_IFREG: u32 = 0o100000;
 
 /// Descriptors that are closed: so many.
 #[repr(C)]
@@ -151,25 +148,39 @@ pub(crate) enum Reply<'n> {
     Steps,
 }
 
-/// What came of a way that the kernel may not go.
-#[derive(Clone, Copy)]
-pub(crate) enum Tried<T> {
-    Is(T),
-    Fails(u32, u8),
-    Steps,
+impl Reply<'_> {
+    /// The number, the error or 0, and the step to blame.
+    pub(crate) fn outcome(&self) -> (u64, u32, u8) {
+        match *self {
+            Reply::Value(number, _) => (number, 0, steps::NONE),
+            Reply::Fails(error, step, _) | Reply::Failed(error, step) => (0, error, step),
+            Reply::Steps => (0, EIO, steps::NONE),
+        }
+    }
 }
 
 pub(crate) fn value<'n>(number: u32) -> Reply<'n> {
     Reply::Value(number as u64, b"")
 }
 
+/// An error for which no step is to blame.
+pub(crate) fn refused<'n>(error: u32) -> Reply<'n> {
+    Reply::Fails(error, steps::NONE, b"")
+}
+
+/// What a step gave, or the error for which it is to blame.
+#[inline(always)]
+pub(crate) fn given<'n>(outcome: Result<u32, u32>, step: u8) -> Reply<'n> {
+    match outcome {
+        Ok(number) => value(number),
+        Err(error) => Reply::Fails(error, step, b""),
+    }
+}
+
 /// What a call on a descriptor replies: EBADF is of the descriptor, and no step is to blame.
 pub(crate) fn told<'n>(outcome: Result<u32, u32>, step: u8) -> Reply<'n> {
     match outcome {
-        Ok(number) => value(number),
-        Err(system_calls::errors::EBADF) => {
-            Reply::Fails(system_calls::errors::EBADF, crate::steps::NONE, b"")
-        }
-        Err(error) => Reply::Fails(error, step, b""),
+        Err(EBADF) => refused(EBADF),
+        other => given(other, step),
     }
 }

@@ -1,17 +1,8 @@
 //! Which code a request is for.
-use crate::attributes::{attribute, change_mode, change_owner, change_times, reopen};
-use crate::calls::{
-    link, link_object, make, make_directory, make_node, open, open_parent, place, read_link,
-    remove_all, rename_entry, status,
-};
-use crate::due::{decimal, digits};
-use crate::inner::{blamed, carry_out, fault_of, refused};
 use crate::path::Texts;
+use crate::progress::{Progress, Said};
 use crate::request::*;
-use crate::{make_all, open_at, proc_files};
-use dialogue::{Answer, Asked};
-use find_proc::{Known, hand_in, make_private};
-use make_all::Gave;
+use find_proc::{hand_in, make_private};
 
 fn done<'n>(outcome: Result<(), u32>) -> Reply<'n> {
     match outcome {
@@ -20,66 +11,52 @@ fn done<'n>(outcome: Result<(), u32>) -> Reply<'n> {
     }
 }
 
-#[inline(never)]
-fn about_proc<'n>(
-    answers: &mut &[Answer],
-    known: &mut Known,
-    request: &Request,
-    texts: Texts<'n>,
-) -> Asked<'n, Reply<'n>> {
-    let (fd, path, number) = (request.fd, texts.first, texts.target);
-    match request.what {
-        USE_PROC => Ok(done(hand_in(answers, known, fd)?)),
-        USE_PRIVATE_PROC => Ok(done(make_private(answers, known)?)),
-        PROC_OPEN => proc_files::open(answers, known, request, path, number),
-        _ => proc_files::read_link(answers, known, request, path, number),
-    }
-}
-
-// A call on a descriptor, or in /proc.
-#[inline(never)]
-fn on_descriptor<'n>(
-    answers: &mut &[Answer],
-    known: &mut Known,
-    request: &Request,
-    texts: Texts<'n>,
-) -> Asked<'n, Reply<'n>> {
-    let reply = match request.what {
-        REOPEN => reopen(answers, known, request),
-        CHANGE_MODE => change_mode(answers, known, request),
-        CHANGE_OWNER => change_owner(answers, request),
-        CHANGE_TIMES => change_times(answers, request),
-        SET_ATTRIBUTE | GET_ATTRIBUTE | LIST_ATTRIBUTES | REMOVE_ATTRIBUTE => {
-            attribute(answers, known, request)
+impl Progress<'_> {
+    #[inline(never)]
+    fn about_proc<'n>(&mut self, request: &Request, texts: Texts<'n>) -> Said<'n> {
+        let fd = request.fd;
+        match request.what {
+            USE_PROC => Ok(done(hand_in(&mut self.answers, &mut self.known, fd)?)),
+            USE_PRIVATE_PROC => Ok(done(make_private(&mut self.answers, &mut self.known)?)),
+            PROC_OPEN => self.open_in_proc(request, texts),
+            _ => self.read_link_of_proc(request, texts),
         }
-        _ => about_proc(answers, known, request, texts),
-    }?;
-    blamed(answers, known, reply)
-}
+    }
 
-/// A call whose reply comes without another course.
-#[inline(always)]
-pub(crate) fn run<'n>(
-    answers: &mut &[Answer],
-    known: &mut Known,
-    beside: &mut Beside,
-    request: &Request,
-    texts: Texts<'n>,
-) -> Asked<'n, Reply<'n>> {
-    match request.what {
-        RESOLVE => open(answers, known, beside, request, texts),
-        MKDIR => make_directory(answers, known, beside, request, texts),
-        SYMLINK => make(answers, known, beside, request, texts),
-        UNLINK | RMDIR => carry_out(answers, known, beside, request, texts),
-        RENAME => rename_entry(answers, known, beside, request, texts),
-        MAKE_NODE => make_node(answers, known, beside, request, texts),
-        STATUS => status(answers, known, beside, request, texts),
-        READ_LINK => read_link(answers, known, beside, request, texts),
-        LINK => link(answers, known, beside, request, texts),
-        LINK_OBJECT => link_object(answers, known, beside, request, texts),
-        OPEN_PARENT => open_parent(answers, known, beside, request, texts),
-        PLACE => place(answers, known, beside, request, texts),
-        REMOVE_ALL => remove_all(answers, known, beside, request, texts),
-        _ => on_descriptor(answers, known, request, texts),
+    // A call on a descriptor, or in /proc.
+    #[inline(never)]
+    fn on_descriptor<'n>(&mut self, request: &Request, texts: Texts<'n>) -> Said<'n> {
+        let reply = match request.what {
+            REOPEN => self.reopen(request),
+            CHANGE_MODE => self.change_mode(request),
+            CHANGE_OWNER => self.change_owner(request),
+            CHANGE_TIMES => self.change_times(request),
+            SET_ATTRIBUTE | GET_ATTRIBUTE | LIST_ATTRIBUTES | REMOVE_ATTRIBUTE => {
+                self.attribute(request)
+            }
+            _ => self.about_proc(request, texts),
+        }?;
+        self.blamed(reply)
+    }
+
+    /// A call whose reply comes without another course.
+    #[inline(always)]
+    pub(crate) fn run<'n>(&mut self, request: &Request, texts: Texts<'n>) -> Said<'n> {
+        match request.what {
+            RESOLVE => self.open(request, texts),
+            MKDIR => self.make_directory(request, texts),
+            SYMLINK => self.make_entry(request, texts),
+            UNLINK | RMDIR => self.carry_out(request, texts),
+            RENAME => self.rename_entry(request, texts),
+            MAKE_NODE => self.make_node(request, texts),
+            STATUS => self.status(request, texts),
+            READ_LINK => self.read_link(request, texts),
+            LINK => self.link(request, texts),
+            LINK_OBJECT => self.link_named(request, texts.on(texts.first)),
+            OPEN_PARENT => self.open_parent(request, texts),
+            PLACE => self.place(request, texts),
+            REMOVE_ALL => self.remove_all(request, texts),
+            _ => self.on_descriptor(request, texts),
+        }
     }
 }

@@ -4,28 +4,23 @@ use crate::inner::fault_of;
 use crate::kept::State;
 use crate::make_all::{Gave, outcome_of};
 use crate::path::{Texts, front};
+use crate::progress::Progress;
 use crate::request::*;
 use crate::walk::{FOLLOW, NO_RETRY, has};
-use crate::{make_all, open_at, steps};
-use dialogue::{Answer, Asked};
-use find_proc::Known;
+use dialogue::Asked;
 use make_through_links::{Came, Outcome, lay_link, pass};
 use path_text::TEXT_MAX;
-use system_calls::errors::{EINVAL, EIO};
+use system_calls::errors::EINVAL;
 
-const MODE_BITS: u32 = 0o7777;
+/// The reply; or what a call of several gave.
+pub(crate) type Part<'n> = Asked<'n, Result<Reply<'n>, Gave<'n>>>;
 
 // What a call of several gave is kept, with the name that an error was about.
 pub(crate) fn keep(state: &mut State, reply: &Reply<'_>, room: &mut [u8]) {
-    let (given, error, step) = match *reply {
-        Reply::Value(given, _) => (given, 0, steps::NONE),
-        Reply::Fails(error, step, name) => {
-            lay(room, NAME, name);
-            (0, error, step)
-        }
-        Reply::Failed(error, step) => (0, error, step),
-        Reply::Steps => (0, EIO, steps::NONE),
-    };
+    if let Reply::Fails(_, _, name) = *reply {
+        lay(room, NAME, name);
+    }
+    let (given, error, step) = reply.outcome();
     state.given = given;
     state.error = error;
     state.step = step;
@@ -39,53 +34,47 @@ pub(crate) fn last_reply<'n>(state: &State) -> Reply<'n> {
     }
 }
 
-// The end of a course, or what its next call gives.
-pub(crate) fn open_at_part<'n>(
-    answers: &mut &[Answer],
-    known: &mut Known,
-    beside: &mut Beside,
-    request: &Request,
-    state: &State,
-    texts: Texts<'n>,
-) -> Asked<'n, Result<Reply<'n>, Gave<'n>>> {
-    Ok(match state.course.next {
-        open_or_make::ENDS => Ok(last_reply(state)),
-        open_or_make::FAILS => Ok(Reply::Fails(state.course.error as u32, state.course.step, b"")),
-        _ => Err(Gave::Reply(open_at::call(
-            answers,
-            known,
-            beside,
-            request,
-            &state.course,
-            &state.opening,
-            texts,
-        )?)),
-    })
-}
+impl Progress<'_> {
+    // The end of a course, or what its next call gives.
+    pub(crate) fn open_at_part<'n>(
+        &mut self,
+        request: &Request,
+        state: &State,
+        texts: Texts<'n>,
+    ) -> Part<'n> {
+        let course = &state.course;
+        Ok(match course.next {
+            open_or_make::ENDS => Ok(last_reply(state)),
+            open_or_make::FAILS => Ok(Reply::Fails(course.error as u32, course.step, b"")),
+            _ => Err(Gave::Reply(self.open_next(
+                request,
+                course,
+                &state.opening,
+                texts,
+            )?)),
+        })
+    }
 
-#[inline(never)]
-pub(crate) fn make_all_part<'n>(
-    answers: &mut &[Answer],
-    known: &mut Known,
-    beside: &mut Beside,
-    request: &Request,
-    state: &State,
-    texts: Texts<'n>,
-) -> Asked<'n, Result<Reply<'n>, Gave<'n>>> {
-    let mut heard = heard(state);
-    let read = text_read(state, true, texts.read);
-    let came = match pass(&mut heard, &state.making, texts.first.text(), read) {
-        Ok(came) => came,
-        Err(question) => {
-            return Ok(Err(make_all::call(answers, known, beside, request, &question, texts)?));
-        }
-    };
-    Ok(match came {
-        Came::Given(fd) => Ok(value(fd)),
-        Came::Failed(_) => Ok(Reply::Failed(state.error, state.step)),
-        Came::Fails(error, step) => Ok(Reply::Fails(error, step, b"")),
-        _ => Err(Gave::Pass(came)),
-    })
+    #[inline(never)]
+    pub(crate) fn make_all_part<'n>(
+        &mut self,
+        request: &Request,
+        state: &State,
+        texts: Texts<'n>,
+    ) -> Part<'n> {
+        let mut heard = heard(state);
+        let read = text_read(state, true, texts.read);
+        let came = match pass(&mut heard, &state.making, texts.first.text(), read) {
+            Ok(came) => came,
+            Err(question) => return Ok(Err(self.make_next(request, &question, texts)?)),
+        };
+        Ok(match came {
+            Came::Given(fd) => Ok(value(fd)),
+            Came::Failed(_) => Ok(Reply::Failed(state.error, state.step)),
+            Came::Fails(error, step) => Ok(Reply::Fails(error, step, b"")),
+            _ => Err(Gave::Pass(came)),
+        })
+    }
 }
 
 // What the calls of this pass gave.

@@ -1,6 +1,7 @@
 //! One look-up by the kernel, which walks a path as a whole.
-use crate::path::PathOf;
-use crate::request::Tried;
+use crate::path::{PathOf, Texts};
+use crate::progress::{Number, Progress};
+use crate::request::{Reply, Request};
 use crate::steps;
 use dialogue::{Answer, Asked, Question, ask};
 use find_proc::Known;
@@ -50,6 +51,17 @@ pub(crate) struct Below<'n> {
     pub looked: bool,
 }
 
+/// The first path of a request.
+#[inline(always)]
+pub(crate) fn path_below<'n>(request: &Request, texts: &Texts<'n>) -> Below<'n> {
+    Below {
+        root: request.root,
+        flags: request.flags,
+        path: texts.first,
+        looked: texts.looked,
+    }
+}
+
 #[inline(always)]
 pub(crate) fn has(flags: u32, flag: u32) -> bool {
     flags & flag != 0
@@ -65,8 +77,9 @@ pub(crate) fn look_error(about: &Answer) -> u32 {
     }
 }
 
+/// These bits, if that holds.
 #[inline(always)]
-fn bit(holds: bool, bits: u32) -> u32 {
+pub(crate) fn bit(holds: bool, bits: u32) -> u32 {
     if holds { bits } else { 0 }
 }
 
@@ -108,7 +121,7 @@ pub(crate) fn opened<'n>(
     answers: &mut &[Answer],
     known: &mut Known,
     question: Question<'n>,
-) -> Asked<'n, Result<u32, u32>> {
+) -> Number<'n> {
     let opened = ask(answers, question)?;
     if opened.error == 0 {
         return Ok(Ok(opened.value));
@@ -122,70 +135,68 @@ pub(crate) fn opened<'n>(
     Ok(Err(opened.error))
 }
 
+/// openat2(2) of a path in a directory.
 #[inline(always)]
-fn question_of<'n>(at: &Below<'n>, how: u32, mode: u32, resolve: u32) -> Question<'n> {
-    let text = at.path.text();
+pub(crate) fn openat2<'n>(
+    dir: u32,
+    path: &'n [u8],
+    how: u32,
+    mode: u32,
+    resolve: u32,
+) -> Question<'n> {
     if has(how, O_PATH) {
-        Question::LookUp(at.root, text, how, resolve)
+        Question::LookUp(dir, path, how, resolve)
     } else {
-        Question::OpenPath(at.root, text, how | O_CLOEXEC, mode, resolve)
+        Question::OpenPath(dir, path, how | O_CLOEXEC, mode, resolve)
     }
 }
 
-/// What the look-up opens, by flags of open(2); or an error, 0 where the kernel may not walk the path.
-#[inline(always)]
-pub(crate) fn look_up<'n>(
-    answers: &mut &[Answer],
-    known: &mut Known,
-    at: &Below<'n>,
-    how: u32,
-    mode: u32,
-) -> Asked<'n, Result<u32, u32>> {
-    if !at.looked && !may_walk(at) {
-        return Ok(Err(0));
-    }
-    opened(
-        answers,
-        known,
-        question_of(at, how, mode, resolve_of(at.flags)),
-    )
-}
-
-// Of a path of names alone: whether one of them is missing, and no link's target.
-#[inline(never)]
-fn is_missing<'n>(answers: &mut &[Answer], known: &mut Known, at: &Below<'n>) -> Asked<'n, bool> {
-    if !misses_at_once(has(at.flags, BENEATH), at.path.text(), at.path.place()) {
-        return Ok(false);
-    }
-    let resolve = resolve_of(at.flags) | RESOLVE_NO_SYMLINKS;
-    match opened(answers, known, question_of(at, O_PATH, 0, resolve))? {
-        Ok(fd) => {
-            ask(answers, Question::Close(fd))?;
-            Ok(false)
+impl Progress<'_> {
+    /// What the look-up opens, by flags of open(2); or an error, 0 where the kernel may not walk the path.
+    #[inline(always)]
+    pub(crate) fn look_up<'n>(&mut self, at: &Below<'n>, how: u32, mode: u32) -> Number<'n> {
+        if !at.looked && !may_walk(at) {
+            return Ok(Err(0));
         }
-        Err(error) => Ok(error == ENOENT),
+        let question = openat2(at.root, at.path.text(), how, mode, resolve_of(at.flags));
+        opened(&mut self.answers, &mut self.known, question)
     }
-}
 
-/// Opens what a path means by flags of open(2). A signal ends an opening for use alone.
-#[inline(always)]
-pub(crate) fn walk<'n>(
-    answers: &mut &[Answer],
-    known: &mut Known,
-    at: &Below<'n>,
-    how: u32,
-    mode: u32,
-) -> Asked<'n, Tried<u32>> {
-    Ok(match look_up(answers, known, at, how, mode)? {
-        Ok(fd) => Tried::Is(fd),
-        Err(EINTR) => Tried::Fails(EINTR, steps::REOPEN),
-        Err(ENOENT) => {
-            if is_missing(answers, known, at)? {
-                Tried::Fails(ENOENT, steps::OPEN)
-            } else {
-                Tried::Steps
+    // Of a path of names alone: whether one of them is missing, and no link's target.
+    #[inline(never)]
+    fn is_missing<'n>(&mut self, at: &Below<'n>) -> Asked<'n, bool> {
+        if !misses_at_once(has(at.flags, BENEATH), at.path.text(), at.path.place()) {
+            return Ok(false);
+        }
+        let resolve = resolve_of(at.flags) | RESOLVE_NO_SYMLINKS;
+        let question = openat2(at.root, at.path.text(), O_PATH, 0, resolve);
+        match opened(&mut self.answers, &mut self.known, question)? {
+            Ok(fd) => {
+                self.close(fd)?;
+                Ok(false)
             }
+            Err(error) => Ok(error == ENOENT),
         }
-        Err(_) => Tried::Steps,
-    })
+    }
+
+    /// Opens what a path means by flags of open(2), or says why not; by single steps, where the kernel may not go that
+    /// way. A signal ends an opening for use alone.
+    #[inline(always)]
+    pub(crate) fn walk<'n>(
+        &mut self,
+        at: &Below<'n>,
+        how: u32,
+        mode: u32,
+    ) -> Asked<'n, Result<u32, Reply<'n>>> {
+        Ok(match self.look_up(at, how, mode)? {
+            Ok(fd) => Ok(fd),
+            Err(EINTR) => Err(Reply::Fails(EINTR, steps::REOPEN, b"")),
+            Err(ENOENT) => Err(if self.is_missing(at)? {
+                Reply::Fails(ENOENT, steps::OPEN, b"")
+            } else {
+                Reply::Steps
+            }),
+            Err(_) => Err(Reply::Steps),
+        })
+    }
 }

@@ -2,7 +2,8 @@
 use crate::by_steps::answers::refused;
 use crate::by_steps::slots::Handles;
 use crate::by_steps::state::{Part, Steps};
-use crate::change::{Change, make_change};
+use crate::change::Change;
+use crate::progress::Progress;
 use crate::request::{RENAME as RENAMES, Reply};
 use crate::steps;
 use dialogue::{Answer, Asked};
@@ -61,7 +62,10 @@ impl Steps {
         read: &'s [u8],
     ) -> Asked<'s, Part> {
         let change = change_of(step, &self.attempt.handles);
-        let reply = make_change(answers, known, &self.request, &change, read)?;
+        let mut now = Progress::new(*answers, *known, false);
+        let reply = now.make_change(&self.request, &change, read)?;
+        *answers = now.answers;
+        *known = now.known;
         match reply {
             Reply::Fails(ENOSYS, step, _) if step != steps::GIVE => {
                 has_floor(answers, known)?;
