@@ -10,16 +10,8 @@ fn laws_are_at_hand() {
     open_or_make::no_link_is_read_without_leave();
     open_or_make::why_it_fails();
     open_or_make::calls_are_few();
-    make_through_links::what_is_given_was_found_or_made();
-    make_through_links::what_is_there_is_given();
-    make_through_links::files_are_made_once_their_directories_are_there();
-    make_through_links::each_call_walks_its_part();
+    make_through_links::calls_hold();
     make_through_links::links_are_followed_in_turn();
-    make_through_links::no_link_is_followed_without_leave();
-    make_through_links::each_descriptor_is_closed_once();
-    make_through_links::what_is_missing_is_made();
-    make_through_links::why_it_fails();
-    make_through_links::calls_are_few();
     open_partial::what_is_given_is_there();
     open_partial::the_whole_path_is_tried_first();
     open_partial::parts_are_opened_as_directories();

@@ -8,7 +8,7 @@ mod parts;
 use crate::by_steps::Steps;
 use crate::request::{Closes, NO_CLOSES};
 use find_proc::{File, Kept as Proc, Known};
-use make_through_links::Making;
+use make_through_links::{Making, Outcome};
 use open_or_make::Course;
 use parts::Parts;
 use std::alloc::Global;
@@ -86,6 +86,9 @@ pub struct State {
     pub(crate) opening: Opening,
     pub(crate) course: Course,
     pub(crate) making: Making,
+    /// What the calls of a pass over the path gave: so many.
+    pub(crate) outcomes: [Outcome; 7],
+    pub(crate) heard: u32,
     /// What is known as single steps go on.
     pub(crate) known: Known,
     /// What is closed behind the change of an entry.
@@ -138,19 +141,20 @@ const NO_COURSE: Course = Course {
 const NO_MAKING: Making = Making {
     length: 0,
     above: 0,
-    cut: 0,
-    size: 0,
-    gives: 0,
-    closes: 0,
-    error: 0,
     pause: 0,
     links: 0,
-    between: 0,
-    next: 0,
-    step: 0,
+    tries: 0,
     file: false,
+    parted: false,
     follows: false,
     may_retry: false,
+};
+
+const NO_OUTCOME: Outcome = Outcome {
+    rest: 0,
+    error: 0,
+    descriptor: 0,
+    directory: false,
 };
 
 const NOTHING_KNOWN: Known = Known {
@@ -185,6 +189,8 @@ impl State {
             opening: NO_OPENING,
             course: NO_COURSE,
             making: NO_MAKING,
+            outcomes: [NO_OUTCOME; 7],
+            heard: 0,
             known: NOTHING_KNOWN,
             closes: NO_CLOSES,
             error: 0,

@@ -1,41 +1,35 @@
 //! All missing parts of a path made, and the object at the end opened. Which call comes next, on which part of the
-//! path, and what is closed before, `make_through_links` says.
+//! path, and what is closed when, `make_through_links` says.
 use crate::path::Texts;
 use crate::progress::{Progress, Said};
 use crate::request::*;
-use dialogue::{Asked, Question};
+use dialogue::Asked;
 use kernel_walks::split;
-use make_through_links::{CREATE, FIND, MAKE, MAKE_ABOVE, Making, Outcome, PARTIAL, SPLIT};
+use make_through_links::{Came, Outcome, Question};
 use open_partial::{CLOSE, ENDS, Search, TRY, beginning, trial_of};
 
 // More than the tries and closes of one path.
 const SEARCHES: u32 = 64;
 
-/// What a call on a part of the path gave.
+/// What a part of a call of several came to.
 #[derive(Clone, Copy)]
-pub(crate) struct Gave<'n> {
-    pub reply: Reply<'n>,
-    /// How much of the path comes before its last name; or before what is missing.
-    pub rest: usize,
+pub(crate) enum Gave<'n> {
+    /// A call gave this.
+    Reply(Reply<'n>),
+    /// A call on a part of the path did, with how much of the path comes before its last name, or before what is
+    /// missing; and whether it was looked for what is there.
+    Outcome(Reply<'n>, usize, bool),
+    /// A pass over the path has ended, and another one begins.
+    Pass(Came),
 }
 
 /// What a call on so much of the path gave, in the words of `make_through_links`.
-pub(crate) fn outcome_of(reply: &Reply<'_>, rest: usize, call: u8) -> Outcome {
-    let opens = match call {
-        FIND | MAKE_ABOVE | MAKE | PARTIAL | CREATE => true,
-        _ => false,
-    };
-    let (found, error, _) = reply.outcome();
-    let fd = found % 0x1_0000_0000;
+pub(crate) fn outcome_of(error: u32, found: u64, rest: usize, finds: bool) -> Outcome {
     Outcome {
-        rest,
+        rest: rest as u32,
         error,
-        descriptor: if opens && error == 0 && fd < 0xffff_ffff {
-            fd as u32 + 1
-        } else {
-            0
-        },
-        directory: call == FIND && found / 0x1_0000_0000 == A_DIRECTORY as u64,
+        descriptor: (found % 0x1_0000_0000) as u32,
+        directory: finds && found / 0x1_0000_0000 == A_DIRECTORY as u64,
     }
 }
 
@@ -96,8 +90,7 @@ impl Progress<'_> {
         if search.next == ENDS {
             reply = value(search.descriptor);
         }
-        let rest = beginning(text, search.there);
-        Ok(Gave { reply, rest })
+        Ok(Gave::Outcome(reply, beginning(text, search.there), false))
     }
 
     // ---- the calls
@@ -105,62 +98,79 @@ impl Progress<'_> {
     fn on_its_part<'n>(
         &mut self,
         request: &Request,
-        making: &Making,
+        question: &Question<'_>,
+        length: usize,
         texts: Texts<'n>,
     ) -> Asked<'n, Gave<'n>> {
-        let part = texts.first.front(making.size);
-        let directories = texts.on(texts.first.front_or_here(making.size));
-        let asked = match making.next {
-            FIND => Request {
-                asks_kind: true,
-                ..on_part(request, RESOLVE, 0)
-            },
-            MAKE_ABOVE => Request {
-                directory: true,
-                ..on_part(request, MKDIR_ALL, request.above)
-            },
-            MAKE => Request {
+        let part = texts.on(texts.first.front(length));
+        let directories = texts.on(texts.first.front_or_here(length));
+        let mut on = part;
+        let mut finds = false;
+        let asked = match question {
+            Question::Find(_) => {
+                finds = true;
+                Request {
+                    asks_kind: true,
+                    ..on_part(request, RESOLVE, 0)
+                }
+            }
+            Question::MakeAbove(_) => {
+                on = directories;
+                Request {
+                    directory: true,
+                    ..on_part(request, MKDIR_ALL, request.above)
+                }
+            }
+            Question::Make(_) => Request {
                 directory: true,
                 ..on_part(request, MKDIR_ALL, request.mode)
             },
-            CREATE => Request {
+            Question::Create(_) => Request {
                 gives: true,
                 ..on_part(request, MKFILE, S_IFREG | request.mode)
             },
-            PARTIAL => return self.open_partial(request, directories),
+            Question::Partial(_) => return self.open_partial(request, directories),
             _ => on_part(request, READ_TEXT, 0),
         };
-        let on = if making.next == MAKE_ABOVE {
-            directories
-        } else {
-            texts.on(part)
-        };
         let reply = self.carry_out(&asked, on)?;
-        Ok(Gave { reply, rest: 0 })
+        Ok(Gave::Outcome(reply, 0, finds))
     }
 
-    /// The call that comes next. What is to be closed was given by the last one.
+    /// The call that comes next.
     pub(crate) fn make_next<'n>(
         &mut self,
         request: &Request,
-        making: &Making,
+        question: &Question<'_>,
         texts: Texts<'n>,
     ) -> Asked<'n, Gave<'n>> {
-        if making.pause > 0 {
-            self.ask(Question::Wait(making.pause))?;
-        }
-        if making.next != SPLIT {
-            return self.on_its_part(request, making, texts);
-        }
-        let parted = split(texts.first.front(making.size).text(), false);
-        let reply = if parted.error == 0 {
-            value(0)
-        } else {
-            refused(parted.error as u32)
+        let length = match *question {
+            Question::Split(path) => return Ok(split_name(path)),
+            Question::Close(fd) => {
+                self.close(fd)?;
+                return Ok(Gave::Outcome(value(0), 0, false));
+            }
+            Question::Wait(pause) => {
+                self.ask(dialogue::Question::Wait(pause))?;
+                return Ok(Gave::Outcome(value(0), 0, false));
+            }
+            Question::Find(path)
+            | Question::MakeAbove(path)
+            | Question::Make(path)
+            | Question::Partial(path)
+            | Question::ReadLink(path)
+            | Question::Create(path)
+            | Question::ReadEnd(path) => path.len(),
         };
-        Ok(Gave {
-            reply,
-            rest: parted.name,
-        })
+        self.on_its_part(request, question, length, texts)
     }
+}
+
+fn split_name<'n>(path: &[u8]) -> Gave<'n> {
+    let parted = split(path, false);
+    let reply = if parted.error == 0 {
+        value(0)
+    } else {
+        refused(parted.error as u32)
+    };
+    Gave::Outcome(reply, parted.name, false)
 }

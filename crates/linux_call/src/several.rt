@@ -8,6 +8,7 @@ use crate::progress::Progress;
 use crate::request::*;
 use crate::walk::{FOLLOW, NO_RETRY, has};
 use dialogue::Asked;
+use make_through_links::{Came, Outcome, lay_link, pass};
 use path_text::TEXT_MAX;
 use system_calls::errors::EINVAL;
 
@@ -45,10 +46,7 @@ impl Progress<'_> {
         Ok(match course.next {
             open_or_make::ENDS => Ok(last_reply(state)),
             open_or_make::FAILS => Ok(Reply::Fails(course.error as u32, course.step, b"")),
-            _ => Err(Gave {
-                reply: self.open_next(request, course, &state.opening, texts)?,
-                rest: 0,
-            }),
+            _ => Err(Gave::Reply(self.open_next(request, course, &state.opening, texts)?)),
         })
     }
 
@@ -59,16 +57,28 @@ impl Progress<'_> {
         state: &State,
         texts: Texts<'n>,
     ) -> Part<'n> {
-        let making = &state.making;
-        if making.closes > 0 {
-            self.close(making.closes - 1)?;
-        }
-        Ok(match making.next {
-            make_through_links::ENDS if making.gives > 0 => Ok(value(making.gives - 1)),
-            make_through_links::ENDS => Ok(Reply::Failed(state.error, state.step)),
-            make_through_links::FAILS => Ok(Reply::Fails(making.error, making.step, b"")),
-            _ => Err(self.make_next(request, making, texts)?),
+        let mut heard = heard(state);
+        let read = text_read(state, true, texts.read);
+        let came = match pass(&mut heard, &state.making, texts.first.text(), read) {
+            Ok(came) => came,
+            Err(question) => return Ok(Err(self.make_next(request, &question, texts)?)),
+        };
+        Ok(match came {
+            Came::Given(fd) => Ok(value(fd)),
+            Came::Failed(_) => Ok(Reply::Failed(state.error, state.step)),
+            Came::Fails(error, step) => Ok(Reply::Fails(error, step, b"")),
+            _ => Err(Gave::Pass(came)),
         })
+    }
+}
+
+// What the calls of this pass gave.
+fn heard(state: &State) -> &[Outcome] {
+    let count = state.heard as usize;
+    if count <= state.outcomes.len() {
+        &state.outcomes[..count]
+    } else {
+        &state.outcomes
     }
 }
 
@@ -81,39 +91,80 @@ pub(crate) fn text_read<'r>(state: &State, reads: bool, read: &'r [u8]) -> &'r [
     }
 }
 
+// Goes on to the next call of a path's opening: whether it could.
+fn next_course(state: &mut State, path: &mut [u8], read: &[u8]) -> bool {
+    let course = state.course;
+    if course.length > path.len() {
+        return false;
+    }
+    let text = text_read(state, course.next == open_or_make::READ_LINK, read);
+    state.course = open_or_make::next(course, state.error, text, path);
+    true
+}
+
+// Another pass over the path begins, into which the text is laid of the link that was read.
+fn next_pass(state: &mut State, came: Came, path: &mut [u8], read: &[u8]) {
+    match came {
+        Came::Led(making, front, at) => {
+            let text = text_read(state, true, read);
+            lay_link(text, front, at, state.making.length, path);
+            state.making = making;
+        }
+        Came::Again(making) => state.making = making,
+        _ => {}
+    }
+    state.heard = 0;
+}
+
+// What a call gave is heard in this pass: whether there was room.
+fn hear(state: &mut State, rest: usize, finds: bool) -> bool {
+    let at = state.heard as usize;
+    if at >= state.outcomes.len() {
+        return false;
+    }
+    state.outcomes[at] = outcome_of(state.error, state.given, rest, finds);
+    state.heard += 1;
+    true
+}
+
 // Goes on to the next call of several: whether it could.
 #[inline(never)]
-pub(crate) fn next_call(
-    request: &Request,
-    state: &mut State,
-    rest: usize,
-    first: &mut [u8],
-    read: &[u8],
-) -> bool {
+pub(crate) fn next_call(state: &mut State, then: Then, first: &mut [u8], read: &[u8]) -> bool {
     if first.len() <= TEXT_MAX {
         return false;
     }
     let (_, path) = first.split_at_mut(1);
-    if request.what == OPEN_AT {
-        let course = state.course;
-        if course.length > path.len() {
-            return false;
+    match then {
+        Then::Course => next_course(state, path, read),
+        Then::Call(rest, finds) => hear(state, rest, finds),
+        Then::Pass(came) => {
+            next_pass(state, came, path, read);
+            true
         }
-        let text = text_read(state, course.next == open_or_make::READ_LINK, read);
-        state.course = open_or_make::next(course, state.error, text, path);
-        return true;
     }
-    let making = state.making;
-    let is_within = making.above <= making.length && making.size <= making.length;
-    if !is_within || making.length > path.len() {
-        return false;
+}
+
+/// What comes behind what a part of a call of several gave.
+#[derive(Clone, Copy)]
+pub(crate) enum Then {
+    Course,
+    Call(usize, bool),
+    Pass(Came),
+}
+
+/// Keeps what a part of a call of several gave.
+pub(crate) fn keep_gave(state: &mut State, gave: &Gave<'_>, room: &mut [u8]) -> Then {
+    match gave {
+        Gave::Reply(reply) => {
+            keep(state, reply, room);
+            Then::Course
+        }
+        Gave::Outcome(reply, rest, finds) => {
+            keep(state, reply, room);
+            Then::Call(*rest, *finds)
+        }
+        Gave::Pass(came) => Then::Pass(*came),
     }
-    let reads = making.next == make_through_links::READ_LINK
-        || making.next == make_through_links::READ_END;
-    let text = text_read(state, reads, read);
-    let outcome = outcome_of(&last_reply(state), rest, making.next);
-    state.making = make_through_links::next(making, outcome, text, path);
-    true
 }
 
 // What is wrong with a call before its first system call, or 0.

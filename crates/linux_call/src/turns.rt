@@ -11,7 +11,7 @@ use crate::kept::{Kept, State};
 use crate::path::{PathOf, Texts};
 use crate::progress::Progress;
 use crate::request::*;
-use crate::several::{Part, begin, keep, next_call};
+use crate::several::{Part, Then, begin, keep_gave, next_call};
 use crate::walk::{Below, EXACT, NOFOLLOW, O_PATH, has};
 use crate::{open_at, steps};
 use dialogue::{Answer, Question};
@@ -90,8 +90,8 @@ enum Came {
     BySteps(Box<Steps>),
     // No memory for that.
     NoMemory,
-    // What a call of several gave.
-    Gave(usize),
+    // A part of a call of several is over.
+    Gave(Then),
 }
 
 #[inline(always)]
@@ -221,11 +221,11 @@ fn go(
         }
         Ok(Ok(reply)) => Came::Due(end_and_close(&reply, &now.closes, room)),
         Ok(Err(gave)) => {
-            keep(state, &gave.reply, room);
+            let then = keep_gave(state, &gave, room);
             request.known = now.known;
             state.count = 0;
             state.looked = false;
-            Came::Gave(gave.rest)
+            Came::Gave(then)
         }
     }
 }
@@ -236,7 +236,6 @@ fn go(
 #[inline(always)]
 fn follow(
     came: Came,
-    request: &Request,
     state: &mut State,
     steps: &mut Option<Box<Steps>>,
     first: &mut [u8],
@@ -251,8 +250,8 @@ fn follow(
             lay(room, NAME, b"");
             end_steps(state, Ended::Fails(ENOMEM, steps::NONE), answers);
         }
-        Came::Gave(rest) => {
-            if !next_call(request, state, rest, first, read) {
+        Came::Gave(then) => {
+            if !next_call(state, then, first, read) {
                 return Some(end_of(&refused(EIO), room));
             }
         }
@@ -283,7 +282,7 @@ fn go_on(
                 let came = go(
                     alloc, request, state, first, second, read, number, answers, room,
                 );
-                follow(came, request, state, steps, first, read, answers, room)
+                follow(came, state, steps, first, read, answers, room)
             }
         };
         if let Some(due) = due {
@@ -321,7 +320,7 @@ fn next_due(
         let came = go(
             alloc, request, state, first, second, read, number, answers, room,
         );
-        if let Some(due) = follow(came, request, state, steps, first, read, answers, room) {
+        if let Some(due) = follow(came, state, steps, first, read, answers, room) {
             return due;
         }
     }

@@ -1,6 +1,4 @@
-pub mod ClosingLemmas
-pub mod FailureLemmas
-pub mod HistoryLemmas
-pub mod MakingLemmas
+pub mod CallLemmas
+pub mod LinkLemmas
+pub mod PassLemmas
 pub mod PathLemmas
-pub mod PromiseLemmas

@@ -1,14 +1,14 @@
 -- Where a text goes on behind a name, and a text that is laid before it.
-use Rattle.std.proofs.Common.{◌≡◌, ℕ, ◌≤◌, ◌<◌, ◌+◌, ◌-◌, min, suc, Bool, true, false, cond, if◌then◌else◌, List, [], ◌∷◌, ◌++◌, length, take, drop, set, ap, sym, refl, ◌∙◌, arith, take-take, take-append-drop, length-drop, length-append, length-take-le, drop_at, eq-eqb, append-nil, append_assoc}
+use Rattle.std.proofs.Common.{◌≡◌, ℕ, ◌≤◌, ◌<◌, ◌+◌, ◌-◌, min, suc, Bool, true, false, cond, if◌then◌else◌, List, [], ◌∷◌, ◌++◌, length, take, drop, set, ap, sym, refl, ◌∙◌, arith, take-take, take-append-drop, length-drop, length-append, length-take, length-take-le, take_at, drop_at, eq-eqb}
 use Rattle.std.specs.Prelude.{not, ◌==◌, ◌&&◌}
 use Rattle.std.specs.List.{list_all}
 use Rattle.std.proofs.Math.Seq.{paste}
 use Rattle.std.proofs.lemmas.Bool.{cond-false, cond-true, ne_eqb}
-use Rattle.std.proofs.lemmas.List.{drop_all, drop-append-le, drop-drop, drop-set, drop-take}
+use Rattle.std.proofs.lemmas.List.{drop_all, drop-drop, drop-set, drop-take, take_all, take-append-le}
 use Rattle.std.proofs.lemmas.List.Edits.{length-paste, take-paste}
 use Rattle.path_text.specs.declared.name.TheConstants.{SLASH}
 use Rattle.path_text.specs.Text.{is_empty}
-use Rattle.make_through_links.specs.Paths.{before_rest, slashes_size}
+use Rattle.make_through_links.specs.Paths.{before_rest, slashes_size, way}
 
 -- ---- a text before what comes behind
 
@@ -87,22 +87,59 @@ laid_none text room after at end within none first =
     ∙ (first ∙ ap (before_rest text)
     (sym (drop_all at (take end room) (omega (arith, none, length-take-le end room within)))))
 
--- ---- where a link's text leads
+-- ---- a text in the middle of a path
 
--- what comes behind the link, of the directories' path and then the file's name
-pub tail_is : (room above name rest : List ℕ) (end at cut n : ℕ) → take end room ≡ above ++ name
-    → at ≡ min cut (length above) + n
-    → rest ≡ drop n (drop (min cut (length above)) above) → at ≤ length above → drop at (take end room) ≡ rest ++ name
-tail_is room above name rest end at cut n is place said within =
-    ap (drop at) is ∙ (drop-append-le at above name within
-    ∙ ap (λ (l : List ℕ). l ++ name) (ap (λ k. drop k above) place
-    ∙ (sym (drop-drop n (min cut (length above)) above) ∙ sym said)))
+laid_behind : (front size : ℕ) (room part post text : List ℕ) → front ≤ length room → take size part ≡ text
+    → size ≡ length text → take (front + size) (take front room ++ (part ++ post)) ≡ take front room ++ text
+laid_behind front size room part post text within is long =
+    let first : length (take front room) ≡ front = length-take-le front room within in
+    let fits : size ≤ length part = omega (arith, long, ap length is, length-take size part) in
+    take_both front size (take front room ++ (part ++ post))
+    ∙ (ap (λ (l : List ℕ). l ++ take size (drop front (take front room ++ (part ++ post))))
+    (take_at (take front room) (part ++ post) front first)
+    ∙ ap (λ (l : List ℕ). take front room ++ l)
+    (ap (take size) (drop_at (take front room) (part ++ post) front first)
+    ∙ (take-append-le size part post fits ∙ is)))
 
-pub led_whole : (text rest name : List ℕ) → (if is_empty (rest ++ name) then text else text ++ SLASH ∷ rest) ++ name
-    ≡ before_rest text (rest ++ name)
-led_whole text [] [] = append-nil text
-led_whole text [] (b ∷ bs) = append_assoc text (SLASH ∷ []) (b ∷ bs)
-led_whole text (r ∷ rs) name = append_assoc text (SLASH ∷ r ∷ rs) name
+rest_at_place : (room : List ℕ) (front at end : ℕ) → front ≤ at → at ≤ end → end ≤ length room
+    → drop (at - front) (take (end - front) (take (length room - front) (drop front room))) ≡ drop at (take end room)
+rest_at_place room front at end before within fits =
+    let sum : front + (end - front) ≡ end = omega (arith, before, within) in
+    let place : front + (at - front) ≡ at = omega (arith, before) in
+    ap (λ (l : List ℕ). drop (at - front) (take (end - front) l))
+    (take_all (length room - front) (drop front room) (omega (arith, length-drop front room)))
+    ∙ (ap (drop (at - front)) (sym (drop-take front (end - front) room) ∙ ap (λ n. drop front (take n room)) sum)
+    ∙ (drop-drop (at - front) front (take end room) ∙ ap (λ n. drop n (take end room)) place))
+
+abbrev size_before : ℕ → List ℕ → ℕ
+size_before rest text = if rest == 0 then length text else length text + 1 + rest
+
+-- the first bytes stay, and what was laid comes behind
+pub lay_way : (room part post text : List ℕ) (front at end : ℕ) → front ≤ at → at ≤ end → end ≤ length room
+    → take (size_before (end - front - (at - front)) text) part
+    ≡ before_rest text (drop (at - front) (take (end - front) (take (length room - front) (drop front room))))
+    → take (length (way (take end room) text front at)) (take front room ++ (part ++ post))
+    ≡ way (take end room) text front at
+lay_way room part post text front at end before within fits laid =
+    let tail = drop at (take end room) in
+    let left : end - front - (at - front) ≡ end - at = omega (arith, before, within) in
+    let part_is : take (size_before (end - at) text) part ≡ before_rest text tail =
+    ap (λ k. take (size_before k text) part) (sym left)
+    ∙ (laid ∙ ap (before_rest text) (rest_at_place room front at end before within fits)) in
+    let size : size_before (end - at) text ≡ length (before_rest text tail) =
+    sym (joined_before text tail (end - at) (tail_size room at end fits)) in
+    let inside : front ≤ length room = omega (arith, before, within, fits) in
+    let first : take front (take end room) ≡ take front room = take-take front end room (omega (arith, before, within)) in
+    let long : length (way (take end room) text front at) ≡ front + size_before (end - at) text =
+    length-append (take front (take end room)) (before_rest text tail)
+    ∙ (ap (λ (l : List ℕ). length l + length (before_rest text tail)) first
+    ∙ (ap (λ k. k + length (before_rest text tail)) (length-take-le front room inside)
+    ∙ ap (λ k. front + k) (sym size))) in
+    ap (λ k. take k (take front room ++ (part ++ post))) long
+    ∙ (laid_behind front (size_before (end - at) text) room part post (before_rest text tail) inside part_is size
+    ∙ ap (λ (l : List ℕ). l ++ before_rest text tail) (sym first))
+
+-- ---- slashes behind a name
 
 -- the slashes that a text begins with are slashes
 only_in : (b : Bool) (x : ℕ) (xs : List ℕ) → b ≡ (x == SLASH)

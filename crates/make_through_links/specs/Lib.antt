@@ -1,5 +1,6 @@
-pub mod Closing
-pub mod History
-pub mod Making
+pub mod Asking
+pub mod Ends
+pub mod Pass
 pub mod Paths
 pub mod Promises
+pub mod Seen

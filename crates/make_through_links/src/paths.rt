@@ -1,10 +1,30 @@
 //! Where a path goes on behind a link.
-ghost use Rattle.std.specs.Prelude.{◌≡◌, ◌+◌, ◌-◌, ◌≤◌, ◌<◌, ◌^◌, ◌∷◌, ◌==◌, if◌then◌else◌, length, take, drop};
+ghost use Rattle.std.specs.Prelude.{◌≡◌, ◌+◌, ◌-◌, ◌≤◌, ◌<◌, ◌^◌, ◌∷◌, ◌++◌, ◌==◌, if◌then◌else◌, length, take, drop};
 ghost use Rattle.path_text.specs.Text.{begins_with_slash};
 ghost use Rattle.path_text.specs.declared.name.TheConstants.{SLASH};
-ghost use Rattle.make_through_links.specs.Paths.{before_rest, rest_behind, slashes_size};
+ghost use Rattle.make_through_links.specs.Paths.{before_rest, rest_at, slashes_size, way};
 
 use path_text::{SLASH, begins_with_slash, name_length};
+
+pub(crate) fn front(text: &[u8], length: usize) -> &[u8]
+    ensures { result.now ≡ take length text.now }
+{
+    if length < text.len() {
+        &text[..length]
+    } else {
+        text
+    }
+}
+
+pub(crate) fn behind(text: &[u8], at: usize) -> &[u8]
+    ensures { result.now ≡ drop at text.now }
+{
+    if at < text.len() {
+        &text[at..]
+    } else {
+        &text[..0]
+    }
+}
 
 // How many slashes a text begins with.
 fn slashes_length(text: &[u8]) -> usize
@@ -19,7 +39,7 @@ fn slashes_length(text: &[u8]) -> usize
 
 // Where a text goes on behind its first name and the slashes there.
 pub(crate) fn rest_at(text: &[u8]) -> usize
-    ensures exact { drop result text.now ≡ rest_behind text.now }
+    ensures exact { result ≡ rest_at text.now }
     ensures within { result ≤ length text.now }
 {
     let name = name_length(text);
@@ -34,20 +54,20 @@ pub(crate) fn front_length(text: &[u8], dir: usize) -> usize
     if begins_with_slash(text) { 0 } else { dir }
 }
 
-// How long a link's text is behind so many bytes, and before those that come behind the link.
-pub(crate) fn joined_length(front: usize, text: &[u8], rest: usize) -> usize
-    requires { front + rest < 2 ^ 63 }
-    ensures { result ≡ front + (if rest == 0 then length text.now else length text.now + 1 + rest) }
+// How long a path is of a link's text, what comes before it, and what comes behind the link.
+pub(crate) fn joined_length(front: &[u8], text: &[u8], rest: &[u8]) -> usize
+    requires { length front.now + length rest.now < 2 ^ 63 }
+    ensures { result ≡ length (front.now ++ before_rest text.now rest.now) }
 {
-    if rest == 0 {
-        front + text.len()
+    if rest.is_empty() {
+        front.len() + text.len()
     } else {
-        front + rest + 1 + text.len()
+        front.len() + rest.len() + 1 + text.len()
     }
 }
 
 // Lays a text at the beginning of the room.
-pub(crate) fn lay(text: &[u8], room: &mut [u8])
+fn lay(text: &[u8], room: &mut [u8])
     requires { length text.now ≤ length room.old }
     ensures exact { take (length text.now) room.new ≡ text.now }
     ensures rest { drop (length text.now) room.new ≡ drop (length text.now) room.old }
@@ -69,7 +89,7 @@ fn make_way(size: usize, at: usize, path_length: usize, room: &mut [u8])
 }
 
 // Lays a link's text before what comes behind the link in a path.
-pub(crate) fn lay_before(text: &[u8], at: usize, path_length: usize, room: &mut [u8])
+fn lay_before(text: &[u8], at: usize, path_length: usize, room: &mut [u8])
     requires at { at ≤ path_length }
     requires path { path_length ≤ length room.old }
     requires room { (if path_length - at == 0 then length text.now else length text.now + 1 + (path_length - at))
@@ -82,4 +102,28 @@ pub(crate) fn lay_before(text: &[u8], at: usize, path_length: usize, room: &mut 
         make_way(text.len(), at, path_length, room);
     }
     lay(text, room);
+}
+
+fn way_length(text: &[u8], front: usize, at: usize, path_length: usize, room: &[u8]) -> usize
+    requires front { front ≤ at }
+    requires at { at ≤ path_length }
+    requires path { path_length ≤ length room.now }
+    ensures { result ≡ length (way (take path_length room.now) text.now front at) }
+{
+    joined_length(&room[..front], text, &room[at..path_length])
+}
+
+/// Lays a link's text into the path of so many bytes at the beginning of a room: behind its first FRONT bytes, and
+/// before what comes from AT on. Nothing changes where there is no room for that. Takes no memory.
+pub fn lay_link(text: &[u8], front: usize, at: usize, path_length: usize, room: &mut [u8])
+    ensures lays { front ≤ at → at ≤ path_length → path_length ≤ length room.old
+        → length (way (take path_length room.old) text.now front at) ≤ length room.old
+        → take (length (way (take path_length room.old) text.now front at)) room.new
+        ≡ way (take path_length room.old) text.now front at }
+    ensures size { length room.new ≡ length room.old }
+{
+    let is_within = front <= at && at <= path_length && path_length <= room.len();
+    if is_within && way_length(text, front, at, path_length, room) <= room.len() {
+        lay_before(text, at - front, path_length - front, &mut room[front..]);
+    }
 }
