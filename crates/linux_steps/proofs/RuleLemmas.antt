@@ -4,18 +4,16 @@ use Rattle.std.specs.Prelude.{◌==◌}
 use Rattle.std.proofs.lemmas.Bool.{false≢true}
 use Rattle.path_text.specs.declared.errno.Errno.{Errno}
 use Rattle.path_text.specs.declared.errno.Errno.TheVariants.{NotFound, Invalid}
-use Rattle.system_calls.specs.Errors.{EAGAIN, EINVAL, ELOOP, ENOENT, ENOTDIR}
-use Rattle.tree_model.specs.declared.step.Kind.TheVariants.{Dir}
-use Rattle.dialogue.specs.Dialogue.{Dialogue, SystemCall, and_then, calling, closes, ends, open_above, open_name, open_same, reads_entries, reads_link, stats, stats_file_system}
+use Rattle.system_calls.specs.Errors.{EINVAL, ENOENT, ENOTDIR}
+use Rattle.dialogue.specs.Dialogue.{Dialogue, SystemCall, and_then, closes, ends, open_above, open_name, open_same, reads_entries, reads_link, stats, stats_file_system}
 use Rattle.dialogue.specs.declared.calls.Answer.{Answer}
 use Rattle.dialogue.proofs.HoldLemmas.{Goes, asks_then, both, choose, over, weak}
 use Rattle.linux_steps.specs.Rules.{Ends, May, Seen, StepsKeepRules, ThereEnds, at_first, is_no_error, says_followed, says_ordinary, seen_by, watch}
-use Rattle.linux_steps.specs.Steps.{Entry, above_missing, above_opened, above_there, any_opened, by_entries, by_entry, by_file_system, by_holder, by_kernel, by_kind, by_path, by_read, closing, directory_opened, dup_opened, dup_step, entries_opened, file_system_told, follow_told, followed, has_followed, has_magic, holder_told, is_ordinary, keeps_links, kernel_looked, kind_by_mode, kind_told, link_text, links_told, look_error, missing, not_ordinary, not_read, open_any, open_step, opening, parent_step, read_link_step, text_of, there, to_read, tried}
-use Rattle.linux_steps.specs.declared.ended.Ended.{Ended}
-use Rattle.linux_steps.specs.declared.ended.Ended.TheVariants.{Opened, Text, Refused, Unmade}
+use Rattle.linux_steps.specs.Steps.{Entry, above_missing, above_opened, above_there, any_opened, by_entries, by_entry, by_file_system, by_holder, by_kernel, by_kind, by_path, by_read, closing, directory_opened, dup_opened, dup_step, entries_opened, followed, has_followed, has_magic, is_ordinary, keeps_links, kernel_looked, look_error, missing, not_read, open_any, open_step, opening, parent_step, read_link_step, text_of, there, to_read, tried}
+use Rattle.linux_steps.specs.declared.ended.Ended.TheVariants.{Text, Refused, Unmade}
 use Rattle.linux_steps.specs.declared.ended.There.{There}
 use Rattle.linux_steps.specs.declared.ended.There.TheVariants.{Yes, No, Unknown, Fails}
-use Rattle.linux_steps.proofs.Moments.{negative, positive}
+use Rattle.linux_steps.proofs.Moments.{positive}
 
 -- ---- tests
 

@@ -6,12 +6,11 @@ use Rattle.system_calls.specs.Errors.{ENOENT, ENOTDIR}
 use Rattle.dialogue.specs.Dialogue.{SystemCall, closes, open_above, open_name, open_same, reads_entries, reads_link, stats, stats_file_system}
 use Rattle.dialogue.specs.Holds.{EachHolds, Watch}
 use Rattle.dialogue.specs.declared.calls.Answer.{Answer}
-use Rattle.dialogue.specs.declared.calls.How.{How}
 use Rattle.linux_steps.specs.Steps.{Entry, dup_step, has_followed, has_magic, is_ordinary, open_step, parent_step, read_link_step, look_error, there}
 use Rattle.linux_steps.specs.declared.ended.Ended.{Ended}
 use Rattle.linux_steps.specs.declared.ended.Ended.TheVariants.{Opened, Text, Done, Refused, Unmade}
 use Rattle.linux_steps.specs.declared.ended.There.{There}
-use Rattle.linux_steps.specs.declared.ended.There.TheVariants.{Yes, No, Unknown, Fails}
+use Rattle.linux_steps.specs.declared.ended.There.TheVariants.{Yes}
 
 -- what the answers have said so far
 pub record Seen : Type 0 where
