@@ -257,8 +257,23 @@ record Lost (r : Run) : Type 0 where
   has : r.has_proc ≡ true
   owns : r.owns_proc ≡ false
 
+lost_so : (error changed has owns : Bool) → (error && (not changed && (has && not owns))) ≡ true
+    → (error ≡ true) × ((changed ≡ false) × ((has ≡ true) × (owns ≡ false)))
+lost_so true false true false h = (refl, (refl, (refl, refl)))
+lost_so true false true true h = absurd cc
+lost_so true false false owns h = absurd cc
+lost_so true true has owns h = absurd cc
+lost_so false changed has owns h = absurd cc
+
 is_lost : (r : Run) → may_go_by_another r ≡ true → Lost r
-is_lost r h = record { error = grind (arith, h); changed = grind (arith, h); has = grind (arith, h); owns = grind (arith, h) }
+is_lost r h =
+    let so = lost_so ((r.error == ENOSYS) || (r.error == ENOTDIR)) r.changed r.has_proc r.owns_proc h in
+    record {
+      error = λ none. false≢true (subst (λ n. ((n == ENOSYS) || (n == ENOTDIR)) ≡ true) none so.0);
+      changed = so.1.0;
+      has = so.1.1.0;
+      owns = so.1.1.1;
+    }
 
 -- where nothing is open, and nothing was changed
 abbrev pub anew : Facts → ℕ → ℕ → ℕ → List ℕ → Bool → Bool → Seen

@@ -44,6 +44,9 @@ record Due (may : Bool) (error : ℕ) : Type 0 where
   may : may ≡ true
   error : error ≡ EAGAIN
 
+some_again : EAGAIN ≢ 0
+some_again = λ zero. absurd cc
+
 due_so : (may others few : Bool) (pause : ℕ)
     → (if may && (others && (true && few)) then due_by true pause else due_by false 0).due ≡ true
     → (may ≡ true) × (others ≡ true)
@@ -78,7 +81,7 @@ again_by : (facts : Facts) (left b p o : ℕ) (r : Run) (root : Option ℕ) → 
 again_by facts left b p o r root bare h =
     let due = due_is (suc LAST - left) (facts.may_retry && not r.changed) r.error h in
     record {
-      held = held_none r (bare (λ zero. absurd (grind (arith, due.error, zero))));
+      held = held_none r (bare (λ zero. some_again (sym due.error ∙ zero)));
       owns = refl;
       changed = unchanged facts.may_retry r.changed due.may;
       retries = retried facts.may_retry r.changed due.may;
@@ -135,13 +138,21 @@ roots facts left b p o r error false is some bare before = record {
 }
 
 seen_step : (r : Run) → ((r.error == 0) || r.stepped) ≡ true → r.error ≢ 0 → r.stepped ≡ false → ⊥
-seen_step r h some no = grind (arith, h, some, no)
+seen_step r h some no = by_case (r.error == 0) refl h
+  where
+    by_case : (b : Bool) → (r.error == 0) ≡ b → (b || r.stepped) ≡ true → ⊥
+    by_case true is h = some (eqb-true r.error 0 is)
+    by_case false is h = false≢true (sym no ∙ h)
+
+neither : (x y : Bool) → (x || y) ≡ false → (x ≡ false) × (y ≡ false)
+neither true y h = absurd cc
+neither false y h = (refl, h)
 
 no_step : (r : Run) → ((r.error == 0) || r.stepped) ≡ false → r.stepped ≡ false
-no_step r h = grind (arith, h)
+no_step r h = (neither (r.error == 0) r.stepped h).1
 
 some_error : (r : Run) → ((r.error == 0) || r.stepped) ≡ false → r.error ≢ 0
-some_error r h = λ none. absurd (grind (arith, h, none))
+some_error r h = λ none. let is = (neither (r.error == 0) r.stepped h).0 in absurd (grind (arith, is, none))
 
 judges : (facts : Facts) (left b p o : ℕ) (r : Run) → Bare r → (facts.error ≢ 0 → r.error ≡ facts.error)
     → Goes (watch facts) 1 (freed b p o r) (judged facts left r) (Tries facts b p)
