@@ -44,17 +44,8 @@ fn plain() -> Facts {
 
 fn fine() -> Answer {
     Answer {
-        value: 0,
-        length: 0,
-        error: 0,
-        unmade: 0,
-        unopened: 0,
-        made: 0,
-        reply: 0,
         stepped: true,
-        changed: false,
-        has_proc: false,
-        owns_proc: false,
+        ..Answer::default()
     }
 }
 

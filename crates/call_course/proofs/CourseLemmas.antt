@@ -1,24 +1,22 @@
 -- What each part of a call leaves behind it.
-use Rattle.std.proofs.Common.{◌≡◌, ◌≢◌, ◌≤◌, ◌⊎◌, inl, inr, ℕ, zero, suc, ◌+◌, ◌-◌, ◌*◌, List, [], ◌∷◌, ◌++◌, Bool, true, false, not, ◌&&◌, ◌||◌, if◌then◌else◌, refl, sym, ap, subst, ◌∙◌, arith}
+use Rattle.std.proofs.Common.{◌≡◌, ◌≢◌, ℕ, zero, ◌+◌, ◌-◌, List, [], ◌∷◌, ◌++◌, Bool, true, false, not, ◌&&◌, ◌||◌, if◌then◌else◌, refl, sym, ap, subst, ◌∙◌, arith}
 use Rattle.std.proofs.lemmas.Bool.{eqb-true, false≢true}
-use Rattle.std.specs.Prelude.{◌==◌, nat_lt, Option, Some, None}
+use Rattle.std.specs.Prelude.{◌==◌, None}
 use Rattle.system_calls.specs.Errors.{EAGAIN, ENOSYS, ENOTDIR}
 use Rattle.system_calls.specs.Held.{without}
-use Rattle.system_calls.specs.Tries.{is_due, next_try, pause_after, pauses_after, TRIES}
-use Rattle.dialogue.specs.Dialogue.{and_then, ends, without_signals}
-use Rattle.dialogue.specs.Holds.{Holds, is_in, state_after}
+use Rattle.dialogue.specs.Dialogue.{and_then, ends}
+use Rattle.dialogue.specs.Holds.{is_in}
 use Rattle.dialogue.proofs.HeldLemmas.{first_in, second_in, without_first, without_second}
-use Rattle.dialogue.proofs.HoldLemmas.{Goes, asks_then, both, choose, goes_on, over, weak}
-use Rattle.call_course.specs.Course.{Course, Exchange, doing, things}
-use Rattle.call_course.specs.Promises.{CallsHold, Ends, given}
+use Rattle.dialogue.proofs.HoldLemmas.{Goes, asks_then, both, choose, over, weak}
+use Rattle.call_course.specs.Course.{Course, doing}
+use Rattle.call_course.specs.Promises.{given}
 use Rattle.call_course.specs.Runs.{by_one, close_left, closed, conversed, is_left, new_run, noted, placed, replied, took, reply_error, walked, COUNT, DONE, OPENED, TEXT}
-use Rattle.call_course.specs.Seen.{MayBegin, Seen, at_first, conversed_by, known, seen_by, taken_by, watch}
-use Rattle.call_course.specs.Tries.{LAST, a_try, another_found, by_another, call, call_from, closing, directory_error, is_again, judged, made, may_go_by_another, once_more, over as ended, pause_before, proc_seen, root_error, rooted}
+use Rattle.call_course.specs.Seen.{Seen, conversed_by, known, seen_by, taken_by, watch}
+use Rattle.call_course.specs.Tries.{by_another, call, made, may_go_by_another, once_more}
 use Rattle.call_course.specs.declared.runs.Run.{Run}
 use Rattle.call_course.specs.declared.things.Answer.{Answer}
 use Rattle.call_course.specs.declared.things.Facts.{Facts}
-use Rattle.call_course.specs.declared.things.Thing.TheVariants.{Begin, Place, Converse, Take, LetGo, Close, LookAtProc, AnotherProc, CloseProc, LookAtRoot}
-use Rattle.call_course.specs.declared.tries.Tried.{Tried}
+use Rattle.call_course.specs.declared.things.Thing.TheVariants.{Place, Converse, Take, LetGo, Close, LookAtProc, AnotherProc}
 
 -- ---- a run
 
@@ -104,8 +102,8 @@ replied_so b p o fd error length count unopened st ch has owns false g false u f
 replies : (facts : Facts) (b p o : ℕ) (st ch has owns : Bool) (a : Answer) → (a.reply == OPENED) ≡ false
     → Left b p o (left_open facts a) (conversed_by facts (beside b p o [] (fine st ch has owns)) a)
     (replied facts (fine st ch has owns) a)
-replies facts b p o st ch has owns a no =
-    rw no
+replies facts b p o st ch has owns a off =
+    rw off
     (replied_so b p o (a.made - 1) (reply_error a) a.length a.value a.unopened st ch has owns (a.reply == DONE)
     facts.gives (a.made == 0) (a.unopened == 0) (a.reply == TEXT) (a.reply == COUNT))
 
@@ -151,7 +149,7 @@ converses : (facts : Facts) (b p o : ℕ) (st ch has owns : Bool) (a : Answer) �
 unfolding conversed
 converses facts b p o st ch has owns a none =
     choose (not (a.reply == OPENED))
-    (λ no. over (replies facts b p o st ch has owns a (yes_no (a.reply == OPENED) no)))
+    (λ off. over (replies facts b p o st ch has owns a (yes_no (a.reply == OPENED) off)))
     (λ is. asks_then 0 Take none
     (λ c. over (takes facts b p o st ch has owns a c (no_yes (a.reply == OPENED) is))))
 
@@ -235,7 +233,7 @@ runs facts b p o has owns h =
     choose (not (facts.error == 0))
     (λ _. asks_then 3 LetGo tt
     (λ _. over (record { at = refl; bare = λ _. refl; before = λ some. (refl, h some) })))
-    (λ no. let none = zero_is facts.error no in
+    (λ off. let none = zero_is facts.error off in
     weak 4 (omega arith)
     (subst (λ e. Goes (watch facts) 4 (beside b p o [] (begun_by facts e has owns))
     (working facts (begun_by facts e has owns)) (Left b p o []))
@@ -257,8 +255,23 @@ record Lost (r : Run) : Type 0 where
   has : r.has_proc ≡ true
   owns : r.owns_proc ≡ false
 
+lost_so : (error changed has owns : Bool) → (error && (not changed && (has && not owns))) ≡ true
+    → (error ≡ true) × ((changed ≡ false) × ((has ≡ true) × (owns ≡ false)))
+lost_so true false true false h = (refl, (refl, (refl, refl)))
+lost_so true false true true h = absurd cc
+lost_so true false false owns h = absurd cc
+lost_so true true has owns h = absurd cc
+lost_so false changed has owns h = absurd cc
+
 is_lost : (r : Run) → may_go_by_another r ≡ true → Lost r
-is_lost r h = record { error = grind (arith, h); changed = grind (arith, h); has = grind (arith, h); owns = grind (arith, h) }
+is_lost r h =
+    let so = lost_so ((r.error == ENOSYS) || (r.error == ENOTDIR)) r.changed r.has_proc r.owns_proc h in
+    record {
+      error = λ none. false≢true (subst (λ n. ((n == ENOSYS) || (n == ENOTDIR)) ≡ true) none so.0);
+      changed = so.1.0;
+      has = so.1.1.0;
+      owns = so.1.1.1;
+    }
 
 -- where nothing is open, and nothing was changed
 abbrev pub anew : Facts → ℕ → ℕ → ℕ → List ℕ → Bool → Bool → Seen

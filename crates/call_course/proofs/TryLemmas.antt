@@ -1,25 +1,23 @@
 -- How a try ends, and a call.
-use Rattle.std.proofs.Common.{◌≡◌, ◌≢◌, ◌≤◌, ◌⊎◌, inl, inr, ℕ, zero, suc, ◌+◌, ◌-◌, ◌*◌, List, [], ◌∷◌, ◌++◌, Bool, true, false, not, ◌&&◌, ◌||◌, if◌then◌else◌, refl, sym, ap, subst, ◌∙◌, arith}
+use Rattle.std.proofs.Common.{◌≡◌, ◌≢◌, ◌≤◌, inl, inr, ℕ, zero, suc, ◌+◌, ◌-◌, ◌*◌, List, [], ◌∷◌, ◌++◌, Bool, true, false, not, ◌&&◌, ◌||◌, if◌then◌else◌, refl, sym, ap, subst, ◌∙◌, arith}
 use Rattle.std.specs.Prelude.{◌==◌, nat_lt, Option, Some, None}
 use Rattle.std.proofs.Math.Nat.{add-suc, add-zero}
 use Rattle.std.proofs.lemmas.Bool.{eqb-true, false≢true}
 use Rattle.system_calls.specs.Errors.{EAGAIN}
-use Rattle.system_calls.specs.Tries.{is_due, next_try, pause_after, pauses_after, TRIES}
+use Rattle.system_calls.specs.Tries.{next_try, pause_after, pauses_after, TRIES}
 use Rattle.system_calls.specs.declared.tries.NextTry.{NextTry}
-use Rattle.dialogue.specs.Dialogue.{and_then, ends, without_signals}
+use Rattle.dialogue.specs.Dialogue.{and_then, without_signals}
 use Rattle.dialogue.specs.Holds.{Holds}
 use Rattle.dialogue.proofs.HoldLemmas.{Goes, asks_then, both, choose, over, weak}
-use Rattle.call_course.specs.Course.{Exchange, doing}
+use Rattle.call_course.specs.Course.{Exchange}
 use Rattle.call_course.specs.Promises.{CallsHold, Ends, given}
-use Rattle.call_course.specs.Runs.{new_run}
-use Rattle.call_course.specs.Seen.{MayBegin, Seen, at_first, last_error, watch}
-use Rattle.call_course.specs.Tries.{LAST, a_try, call_from, closing, is_again, judged, made, over as ended, pause_before, root_error, rooted}
+use Rattle.call_course.specs.Seen.{MayBegin, Seen, at_first, watch}
+use Rattle.call_course.specs.Tries.{LAST, a_try, call_from, closing, is_again, judged, made, over as ended, pause_before, root_error}
 use Rattle.call_course.specs.declared.runs.Run.{Run}
-use Rattle.call_course.specs.declared.things.Answer.{Answer}
 use Rattle.call_course.specs.declared.things.Facts.{Facts}
 use Rattle.call_course.specs.declared.things.Thing.TheVariants.{Begin, CloseProc, LookAtRoot}
 use Rattle.call_course.specs.declared.tries.Tried.{Tried}
-use Rattle.call_course.proofs.CourseLemmas.{Bare, Made, anew, beside, held_none, is_anew, makes}
+use Rattle.call_course.proofs.CourseLemmas.{Bare, beside, held_none, is_anew, makes}
 
 -- ---- a try
 
@@ -35,14 +33,13 @@ record Tries (facts : Facts) (b p : ℕ) (t : Seen) (e : Tried) : Type 0 where
   begun : t.begun ≡ b
   pauses : t.pauses ≡ p
   again : e.again ≡ true → Again facts t
-  ends : t.begun ≤ TRIES → t.pauses ≤ 18270000 → Ends facts t e
+  leaves : t.begun ≤ TRIES → t.pauses ≤ 18270000 → Ends facts t e
 
 abbrev due_by : Bool → ℕ → NextTry
 due_by due pause = record { due = due; pause = pause }
 
-record Due (may : Bool) (error : ℕ) : Type 0 where
-  may : may ≡ true
-  error : error ≡ EAGAIN
+some_again : EAGAIN ≢ 0
+some_again = λ zero. absurd cc
 
 due_so : (may others few : Bool) (pause : ℕ)
     → (if may && (others && (true && few)) then due_by true pause else due_by false 0).due ≡ true
@@ -51,10 +48,11 @@ due_so true true few pause h = (refl, refl)
 due_so true false few pause h = absurd cc
 due_so false others few pause h = absurd cc
 
-due_is : (tries : ℕ) (may : Bool) (error : ℕ) → (next_try tries may error false).due ≡ true → Due may error
+due_is : (tries : ℕ) (may : Bool) (error : ℕ) → (next_try tries may error false).due ≡ true
+    → (may ≡ true) × (error ≡ EAGAIN)
 due_is tries may error h =
     let is = due_so may (error == EAGAIN) (nat_lt tries TRIES) (pause_after tries) h in
-    record { may = is.0; error = eqb-true error EAGAIN is.1 }
+    (is.0, eqb-true error EAGAIN is.1)
 
 retried : (may changed : Bool) → (may && not changed) ≡ true → may ≡ true
 retried true changed h = refl
@@ -78,11 +76,11 @@ again_by : (facts : Facts) (left b p o : ℕ) (r : Run) (root : Option ℕ) → 
 again_by facts left b p o r root bare h =
     let due = due_is (suc LAST - left) (facts.may_retry && not r.changed) r.error h in
     record {
-      held = held_none r (bare (λ zero. absurd (grind (arith, due.error, zero))));
+      held = held_none r (bare (λ zero. some_again (sym due.1 ∙ zero)));
       owns = refl;
-      changed = unchanged facts.may_retry r.changed due.may;
-      retries = retried facts.may_retry r.changed due.may;
-      why = due.error;
+      changed = unchanged facts.may_retry r.changed due.0;
+      retries = retried facts.may_retry r.changed due.0;
+      why = due.1;
     }
 
 ends_by : (facts : Facts) (left b p o : ℕ) (r : Run) (root : Option ℕ) → Bare r
@@ -93,7 +91,7 @@ ends_by facts left b p o r root bare before looked = record {
   begun = refl;
   pauses = refl;
   again = again_by facts left b p o r root bare;
-  ends = λ few pauses. record {
+  leaves = λ few pauses. record {
     held = given_nil r.holds r.value;
     value = refl;
     closed = λ some. held_none r (bare some);
@@ -118,8 +116,8 @@ roots facts left b p o r error true is some bare before =
 roots facts left b p o r error false is some bare before = record {
   begun = refl;
   pauses = refl;
-  again = λ no. absurd (false≢true no);
-  ends = λ few pauses. record {
+  again = λ off. absurd (false≢true off);
+  leaves = λ few pauses. record {
     held = given_nil r.holds r.value;
     value = refl;
     closed = λ _. held_none r (bare some);
@@ -135,30 +133,38 @@ roots facts left b p o r error false is some bare before = record {
 }
 
 seen_step : (r : Run) → ((r.error == 0) || r.stepped) ≡ true → r.error ≢ 0 → r.stepped ≡ false → ⊥
-seen_step r h some no = grind (arith, h, some, no)
+seen_step r h some off = by_case (r.error == 0) refl h
+  where
+    by_case : (b : Bool) → (r.error == 0) ≡ b → (b || r.stepped) ≡ true → ⊥
+    by_case true is h = some (eqb-true r.error 0 is)
+    by_case false is h = false≢true (sym off ∙ h)
+
+neither : (x y : Bool) → (x || y) ≡ false → (x ≡ false) × (y ≡ false)
+neither true y h = absurd cc
+neither false y h = (refl, h)
 
 no_step : (r : Run) → ((r.error == 0) || r.stepped) ≡ false → r.stepped ≡ false
-no_step r h = grind (arith, h)
+no_step r h = (neither (r.error == 0) r.stepped h).1
 
 some_error : (r : Run) → ((r.error == 0) || r.stepped) ≡ false → r.error ≢ 0
-some_error r h = λ none. absurd (grind (arith, h, none))
+some_error r h = λ none. let is = (neither (r.error == 0) r.stepped h).0 in absurd (grind (arith, is, none))
 
 judges : (facts : Facts) (left b p o : ℕ) (r : Run) → Bare r → (facts.error ≢ 0 → r.error ≡ facts.error)
     → Goes (watch facts) 1 (freed b p o r) (judged facts left r) (Tries facts b p)
 unfolding judged
 judges facts left b p o r bare before =
     choose ((r.error == 0) || r.stepped)
-    (λ is. over (ends_by facts left b p o r None bare before (λ some no. absurd (seen_step r is some no))))
-    (λ no. asks_then 0 LookAtRoot (no_step r no, some_error r no)
-    (λ a. over (roots facts left b p o r (root_error a) (root_error a == 0) refl (some_error r no) bare before)))
+    (λ is. over (ends_by facts left b p o r None bare before (λ some off. absurd (seen_step r is some off))))
+    (λ off. asks_then 0 LookAtRoot (no_step r off, some_error r off)
+    (λ a. over (roots facts left b p o r (root_error a) (root_error a == 0) refl (some_error r off) bare before)))
 
 closes_proc : (facts : Facts) (left b p o : ℕ) (r : Run) → Bare r → (facts.error ≢ 0 → r.error ≡ facts.error)
     → Goes (watch facts) 2 (beside b p o [] r) (closing facts left r) (Tries facts b p)
 unfolding closing
 closes_proc facts left b p o r bare before =
     choose r.owns_proc (λ is. asks_then 1 CloseProc is (λ _. judges facts left b p o r bare before))
-    (λ no. subst (λ own. Goes (watch facts) 2 (beside b p o [] (record r { owns_proc = own })) (judged facts left r)
-    (Tries facts b p)) (sym no) (weak 1 (omega arith) (judges facts left b p o r bare before) (λ t e h. h)))
+    (λ off. subst (λ own. Goes (watch facts) 2 (beside b p o [] (record r { owns_proc = own })) (judged facts left r)
+    (Tries facts b p)) (sym off) (weak 1 (omega arith) (judges facts left b p o r bare before) (λ t e h. h)))
 
 tries : (facts : Facts) (left : ℕ) (s : Seen) → MayBegin facts s
     → Goes (watch facts) 13 s (a_try facts left) (Tries facts (suc s.begun) (s.pauses + pause_before left))
@@ -200,7 +206,7 @@ ends_here facts left s t e at h =
     let most = pauses_most left at.few in
     let few = at.begun in
     let begun = h.begun in
-    h.ends (omega (arith, few, begun)) (subst (λ n. n ≤ 18270000) (sym (h.pauses ∙ at.pauses)) most)
+    h.leaves (omega (arith, few, begun)) (subst (λ n. n ≤ 18270000) (sym (h.pauses ∙ at.pauses)) most)
 
 paused : (tries : ℕ) → tries ≤ LAST → (next_try tries true EAGAIN false).pause ≡ pause_after tries
 paused tries h = by_case (nat_lt tries TRIES) refl

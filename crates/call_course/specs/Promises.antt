@@ -1,9 +1,9 @@
 -- What holds of whole calls.
-use Rattle.std.specs.Prelude.{◌≡◌, ◌≢◌, ◌≤◌, ◌⊎◌, ℕ, ◌*◌, List, [], ◌∷◌, Bool, true, false, if◌then◌else◌, Option, Some}
+use Rattle.std.specs.Prelude.{◌≡◌, ◌≢◌, ◌≤◌, ◌⊎◌, ℕ, ◌*◌, List, [], ◌∷◌, Bool, true, false, if◌then◌else◌, Some}
 use Rattle.system_calls.specs.Tries.{TRIES}
 use Rattle.dialogue.specs.Dialogue.{Whole}
 use Rattle.dialogue.specs.Holds.{Holds}
-use Rattle.call_course.specs.Course.{Exchange, things}
+use Rattle.call_course.specs.Course.{Exchange}
 use Rattle.call_course.specs.Seen.{Seen, at_first, watch}
 use Rattle.call_course.specs.Tries.{call}
 use Rattle.call_course.specs.declared.things.Facts.{Facts}

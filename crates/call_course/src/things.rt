@@ -44,7 +44,7 @@ pub struct Facts {
 }
 
 /// What a thing gave. What isn't said to count isn't looked at.
-#[derive(Clone, Copy, Debug, PartialEq, Eq)]
+#[derive(Clone, Copy, Debug, Default, PartialEq, Eq)]
 pub struct Answer {
     /// Of Take without an error, the descriptor. Of Converse a count. Of LookAtRoot the kind
     /// (`system_calls::kind_of`).

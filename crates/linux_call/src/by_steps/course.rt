@@ -2,7 +2,7 @@
 use crate::by_steps::slots::{ROOT, Slot};
 use crate::by_steps::state::{Ended, Part, Stage, Steps};
 use crate::by_steps::talk::Talk;
-use crate::by_steps::tries::{Course, nothing};
+use crate::by_steps::tries::Course;
 use crate::by_steps::work::{Work, make};
 use crate::path::front;
 use crate::request::{
@@ -133,7 +133,7 @@ impl Steps {
             changed: self.attempt.changed,
             has_proc: self.attempt.proc.is_some(),
             owns_proc: self.attempt.owns_proc(),
-            ..nothing()
+            ..Answer::default()
         }
     }
 

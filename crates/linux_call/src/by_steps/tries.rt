@@ -15,30 +15,13 @@ pub(crate) struct Course {
     count: usize,
 }
 
-/// What a thing gave that gives nothing.
-pub(crate) fn nothing() -> Answer {
-    Answer {
-        value: 0,
-        length: 0,
-        error: 0,
-        unmade: 0,
-        unopened: 0,
-        made: 0,
-        reply: 0,
-        stepped: false,
-        changed: false,
-        has_proc: false,
-        owns_proc: false,
-    }
-}
-
 impl Course {
     /// Nothing was done.
     pub(crate) fn begin() -> Course {
         Course {
             next: Thing::Begin(pause_before(LAST)),
             left: LAST,
-            answers: [nothing(); THINGS],
+            answers: [Answer::default(); THINGS],
             count: 0,
         }
     }
