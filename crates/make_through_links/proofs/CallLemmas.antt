@@ -51,11 +51,14 @@ one_more w n rest m path calls h all few =
     by_end t (Again now) is = next t now path is.0 is.1.0 is.1.1
     by_end t (Led now front rest) is = next t now (way path (text_for w m) front rest) is.0 is.1.0 is.1.1
 
-passes_go : (w : Wish) (n : ℕ) → HoldsFrom w n
-passes_go w zero m path calls h all few =
+none_left : (w : Wish) → HoldsFrom w zero
+none_left w m path calls h all few =
     let tries = h.tries in
     let links = h.links in
     absurd (omega (arith, all, tries, links))
+
+passes_go : (w : Wish) (n : ℕ) → HoldsFrom w n
+passes_go w zero = none_left w
 passes_go w (suc n) = one_more w n (passes_go w n)
 
 first_way : (w : Wish) → IsOnItsWay w (begun w) w.path

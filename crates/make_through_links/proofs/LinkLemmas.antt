@@ -10,6 +10,7 @@ use Rattle.path_text.specs.declared.path.TheConstants.{TEXT_MAX}
 use Rattle.system_calls.specs.Errors.{EAGAIN, EINVAL, ENAMETOOLONG, ENOENT, ELOOP}
 use Rattle.system_calls.specs.Tries.{is_due, pause_after}
 use Rattle.open_or_make.specs.History.{LINKS, STEP_MAKE_FILE, STEP_READ_LINK}
+use Rattle.make_through_links.specs.Asking.{reads_end, reads_link}
 use Rattle.make_through_links.specs.Ends.{again, followed, followed_at_end, front_for, led, led_by, link_error, unparted, STEP_MAKE_DIR}
 use Rattle.make_through_links.specs.Pass.{end_read, link_read}
 use Rattle.make_through_links.specs.Paths.{before_rest, rest_at, slashes_size, way}
@@ -34,16 +35,16 @@ led_leads : (w : Wish) (s : Seen) (dir link : List ℕ) (m : Making) (n rest : �
     (text_for w s.making) link
     → Leads w s dir link (led m s.path n rest (text_for w s.making))
 led_leads w s dir link m n rest links h =
-    by_case (link_error m.links (length (way s.path (text_for w s.making) (front_for s.path (text_for w s.making) n) rest)))
+    by_case (link_error m.links (length (way s.path (text_for w s.making) front rest)) == 0)
   where
     front : ℕ
     front = front_for s.path (text_for w s.making) n
 
-    by_case : (error : ℕ) → Leads w s dir link
-        (if error == 0 then Led (led_by m s.path front rest (text_for w s.making)) front rest
-        else Fails error STEP_READ_LINK)
-    by_case zero = (h, ap (λ k. k + 1) links)
-    by_case (suc error) = tt
+    by_case : (none : Bool) → Leads w s dir link
+        (if none then Led (led_by m s.path front rest (text_for w s.making)) front rest
+        else Fails (link_error m.links (length (way s.path (text_for w s.making) front rest))) STEP_READ_LINK)
+    by_case true = (h, ap (λ k. k + 1) links)
+    by_case false = tt
 
 -- the text comes behind the path of its directory, or at the beginning
 leads_so : (path dir text tail : List ℕ) (n : ℕ) → take n path ≡ dir
@@ -63,13 +64,13 @@ named n above some = by_case (nat_lt n (length above)) refl
         let none = drop_all n above (ltb-false n (length above) is) in
         absurd (false≢true (sym some ∙ ap (λ l. name_size l == 0) none))
 
+one_on : (b : Bool) (n size : ℕ) → n ≤ size → cond (not b) (1 + n) 0 ≤ suc size
+one_on true n size less = omega arith
+one_on false n size less = omega (arith, less)
+
 place_le : (p : ℕ → Bool) (xs : List ℕ) → position_or_len p xs ≤ length xs
 place_le p [] = omega arith
-place_le p (x ∷ xs) = by_case (p x)
-  where
-    by_case : (b : Bool) → cond (not b) (1 + position_or_len p xs) 0 ≤ 1 + length xs
-    by_case true = omega arith
-    by_case false = let less = place_le p xs in omega (arith, less)
+place_le p (x ∷ xs) = one_on (p x) (position_or_len p xs) (length xs) (place_le p xs)
 
 cut_at : (xs ys : List ℕ) (k : ℕ) → xs ++ ys ≡ take k xs ++ (drop k xs ++ ys)
 cut_at xs ys k = ap (λ l. l ++ ys) (sym (take-append-drop k xs)) ∙ append_assoc (take k xs) (drop k xs) ys
@@ -153,7 +154,7 @@ on_the_way w s p a may =
         led_leads w s dir p s.making s.there (s.there + rest_at (missing s)) refl
         (subst (IsLed dir s.path (way s.path (text_for w s.making) (front_for s.path (text_for w s.making) s.there)
         (s.there + rest_at (missing s))) (text_for w s.making)) (sym may.1.0)
-        (on_the_way_is s.path (text_for w s.making) s.making.above s.there may.1.1.0))
+        (on_the_way_is s.path (text_for w s.making) s.making.above s.there may.1.1))
 
 at_the_end : (w : Wish) (s : Seen) (p : List ℕ) (a : Outcome) → May w s (reads_end p)
     → Leads w s (take s.making.above s.path) p (end_read s.making s.path (text_for w s.making) a)

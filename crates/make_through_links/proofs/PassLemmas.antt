@@ -1,7 +1,7 @@
 -- What one pass over the path asks, and what it comes to.
 use Rattle.std.proofs.Common.{◌≡◌, ◌<◌, ◌≤◌, ℕ, ◌+◌, List, [], ◌∷◌, Bool, true, false, ◌||◌, if◌then◌else◌, refl, sym, ap, subst, ◌∙◌, arith, nat_lt, length, take, drop}
 use Rattle.std.specs.Prelude.{◌==◌, not, ◌&&◌, suc, Option, Some, None}
-use Rattle.std.proofs.lemmas.Bool.{eq-eqb, eqb-true, false≢true, ltb-true, ltb-false}
+use Rattle.std.proofs.lemmas.Bool.{eqb-true, false≢true, ltb-true, ltb-false, ne_eqb}
 use Rattle.path_text.specs.Text.{is_empty, name_size}
 use Rattle.path_text.specs.declared.path.TheConstants.{TEXT_MAX}
 use Rattle.system_calls.specs.Errors.{EAGAIN, EEXIST, EINVAL, EISDIR, ENAMETOOLONG, ENOENT, ELOOP}
@@ -49,12 +49,12 @@ Comes w s k t c = ComesIn w s.path (text_for w s.making) (s.making.links + s.mak
 says_so : (w : Wish) (s : Seen) (q : Call) (a : Outcome) (k : ℕ) (c : Came)
     → text_for w (making_by s.making q a) ≡ text_for w s.making → calls_by s.calls q ≤ k → Fits w s (held_by q a) c
     → Comes w s k (told w s q a (Some c)) c
-says_so w s q a k (Given fd) same few fits = (refl, few, fits)
-says_so w s q a k (Failed error) same few fits = (refl, few, fits)
-says_so w s q a k (Fails error step) same few fits = (refl, few, fits)
-says_so w s q a k (Again m) same few fits = (refl, few, fits)
+says_so w s q a k (Given fd) same few fits = (refl, (few, fits))
+says_so w s q a k (Failed error) same few fits = (refl, (few, fits))
+says_so w s q a k (Fails error step) same few fits = (refl, (few, fits))
+says_so w s q a k (Again m) same few fits = (refl, (few, fits))
 says_so w s q a k (Led m front rest) same few fits =
-    (ap (λ text. at m (way s.path text front rest) (calls_by s.calls q)) same, few, fits)
+    (ap (λ text. at m (way s.path text front rest) (calls_by s.calls q)) same, (few, fits))
 
 -- ---- what an answer says
 
@@ -223,7 +223,9 @@ opened_some : (a : Outcome) → (a.error == 0) ≡ true → opened a ≡ a.descr
 opened_some a good = ap (λ b. if b then a.descriptor ∷ [] else []) good
 
 isnt_zero : (n k : ℕ) → (n == suc k) ≡ true → (n == 0) ≡ false
-isnt_zero n k is = ap (λ x. x == 0) (eqb-true n (suc k) is)
+isnt_zero n k is =
+    let some = eqb-true n (suc k) is in
+    ne_eqb n 0 (λ none. omega (arith, some, none))
 
 creates_goes : (w : Wish) (s : Seen) (k : ℕ) → GoesOn w s → s.made ≡ true → s.calls + 2 ≤ k
     → Goes (watch w) 2 s (create s.making s.path (text_for w s.making)) (Comes w s k)
@@ -249,7 +251,7 @@ reads_goes : (w : Wish) (s : Seen) (k : ℕ) → GoesOn w s → (name_size (miss
 unfolding read_link
 reads_goes w s k h some leave few =
     asks_then 0 (reads_link (take (s.there + name_size (missing s)) (take s.making.above s.path)))
-    (h, (refl, (some, leave)))
+    (h, (refl, some, leave))
     (λ a. over (says_so w s (reads_link (take (s.there + name_size (missing s)) (take s.making.above s.path))) a k
     (link_read s.making s.path s.there (text_for w s.making) a) refl few (link_fits w s a h leave)))
 

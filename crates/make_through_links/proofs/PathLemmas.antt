@@ -1,5 +1,5 @@
 -- Where a text goes on behind a name, and a text that is laid before it.
-use Rattle.std.proofs.Common.{◌≡◌, ℕ, ◌≤◌, ◌<◌, ◌+◌, ◌-◌, min, suc, Bool, true, false, cond, if◌then◌else◌, List, [], ◌∷◌, ◌++◌, length, take, drop, set, ap, sym, refl, ◌∙◌, arith, take-take, take-append-drop, length-drop, length-append, length-take, length-take-le, take_at, drop_at, eq-eqb}
+use Rattle.std.proofs.Common.{◌≡◌, ℕ, ◌≤◌, ◌<◌, ◌+◌, ◌-◌, min, suc, Bool, true, false, cond, if◌then◌else◌, List, [], ◌∷◌, ◌++◌, length, take, drop, set, ap, sym, refl, subst, ◌∙◌, arith, take-take, take-append-drop, length-drop, length-append, length-take, length-take-le, take_at, drop_at, eq-eqb}
 use Rattle.std.specs.Prelude.{not, ◌==◌, ◌&&◌}
 use Rattle.std.specs.List.{list_all}
 use Rattle.std.proofs.Math.Seq.{paste}
@@ -114,6 +114,28 @@ rest_at_place room front at end before within fits =
 abbrev size_before : ℕ → List ℕ → ℕ
 size_before rest text = if rest == 0 then length text else length text + 1 + rest
 
+way_size : (room text : List ℕ) (front at end : ℕ) → front ≤ at → at ≤ end → end ≤ length room
+    → length (way (take end room) text front at) ≡ front + size_before (end - at) text
+way_size room text front at end before within fits =
+    let tail = drop at (take end room) in
+    let size = joined_before text tail (end - at) (tail_size room at end fits) in
+    length-append (take front (take end room)) (before_rest text tail)
+    ∙ (ap (λ k. k + length (before_rest text tail))
+    (length-take-le front (take end room) (omega (arith, length-take-le end room fits, before, within)))
+    ∙ ap (λ k. front + k) size)
+
+pub way_fits : (room text : List ℕ) (front at end : ℕ) → front ≤ at → at ≤ end → end ≤ length room
+    → length (way (take end room) text front at) ≤ length room
+    → size_before (end - front - (at - front)) text ≤ length (take (length room - front) (drop front room))
+way_fits room text front at end before within fits less =
+    let left : end - front - (at - front) ≡ end - at = omega (arith, before, within) in
+    let size = way_size room text front at end before within fits in
+    let some : size_before (end - at) text ≤ length room - front = omega (arith, size, less) in
+    let long : length (take (length room - front) (drop front room)) ≡ length room - front =
+    length-take-le (length room - front) (drop front room) (omega (arith, length-drop front room)) in
+    subst (λ k. size_before (end - front - (at - front)) text ≤ k) (sym long)
+    (subst (λ k. size_before k text ≤ length room - front) (sym left) some)
+
 -- the first bytes stay, and what was laid comes behind
 pub lay_way : (room part post text : List ℕ) (front at end : ℕ) → front ≤ at → at ≤ end → end ≤ length room
     → take (size_before (end - front - (at - front)) text) part
@@ -126,18 +148,11 @@ lay_way room part post text front at end before within fits laid =
     let part_is : take (size_before (end - at) text) part ≡ before_rest text tail =
     ap (λ k. take (size_before k text) part) (sym left)
     ∙ (laid ∙ ap (before_rest text) (rest_at_place room front at end before within fits)) in
-    let size : size_before (end - at) text ≡ length (before_rest text tail) =
-    sym (joined_before text tail (end - at) (tail_size room at end fits)) in
+    let size = joined_before text tail (end - at) (tail_size room at end fits) in
     let inside : front ≤ length room = omega (arith, before, within, fits) in
-    let first : take front (take end room) ≡ take front room = take-take front end room (omega (arith, before, within)) in
-    let long : length (way (take end room) text front at) ≡ front + size_before (end - at) text =
-    length-append (take front (take end room)) (before_rest text tail)
-    ∙ (ap (λ (l : List ℕ). length l + length (before_rest text tail)) first
-    ∙ (ap (λ k. k + length (before_rest text tail)) (length-take-le front room inside)
-    ∙ ap (λ k. front + k) (sym size))) in
-    ap (λ k. take k (take front room ++ (part ++ post))) long
-    ∙ (laid_behind front (size_before (end - at) text) room part post (before_rest text tail) inside part_is size
-    ∙ ap (λ (l : List ℕ). l ++ before_rest text tail) (sym first))
+    ap (λ k. take k (take front room ++ (part ++ post))) (way_size room text front at end before within fits)
+    ∙ (laid_behind front (size_before (end - at) text) room part post (before_rest text tail) inside part_is (sym size)
+    ∙ ap (λ (l : List ℕ). l ++ before_rest text tail) (sym (take-take front end room (omega (arith, before, within)))))
 
 -- ---- slashes behind a name
 

@@ -1,16 +1,17 @@
 -- What holds of whole conversations.
-use Rattle.std.specs.Prelude.{◌≡◌, ◌≤◌, ◌+◌, ◌++◌, ℕ, zero, suc, List, [], ◌∷◌, ◌==◌, ◌⊎◌, Bool, true, Option, Some, None, length, take}
+use Rattle.std.specs.Prelude.{◌≡◌, ◌≤◌, ◌+◌, ◌++◌, ◌==◌, ℕ, zero, suc, List, [], ◌∷◌, true, Some, if◌then◌else◌, take}
 use Rattle.std.specs.List.{list_all}
 use Rattle.path_text.specs.Text.{begins_with_slash}
 use Rattle.path_text.specs.declared.name.TheConstants.{SLASH}
-use Rattle.dialogue.specs.Dialogue.{ExchangeOf, and_then, ends}
+use Rattle.dialogue.specs.Dialogue.{and_then, ends}
 use Rattle.dialogue.specs.Holds.{EachHolds}
-use Rattle.make_through_links.specs.Asking.{Call, Exchange, Talk, makings, reads_link}
-use Rattle.make_through_links.specs.Pass.{pass}
+use Rattle.make_through_links.specs.Asking.{Talk, reads_end, reads_link}
+use Rattle.make_through_links.specs.Pass.{end_read, link_read, pass}
 use Rattle.make_through_links.specs.Paths.{before_rest, way}
 use Rattle.make_through_links.specs.Seen.{Seen, Wish, May, at_first, begun, text_for, watch}
+use Rattle.make_through_links.specs.declared.asking.Outcome.{Outcome}
 use Rattle.make_through_links.specs.declared.making.Came.{Came}
-use Rattle.make_through_links.specs.declared.making.Came.TheVariants.{Given, Failed, Fails, Again, Led}
+use Rattle.make_through_links.specs.declared.making.Came.TheVariants.{Given, Again, Led}
 use Rattle.make_through_links.specs.declared.making.Making.{Making}
 
 -- ---- a whole call: one pass after another
@@ -71,7 +72,7 @@ pub record IsLed (dir old new text link : List ℕ) : Type 0 where
   pub leads : new ≡ (if begins_with_slash text then [] else dir) ++ before_rest text rest
 
 -- The link's text stands in its place, and one link more was followed; else the path stays.
-abbrev Leads : Wish → Seen → List ℕ → List ℕ → Came → Type 0
+abbrev pub Leads : Wish → Seen → List ℕ → List ℕ → Came → Type 0
 Leads w s dir link (Led m front rest) =
     IsLed dir s.path (way s.path (text_for w s.making) front rest) (text_for w s.making) link
     × (m.links ≡ s.making.links + 1)

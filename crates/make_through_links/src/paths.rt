@@ -113,6 +113,19 @@ fn way_length(text: &[u8], front: usize, at: usize, path_length: usize, room: &[
     joined_length(&room[..front], text, &room[at..path_length])
 }
 
+// Lays a link's text into a path, where there is room.
+fn lay_within(text: &[u8], front: usize, at: usize, path_length: usize, room: &mut [u8])
+    requires front { front ≤ at }
+    requires at { at ≤ path_length }
+    requires path { path_length ≤ length room.old }
+    requires room { length (way (take path_length room.old) text.now front at) ≤ length room.old }
+    ensures exact { take (length (way (take path_length room.old) text.now front at)) room.new
+        ≡ way (take path_length room.old) text.now front at }
+    ensures size { length room.new ≡ length room.old }
+{
+    lay_before(text, at - front, path_length - front, &mut room[front..]);
+}
+
 /// Lays a link's text into the path of so many bytes at the beginning of a room: behind its first FRONT bytes, and
 /// before what comes from AT on. Nothing changes where there is no room for that. Takes no memory.
 pub fn lay_link(text: &[u8], front: usize, at: usize, path_length: usize, room: &mut [u8])
@@ -122,8 +135,10 @@ pub fn lay_link(text: &[u8], front: usize, at: usize, path_length: usize, room: 
         ≡ way (take path_length room.old) text.now front at }
     ensures size { length room.new ≡ length room.old }
 {
-    let is_within = front <= at && at <= path_length && path_length <= room.len();
-    if is_within && way_length(text, front, at, path_length, room) <= room.len() {
-        lay_before(text, at - front, path_length - front, &mut room[front..]);
+    if front > at || at > path_length || path_length > room.len() {
+        return;
+    }
+    if way_length(text, front, at, path_length, room) <= room.len() {
+        lay_within(text, front, at, path_length, room);
     }
 }

@@ -12,5 +12,4 @@ joined_length-length-requires c =
       length-drop c.args.at c.args.path.now,
       c.front_length.ensures.within,
       c.requires,
-      c.type_inv.path,
     )
