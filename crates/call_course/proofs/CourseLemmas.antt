@@ -127,8 +127,8 @@ takes facts b p o st ch has owns a c is =
     (taken_by (known facts (conversed_by facts (beside b p o [] (fine st ch has owns)) (record a { reply = n })) c) c)
     (took (noted facts (fine st ch has owns) c) c))
     (sym (eqb-true a.reply OPENED is))
-    (took_so b p o (a.made - 1) c.value c.error (st || c.stepped) (ch || (c.changed && not facts.finds_again)) c.has_proc
-    (owns || c.owns_proc) (a.made == 0) (c.error == 0))
+    (took_so b p o (a.made - 1) c.value c.error (st || c.stepped) (ch || (c.changed && not facts.finds_again))
+    c.has_proc (owns || c.owns_proc) (a.made == 0) (c.error == 0))
 
 -- ---- the proved call
 
