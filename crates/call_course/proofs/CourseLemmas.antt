@@ -1,5 +1,5 @@
 -- What each part of a call leaves behind it.
-use Rattle.std.proofs.Common.{◌≡◌, ◌≢◌, ℕ, zero, ◌+◌, ◌-◌, List, [], ◌∷◌, ◌++◌, Bool, true, false, not, ◌&&◌, ◌||◌, if◌then◌else◌, refl, sym, ap, subst, ◌∙◌, arith}
+use Rattle.std.proofs.Common.{◌≡◌, ◌≢◌, ℕ, ◌-◌, List, [], ◌∷◌, ◌++◌, Bool, true, false, not, ◌&&◌, ◌||◌, if◌then◌else◌, refl, sym, ap, subst, ◌∙◌, arith}
 use Rattle.std.proofs.lemmas.Bool.{eqb-true, false≢true}
 use Rattle.std.specs.Prelude.{◌==◌, None}
 use Rattle.system_calls.specs.Errors.{EAGAIN, ENOSYS, ENOTDIR}
@@ -12,7 +12,7 @@ use Rattle.call_course.specs.Course.{Course, doing}
 use Rattle.call_course.specs.Promises.{given}
 use Rattle.call_course.specs.Runs.{by_one, close_left, closed, conversed, is_left, new_run, noted, placed, replied, took, reply_error, walked, COUNT, DONE, OPENED, TEXT}
 use Rattle.call_course.specs.Seen.{Seen, conversed_by, known, seen_by, taken_by, watch}
-use Rattle.call_course.specs.Tries.{by_another, call, made, may_go_by_another, once_more}
+use Rattle.call_course.specs.Tries.{by_another, made, may_go_by_another, once_more}
 use Rattle.call_course.specs.declared.runs.Run.{Run}
 use Rattle.call_course.specs.declared.things.Answer.{Answer}
 use Rattle.call_course.specs.declared.things.Facts.{Facts}
@@ -127,8 +127,8 @@ takes facts b p o st ch has owns a c is =
     (taken_by (known facts (conversed_by facts (beside b p o [] (fine st ch has owns)) (record a { reply = n })) c) c)
     (took (noted facts (fine st ch has owns) c) c))
     (sym (eqb-true a.reply OPENED is))
-    (took_so b p o (a.made - 1) c.value c.error (st || c.stepped) (ch || (c.changed && not facts.finds_again)) c.has_proc
-    (owns || c.owns_proc) (a.made == 0) (c.error == 0))
+    (took_so b p o (a.made - 1) c.value c.error (st || c.stepped) (ch || (c.changed && not facts.finds_again))
+    c.has_proc (owns || c.owns_proc) (a.made == 0) (c.error == 0))
 
 -- ---- the proved call
 

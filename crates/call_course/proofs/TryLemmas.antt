@@ -173,7 +173,8 @@ tries facts left s m =
     asks_then 12 (Begin (pause_before left)) m
     (λ _. subst (λ u. Goes (watch facts) 12 u (and_then (made facts) (closing facts left))
     (Tries facts (suc s.begun) (s.pauses + pause_before left)))
-    (sym (is_anew facts (suc s.begun) (s.pauses + pause_before left) 0 false false s.owns s.changed s.held m.held m.owns m.changed))
+    (sym (is_anew facts (suc s.begun) (s.pauses + pause_before left) 0 false false s.owns s.changed s.held m.held m.owns
+    m.changed))
     (both 10 2 (makes facts (suc s.begun) (s.pauses + pause_before left))
     (λ t r h. subst (λ u. Goes (watch facts) 2 u (closing facts left r)
     (Tries facts (suc s.begun) (s.pauses + pause_before left))) (sym h.at)

@@ -6,12 +6,14 @@ use Rattle.dialogue.specs.Holds.{AllMay, EachHolds, Holds, WatchOf, state_after}
 use Rattle.dialogue.proofs.PartLemmas.{parts, same_end}
 
 -- from this state on, and behind it
-pub record Goes {P : Protocol} {S E : Type 0} (w : WatchOf P S) (most : ℕ) (s : S) (m : DialogueOf P E) (Post : S → E → Type 0) : Type 0 where
+pub record Goes {P : Protocol} {S E : Type 0} (w : WatchOf P S) (most : ℕ) (s : S) (m : DialogueOf P E)
+    (Post : S → E → Type 0) : Type 0 where
   pub each : EachHolds w most s m Post
 
 -- ---- exchanges, one part after another
 
-signals_apart : {P : Protocol} (xs ys : List (ExchangeOf P)) → without_signals (xs ++ ys) ≡ without_signals xs ++ without_signals ys
+signals_apart : {P : Protocol} (xs ys : List (ExchangeOf P)) → without_signals
+    (xs ++ ys) ≡ without_signals xs ++ without_signals ys
 signals_apart [] ys = refl
 signals_apart {P} (x ∷ xs) ys = by_case (P.again x.asked x.answer) (signals_apart xs ys)
   where
@@ -31,7 +33,8 @@ fair_both : {P : Protocol} {S : Type 0} (w : WatchOf P S) (s : S) (xs ys : List 
 fair_both w s [] ys h g = g
 fair_both w s (x ∷ xs) ys h g = (h.0, fair_both w (w.by s x) xs ys h.1 g)
 
-joins : {P : Protocol} {S : Type 0} (w : WatchOf P S) (n k : ℕ) (s : S) (xs ys : List (ExchangeOf P)) (First Then : S → Type 0)
+joins : {P : Protocol} {S : Type 0} (w : WatchOf P S) (n k : ℕ) (s : S) (xs ys : List (ExchangeOf P))
+    (First Then : S → Type 0)
     → Holds w n s xs First → Holds w k (state_after w s xs) ys Then → Holds w (n + k) s (xs ++ ys) Then
 joins w n k s xs ys First Then h g =
     let c = length-append xs ys in
@@ -53,7 +56,8 @@ over {P} {S} {E} {w} {n} {s} {e} {Post} post = record { each = each }
     each (x ∷ xs) r h = absurd h
 
 -- one part after another
-pub both : {P : Protocol} {S E F : Type 0} {w : WatchOf P S} {s : S} {m : DialogueOf P E} {f : E → DialogueOf P F} {Mid : S → E → Type 0}
+pub both : {P : Protocol} {S E F : Type 0} {w : WatchOf P S} {s : S} {m : DialogueOf P E} {f : E → DialogueOf P F}
+    {Mid : S → E → Type 0}
     {Post : S → F → Type 0} (n k : ℕ) → Goes w n s m Mid → ((t : S) (e : E) → Mid t e → Goes w k t (f e) Post)
     → Goes w (n + k) s (and_then m f) Post
 both {P} {S} {E} {F} {w} {s} {m} {f} {Mid} {Post} n k h g = record { each = each }
@@ -63,27 +67,33 @@ both {P} {S} {E} {F} {w} {s} {m} {f} {Mid} {Post} n k h g = record { each = each
         let p = parts m f es r whole in
         let first = h.each p.first p.value p.came in
         let second = (g (state_after w s (without_signals p.first)) p.value first.ends).each p.second r p.goes in
-        subst (λ xs. Holds w (n + k) s xs (λ t. Post t r)) (sym (ap without_signals p.all ∙ signals_apart p.first p.second))
-        (joins w n k s (without_signals p.first) (without_signals p.second) (λ t. Mid t p.value) (λ t. Post t r) first second)
+        subst (λ xs. Holds w (n + k) s xs (λ t. Post t r))
+        (sym (ap without_signals p.all ∙ signals_apart p.first p.second))
+        (joins w n k s (without_signals p.first) (without_signals p.second) (λ t. Mid t p.value) (λ t. Post t r) first
+        second)
 
 -- the first part leaves just this behind it, by what it has come to
-pub goes_on : {P : Protocol} {S E F : Type 0} {w : WatchOf P S} {s : S} {m : DialogueOf P E} {f : E → DialogueOf P F} {Fact : E → Type 0}
+pub goes_on : {P : Protocol} {S E F : Type 0} {w : WatchOf P S} {s : S} {m : DialogueOf P E} {f : E → DialogueOf P F}
+    {Fact : E → Type 0}
     {Post : S → F → Type 0} (n k : ℕ) (g : E → S) → Goes w n s m (λ t e. (t ≡ g e) × Fact e)
     → ((e : E) → Fact e → Goes w k (g e) (f e) Post) → Goes w (n + k) s (and_then m f) Post
 goes_on {P} {S} {E} {F} {w} {s} {m} {f} {Fact} {Post} n k g h more =
     both n k h (λ t e is. subst (λ u. Goes w k u (f e) Post) (sym is.0) (more e is.1))
 
-pub choose : {P : Protocol} {S E : Type 0} {w : WatchOf P S} {n : ℕ} {s : S} {x y : DialogueOf P E} {Post : S → E → Type 0} (b : Bool)
+pub choose : {P : Protocol} {S E : Type 0} {w : WatchOf P S} {n : ℕ} {s : S} {x y : DialogueOf P E}
+    {Post : S → E → Type 0} (b : Bool)
     → (b ≡ true → Goes w n s x Post) → (b ≡ false → Goes w n s y Post) → Goes w n s (if b then x else y) Post
 choose true h k = h refl
 choose false h k = k refl
 
-pub weak : {P : Protocol} {S E : Type 0} {w : WatchOf P S} {k : ℕ} {s : S} {m : DialogueOf P E} {Mid Post : S → E → Type 0} (n : ℕ) → n ≤ k
+pub weak : {P : Protocol} {S E : Type 0} {w : WatchOf P S} {k : ℕ} {s : S} {m : DialogueOf P E}
+    {Mid Post : S → E → Type 0} (n : ℕ) → n ≤ k
     → Goes w n s m Mid → ((t : S) (e : E) → Mid t e → Post t e) → Goes w k s m Post
 weak {P} {S} {E} {w} {k} {s} {m} {Mid} {Post} n le h to = record {
   each = λ es e whole.
       let r = h.each es e whole in
-      record { few = omega (arith, le, r.few); fair = r.fair; ends = to (state_after w s (without_signals es)) e r.ends };
+      record
+      { few = omega (arith, le, r.few); fair = r.fair; ends = to (state_after w s (without_signals es)) e r.ends };
 }
 
 -- ---- one question
@@ -102,20 +112,23 @@ last q x [] a same w =
     ap (λ p. exchange p x.answer ∷ []) same ∙ ap (λ b. exchange q b ∷ []) is
 last q x (y ∷ ys) a same w = absurd w
 
-by_signal : {P : Protocol} (q : P.Asked) (x : ExchangeOf P) (es : List (ExchangeOf P)) (a : P.Gave) (b : Bool) → x.asked ≡ q
+by_signal : {P : Protocol} (q : P.Asked) (x : ExchangeOf P) (es : List (ExchangeOf P)) (a : P.Gave) (b : Bool)
+    → x.asked ≡ q
     → Talks (if b then Calls q else ends x.answer) es (λ rest. rest ≡ ends a)
     → (Talks (Calls q) es (λ rest. rest ≡ ends a) → without_signals es ≡ exchange q a ∷ [])
     → (if b then without_signals es else x ∷ without_signals es) ≡ exchange q a ∷ []
 by_signal q x es a true same w more = more w
 by_signal q x es a false same w more = last q x es a same w
 
-one_answer : {P : Protocol} (q : P.Asked) (es : List (ExchangeOf P)) (a : P.Gave) → Talks (Calls q) es (λ rest. rest ≡ ends a)
+one_answer : {P : Protocol} (q : P.Asked) (es : List (ExchangeOf P)) (a : P.Gave) → Talks (Calls q) es
+    (λ rest. rest ≡ ends a)
     → without_signals es ≡ exchange q a ∷ []
 unfolding Talks
 one_answer q [] a w = absurd cc
 one_answer {P} q (x ∷ es) a w =
     by_signal q x es a (P.again x.asked x.answer) w.0
-    (subst (λ p. Talks (if P.again p x.answer then Calls q else ends x.answer) es (λ rest. rest ≡ ends a)) (sym w.0) w.1)
+    (subst (λ p. Talks (if P.again p x.answer then Calls q else ends x.answer) es (λ rest. rest ≡ ends a)) (sym w.0)
+    w.1)
     (one_answer q es a)
 
 one : {P : Protocol} {S : Type 0} (w : WatchOf P S) (s : S) (q : P.Asked) → w.May s q
@@ -129,7 +142,8 @@ one {P} w s q may = record { each = each }
         (record { few = omega arith; fair = (may, tt); ends = (refl, tt) })
 
 -- a question, and what comes behind its answer
-pub asks_then : {P : Protocol} {S F : Type 0} {w : WatchOf P S} {s : S} {f : P.Gave → DialogueOf P F} {Post : S → F → Type 0} (k : ℕ)
+pub asks_then : {P : Protocol} {S F : Type 0} {w : WatchOf P S} {s : S} {f : P.Gave → DialogueOf P F}
+    {Post : S → F → Type 0} (k : ℕ)
     (q : P.Asked) → w.May s q → ((a : P.Gave) → Goes w k (w.by s (exchange q a)) (f a) Post)
     → Goes w (1 + k) s (and_then (asking P q) f) Post
 asks_then {P} {S} {F} {w} {s} {f} {Post} k q may more =

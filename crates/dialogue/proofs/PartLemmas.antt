@@ -3,7 +3,8 @@ use Rattle.std.proofs.Common.{◌≡◌, ◌++◌, List, [], ◌∷◌, refl, ap
 use Rattle.dialogue.specs.Dialogue.{DialogueOf, ExchangeOf, Protocol, Talks, Whole, and_then, asks, behind, ends}
 use Rattle.dialogue.proofs.TalkLemmas.{behind_then}
 
-pub record Parts {P : Protocol} (E F : Type 0) (s : DialogueOf P E) (f : E → DialogueOf P F) (es : List (ExchangeOf P)) (r : F) : Type 0 where
+pub record Parts {P : Protocol} (E F : Type 0) (s : DialogueOf P E) (f : E → DialogueOf P F)
+    (es : List (ExchangeOf P)) (r : F) : Type 0 where
   pub value : E
   pub first : List (ExchangeOf P)
   pub second : List (ExchangeOf P)
@@ -11,7 +12,8 @@ pub record Parts {P : Protocol} (E F : Type 0) (s : DialogueOf P E) (f : E → D
   pub came : Whole s first value
   pub goes : Whole (f value) second r
 
-pub parts : {P : Protocol} {E F : Type 0} → (s : DialogueOf P E) (f : E → DialogueOf P F) (es : List (ExchangeOf P)) (r : F)
+pub parts : {P : Protocol} {E F : Type 0} → (s : DialogueOf P E) (f : E → DialogueOf P F) (es : List (ExchangeOf P))
+    (r : F)
     → Whole (and_then s f) es r → Parts E F s f es r
 unfolding and_then Talks
 parts (ends e) f es r h = record { value = e; first = []; second = es; all = refl; came = refl; goes = h }

@@ -5,7 +5,8 @@ use Rattle.dialogue.specs.Dialogue.{DialogueOf, ExchangeOf, IsDriven, Protocol, 
 -- ---- dialogues of parts
 
 -- an answer to the first part
-pub behind_then : {P : Protocol} {E F : Type 0} (q : P.Asked) (after : P.Gave → DialogueOf P E) (f : E → DialogueOf P F) (a : P.Gave)
+pub behind_then : {P : Protocol} {E F : Type 0} (q : P.Asked) (after : P.Gave → DialogueOf P E)
+    (f : E → DialogueOf P F) (a : P.Gave)
     → behind q (λ x. and_then (after x) f) a ≡ and_then (behind q after a) f
 unfolding and_then
 behind_then {P} {E} {F} q after f a = by_case (P.again q a)
@@ -15,7 +16,8 @@ behind_then {P} {E} {F} q after f a = by_case (P.again q a)
     by_case true = refl
     by_case false = refl
 
-pub ran_ends : {P : Protocol} {E : Type 0} → (e : E) (answers : List P.Gave) → ran {P = P} (ends e) answers ≡ came e answers
+pub ran_ends : {P : Protocol} {E : Type 0} → (e : E) (answers : List P.Gave) → ran {P = P}
+    (ends e) answers ≡ came e answers
 unfolding ran
 ran_ends e answers = refl
 
@@ -30,7 +32,8 @@ ran_then (asks q after) f (a ∷ answers) =
 -- ---- who drives a dialogue
 
 -- one answer more before these
-shifted : {P : Protocol} {E : Type 0} → (q : P.Asked) (after : P.Gave → DialogueOf P E) (a : P.Gave) (before : List P.Gave)
+shifted : {P : Protocol} {E : Type 0} → (q : P.Asked) (after : P.Gave → DialogueOf P E) (a : P.Gave)
+    (before : List P.Gave)
     → (es : List (ExchangeOf P)) → IsDriven (asks q after) (a ∷ before) es → IsDriven (behind q after a) before es
 unfolding ran
 shifted q after a before [] h = tt
@@ -48,7 +51,8 @@ driven (asks q after) [] h = refl
 driven (asks q after) (x ∷ xs) h =
     (cc, driven (behind q after x.answer) xs (shifted q after x.answer [] xs h.1))
 
-pub driven_whole : {P : Protocol} {E : Type 0} → (s : DialogueOf P E) (es : List (ExchangeOf P)) (e : E) (left : List P.Gave)
+pub driven_whole : {P : Protocol} {E : Type 0} → (s : DialogueOf P E) (es : List (ExchangeOf P)) (e : E)
+    (left : List P.Gave)
     → IsDriven s [] es → ran s (answers_of es) ≡ came e left → Whole s es e
 unfolding ran Talks
 driven_whole (ends v) [] e left h r = cc
@@ -60,7 +64,8 @@ driven_whole (asks q after) (x ∷ xs) e left h r =
 -- ---- checkpoints
 
 -- behind the first part comes the second
-pub passed : {P : Protocol} {E F : Type 0} → (s : DialogueOf P E) (f : E → DialogueOf P F) (es : List (ExchangeOf P)) (v : E)
+pub passed : {P : Protocol} {E F : Type 0} → (s : DialogueOf P E) (f : E → DialogueOf P F) (es : List (ExchangeOf P))
+    (v : E)
     → Whole s es v → Talks (and_then s f) es (λ rest. rest ≡ f v)
 unfolding Talks and_then
 passed (ends e) f [] v h = cc
@@ -73,14 +78,16 @@ passed (asks q after) f (x ∷ xs) v h = (
 )
 
 -- one conversation goes on with another
-pub joined : {P : Protocol} {E : Type 0} → (s t : DialogueOf P E) (es fs : List (ExchangeOf P)) (End : DialogueOf P E → Type 0)
+pub joined : {P : Protocol} {E : Type 0} → (s t : DialogueOf P E) (es fs : List (ExchangeOf P))
+    (End : DialogueOf P E → Type 0)
     → Talks s es (λ rest. rest ≡ t) → Talks t fs End → Talks s (es ++ fs) End
 unfolding Talks
 joined s t [] fs End h g = subst (λ x. Talks x fs End) (sym h) g
 joined (ends e) t (x ∷ xs) fs End h g = absurd h
 joined (asks q after) t (x ∷ xs) fs End h g = (h.0, joined (behind q after x.answer) t xs fs End h.1 g)
 
-pub kept : {P : Protocol} {E F : Type 0} → (whole : DialogueOf P F) (before : List (ExchangeOf P)) (part : DialogueOf P E) (after : E → DialogueOf P F)
+pub kept : {P : Protocol} {E F : Type 0} → (whole : DialogueOf P F) (before : List (ExchangeOf P))
+    (part : DialogueOf P E) (after : E → DialogueOf P F)
     (es : List (ExchangeOf P)) (value : E) → Talks whole before (λ rest. rest ≡ and_then part after)
     → IsDriven part [] es → ran part (answers_of es) ≡ came value []
     → Talks whole (before ++ es) (λ rest. rest ≡ after value)
@@ -90,11 +97,13 @@ kept whole before part after es value h d r =
 
 -- ---- signals
 
-behind_signal : {P : Protocol} {E : Type 0} (q : P.Asked) (after : P.Gave → DialogueOf P E) (a : P.Gave) → P.again q a ≡ true
+behind_signal : {P : Protocol} {E : Type 0} (q : P.Asked) (after : P.Gave → DialogueOf P E) (a : P.Gave)
+    → P.again q a ≡ true
     → behind q after a ≡ asks q after
 behind_signal q after a is = rw is refl
 
-by_signal : {P : Protocol} {E : Type 0} (q : P.Asked) (after : P.Gave → DialogueOf P E) (x : ExchangeOf P) (xs : List (ExchangeOf P)) (b : Bool)
+by_signal : {P : Protocol} {E : Type 0} (q : P.Asked) (after : P.Gave → DialogueOf P E) (x : ExchangeOf P)
+    (xs : List (ExchangeOf P)) (b : Bool)
     → P.again x.asked x.answer ≡ b → q ≡ x.asked
     → ran (behind q after x.answer) (answers_of (without_signals xs)) ≡ ran (behind q after x.answer) (answers_of xs)
     → ran (asks q after) (answers_of (if b then without_signals xs else x ∷ without_signals xs))
