@@ -1,15 +1,10 @@
 -- What a whole call comes to, pass after pass.
-use Rattle.std.proofs.Common.{◌≡◌, ◌≤◌, ◌<◌, ℕ, ◌+◌, ◌*◌, List, [], Bool, true, false, refl, sym, ap, subst, ◌∙◌, arith, length}
-use Rattle.std.specs.Prelude.{zero, suc, Option, Some, None}
-use Rattle.system_calls.specs.Tries.{TRIES}
-use Rattle.open_or_make.specs.History.{LINKS}
-use Rattle.dialogue.proofs.HoldLemmas.{Goes, both, over, weak}
-use Rattle.dialogue.specs.Dialogue.{and_then, ends}
-use Rattle.make_through_links.specs.Asking.{Talk}
-use Rattle.make_through_links.specs.Pass.{pass}
+use Rattle.std.proofs.Common.{◌≡◌, ◌≤◌, ℕ, ◌+◌, ◌*◌, List, refl, sym, subst, arith}
+use Rattle.std.specs.Prelude.{zero, suc}
+use Rattle.dialogue.proofs.HoldLemmas.{Goes, both, over}
 use Rattle.make_through_links.specs.Paths.{way}
-use Rattle.make_through_links.specs.Promises.{CallsHold, Ends, go_on, make_all, passes, CALLS_MAX, PASSES}
-use Rattle.make_through_links.specs.Seen.{GoesOn, IsOnItsWay, Seen, Wish, at, at_first, begun, text_for, watch}
+use Rattle.make_through_links.specs.Promises.{CallsHold, Ends, go_on, passes, CALLS_MAX, PASSES}
+use Rattle.make_through_links.specs.Seen.{GoesOn, IsOnItsWay, Seen, Wish, at, begun, text_for, watch}
 use Rattle.make_through_links.specs.declared.making.Came.{Came}
 use Rattle.make_through_links.specs.declared.making.Came.TheVariants.{Given, Failed, Fails, Again, Led}
 use Rattle.make_through_links.specs.declared.making.Making.{Making}

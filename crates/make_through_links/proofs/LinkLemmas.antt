@@ -1,15 +1,14 @@
 -- Where a link leads: its text stands in the place of its name.
-use Rattle.std.proofs.Common.{◌≡◌, ◌≤◌, ◌<◌, ℕ, ◌+◌, List, [], ◌∷◌, ◌++◌, Bool, true, false, cond, ◌||◌, if◌then◌else◌, refl, sym, ap, subst, ◌∙◌, arith, nat_lt, length, take, drop, take-take, take-append-drop, length-take, length-drop, append_assoc, append-nil}
-use Rattle.std.specs.Prelude.{◌==◌, not, zero, suc}
+use Rattle.std.proofs.Common.{◌≡◌, ◌≤◌, ℕ, ◌+◌, List, [], ◌∷◌, ◌++◌, Bool, true, false, cond, ◌||◌, if◌then◌else◌, refl, sym, ap, subst, ◌∙◌, arith, nat_lt, length, take, drop, take-take, take-append-drop, length-take, length-drop, append_assoc, append-nil}
+use Rattle.std.specs.Prelude.{◌==◌, not, suc}
 use Rattle.std.specs.List.{position_or_len}
 use Rattle.path_text.specs.declared.name.TheConstants.{SLASH}
 use Rattle.std.proofs.lemmas.Bool.{false≢true, ltb-true, ltb-false}
 use Rattle.std.proofs.lemmas.List.{drop-append-le, drop-drop, drop_all, take_min}
 use Rattle.path_text.specs.Text.{begins_with_slash, is_empty, name_size}
-use Rattle.path_text.specs.declared.path.TheConstants.{TEXT_MAX}
-use Rattle.system_calls.specs.Errors.{EAGAIN, EINVAL, ENAMETOOLONG, ENOENT, ELOOP}
+use Rattle.system_calls.specs.Errors.{EAGAIN, EINVAL, ENOENT}
 use Rattle.system_calls.specs.Tries.{is_due, pause_after}
-use Rattle.open_or_make.specs.History.{LINKS, STEP_MAKE_FILE, STEP_READ_LINK}
+use Rattle.open_or_make.specs.History.{STEP_MAKE_FILE, STEP_READ_LINK}
 use Rattle.make_through_links.specs.Asking.{reads_end, reads_link}
 use Rattle.make_through_links.specs.Ends.{again, followed, followed_at_end, front_for, led, led_by, link_error, unparted, STEP_MAKE_DIR}
 use Rattle.make_through_links.specs.Pass.{end_read, link_read}
@@ -17,7 +16,6 @@ use Rattle.make_through_links.specs.Paths.{before_rest, rest_at, slashes_size, w
 use Rattle.make_through_links.specs.Promises.{IsLed, Leads, LinksLead}
 use Rattle.make_through_links.specs.Seen.{May, Seen, Wish, missing, text_for}
 use Rattle.make_through_links.specs.declared.asking.Outcome.{Outcome}
-use Rattle.make_through_links.specs.declared.making.Came.{Came}
 use Rattle.make_through_links.specs.declared.making.Came.TheVariants.{Failed, Fails, Again, Led}
 use Rattle.make_through_links.specs.declared.making.Making.{Making}
 use Rattle.make_through_links.proofs.PathLemmas.{only_slashes, take_both}

@@ -12,7 +12,7 @@ use Rattle.make_through_links.specs.Pass.{end_read, link_read}
 use Rattle.make_through_links.specs.Paths.{way}
 use Rattle.make_through_links.specs.declared.asking.Outcome.{Outcome}
 use Rattle.make_through_links.specs.declared.making.Came.{Came}
-use Rattle.make_through_links.specs.declared.making.Came.TheVariants.{Given, Failed, Fails, Again, Led}
+use Rattle.make_through_links.specs.declared.making.Came.TheVariants.{Failed, Fails, Again, Led}
 use Rattle.make_through_links.specs.declared.making.Making.{Making}
 
 -- The path; whether a file is wanted at its end, or a directory; whether a link that leads to what is missing may be
