@@ -173,7 +173,12 @@ impl Progress<'_> {
             asked.what = SYMLINK;
             target = front(texts.read, text.value as usize);
         }
-        self.carry_out(&asked, Texts { target, ..texts })
+        let named = Texts {
+            target,
+            looked: false,
+            ..texts
+        };
+        self.carry_out(&asked, named)
     }
 
     /// Gives what the first path means another name.

@@ -115,6 +115,17 @@ impl Progress<'_> {
         self.blamed(reply)
     }
 
+    #[inline(never)]
+    fn call_of<'n>(
+        &mut self,
+        request: &Request,
+        opening: &Opening,
+        call: u8,
+        texts: Texts<'n>,
+    ) -> Said<'n> {
+        self.carry_out(&asked_by(request, opening, call), texts)
+    }
+
     // Else a call finds it, and it is opened once more.
     #[inline(never)]
     fn found_first<'n>(
@@ -123,7 +134,7 @@ impl Progress<'_> {
         opening: &Opening,
         texts: Texts<'n>,
     ) -> Said<'n> {
-        match self.carry_out(&asked_by(request, opening, FIND), texts)? {
+        match self.call_of(request, opening, FIND, texts)? {
             Reply::Value(found, _) => self.use_found(request, opening, found),
             failed => Ok(failed),
         }
@@ -159,7 +170,7 @@ impl Progress<'_> {
         }
         match course.next {
             FIND => self.found(request, opening, texts),
-            next => self.carry_out(&asked_by(request, opening, next), texts),
+            next => self.call_of(request, opening, next, texts),
         }
     }
 }

@@ -52,7 +52,7 @@ impl Progress<'_> {
             STATUS => self.status(request, texts),
             READ_LINK => self.read_link(request, texts),
             LINK => self.link(request, texts),
-            LINK_OBJECT => self.link_named(request, texts.on(texts.first)),
+            LINK_OBJECT => self.link_named(request, texts),
             OPEN_PARENT => self.open_parent(request, texts),
             PLACE => self.place(request, texts),
             REMOVE_ALL => self.remove_all(request, texts),

@@ -46,12 +46,7 @@ impl Progress<'_> {
         Ok(match course.next {
             open_or_make::ENDS => Ok(last_reply(state)),
             open_or_make::FAILS => Ok(Reply::Fails(course.error as u32, course.step, b"")),
-            _ => Err(Gave::Reply(self.open_next(
-                request,
-                course,
-                &state.opening,
-                texts,
-            )?)),
+            _ => Err(Gave::Reply(self.open_next(request, course, &state.opening, texts)?)),
         })
     }
 

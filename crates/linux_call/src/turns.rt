@@ -24,6 +24,8 @@ use system_calls::errors::{EIO, ENOMEM};
 // More parts than come one after another without a system call.
 const PARTS: u32 = 64;
 
+// ---- single steps
+
 fn between(answers: &[Answer], from: u32, to: u32) -> &[Answer] {
     let (from, to) = (from as usize, to as usize);
     if from <= to && to <= answers.len() {
@@ -32,6 +34,55 @@ fn between(answers: &[Answer], from: u32, to: u32) -> &[Answer] {
         &answers[..0]
     }
 }
+
+// The call by single steps has ended: what it came to is an answer of the call that asked for it.
+fn end_steps(state: &mut State, ended: Ended, answers: &mut [Answer]) {
+    let at = state.base as usize;
+    if at < answers.len() {
+        answers[at] = answer_of(ended, &state.known);
+        state.count = state.base.saturating_add(1);
+    }
+}
+
+// The system call that is due of the step that is under way; or none, if a part of the step is over.
+#[inline(never)]
+fn go_by_steps(
+    alloc: Global,
+    request: &Request,
+    state: &mut State,
+    mut under_way: Box<Steps>,
+    steps: &mut Option<Box<Steps>>,
+    read: &mut [u8],
+    answers: &mut [Answer],
+    room: &mut [u8],
+) -> Option<Due> {
+    let mut known = state.known;
+    let mut left = between(answers, state.base, state.count);
+    let came = match under_way.due(&mut known, &mut left, read) {
+        Ok(part) => Ok(part),
+        Err(question) => Err(due_of(&question, request, room)),
+    };
+    match came {
+        Err(due) => {
+            *steps = Some(under_way);
+            Some(due)
+        }
+        Ok(part) => {
+            state.known = known;
+            state.count = state.base;
+            match under_way.take(alloc, part, read) {
+                None => *steps = Some(under_way),
+                Some(ended) => {
+                    lay(room, NAME, under_way.name());
+                    end_steps(state, ended, answers);
+                }
+            }
+            None
+        }
+    }
+}
+
+// ---- the call itself
 
 // What came of a part of the call.
 enum Came {
@@ -104,11 +155,30 @@ fn begin_steps(
     }
 }
 
-fn length_of(request: &Request, state: &State) -> usize {
-    match request.what {
+fn texts_of<'n>(
+    request: &Request,
+    state: &State,
+    first: &'n [u8],
+    second: &'n [u8],
+    read: &'n [u8],
+    number: &'n [u8],
+) -> Texts<'n> {
+    let length = match request.what {
         OPEN_AT => state.course.length,
         MAKE_DIRECTORIES | MAKE_FILE => state.making.length,
         _ => request.length as usize,
+    };
+    let second = PathOf::new(second);
+    Texts {
+        first: PathOf::new(first).front(length),
+        second,
+        target: if is_of_proc(request) {
+            number
+        } else {
+            second.text()
+        },
+        read,
+        looked: state.looked,
     }
 }
 
@@ -121,176 +191,175 @@ fn end_and_close(reply: &Reply<'_>, closes: &Closes, room: &mut [u8]) -> Due {
     }
 }
 
-fn is_of_proc(request: &Request) -> bool {
-    request.what == PROC_OPEN || request.what == PROC_READ_LINK
+#[inline(never)]
+fn go(
+    alloc: Global,
+    request: &mut Request,
+    state: &mut State,
+    first: &[u8],
+    second: &[u8],
+    read: &[u8],
+    number: &[u8],
+    answers: &[Answer],
+    room: &mut [u8],
+) -> Came {
+    let texts = texts_of(request, state, first, second, read, number);
+    let left = between(answers, 0, state.count);
+    let mut now = Progress::new(left, request.known, ends_behind(request.what));
+    match part(&mut now, request, state, texts) {
+        Err(Question::BySteps(first, second)) => {
+            begin_steps(alloc, state, &now.inner, first, second)
+        }
+        Err(question) => {
+            if state.count == 0 {
+                state.looked = is_look_up(request, &question);
+                state.opens = state.looked && is_reply(request, state);
+            }
+            state.changes = now.changes;
+            state.closes = now.closes;
+            Came::Due(due_of(&question, request, room))
+        }
+        Ok(Ok(reply)) => Came::Due(end_and_close(&reply, &now.closes, room)),
+        Ok(Err(gave)) => {
+            let then = keep_gave(state, &gave, room);
+            request.known = now.known;
+            state.count = 0;
+            state.looked = false;
+            Came::Gave(then)
+        }
+    }
 }
 
 // ---- a turn
 
-// What a turn is lent: the texts and the room of `turn`, and the call by single steps that is under way.
-#[derive(Drop)]
-struct Lent<'t> {
-    alloc: Global,
-    request: &'t mut Request,
-    state: &'t mut State,
-    steps: &'t mut Option<Box<Steps>>,
-    first: &'t mut [u8],
-    second: &'t [u8],
-    read: &'t mut [u8],
-    answers: &'t mut [Answer],
-    room: &'t mut [u8],
+// What a part of the call came to: a system call, or the end; or none, and the call goes on.
+#[inline(always)]
+fn follow(
+    came: Came,
+    state: &mut State,
+    steps: &mut Option<Box<Steps>>,
+    first: &mut [u8],
+    read: &[u8],
+    answers: &mut [Answer],
+    room: &mut [u8],
+) -> Option<Due> {
+    match came {
+        Came::Due(due) => return Some(due),
+        Came::BySteps(begun) => *steps = Some(begun),
+        Came::NoMemory => {
+            lay(room, NAME, b"");
+            end_steps(state, Ended::Fails(ENOMEM, steps::NONE), answers);
+        }
+        Came::Gave(then) => {
+            if !next_call(state, then, first, read) {
+                return Some(end_of(&refused(EIO), room));
+            }
+        }
+    }
+    None
 }
 
-impl Lent<'_> {
-    // The call by single steps has ended: what it came to is an answer of the call that asked for it.
-    fn end_steps(&mut self, ended: Ended) {
-        let at = self.state.base as usize;
-        if at < self.answers.len() {
-            self.answers[at] = answer_of(ended, &self.state.known);
-            self.state.count = self.state.base.saturating_add(1);
-        }
-    }
-
-    // The system call that is due of the step that is under way; or none, if a part of the step is over.
-    #[inline(never)]
-    fn go_by_steps(&mut self, mut under_way: Box<Steps>) -> Option<Due> {
-        let mut known = self.state.known;
-        let mut left = between(self.answers, self.state.base, self.state.count);
-        let came = match under_way.due(&mut known, &mut left, self.read) {
-            Ok(part) => Ok(part),
-            Err(question) => Err(due_of(&question, self.request, self.room)),
+// The system call that is due, or the end.
+#[inline(never)]
+fn go_on(
+    alloc: Global,
+    request: &mut Request,
+    state: &mut State,
+    steps: &mut Option<Box<Steps>>,
+    first: &mut [u8],
+    second: &[u8],
+    read: &mut [u8],
+    number: &[u8],
+    answers: &mut [Answer],
+    room: &mut [u8],
+) -> Due {
+    for _ in 0..PARTS {
+        let due = match steps.take() {
+            Some(under_way) => go_by_steps(
+                alloc, request, state, under_way, steps, read, answers, room,
+            ),
+            None => {
+                let came = go(
+                    alloc, request, state, first, second, read, number, answers, room,
+                );
+                follow(came, state, steps, first, read, answers, room)
+            }
         };
-        match came {
-            Err(due) => {
-                *self.steps = Some(under_way);
-                Some(due)
-            }
-            Ok(part) => {
-                self.state.known = known;
-                self.state.count = self.state.base;
-                match under_way.take(self.alloc, part, self.read) {
-                    None => *self.steps = Some(under_way),
-                    Some(ended) => {
-                        lay(self.room, NAME, under_way.name());
-                        self.end_steps(ended);
-                    }
-                }
-                None
-            }
+        if let Some(due) = due {
+            return due;
         }
     }
+    end_of(&refused(EIO), room)
+}
 
-    // What the call itself comes to. TARGET: the text of a link that is made; or of a process, its number.
-    #[inline(never)]
-    fn go(&mut self, target: &[u8]) -> Came {
-        let (request, state) = (&mut *self.request, &mut *self.state);
-        let texts = Texts {
-            first: PathOf::new(self.first).front(length_of(request, state)),
-            second: PathOf::new(self.second),
-            target,
-            read: self.read,
-            looked: state.looked,
-        };
-        let left = between(self.answers, 0, state.count);
-        let mut now = Progress::new(left, request.known, ends_behind(request.what));
-        match part(&mut now, request, state, texts) {
-            Err(Question::BySteps(first, second)) => {
-                begin_steps(self.alloc, state, &now.inner, first, second)
-            }
-            Err(question) => {
-                if state.count == 0 {
-                    state.looked = is_look_up(request, &question);
-                    state.opens = state.looked && is_reply(request, state);
-                }
-                state.changes = now.changes;
-                state.closes = now.closes;
-                Came::Due(due_of(&question, request, self.room))
-            }
-            Ok(Ok(reply)) => Came::Due(end_and_close(&reply, &now.closes, self.room)),
-            Ok(Err(gave)) => {
-                let then = keep_gave(state, &gave, self.room);
-                request.known = now.known;
-                state.count = 0;
-                state.looked = false;
-                Came::Gave(then)
-            }
+fn is_of_proc(request: &Request) -> bool {
+    request.what == PROC_OPEN || request.what == PROC_READ_LINK
+}
+
+// The same. Most calls have no single step under way, and come to their next system call at once.
+#[inline(always)]
+fn next_due(
+    alloc: Global,
+    request: &mut Request,
+    state: &mut State,
+    steps: &mut Option<Box<Steps>>,
+    first: &mut [u8],
+    second: &[u8],
+    read: &mut [u8],
+    answers: &mut [Answer],
+    room: &mut [u8],
+) -> Due {
+    let mut decimals = [0u8; 10];
+    let count = if is_of_proc(request) {
+        decimal(request.fd, &mut decimals)
+    } else {
+        0
+    };
+    let number = digits(&decimals, count);
+    if steps.is_none() {
+        let came = go(
+            alloc, request, state, first, second, read, number, answers, room,
+        );
+        if let Some(due) = follow(came, state, steps, first, read, answers, room) {
+            return due;
         }
     }
+    go_on(
+        alloc, request, state, steps, first, second, read, number, answers, room,
+    )
+}
 
-    // What a part of the call came to: a system call, or the end; or none, and the call goes on.
-    #[inline(always)]
-    fn follow(&mut self, came: Came) -> Option<Due> {
-        match came {
-            Came::Due(due) => return Some(due),
-            Came::BySteps(begun) => *self.steps = Some(begun),
-            Came::NoMemory => {
-                lay(self.room, NAME, b"");
-                self.end_steps(Ended::Fails(ENOMEM, steps::NONE));
-            }
-            Came::Gave(then) => {
-                if !next_call(self.state, then, self.first, self.read) {
-                    return Some(end_of(&refused(EIO), self.room));
-                }
-            }
+// The call begins, or takes an answer.
+#[inline(always)]
+fn take(
+    alloc: Global,
+    request: &mut Request,
+    state: &mut State,
+    steps: &mut Option<Box<Steps>>,
+    first: &mut [u8],
+    second: &[u8],
+    read: &mut [u8],
+    answers: &mut [Answer],
+    room: &mut [u8],
+) -> Due {
+    if !state.begun {
+        let fault = begin(request, state);
+        if fault != 0 {
+            return end_of(&refused(fault), room);
         }
-        None
+    } else {
+        state.count = state.count.saturating_add(1);
     }
-
-    // The system call that is due, or the end.
-    #[inline(never)]
-    fn go_on(&mut self, target: &[u8]) -> Due {
-        for _ in 0..PARTS {
-            let due = match self.steps.take() {
-                Some(under_way) => self.go_by_steps(under_way),
-                None => {
-                    let came = self.go(target);
-                    self.follow(came)
-                }
-            };
-            if let Some(due) = due {
-                return due;
-            }
+    let due = next_due(
+        alloc, request, state, steps, first, second, read, answers, room,
+    );
+    if (state.count as usize) < answers.len() {
+        Due {
+            at: state.count,
+            ..due
         }
-        end_of(&refused(EIO), self.room)
-    }
-
-    // The same. Most calls have no single step under way, and come to their next system call at once.
-    #[inline(always)]
-    fn next_due(&mut self) -> Due {
-        let mut decimals = [0u8; 10];
-        let target = if is_of_proc(self.request) {
-            let count = decimal(self.request.fd, &mut decimals);
-            digits(&decimals, count)
-        } else {
-            PathOf::new(self.second).text()
-        };
-        if self.steps.is_none() {
-            let came = self.go(target);
-            if let Some(due) = self.follow(came) {
-                return due;
-            }
-        }
-        self.go_on(target)
-    }
-
-    // The call begins, or takes an answer.
-    #[inline(always)]
-    fn take(&mut self) -> Due {
-        if !self.state.begun {
-            let fault = begin(self.request, self.state);
-            if fault != 0 {
-                return end_of(&refused(fault), self.room);
-            }
-        } else {
-            self.state.count = self.state.count.saturating_add(1);
-        }
-        let due = self.next_due();
-        let at = self.state.count;
-        if (at as usize) < self.answers.len() {
-            Due { at, ..due }
-        } else {
-            end_of(&refused(EIO), self.room)
-        }
+    } else {
+        end_of(&refused(EIO), room)
     }
 }
 
@@ -396,18 +465,9 @@ pub fn turn(
     } else {
         None
     };
-    let mut lent = Lent {
-        alloc,
-        request,
-        state,
-        steps: &mut steps,
-        first,
-        second,
-        read,
-        answers,
-        room,
-    };
-    *due = lent.take();
+    *due = take(
+        alloc, request, state, &mut steps, first, second, read, answers, room,
+    );
     match steps {
         Some(under_way) => {
             state.steps = Kept::of_box(under_way);

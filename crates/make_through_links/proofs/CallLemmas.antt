@@ -40,9 +40,12 @@ one_more w n rest m path calls h all few =
 
     by_end : (t : Seen) (c : Came) → Comes w (at m path calls) (calls + 5) t c
         → Goes (watch w) (exchanges n) t (go_on w (passes w n) m path c) Ends
-    by_end t (Given fd) is = over (record { is = tt; said = is.0; held = is.1.1; few = omega (arith, most, is.1.0) })
-    by_end t (Failed error) is = over (record { is = tt; said = is.0; held = is.1.1; few = omega (arith, most, is.1.0) })
-    by_end t (Fails error step) is = over (record { is = tt; said = is.0; held = is.1.1; few = omega (arith, most, is.1.0) })
+    by_end t (Given fd) is =
+        over (record { is = tt; said = is.0; held = is.1.1; few = omega (arith, most, is.1.0) })
+    by_end t (Failed error) is =
+        over (record { is = tt; said = is.0; held = is.1.1; few = omega (arith, most, is.1.0) })
+    by_end t (Fails error step) is =
+        over (record { is = tt; said = is.0; held = is.1.1; few = omega (arith, most, is.1.0) })
     by_end t (Again now) is = next t now path is.0 is.1.0 is.1.1
     by_end t (Led now front rest) is = next t now (way path (text_for w m) front rest) is.0 is.1.0 is.1.1
 

@@ -24,7 +24,8 @@ again_stays : (w : Wish) (s : Seen) (dir link : List ℕ) (m : Making) → Leads
 again_stays w s dir link m = by_case (is_due m.tries m.may_retry EAGAIN false)
   where
     by_case : (b : Bool) → Leads w s dir link
-        (if b then Again (record m { pause = pause_after m.tries; tries = m.tries + 1 }) else Fails EAGAIN STEP_MAKE_DIR)
+        (if b then Again (record m { pause = pause_after m.tries; tries = m.tries + 1 })
+        else Fails EAGAIN STEP_MAKE_DIR)
     by_case true = tt
     by_case false = tt
 
@@ -107,7 +108,8 @@ on_the_way_is path text above n some =
           ∙ (laid_out dirs (drop above path) n (name_size gone) (slashes_size (drop (name_size gone) gone)) within
           (place_le (λ b. b == SLASH) gone) (place_le (λ b. not (b == SLASH)) (drop (name_size gone) gone))
           ∙ ap (λ l. take n dirs ++ (take (name_size gone) gone
-          ++ (take (slashes_size (drop (name_size gone) gone)) (drop (name_size gone) gone) ++ drop (n + rest_at gone) l)))
+          ++ (take (slashes_size (drop (name_size gone) gone)) (drop (name_size gone) gone)
+          ++ drop (n + rest_at gone) l)))
           (take-append-drop above path));
       only = only_slashes (drop (name_size gone) gone);
       leads = leads_so path (take n dirs) text (before_rest text (drop (n + rest_at gone) path)) n dir;

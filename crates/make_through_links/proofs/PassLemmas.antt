@@ -77,7 +77,8 @@ again_fits w s m h links tries = by_case (is_due m.tries m.may_retry EAGAIN fals
   where
     by_case : (b : Bool) → is_due m.tries m.may_retry EAGAIN false ≡ b
         → Fits w s []
-        (if b then Again (record m { pause = pause_after m.tries; tries = m.tries + 1 }) else Fails EAGAIN STEP_MAKE_DIR)
+        (if b then Again (record m { pause = pause_after m.tries; tries = m.tries + 1 })
+        else Fails EAGAIN STEP_MAKE_DIR)
     by_case true is =
         record {
           way = record {
@@ -349,7 +350,8 @@ makes_wanted : (w : Wish) (s : Seen) (k : ℕ) (a : Outcome) → GoesOn w s → 
     → Goes (watch w) 3 (after w s (makes (take s.making.above s.path)) a)
     (made_of false s.making s.path (text_for w s.making) a) (Comes w s k)
 makes_wanted w s k a h few =
-    by_case ((a.error == ENOENT) && (s.making.follows && not (is_empty (take s.making.above s.path)))) (a.error == 0) refl
+    by_case ((a.error == ENOENT) && (s.making.follows && not (is_empty (take s.making.above s.path)))) (a.error == 0)
+    refl
   where
     q : Call
     q = makes (take s.making.above s.path)
@@ -362,7 +364,8 @@ makes_wanted w s k a h few =
         else and_then (asking makings (closes a.descriptor))
         (λ _. create s.making s.path (text_for w s.making)))) (Comes w s k)
     by_case true zero is =
-        let parts = both_true (a.error == ENOENT) (s.making.follows && not (is_empty (take s.making.above s.path))) is in
+        let parts =
+        both_true (a.error == ENOENT) (s.making.follows && not (is_empty (take s.making.above s.path))) is in
         looks_goes w (told w s q a None) k
         (onwards w s q a h.way (opened_bad a (isnt_zero a.error 1 parts.0)))
         (both_true s.making.follows (not (is_empty (take s.making.above s.path))) parts.1).0 (omega (arith, few))
@@ -439,5 +442,6 @@ unfolding pass
 pass_goes w s k h few =
     choose (nat_lt 0 s.making.pause)
     (λ is. asks_then 6 (waits s.making.pause) (h, refl)
-    (λ a. walks_goes w (told w s (waits s.making.pause) a None) k (onwards w s (waits s.making.pause) a h.way refl) few))
+    (λ a. walks_goes w (told w s (waits s.making.pause) a None) k
+    (onwards w s (waits s.making.pause) a h.way refl) few))
     (λ is. weak 6 (omega arith) (walks_goes w s k h few) (λ t c done. done))
