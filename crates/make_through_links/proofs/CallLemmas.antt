@@ -1,15 +1,10 @@
 -- What a whole call comes to, pass after pass.
-use Rattle.std.proofs.Common.{◌≡◌, ◌≤◌, ◌<◌, ℕ, ◌+◌, ◌*◌, List, [], Bool, true, false, refl, sym, ap, subst, ◌∙◌, arith, length}
-use Rattle.std.specs.Prelude.{zero, suc, Option, Some, None}
-use Rattle.system_calls.specs.Tries.{TRIES}
-use Rattle.open_or_make.specs.History.{LINKS}
-use Rattle.dialogue.proofs.HoldLemmas.{Goes, both, over, weak}
-use Rattle.dialogue.specs.Dialogue.{and_then, ends}
-use Rattle.make_through_links.specs.Asking.{Talk}
-use Rattle.make_through_links.specs.Pass.{pass}
+use Rattle.std.proofs.Common.{◌≡◌, ◌≤◌, ℕ, ◌+◌, ◌*◌, List, refl, sym, subst, arith}
+use Rattle.std.specs.Prelude.{zero, suc}
+use Rattle.dialogue.proofs.HoldLemmas.{Goes, both, over}
 use Rattle.make_through_links.specs.Paths.{way}
-use Rattle.make_through_links.specs.Promises.{CallsHold, Ends, go_on, make_all, passes, CALLS_MAX, PASSES}
-use Rattle.make_through_links.specs.Seen.{GoesOn, IsOnItsWay, Seen, Wish, at, at_first, begun, text_for, watch}
+use Rattle.make_through_links.specs.Promises.{CallsHold, Ends, go_on, passes, CALLS_MAX, PASSES}
+use Rattle.make_through_links.specs.Seen.{GoesOn, IsOnItsWay, Seen, Wish, at, begun, text_for, watch}
 use Rattle.make_through_links.specs.declared.making.Came.{Came}
 use Rattle.make_through_links.specs.declared.making.Came.TheVariants.{Given, Failed, Fails, Again, Led}
 use Rattle.make_through_links.specs.declared.making.Making.{Making}
@@ -45,9 +40,12 @@ one_more w n rest m path calls h all few =
 
     by_end : (t : Seen) (c : Came) → Comes w (at m path calls) (calls + 5) t c
         → Goes (watch w) (exchanges n) t (go_on w (passes w n) m path c) Ends
-    by_end t (Given fd) is = over (record { is = tt; said = is.0; held = is.1.1; few = omega (arith, most, is.1.0) })
-    by_end t (Failed error) is = over (record { is = tt; said = is.0; held = is.1.1; few = omega (arith, most, is.1.0) })
-    by_end t (Fails error step) is = over (record { is = tt; said = is.0; held = is.1.1; few = omega (arith, most, is.1.0) })
+    by_end t (Given fd) is =
+        over (record { is = tt; said = is.0; held = is.1.1; few = omega (arith, most, is.1.0) })
+    by_end t (Failed error) is =
+        over (record { is = tt; said = is.0; held = is.1.1; few = omega (arith, most, is.1.0) })
+    by_end t (Fails error step) is =
+        over (record { is = tt; said = is.0; held = is.1.1; few = omega (arith, most, is.1.0) })
     by_end t (Again now) is = next t now path is.0 is.1.0 is.1.1
     by_end t (Led now front rest) is = next t now (way path (text_for w m) front rest) is.0 is.1.0 is.1.1
 

@@ -1,15 +1,14 @@
 -- Where a link leads: its text stands in the place of its name.
-use Rattle.std.proofs.Common.{◌≡◌, ◌≤◌, ◌<◌, ℕ, ◌+◌, List, [], ◌∷◌, ◌++◌, Bool, true, false, cond, ◌||◌, if◌then◌else◌, refl, sym, ap, subst, ◌∙◌, arith, nat_lt, length, take, drop, take-take, take-append-drop, length-take, length-drop, append_assoc, append-nil}
-use Rattle.std.specs.Prelude.{◌==◌, not, zero, suc}
+use Rattle.std.proofs.Common.{◌≡◌, ◌≤◌, ℕ, ◌+◌, List, [], ◌∷◌, ◌++◌, Bool, true, false, cond, ◌||◌, if◌then◌else◌, refl, sym, ap, subst, ◌∙◌, arith, nat_lt, length, take, drop, take-take, take-append-drop, length-take, length-drop, append_assoc, append-nil}
+use Rattle.std.specs.Prelude.{◌==◌, not, suc}
 use Rattle.std.specs.List.{position_or_len}
 use Rattle.path_text.specs.declared.name.TheConstants.{SLASH}
 use Rattle.std.proofs.lemmas.Bool.{false≢true, ltb-true, ltb-false}
 use Rattle.std.proofs.lemmas.List.{drop-append-le, drop-drop, drop_all, take_min}
 use Rattle.path_text.specs.Text.{begins_with_slash, is_empty, name_size}
-use Rattle.path_text.specs.declared.path.TheConstants.{TEXT_MAX}
-use Rattle.system_calls.specs.Errors.{EAGAIN, EINVAL, ENAMETOOLONG, ENOENT, ELOOP}
+use Rattle.system_calls.specs.Errors.{EAGAIN, EINVAL, ENOENT}
 use Rattle.system_calls.specs.Tries.{is_due, pause_after}
-use Rattle.open_or_make.specs.History.{LINKS, STEP_MAKE_FILE, STEP_READ_LINK}
+use Rattle.open_or_make.specs.History.{STEP_MAKE_FILE, STEP_READ_LINK}
 use Rattle.make_through_links.specs.Asking.{reads_end, reads_link}
 use Rattle.make_through_links.specs.Ends.{again, followed, followed_at_end, front_for, led, led_by, link_error, unparted, STEP_MAKE_DIR}
 use Rattle.make_through_links.specs.Pass.{end_read, link_read}
@@ -17,7 +16,6 @@ use Rattle.make_through_links.specs.Paths.{before_rest, rest_at, slashes_size, w
 use Rattle.make_through_links.specs.Promises.{IsLed, Leads, LinksLead}
 use Rattle.make_through_links.specs.Seen.{May, Seen, Wish, missing, text_for}
 use Rattle.make_through_links.specs.declared.asking.Outcome.{Outcome}
-use Rattle.make_through_links.specs.declared.making.Came.{Came}
 use Rattle.make_through_links.specs.declared.making.Came.TheVariants.{Failed, Fails, Again, Led}
 use Rattle.make_through_links.specs.declared.making.Making.{Making}
 use Rattle.make_through_links.proofs.PathLemmas.{only_slashes, take_both}
@@ -26,7 +24,8 @@ again_stays : (w : Wish) (s : Seen) (dir link : List ℕ) (m : Making) → Leads
 again_stays w s dir link m = by_case (is_due m.tries m.may_retry EAGAIN false)
   where
     by_case : (b : Bool) → Leads w s dir link
-        (if b then Again (record m { pause = pause_after m.tries; tries = m.tries + 1 }) else Fails EAGAIN STEP_MAKE_DIR)
+        (if b then Again (record m { pause = pause_after m.tries; tries = m.tries + 1 })
+        else Fails EAGAIN STEP_MAKE_DIR)
     by_case true = tt
     by_case false = tt
 
@@ -109,7 +108,8 @@ on_the_way_is path text above n some =
           ∙ (laid_out dirs (drop above path) n (name_size gone) (slashes_size (drop (name_size gone) gone)) within
           (place_le (λ b. b == SLASH) gone) (place_le (λ b. not (b == SLASH)) (drop (name_size gone) gone))
           ∙ ap (λ l. take n dirs ++ (take (name_size gone) gone
-          ++ (take (slashes_size (drop (name_size gone) gone)) (drop (name_size gone) gone) ++ drop (n + rest_at gone) l)))
+          ++ (take (slashes_size (drop (name_size gone) gone)) (drop (name_size gone) gone)
+          ++ drop (n + rest_at gone) l)))
           (take-append-drop above path));
       only = only_slashes (drop (name_size gone) gone);
       leads = leads_so path (take n dirs) text (before_rest text (drop (n + rest_at gone) path)) n dir;

@@ -1,6 +1,6 @@
 -- What one pass over the path asks, and what it comes to.
-use Rattle.std.proofs.Common.{◌≡◌, ◌<◌, ◌≤◌, ℕ, ◌+◌, List, [], ◌∷◌, Bool, true, false, ◌||◌, if◌then◌else◌, refl, sym, ap, subst, ◌∙◌, arith, nat_lt, length, take, drop}
-use Rattle.std.specs.Prelude.{◌==◌, not, ◌&&◌, suc, Option, Some, None}
+use Rattle.std.proofs.Common.{◌≡◌, ◌≤◌, ℕ, ◌+◌, List, [], ◌∷◌, Bool, true, false, ◌||◌, if◌then◌else◌, refl, sym, ap, subst, ◌∙◌, arith, nat_lt, length, take, drop}
+use Rattle.std.specs.Prelude.{◌==◌, not, ◌&&◌, suc, Some, None}
 use Rattle.std.proofs.lemmas.Bool.{eqb-true, false≢true, ltb-true, ltb-false, ne_eqb}
 use Rattle.path_text.specs.Text.{is_empty, name_size}
 use Rattle.path_text.specs.declared.path.TheConstants.{TEXT_MAX}
@@ -8,13 +8,13 @@ use Rattle.system_calls.specs.Errors.{EAGAIN, EEXIST, EINVAL, EISDIR, ENAMETOOLO
 use Rattle.system_calls.specs.Tries.{is_due, pause_after, TRIES}
 use Rattle.open_or_make.specs.History.{LINKS, STEP_MAKE_FILE, STEP_READ_LINK}
 use Rattle.dialogue.specs.Dialogue.{and_then, asking, ends}
-use Rattle.dialogue.proofs.HoldLemmas.{Goes, asks_then, both, choose, over, weak}
+use Rattle.dialogue.proofs.HoldLemmas.{Goes, asks_then, choose, over, weak}
 use Rattle.make_through_links.specs.Asking.{Call, Talk, closes, creates, finds, makes, makes_above, makings, opens_partly, reads_end, reads_link, splits, waits}
-use Rattle.make_through_links.specs.Ends.{again, ended, followed, followed_at_end, front_for, led, led_by, link_error, unparted, NO_STEP, STEP_MAKE_DIR}
+use Rattle.make_through_links.specs.Ends.{again, ended, followed, followed_at_end, front_for, led, led_by, unparted, NO_STEP, STEP_MAKE_DIR}
 use Rattle.make_through_links.specs.Pass.{behind_there, create, end_read, find, link_read, look, make, make_question, parted, pass, read_end, read_link, walk}
 use Rattle.make_through_links.specs.Paths.{rest_at, way}
 use Rattle.make_through_links.specs.Promises.{given}
-use Rattle.make_through_links.specs.Seen.{GoesOn, IsOnItsWay, Seen, Wish, after, at, calls_by, held_by, making_by, missing, opened, says, seen_by, text_for, told, watch}
+use Rattle.make_through_links.specs.Seen.{GoesOn, IsOnItsWay, Seen, Wish, after, at, calls_by, held_by, making_by, missing, opened, text_for, told, watch}
 use Rattle.make_through_links.specs.declared.asking.Outcome.{Outcome}
 use Rattle.make_through_links.specs.declared.making.Came.{Came}
 use Rattle.make_through_links.specs.declared.making.Came.TheVariants.{Given, Failed, Fails, Again, Led}
@@ -77,7 +77,8 @@ again_fits w s m h links tries = by_case (is_due m.tries m.may_retry EAGAIN fals
   where
     by_case : (b : Bool) → is_due m.tries m.may_retry EAGAIN false ≡ b
         → Fits w s []
-        (if b then Again (record m { pause = pause_after m.tries; tries = m.tries + 1 }) else Fails EAGAIN STEP_MAKE_DIR)
+        (if b then Again (record m { pause = pause_after m.tries; tries = m.tries + 1 })
+        else Fails EAGAIN STEP_MAKE_DIR)
     by_case true is =
         record {
           way = record {
@@ -349,7 +350,8 @@ makes_wanted : (w : Wish) (s : Seen) (k : ℕ) (a : Outcome) → GoesOn w s → 
     → Goes (watch w) 3 (after w s (makes (take s.making.above s.path)) a)
     (made_of false s.making s.path (text_for w s.making) a) (Comes w s k)
 makes_wanted w s k a h few =
-    by_case ((a.error == ENOENT) && (s.making.follows && not (is_empty (take s.making.above s.path)))) (a.error == 0) refl
+    by_case ((a.error == ENOENT) && (s.making.follows && not (is_empty (take s.making.above s.path)))) (a.error == 0)
+    refl
   where
     q : Call
     q = makes (take s.making.above s.path)
@@ -362,7 +364,8 @@ makes_wanted w s k a h few =
         else and_then (asking makings (closes a.descriptor))
         (λ _. create s.making s.path (text_for w s.making)))) (Comes w s k)
     by_case true zero is =
-        let parts = both_true (a.error == ENOENT) (s.making.follows && not (is_empty (take s.making.above s.path))) is in
+        let parts =
+        both_true (a.error == ENOENT) (s.making.follows && not (is_empty (take s.making.above s.path))) is in
         looks_goes w (told w s q a None) k
         (onwards w s q a h.way (opened_bad a (isnt_zero a.error 1 parts.0)))
         (both_true s.making.follows (not (is_empty (take s.making.above s.path))) parts.1).0 (omega (arith, few))
@@ -439,5 +442,6 @@ unfolding pass
 pass_goes w s k h few =
     choose (nat_lt 0 s.making.pause)
     (λ is. asks_then 6 (waits s.making.pause) (h, refl)
-    (λ a. walks_goes w (told w s (waits s.making.pause) a None) k (onwards w s (waits s.making.pause) a h.way refl) few))
+    (λ a. walks_goes w (told w s (waits s.making.pause) a None) k
+    (onwards w s (waits s.making.pause) a h.way refl) few))
     (λ is. weak 6 (omega arith) (walks_goes w s k h few) (λ t c done. done))

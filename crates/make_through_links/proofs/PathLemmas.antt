@@ -1,5 +1,5 @@
 -- Where a text goes on behind a name, and a text that is laid before it.
-use Rattle.std.proofs.Common.{◌≡◌, ℕ, ◌≤◌, ◌<◌, ◌+◌, ◌-◌, min, suc, Bool, true, false, cond, if◌then◌else◌, List, [], ◌∷◌, ◌++◌, length, take, drop, set, ap, sym, refl, subst, ◌∙◌, arith, take-take, take-append-drop, length-drop, length-append, length-take, length-take-le, take_at, drop_at, eq-eqb}
+use Rattle.std.proofs.Common.{◌≡◌, ℕ, ◌≤◌, ◌<◌, ◌+◌, ◌-◌, suc, Bool, true, false, cond, if◌then◌else◌, List, [], ◌∷◌, ◌++◌, length, take, drop, set, ap, sym, refl, subst, ◌∙◌, arith, take-take, take-append-drop, length-drop, length-append, length-take, length-take-le, take_at, drop_at, eq-eqb}
 use Rattle.std.specs.Prelude.{not, ◌==◌, ◌&&◌}
 use Rattle.std.specs.List.{list_all}
 use Rattle.std.proofs.Math.Seq.{paste}
@@ -7,7 +7,6 @@ use Rattle.std.proofs.lemmas.Bool.{cond-false, cond-true, ne_eqb}
 use Rattle.std.proofs.lemmas.List.{drop_all, drop-drop, drop-set, drop-take, take_all, take-append-le}
 use Rattle.std.proofs.lemmas.List.Edits.{length-paste, take-paste}
 use Rattle.path_text.specs.declared.name.TheConstants.{SLASH}
-use Rattle.path_text.specs.Text.{is_empty}
 use Rattle.make_through_links.specs.Paths.{before_rest, slashes_size, way}
 
 -- ---- a text before what comes behind

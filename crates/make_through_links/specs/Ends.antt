@@ -1,5 +1,5 @@
 -- How a pass over the path ends.
-use Rattle.std.specs.Prelude.{ℕ, ◌+◌, ◌-◌, List, ◌==◌, Bool, true, false, if◌then◌else◌, nat_lt, length, take, drop}
+use Rattle.std.specs.Prelude.{ℕ, ◌+◌, ◌-◌, List, ◌==◌, Bool, false, if◌then◌else◌, nat_lt, length, take, drop}
 use Rattle.path_text.specs.Text.{begins_with_slash}
 use Rattle.path_text.specs.declared.path.TheConstants.{TEXT_MAX}
 use Rattle.system_calls.specs.Errors.{EAGAIN, ENAMETOOLONG, ELOOP}

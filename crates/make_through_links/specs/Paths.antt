@@ -1,6 +1,6 @@
 -- Where a path goes on behind a link (path_resolution(7)): the link's text stands in the place of the link, before what
 -- comes behind it.
-use Rattle.std.specs.Prelude.{ℕ, List, [], ◌∷◌, ◌++◌, ◌+◌, ◌==◌, not, if◌then◌else◌, take, drop}
+use Rattle.std.specs.Prelude.{ℕ, List, ◌∷◌, ◌++◌, ◌+◌, ◌==◌, not, if◌then◌else◌, take, drop}
 use Rattle.std.specs.List.{position_or_len}
 use Rattle.path_text.specs.Text.{is_empty, name_size}
 use Rattle.path_text.specs.declared.name.TheConstants.{SLASH}

@@ -12,11 +12,11 @@ use Rattle.make_through_links.specs.Pass.{end_read, link_read}
 use Rattle.make_through_links.specs.Paths.{way}
 use Rattle.make_through_links.specs.declared.asking.Outcome.{Outcome}
 use Rattle.make_through_links.specs.declared.making.Came.{Came}
-use Rattle.make_through_links.specs.declared.making.Came.TheVariants.{Given, Failed, Fails, Again, Led}
+use Rattle.make_through_links.specs.declared.making.Came.TheVariants.{Failed, Fails, Again, Led}
 use Rattle.make_through_links.specs.declared.making.Making.{Making}
 
 -- The path; whether a file is wanted at its end, or a directory; whether a link that leads to what is missing may be
--- followed; and whether it may be tried again. The texts are what is read in each pass, the first one's being that of 1.
+-- followed; and whether it may be tried again. The texts are what is read in each pass, of which the first one is 1.
 pub record Wish : Type 0 where
   pub path : List ℕ
   pub file : Bool

@@ -1,4 +1,4 @@
-use Rattle.std.proofs.Common.{◌≤◌, ◌+◌, length, take, drop, arith, ap, length-drop, length-take}
+use Rattle.std.proofs.Common.{length, arith, ap, length-drop, length-take}
 use Rattle.make_through_links.proofs.making.led.Goals as goal
 
 -- what comes before the text ends no later than what comes behind the link begins
