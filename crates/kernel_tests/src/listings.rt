@@ -59,12 +59,8 @@ impl Room for Directory {
             let count: u8 = count.parse().ok()?;
             let mut name = [*letter.as_bytes().first()?; 256];
             name[usize::from(count)] = 0;
-            put_record(
-                &mut records,
-                &name[..=usize::from(count)],
-                u16::from(count) + 20,
-            )
-            .ok()?;
+            let size = u16::from(count) + 20;
+            put_record(&mut records, name.get(..usize::from(size - 19))?, size).ok()?;
         }
         self.go_on(0, records.as_slice())
     }

@@ -130,8 +130,8 @@ fn opens_and_makes_by_flags(rt: HostRuntime) -> Result<(), Fail> {
     Ok(())
 }
 
-// Flags, a mode, and the kind of what is there, a directory (1) or a file (2); what is done with it, by which flags, and
-// the error.
+// Flags, a mode, and the kind of what is there, a directory (1) or a file (2); what is done with it, by which flags,
+// and the error.
 const USES: [(u32, u32, u8, (u8, u32, u8)); 9] = [
     // O_RDWR, and O_CREAT of a file.
     (0o2, 0, 2, (USE_REOPENS, 0o2000402, 0)),

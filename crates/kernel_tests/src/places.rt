@@ -38,8 +38,8 @@ fn finds_places(rt: HostRuntime) -> Result<(), Fail> {
 fn a_path_has_at_most_4095_bytes(rt: HostRuntime) -> Result<(), Fail> {
     let mut path = [b'a'; 4096];
     path[0] = b'/';
-    assert!(rt; place_told(b"/", &path[..4095]) == Some(&path[..4095]));
-    assert!(rt; place_told(b"/", &path) == None);
+    assert!(rt; place_told(b"/", &path[..4095]).unwrap_or(b"").len() == 4095);
+    assert!(rt; place_told(b"/", &path).is_none());
     Ok(())
 }
 

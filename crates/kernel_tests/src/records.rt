@@ -1,5 +1,5 @@
 //! Records as getdents64(2) writes them, and others; and names in order.
-use crate::rows::{letters, name_of};
+use crate::rows::{letters, name_of, shown};
 use kernel_text::{Coming, next_entry, sort_names, take_names};
 use std::alloc::{AllocError, Global};
 use std::test::Fail;
@@ -17,38 +17,33 @@ pub(crate) fn put_record(
     records.extend_from_slice(name)
 }
 
-/// Records by their lengths and names; the text to which they are taken, whether that is full, and the error; and the
-/// first entry, with how many bytes are behind it.
+/// Records by their lengths and names; the text to which they are taken, or a dash, whether it is full, and the error;
+/// and the first entry, with how many bytes are behind it.
 const RECORDS: &str = "\
-: nothing, false ok; nothing
+: -, false ok; nothing
 24 .\0\0\0\0, 24 a\0\0\0\0, 24 ..\0\0\0, 23 ..b\0: /a/..b, false ok; a 4, 47
 21 .\0, 22 ab\0, 22 ..\0: /ab, false ok; ab 4, 22
 27 abcdefg\0: /abcdefg, false ok; abcdefg 4, 0
-28 abcdefgh\0: nothing, true ok; abcdefgh 4, 0
+28 abcdefgh\0: -, true ok; abcdefgh 4, 0
 23 ab\0\0, 27 cdefgh\0\0, 21 c\0: /ab, true ok; ab 4, 48
-22 ..\0: nothing, false ok; nothing
+22 ..\0: -, false ok; nothing
 # a length of zero would go on without end, and others past the records' end or beside the next one
 21 a\0, 0 b\0: /a, false EIO; a 4, 21
-22 ..\0, 22 c\0: nothing, false EIO; fault
-22 a\0: nothing, false EIO; fault
-19 a\0: nothing, false EIO; fault
-19 : nothing, false EIO; fault
+22 ..\0, 22 c\0: -, false EIO; fault
+22 a\0: -, false EIO; fault
+19 a\0: -, false EIO; fault
+19 : -, false EIO; fault
 # no NUL within the record, no name, and a name with a slash
-21 ab\0: nothing, false EIO; fault
-21 ab: nothing, false EIO; fault
-20 \0: nothing, false EIO; fault
-23 a/b\0: nothing, false EIO; fault
+21 ab\0: -, false EIO; fault
+21 ab: -, false EIO; fault
+20 \0: -, false EIO; fault
+23 a/b\0: -, false EIO; fault
 21 a\0, 23 a/b\0: /a, false EIO; a 4, 23";
 
 fn said(alloc: Global, records: &[u8]) -> Result<String, AllocError> {
     let mut room = [b'-'; 8];
     let taken = take_names(records, &mut room);
-    let text = if taken.used == 0 {
-        b"nothing"
-    } else {
-        room.get(..taken.used).unwrap_or(b"?")
-    };
-    let text = String::from_utf8_lossy(alloc, text)?;
+    let text = shown(alloc, &room, taken.used.max(1))?;
     let (full, error) = (taken.full, name_of(taken.error.into()));
     match next_entry(records) {
         Coming::Entry(name, entry_type, behind) => {
