@@ -10,10 +10,12 @@ use Rattle.tree_model.specs.State.{object_at}
 use Rattle.tree_model.specs.Steps.{outcome}
 use Rattle.tree_model.specs.StepWith.{StepWith}
 use Rattle.dialogue.specs.Dialogue.{Exchange, Whole}
-use Rattle.linux_steps.specs.Linux.{Linux, IsAbove, IsDirectory, IsLinux, AreAnswers, moment_behind}
-use Rattle.linux_steps.specs.Steps.{Entry, close_step, dup_step, open_step, parent_step, read_link_step}
+use Rattle.linux_steps.specs.Linux.{Linux, IsAbove, IsDirectory, IsGone, IsLinux, IsThere, AreAnswers, moment_behind}
+use Rattle.linux_steps.specs.Steps.{Entry, close_step, dup_step, open_step, parent_step, read_link_step, there}
 use Rattle.linux_steps.specs.declared.ended.Ended.{Ended}
 use Rattle.linux_steps.specs.declared.ended.Ended.TheVariants.{Opened, Text, Done, Refused, Unmade}
+use Rattle.linux_steps.specs.declared.ended.There.{There}
+use Rattle.linux_steps.specs.declared.ended.There.TheVariants.{Yes, No, Unknown, Fails}
 
 -- what the step table answers at that moment to a step whose handle, 0, is open on the node
 abbrev pub answer_at : Linux → ℕ → ℕ → StepWith ℕ → Answer
@@ -58,6 +60,28 @@ abbrev pub OpensStood : Type 0
 OpensStood = (x : Linux) (m dir d : ℕ) (name : List ℕ) (no_xdev : Bool) (es : List Exchange) (end : Ended) → IsLinux x
     → x.on m dir ≡ Some d → AreAnswers x m es → Whole (open_step dir name no_xdev) es end
     → OpenStood x m (moment_behind m es) d name end
+
+-- ---- whether a directory is there
+
+-- it was so at a moment of the calls
+pub record At (Is : Linux → ℕ → ℕ → Type 0) (x : Linux) (m now d : ℕ) : Type 0 where
+  pub n : ℕ
+  pub after : m < n
+  pub by : n ≤ now
+  pub is : Is x n d
+
+abbrev pub ThereTold : Linux → ℕ → ℕ → ℕ → There → Type 0
+ThereTold x m now d Yes = At IsThere x m now d
+ThereTold x m now d No = IsGone x now d
+ThereTold x m now d Unknown = x.asks ≡ false
+ThereTold x m now d (Fails error) = Unit {0}
+
+-- A directory that is said to be there was so at a moment of a call. One that is said to be gone is so by the last. No
+-- descriptor is left open, and none that was open is closed.
+abbrev pub ThereStood : Type 0
+ThereStood = (x : Linux) (m dir d : ℕ) (es : List Exchange) (told : There) → IsLinux x → IsDirectory x m d
+    → x.on m dir ≡ Some d → AreAnswers x m es → Whole (there dir) es told
+    → Unchanged x m (moment_behind m es) × ThereTold x m (moment_behind m es) d told
 
 -- ---- Parent
 

@@ -1,9 +1,10 @@
 //! What each step asks for.
 ghost use Rattle.std.specs.Prelude.{◌≡◌};
 ghost use Rattle.dialogue.specs.Dialogue.{asked_of, ran, ran_by};
-ghost use Rattle.linux_steps.specs.Steps.{by_path, closing, kind_by_mode, opening};
+ghost use Rattle.linux_steps.specs.Steps.{by_path, closing, kind_by_mode, opening, stat_error};
 
 use dialogue::{Answer, Asked, How, Question, ask};
+use system_calls::errors::ENOSYS;
 use system_calls::kind_of;
 use tree_model::Kind;
 
@@ -41,6 +42,18 @@ pub(crate) fn close<'n>(answers: &mut &[Answer], fd: u32) -> Asked<'n, ()>
 {
     ask(answers, Question::Close(fd))?;
     Ok(())
+}
+
+/// Why statx(2) told nothing of an object, or 0. If a filter refuses statx(2), a C library may give what fstat(2) says;
+/// or a filter says that the call was made, which then was not.
+pub fn stat_error(about: &Answer) -> u32
+    ensures { result ≡ stat_error about.now }
+{
+    if about.error == 0 && !about.has_mount {
+        ENOSYS
+    } else {
+        about.error
+    }
 }
 
 pub(crate) fn kind_by_mode(mode: u16) -> Kind

@@ -3,7 +3,7 @@ ghost use Rattle.std.specs.Prelude.{◌≡◌};
 ghost use Rattle.dialogue.specs.Dialogue.{asked_of, ran, ran_by};
 ghost use Rattle.linux_steps.specs.Steps.{by_kind, close_step, dup_step, missing, open_any, open_step};
 
-use crate::asks::{by_path, close, kind_by_mode, opened};
+use crate::asks::{by_path, close, kind_by_mode, opened, stat_error};
 use crate::ended::Ended;
 use dialogue::{Answer, Asked, Question, ask};
 use path_text::Errno;
@@ -25,11 +25,12 @@ fn by_kind<'n>(answers: &mut &[Answer], fd: u32) -> Asked<'n, Ended>
     ensures { ran_by (λ x. x) asked_of result answers.new.now ≡ ran (by_kind fd) answers.old.now }
 {
     let about = ask(answers, Question::Stat(fd))?;
-    if about.error == 0 {
+    let error = stat_error(&about);
+    if error == 0 {
         return Ok(Ended::Opened(fd, kind_by_mode(about.mode)));
     }
     close(answers, fd)?;
-    Ok(Ended::Unmade(about.error))
+    Ok(Ended::Unmade(error))
 }
 
 #[tactic(auto, using(dialogue::proofs::TalkLemmas::ran_then, dialogue::proofs::TalkLemmas::ran_ends), unfolding(crate::specs::Steps::open_any))]
