@@ -60,13 +60,13 @@ pub record Made (x : Linux) (nodes : ℕ → ℕ) (m calls : ℕ) (table : Descr
 
 -- ---- what a step does to the descriptors
 
--- a step that is no Close, and only tells something, leaves them
-tells_no_more : (nodes : ℕ → ℕ) (table : Descriptors) (step : StepWith ℕ) (answer : Answer)
-    → ((j : ℕ) → is_close_of j step ≡ false) → only_tells answer ≡ true → Effect nodes table step answer
-tells_no_more nodes table (steps.Close h) answer other only = absurd (false≢true (sym (other h) ∙ eq-eqb h h refl))
-tells_no_more nodes table step (Opened h y k) other only = absurd (false≢true only)
-tells_no_more nodes table step Done other only = absurd (false≢true only)
-tells_no_more nodes table step answer other only = tells_only refl refl
+-- a step that is no Close, and opens nothing, leaves them
+pub leaves : (nodes : ℕ → ℕ) (table : Descriptors) (step : StepWith ℕ) (answer : Answer)
+    → ((j : ℕ) → is_close_of j step ≡ false) → ((h y : ℕ) (k : Kind) → answer ≡ Opened h y k → ⊥)
+    → after_step nodes table step answer ≡ table
+leaves nodes table (steps.Close h) answer other none = absurd (false≢true (sym (other h) ∙ eq-eqb h h refl))
+leaves nodes table step (Opened h y k) other none = absurd (none h y k refl)
+leaves nodes table step answer other none = refl
 
 -- an answer whose handle has the number 1, with another number in that place
 numbered : (nodes g : ℕ → ℕ) (number : ℕ) (answer : Answer)
@@ -125,7 +125,9 @@ module _ (x : Linux) (nodes : ℕ → ℕ) (m calls : ℕ) (table : Descriptors)
         opens_one j y k refl room (λ f i. ap (is_close_of i) (is.by f h) ∙ is.other (f.handle h) i) refl
 
     tells : (answer : Answer) → only_tells answer ≡ true → Effect nodes table (step h) answer
-    tells answer only = tells_no_more nodes table (step h) answer (is.other h) only
+    tells answer only =
+        tells_only only (leaves nodes table (step h) answer (is.other h)
+        (λ j y k e. false≢true (sym (ap only_tells e) ∙ only)))
 
     ended_so : (asks : Bool) (on : ℕ → ℕ → Option ℕ) (layered : ℕ → Bool) (text : ℕ → List ℕ) (end : Ended)
         (answer : Answer) → Ends (seen x asks on layered text) (m + calls) d (step 0) answer end

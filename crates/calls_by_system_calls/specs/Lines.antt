@@ -20,7 +20,7 @@ use Rattle.linux_steps.specs.Steps.{dup_step, open_step, parent_step, read_link_
 use Rattle.linux_steps.specs.declared.ended.Ended.{Ended}
 use Rattle.linux_steps.specs.declared.ended.Ended.TheVariants as ended
 use Rattle.step_resolver.specs.Order.{Line, answered, no_room, not_made}
-use Rattle.calls_by_system_calls.specs.Changes.{DirectoryIsRemoved, FileIsRemoved, LinkIsMade, MakeIsMade, RenameIsMade}
+use Rattle.calls_by_system_calls.specs.Changes.{IsChange}
 use Rattle.calls_by_system_calls.specs.Linux.{Linux, state_at, ChangeNothing}
 use Rattle.calls_by_system_calls.specs.Places.{PlaceIsFound}
 
@@ -148,18 +148,18 @@ LookIsMade x nodes m table calls step answer = ⊥
 -- The same of one that changes an entry.
 abbrev pub ChangeIsMade : Linux → ℕ → Descriptors → ℕ → StepWith ℕ → Answer → Type 0
 ChangeIsMade x m table calls (steps.MakeDir h name) answer =
-    (dir : ℕ) × (table.on h ≡ Some dir) × MakeIsMade x m calls 8 dir name [] (steps.MakeDir 0 name) answer
+    (dir : ℕ) × (table.on h ≡ Some dir) × IsChange x m calls dir dir (steps.MakeDir 0 name) answer
 ChangeIsMade x m table calls (steps.MakeFile h name) answer =
-    (dir : ℕ) × (table.on h ≡ Some dir) × MakeIsMade x m calls 9 dir name [] (steps.MakeFile 0 name) answer
+    (dir : ℕ) × (table.on h ≡ Some dir) × IsChange x m calls dir dir (steps.MakeFile 0 name) answer
 ChangeIsMade x m table calls (steps.MakeLink h name text) answer =
-    (dir : ℕ) × (table.on h ≡ Some dir) × LinkIsMade x m calls dir name text answer
+    (dir : ℕ) × (table.on h ≡ Some dir) × IsChange x m calls dir dir (steps.MakeLink 0 name text) answer
 ChangeIsMade x m table calls (steps.RemoveFile h name) answer =
-    (dir : ℕ) × (table.on h ≡ Some dir) × FileIsRemoved x m calls dir name answer
+    (dir : ℕ) × (table.on h ≡ Some dir) × IsChange x m calls dir dir (steps.RemoveFile 0 name) answer
 ChangeIsMade x m table calls (steps.RemoveDir h name) answer =
-    (dir : ℕ) × (table.on h ≡ Some dir) × DirectoryIsRemoved x m calls dir name answer
+    (dir : ℕ) × (table.on h ≡ Some dir) × IsChange x m calls dir dir (steps.RemoveDir 0 name) answer
 ChangeIsMade x m table calls (steps.Rename h name k new mode) answer =
     (dir second : ℕ) × (table.on h ≡ Some dir) × (table.on k ≡ Some second)
-    × RenameIsMade x m calls dir second name new mode answer
+    × IsChange x m calls dir second (steps.Rename 0 name 1 new mode) answer
 ChangeIsMade x m table calls step answer = ⊥
 
 abbrev pub StepIsMade : Linux → (ℕ → ℕ) → ℕ → Descriptors → ℕ → StepWith ℕ → Answer → Type 0
