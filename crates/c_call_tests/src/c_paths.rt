@@ -1,11 +1,9 @@
-//! What is decided of a call from C by its path: whether one system call may walk it, and where its last name stands;
-//! and which errors refuse a step.
+//! What is decided of a call from C by its path: whether one system call may walk it, and where its last name stands.
 ghost use Rattle.std.specs.Prelude.{◌<◌, ◌≤◌};
 
 use kernel_walks::{Parted, follows_at_once, misses_at_once, split};
 use path_text::Flags;
 use std::test::Fail;
-use step_calls::is_refusal;
 
 /// RESOLVE_BENEATH, RESOLVE_NO_SYMLINKS and a path, and whether openat2(2) may walk that whole.
 const FOLLOWED: [(bool, bool, &str, bool); 13] = [
@@ -131,55 +129,6 @@ fn paths_are_taken_apart(rt: HostRuntime) -> Result<(), Fail> {
     for (path, takes_slash, (name, length, slash, error)) in &PARTED {
         let wanted = parted(*name, *length, *slash, *error);
         assert!(rt; split(path.as_bytes(), *takes_slash) == wanted, "{path}");
-    }
-    Ok(())
-}
-
-/// A step's number, a rename's mode, how long a link's text is, an error, and whether it refuses the step.
-const REFUSED: [(u8, u8, usize, u32, bool); 28] = [
-    // open(2): ENOENT, and what says nothing of the tree
-    (1, 0, 0, 2, true),
-    (1, 0, 0, 13, false),
-    (1, 0, 0, 24, false),
-    (1, 0, 0, 0, false),
-    (3, 0, 0, 2, true),
-    // readlink(2): EINVAL of what is no link
-    (4, 0, 0, 22, true),
-    (4, 0, 0, 2, false),
-    // mkdir(2), mknod(2), symlink(2): ENOENT, EEXIST; ENOSPC and EROFS aren't of a name
-    (8, 0, 0, 2, true),
-    (8, 0, 0, 17, true),
-    (9, 0, 0, 17, true),
-    (9, 0, 0, 28, false),
-    (10, 0, 1, 17, true),
-    (10, 0, 1, 30, false),
-    (10, 0, 4095, 36, false),
-    (10, 0, 4096, 36, true),
-    (8, 0, 4096, 36, false),
-    // unlink(2): EISDIR; rmdir(2): ENOTDIR, ENOTEMPTY, but no EBUSY of a mount
-    (11, 0, 0, 21, true),
-    (11, 0, 0, 20, false),
-    (12, 0, 0, 20, true),
-    (12, 0, 0, 39, true),
-    (12, 0, 0, 16, false),
-    // renameat2(2): a directory in a file's place, and the other way round; RENAME_NOREPLACE; RENAME_EXCHANGE
-    (13, 0, 0, 20, true),
-    (13, 0, 0, 21, true),
-    (13, 0, 0, 17, false),
-    (13, 1, 0, 17, true),
-    (13, 1, 0, 39, false),
-    (13, 2, 0, 17, false),
-    // Close
-    (7, 0, 0, 2, false),
-];
-
-#[test]
-fn errors_refuse_steps(rt: HostRuntime) -> Result<(), Fail> {
-    for (what, mode, text, error, wanted) in &REFUSED {
-        assert!(rt;
-            is_refusal(*what, *mode, *text, *error) == *wanted,
-            "{what} {error}"
-        );
     }
     Ok(())
 }

@@ -17,19 +17,14 @@ fn laws_of_whole_calls() {
 
 #[test]
 fn laws_of_single_steps() {
-    step_calls::opens_stood();
-    step_calls::parents_stood();
-    step_calls::there_stood();
-    step_calls::links_were_read();
-    step_calls::links_are_followed_by_leave();
-    step_calls::mounts_are_left_by_no_step();
-    step_calls::each_descriptor_is_closed_once();
-    step_calls::no_error_is_passed_over();
-    step_calls::changes_stood();
-    step_calls::renames_stood();
-    step_calls::a_change_is_made_once();
-    step_calls::refusals_are_the_steps_own();
-    step_calls::calls_are_few();
+    linux_steps::opens_stood();
+    linux_steps::parents_stood();
+    linux_steps::there_stood();
+    linux_steps::links_were_read();
+    linux_steps::dups_stood();
+    linux_steps::closes_stood();
+    linux_steps::changes_stood();
+    linux_steps::steps_keep_rules();
 }
 
 #[test]

@@ -16,6 +16,4 @@ mod single_steps;
 #[cfg(test)]
 mod step_dialogues;
 #[cfg(test)]
-mod steps;
-#[cfg(test)]
 mod talks;

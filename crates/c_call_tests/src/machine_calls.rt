@@ -51,7 +51,7 @@ fn gave(value: u32, error: u32, mode: u16, links: u32, file_system: u64) -> Answ
         error,
         links,
         mode,
-        has_mount: false,
+        has_mount: true,
     }
 }
 

@@ -1,19 +1,49 @@
-//! Single steps by answers that Linux gives, each as a dialogue.
+//! Single steps by answers that Linux gives, each as a dialogue; and how a change ends by what its system call gave.
 use dialogue::{Answer, Asked, Question};
-use linux_steps::{Ended, LinkEntry, There, dup_step, is_there, parent_step, read_link_step};
+use linux_steps::{
+    Ended, LinkEntry, There, change_ended, dup_step, is_there, open_step, parent_step,
+    read_link_step,
+};
+use path_text::{Errno, LentBytes, LentName};
 use std::process::Abort;
+use tree_model::{HandleNo, Kind, LentStep, Mode, StepOf};
 
 const ENOENT: u32 = 2;
 
+const EINTR: u32 = 4;
+
+const EIO: u32 = 5;
+
 const EAGAIN: u32 = 11;
+
+const EACCES: u32 = 13;
 
 const EXDEV: u32 = 18;
 
+const ENOTDIR: u32 = 20;
+
+const EINVAL: u32 = 22;
+
+const EMFILE: u32 = 24;
+
+const ENOSYS: u32 = 38;
+
 const ELOOP: u32 = 40;
+
+// <linux/magic.h>
+const EXT4: u64 = 0xef53;
 
 const PROC: u64 = 0x9fa0;
 
 const OVERLAYFS: u64 = 0x794c_7630;
+
+const KEEP_LINKS: [u64; 5] = [
+    OVERLAYFS,
+    0x0027_e0eb,
+    0x6367_7270,
+    0x0765_5821,
+    0x9123_683e,
+];
 
 fn gave(value: u32, error: u32, links: u32, file_system: u64) -> Answer {
     Answer {
@@ -26,8 +56,8 @@ fn gave(value: u32, error: u32, links: u32, file_system: u64) -> Answer {
         value,
         error,
         links,
-        mode: 0,
-        has_mount: false,
+        mode: 0o100644,
+        has_mount: true,
     }
 }
 
@@ -54,6 +84,81 @@ fn unmade(rt: &impl Abort, ended: Asked<'_, Ended>, error: u32) {
     }
 }
 
+fn refused(rt: &impl Abort, ended: Asked<'_, Ended>, error: Errno) {
+    match ended {
+        Ok(Ended::Refused(why)) => assert_eq!(rt; why, error),
+        other => panic!(rt; "{other:?}"),
+    }
+}
+
+// It is open by the descriptor 7.
+fn is_open(rt: &impl Abort, ended: Asked<'_, Ended>, kind: Kind) {
+    match ended {
+        Ok(Ended::Opened(7, found)) => assert_eq!(rt; found, kind),
+        other => panic!(rt; "{other:?}"),
+    }
+}
+
+fn open(answers: &[Answer]) -> Asked<'static, Ended> {
+    open_step(&mut &answers[..], 3, b"f", true)
+}
+
+// openat2(2): ENOTDIR of what is no directory; statx(2) says what it is.
+#[test]
+fn names_are_opened(rt: HostRuntime) {
+    match open(&[fails(EINTR)]) {
+        Err(Question::OpenName(3, b"f", how)) => {
+            assert!(&rt;
+                how.path && how.directory && how.no_follow && how.no_xdev,
+                "{how:?}"
+            );
+        }
+        other => panic!(&rt; "{other:?}"),
+    }
+    is_open(&rt, open(&[opened(7)]), Kind::Dir);
+    refused(&rt, open(&[fails(ENOENT)]), Errno::NotFound);
+    match open(&[fails(ENOTDIR)]) {
+        Err(Question::OpenName(3, b"f", how)) => assert!(&rt; !how.directory && how.no_xdev),
+        other => panic!(&rt; "{other:?}"),
+    }
+    unmade(&rt, open(&[fails(ENOTDIR), fails(ENOTDIR)]), ENOTDIR);
+    is_open(
+        &rt,
+        open(&[fails(ENOTDIR), opened(7), on(EXT4)]),
+        Kind::File,
+    );
+    match open(&[fails(ENOTDIR), opened(7), fails(EIO)]) {
+        Err(Question::Close(7)) => (),
+        other => panic!(&rt; "{other:?}"),
+    }
+    unmade(
+        &rt,
+        open(&[fails(ENOTDIR), opened(7), fails(EIO), on(0)]),
+        EIO,
+    );
+    // no number of the mount
+    let unnumbered = Answer {
+        has_mount: false,
+        ..on(EXT4)
+    };
+    unmade(
+        &rt,
+        open(&[fails(ENOTDIR), opened(7), unnumbered, on(0)]),
+        ENOSYS,
+    );
+}
+
+// openat2(2): EMFILE, EXDEV, EACCES.
+#[test]
+fn other_errors_end_a_step(rt: HostRuntime) {
+    for error in &[EMFILE, EXDEV, EACCES] {
+        let failed = [fails(*error)];
+        unmade(&rt, open(&failed), *error);
+        unmade(&rt, dup_step(&mut failed.as_slice(), 3, true), *error);
+        unmade(&rt, parent_step(&mut failed.as_slice(), 3, true), *error);
+    }
+}
+
 #[test]
 fn a_directory_is_opened_once_more(rt: HostRuntime) {
     let none: [Answer; 0] = [];
@@ -63,74 +168,218 @@ fn a_directory_is_opened_once_more(rt: HostRuntime) {
         }
         other => panic!(&rt; "{other:?}"),
     }
-    match dup_step(&mut [opened(7)].as_slice(), 3, true) {
-        Ok(Ended::Opened(7, _)) => (),
-        other => panic!(&rt; "{other:?}"),
-    }
-    unmade(
+    is_open(
         &rt,
-        dup_step(&mut [fails(EXDEV)].as_slice(), 3, true),
-        EXDEV,
+        dup_step(&mut [opened(7)].as_slice(), 3, true),
+        Kind::Dir,
     );
+}
+
+fn asked(answers: &[Answer]) -> Asked<'static, There> {
+    is_there(&mut &answers[..], 3)
 }
 
 #[test]
 fn a_directory_is_there_by_its_links(rt: HostRuntime) {
-    match is_there(&mut [linked(2), on(0)].as_slice(), 3) {
-        Ok(There::Yes) => (),
-        other => panic!(&rt; "{other:?}"),
+    assert!(&rt; matches!(asked(&[linked(2), on(EXT4)]), Ok(There::Yes)));
+    assert!(&rt; matches!(asked(&[linked(0)]), Ok(There::No)));
+    assert!(&rt; matches!(asked(&[fails(EIO)]), Ok(There::Fails(EIO))));
+    assert!(&rt; matches!(asked(&[linked(2), fails(EIO)]), Ok(There::Unknown)));
+}
+
+// rmdir(2), getdents64(2): ENOENT of a removed directory.
+#[test]
+fn a_directory_that_keeps_links_is_read(rt: HostRuntime) {
+    for file_system in &KEEP_LINKS {
+        let (links, layers) = (linked(2), on(*file_system));
+        match asked(&[links, layers]) {
+            Err(Question::OpenSame(3, how)) => assert!(&rt; !how.path && how.directory),
+            other => panic!(&rt; "{other:?}"),
+        }
+        assert!(&rt; matches!(asked(&[links, layers, fails(ENOENT)]), Ok(There::No)));
+        assert!(&rt; matches!(asked(&[links, layers, fails(EACCES)]), Ok(There::Unknown)));
+        for (error, told) in &[(0, 1), (ENOENT, 2), (EIO, 3)] {
+            let read = [links, layers, opened(8), fails(*error)];
+            assert!(&rt; matches!(asked(&read), Err(Question::Close(8))));
+            let there = match asked(&[links, layers, opened(8), fails(*error), on(0)]) {
+                Ok(There::Yes) => 1,
+                Ok(There::No) => 2,
+                Ok(There::Unknown) => 3,
+                _ => 0,
+            };
+            assert_eq!(&rt; there, *told);
+        }
     }
-    match is_there(&mut [linked(0)].as_slice(), 3) {
-        Ok(There::No) => (),
-        other => panic!(&rt; "{other:?}"),
-    }
-    let layered = [
-        linked(2),
-        on(OVERLAYFS),
-        opened(8),
-        fails(ENOENT),
-        opened(0),
-    ];
-    match is_there(&mut layered.as_slice(), 3) {
-        Ok(There::No) => (),
-        other => panic!(&rt; "{other:?}"),
-    }
+}
+
+fn above(answers: &[Answer]) -> Asked<'static, Ended> {
+    parent_step(&mut &answers[..], 3, false)
 }
 
 #[test]
 fn the_directory_above_is_opened(rt: HostRuntime) {
-    match parent_step(&mut [opened(7), linked(2), on(0)].as_slice(), 3, false) {
-        Ok(Ended::Opened(7, _)) => (),
-        other => panic!(&rt; "{other:?}"),
-    }
-    match parent_step(&mut [opened(7), linked(0)].as_slice(), 3, false) {
+    is_open(&rt, above(&[opened(7), linked(2), on(EXT4)]), Kind::Dir);
+    is_open(&rt, above(&[opened(7), linked(2), fails(EIO)]), Kind::Dir);
+    match above(&[opened(7), linked(0)]) {
         Err(Question::Close(7)) => (),
         other => panic!(&rt; "{other:?}"),
     }
-    let left = [fails(ENOENT), linked(2), on(0)];
-    unmade(&rt, parent_step(&mut left.as_slice(), 3, false), EAGAIN);
+    refused(&rt, above(&[opened(7), linked(0), on(0)]), Errno::NotFound);
+    unmade(&rt, above(&[opened(7), fails(EIO), on(0)]), EIO);
+    unmade(&rt, above(&[fails(ENOENT), linked(2), on(EXT4)]), EAGAIN);
+    refused(&rt, above(&[fails(ENOENT), linked(0)]), Errno::NotFound);
 }
 
+fn read(answers: &[Answer], is_link: bool) -> Asked<'static, Ended> {
+    let entry = LinkEntry {
+        dir: 3,
+        name: b"exe",
+    };
+    read_link_step(&mut &answers[..], 7, is_link, Some(entry))
+}
+
+// readlink(2); mount(8), nosymfollow.
 #[test]
 fn a_links_text_is_read(rt: HostRuntime) {
-    match read_link_step(&mut [on(0), on(0), opened(4)].as_slice(), 7, true, None) {
+    match read(&[on(EXT4), on(EXT4), opened(4)], true) {
         Ok(Ended::Text(4)) => (),
         other => panic!(&rt; "{other:?}"),
     }
+    let unfollowed = Answer {
+        flags: 0x2000,
+        ..on(EXT4)
+    };
+    unmade(&rt, read(&[unfollowed], true), ELOOP);
+    unmade(&rt, read(&[fails(EIO)], true), EIO);
+    unmade(
+        &rt,
+        read(&[on(EXT4), on(EXT4), fails(EINVAL)], true),
+        EINVAL,
+    );
+    refused(
+        &rt,
+        read(&[on(EXT4), on(EXT4), fails(ENOENT)], false),
+        Errno::Invalid,
+    );
+    unmade(&rt, read(&[on(EXT4), on(EXT4), fails(EIO)], false), EIO);
+}
+
+// openat2(2), RESOLVE_NO_MAGICLINKS: ELOOP. Each link that is read is followed.
+#[test]
+fn magic_links_are_not_read(rt: HostRuntime) {
     let magic = [on(PROC), on(PROC)];
     unmade(
         &rt,
         read_link_step(&mut magic.as_slice(), 7, true, None),
         ELOOP,
     );
-    let entry = LinkEntry {
-        dir: 3,
-        name: b"exe",
-    };
-    let refused = [on(PROC), on(PROC), fails(ELOOP)];
+    match read(&magic, true) {
+        Err(Question::OpenName(3, b"exe", how)) => assert!(&rt; !how.no_follow, "{how:?}"),
+        other => panic!(&rt; "{other:?}"),
+    }
+    for (error, why) in &[
+        (ELOOP, ELOOP),
+        (ENOSYS, ELOOP),
+        (EMFILE, EMFILE),
+        (ENOENT, ENOENT),
+    ] {
+        unmade(&rt, read(&[on(PROC), on(PROC), fails(*error)], true), *why);
+    }
+    for error in &[EXDEV, ENOTDIR] {
+        let led = read(&[on(PROC), on(PROC), fails(*error)], true);
+        assert!(&rt; matches!(led, Err(Question::ReadLink(7))), "{led:?}");
+    }
+    let led = read(&[on(PROC), on(PROC), opened(9)], true);
+    assert!(&rt; matches!(led, Err(Question::Close(9))), "{led:?}");
+}
+
+// By its number: Open, List, MakeDir to RemoveDir, and Rename by each mode.
+fn step(number: u8, text: &[u8]) -> LentStep<'_> {
+    let (dir, name) = (HandleNo::new(3), LentName::of(b"n"));
+    match number {
+        1 => StepOf::Open(dir, name),
+        8 => StepOf::MakeDir(dir, name),
+        9 => StepOf::MakeFile(dir, name),
+        10 => StepOf::MakeLink(dir, name, LentBytes::of(text)),
+        11 => StepOf::RemoveFile(dir, name),
+        12 => StepOf::RemoveDir(dir, name),
+        13 => StepOf::Rename(dir, name, HandleNo::new(4), LentName::of(b"m"), Mode::Plain),
+        14 => StepOf::Rename(
+            dir,
+            name,
+            HandleNo::new(4),
+            LentName::of(b"m"),
+            Mode::NoReplace,
+        ),
+        15 => StepOf::Rename(
+            dir,
+            name,
+            HandleNo::new(4),
+            LentName::of(b"m"),
+            Mode::Exchange,
+        ),
+        _ => StepOf::List(dir),
+    }
+}
+
+/// A step's number, an error, and by which error that refuses the step.
+const ENDED: [(u8, u32, Option<Errno>); 21] = [
+    // mkdir(2), mknod(2), symlink(2): ENOENT, EEXIST; ENOSPC, EROFS and EINTR aren't of a name
+    (8, 2, Some(Errno::NotFound)),
+    (8, 17, Some(Errno::Exists)),
+    (8, 4, None),
+    (8, 36, None),
+    (9, 17, Some(Errno::Exists)),
+    (9, 28, None),
+    (10, 17, Some(Errno::Exists)),
+    (10, 30, None),
+    // unlink(2): EISDIR; rmdir(2): ENOTDIR, ENOTEMPTY, but no EBUSY of a mount
+    (11, 2, Some(Errno::NotFound)),
+    (11, 21, Some(Errno::IsDir)),
+    (11, 20, None),
+    (12, 20, Some(Errno::NotDir)),
+    (12, 39, Some(Errno::NotEmpty)),
+    (12, 16, None),
+    // renameat2(2): a directory in a file's place, and the other way round; RENAME_NOREPLACE; RENAME_EXCHANGE
+    (13, 20, Some(Errno::NotDir)),
+    (13, 21, Some(Errno::IsDir)),
+    (13, 39, Some(Errno::NotEmpty)),
+    (13, 17, None),
+    (14, 17, Some(Errno::Exists)),
+    (14, 39, None),
+    (15, 17, None),
+];
+
+#[test]
+fn changes_end_by_their_error(rt: HostRuntime) {
+    for (number, error, wanted) in &ENDED {
+        let change = step(*number, b"t");
+        assert!(&rt; matches!(change_ended(&change, false, 0), Ended::Done));
+        match (change_ended(&change, false, *error), wanted) {
+            (Ended::Refused(why), Some(wanted)) => assert_eq!(&rt; why, *wanted),
+            (Ended::Unmade(why), None) => assert_eq!(&rt; why, *error),
+            other => panic!(&rt; "{number} {other:?}"),
+        }
+    }
+}
+
+// symlink(2): ENAMETOOLONG of the text. linkat(2): ENOENT may be the object's.
+#[test]
+fn texts_and_second_names_have_their_errors(rt: HostRuntime) {
+    let text = [b't'; 4096];
+    match change_ended(&step(10, &text), false, 36) {
+        Ended::Refused(Errno::TooLong) => (),
+        other => panic!(&rt; "{other:?}"),
+    }
     unmade(
         &rt,
-        read_link_step(&mut refused.as_slice(), 7, true, Some(entry)),
-        ELOOP,
+        Ok(change_ended(&step(10, &text[..4095]), false, 36)),
+        36,
+    );
+    unmade(&rt, Ok(change_ended(&step(9, b""), true, ENOENT)), ENOENT);
+    refused(
+        &rt,
+        Ok(change_ended(&step(9, b""), true, 17)),
+        Errno::Exists,
     );
 }

@@ -3,9 +3,9 @@ use crate::by_proc::{Act, by_proc};
 use crate::inner::refused;
 use crate::request::{Reply, Request, SET_ATTRIBUTE, told, value};
 use crate::steps;
-use crate::walk::look_error;
 use dialogue::{Answer, Asked, Question, ask};
 use find_proc::Known;
+use linux_steps::look_error;
 use system_calls::errors::{EBADF, EINVAL, EOPNOTSUPP, ERANGE};
 use system_calls::{kind_of, reopen_flags};
 

@@ -4,11 +4,12 @@ use crate::inner::{blamed, by_steps, carry_out, fault_of, refused};
 use crate::path::{Texts, front};
 use crate::request::*;
 use crate::steps;
-use crate::walk::{Below, DIRECTORY, EXACT, FOLLOW, GIVE, NO_RETRY, NOFOLLOW, has, look_error};
+use crate::walk::{Below, DIRECTORY, EXACT, FOLLOW, GIVE, NO_RETRY, NOFOLLOW, has};
 use ask_place::next_question;
 use dialogue::{Answer, Asked, Question, ask};
 use find_proc::Known;
 use kernel_walks::split;
+use linux_steps::look_error;
 use system_calls::errors::{EINVAL, ENOENT};
 use system_calls::{is_node, kind_of};
 

@@ -128,7 +128,12 @@ const FAILS: u8 = 33;
 fn flags_of(machine: &MachineFlags, how: &How) -> u64 {
     let path = if how.path { O_PATH } else { 0 };
     let directory = if how.directory { machine.directory } else { 0 };
-    let nofollow = if how.no_follow { machine.nofollow } else { 0 };
+    // What is opened to be read is no link.
+    let nofollow = if how.path && how.no_follow {
+        machine.nofollow
+    } else {
+        0
+    };
     (O_CLOEXEC | path | directory | nofollow) as u64
 }
 
@@ -139,11 +144,12 @@ fn resolve_of(how: &How) -> u64 {
 }
 
 fn by_how(machine: &MachineFlags, dir: u32, how: &How) -> Due {
+    let resolve = resolve_of(how);
     Due {
-        what: OPENAT2,
+        what: if resolve == 0 { OPENAT } else { OPENAT2 },
         fd: dir,
         number: flags_of(machine, how),
-        resolve: resolve_of(how),
+        resolve,
         again: true,
         ..NOTHING
     }

@@ -6,9 +6,10 @@ use crate::request::{
     Beside, MKDIR, MKFILE, RESOLVE_NOFOLLOW, RMDIR, Reply, Request, SYMLINK, Tried, UNLINK, value,
 };
 use crate::steps;
-use crate::walk::{Below, O_PATH, look_error, look_up, walk};
+use crate::walk::{Below, O_PATH, look_up, walk};
 use dialogue::{Answer, Asked, Question, ask};
 use find_proc::{Known, has_floor};
+use linux_steps::look_error;
 use path_text::TEXT_MAX;
 use system_calls::errors::{EEXIST, ENOENT};
 use system_calls::kind_of;

@@ -5,9 +5,10 @@ use crate::inner::{blamed, carry_out, fault_of};
 use crate::path::Texts;
 use crate::request::*;
 use crate::steps;
-use crate::walk::{Below, EXACT, NO_LINKS, NO_RETRY, O_PATH, has, look_error, walk};
+use crate::walk::{Below, EXACT, NO_LINKS, NO_RETRY, O_PATH, has, walk};
 use dialogue::{Answer, Asked, Question, ask};
 use find_proc::Known;
+use linux_steps::look_error;
 use open_or_make::{Course, FIND, begin, request_of};
 use system_calls::{
     MachineFlags, Opening, USE_FAILS, USE_GIVES, USE_MAKES, USE_REOPENS, kind_of, opening_of,

@@ -5,9 +5,10 @@ use crate::entry::parts;
 use crate::path::PathOf;
 use crate::request::{Reply, Request, value};
 use crate::steps;
-use crate::walk::{O_CLOEXEC, O_PATH, has, look_error, opened};
+use crate::walk::{O_CLOEXEC, O_PATH, has, opened};
 use dialogue::{Answer, Asked, Question, ask};
 use find_proc::{Known, Proc, find};
+use linux_steps::look_error;
 use system_calls::errors::{EAGAIN, EINVAL, ELOOP, ENOENT, ENOSYS, EXDEV};
 use system_calls::{kind_of, reopen_flags};
 

@@ -55,16 +55,6 @@ pub(crate) fn has(flags: u32, flag: u32) -> bool {
     flags & flag != 0
 }
 
-/// Why statx(2) told nothing of an object, or 0. If a filter refuses statx(2), a C library may give what fstat(2) says;
-/// or a filter says that the call was made, which then was not.
-pub(crate) fn look_error(about: &Answer) -> u32 {
-    if about.error == 0 && !about.has_mount {
-        ENOSYS
-    } else {
-        about.error
-    }
-}
-
 #[inline(always)]
 fn bit(holds: bool, bits: u32) -> u32 {
     if holds { bits } else { 0 }
@@ -102,7 +92,19 @@ fn may_walk(at: &Below<'_>) -> bool {
     !is_slashes(text) && follows_at_once(flags, text)
 }
 
-/// openat2(2). An error that a filter may give has the thread forget that the kernel has it.
+/// An error of openat2(2) that a filter may give has the thread forget that the kernel has openat2(2).
+#[inline(always)]
+pub(crate) fn forget<'n>(answers: &mut &[Answer], known: &mut Known, error: u32) -> Asked<'n, ()> {
+    if error == ENOSYS || error == EPERM || error == EACCES {
+        if known.has_floor {
+            ask(answers, Question::Know(false))?;
+        }
+        known.has_floor = false;
+    }
+    Ok(())
+}
+
+/// openat2(2).
 #[inline(always)]
 pub(crate) fn opened<'n>(
     answers: &mut &[Answer],
@@ -113,12 +115,7 @@ pub(crate) fn opened<'n>(
     if opened.error == 0 {
         return Ok(Ok(opened.value));
     }
-    if opened.error == ENOSYS || opened.error == EPERM || opened.error == EACCES {
-        if known.has_floor {
-            ask(answers, Question::Know(false))?;
-        }
-        known.has_floor = false;
-    }
+    forget(answers, known, opened.error)?;
     Ok(Err(opened.error))
 }
 

@@ -7,7 +7,7 @@ use Rattle.dialogue.specs.Dialogue.{SystemCall, closes, open_above, open_name, o
 use Rattle.dialogue.specs.Holds.{EachHolds, Watch}
 use Rattle.dialogue.specs.declared.calls.Answer.{Answer}
 use Rattle.dialogue.specs.declared.calls.How.{How}
-use Rattle.linux_steps.specs.Steps.{Entry, dup_step, has_followed, has_magic, is_ordinary, open_step, parent_step, read_link_step, stat_error, there}
+use Rattle.linux_steps.specs.Steps.{Entry, dup_step, has_followed, has_magic, is_ordinary, open_step, parent_step, read_link_step, look_error, there}
 use Rattle.linux_steps.specs.declared.ended.Ended.{Ended}
 use Rattle.linux_steps.specs.declared.ended.Ended.TheVariants.{Opened, Text, Done, Refused, Unmade}
 use Rattle.linux_steps.specs.declared.ended.There.{There}
@@ -33,7 +33,7 @@ is_no_error (open_name dir name how) a =
     (a.error == 0) || (if how.no_follow then how.directory && (a.error == ENOTDIR) else is_ordinary a.error)
 is_no_error (open_same dir how) a = (a.error == 0) || (not how.path && not (a.error == ENOENT))
 is_no_error (open_above dir how) a = a.error == 0
-is_no_error (stats fd) a = stat_error a == 0
+is_no_error (stats fd) a = look_error a == 0
 is_no_error (reads_entries fd) a = not (a.error == ENOENT)
 is_no_error (reads_link fd) a = a.error == 0
 is_no_error q a = true

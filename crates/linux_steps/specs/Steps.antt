@@ -37,8 +37,8 @@ unfoldable pub closing : ℕ → Dialogue (Unit {0})
 closing fd = and_then (calling (closes fd)) (λ a. ends tt)
 
 -- statx(2): with the number of the mount. If a filter refuses statx(2), a C library may give what fstat(2) says.
-abbrev pub stat_error : Answer → ℕ
-stat_error a = if (a.error == 0) && not a.has_mount then ENOSYS else a.error
+abbrev pub look_error : Answer → ℕ
+look_error a = if (a.error == 0) && not a.has_mount then ENOSYS else a.error
 
 -- inode(7)
 abbrev pub kind_by_mode : ℕ → Kind
@@ -51,8 +51,8 @@ missing error = if error == ENOENT then Refused NotFound else Unmade error
 
 abbrev pub kind_told : ℕ → Answer → Dialogue Ended
 kind_told fd a =
-    if stat_error a == 0 then ends (Opened fd (kind_by_mode a.mode))
-    else and_then (closing fd) (λ _. ends (Unmade (stat_error a)))
+    if look_error a == 0 then ends (Opened fd (kind_by_mode a.mode))
+    else and_then (closing fd) (λ _. ends (Unmade (look_error a)))
 
 unfoldable pub by_kind : ℕ → Dialogue Ended
 by_kind fd = and_then (calling (stats fd)) (kind_told fd)
@@ -132,7 +132,7 @@ by_file_system dir = and_then (calling (stats_file_system dir)) (file_system_tol
 
 abbrev pub links_told : ℕ → Answer → Dialogue There
 links_told dir a =
-    if not (stat_error a == 0) then ends (Fails (stat_error a))
+    if not (look_error a == 0) then ends (Fails (look_error a))
     else (if a.links == 0 then ends No else by_file_system dir)
 
 unfoldable pub there : ℕ → Dialogue There

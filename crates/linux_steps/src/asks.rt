@@ -1,7 +1,7 @@
 //! What each step asks for.
 ghost use Rattle.std.specs.Prelude.{◌≡◌};
 ghost use Rattle.dialogue.specs.Dialogue.{asked_of, ran, ran_by};
-ghost use Rattle.linux_steps.specs.Steps.{by_path, closing, kind_by_mode, opening, stat_error};
+ghost use Rattle.linux_steps.specs.Steps.{by_path, closing, kind_by_mode, opening, look_error};
 
 use dialogue::{Answer, Asked, How, Question, ask};
 use system_calls::errors::ENOSYS;
@@ -46,8 +46,8 @@ pub(crate) fn close<'n>(answers: &mut &[Answer], fd: u32) -> Asked<'n, ()>
 
 /// Why statx(2) told nothing of an object, or 0. If a filter refuses statx(2), a C library may give what fstat(2) says;
 /// or a filter says that the call was made, which then was not.
-pub fn stat_error(about: &Answer) -> u32
-    ensures { result ≡ stat_error about.now }
+pub fn look_error(about: &Answer) -> u32
+    ensures { result ≡ look_error about.now }
 {
     if about.error == 0 && !about.has_mount {
         ENOSYS

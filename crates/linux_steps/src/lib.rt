@@ -12,7 +12,7 @@ mod links;
 mod opens;
 mod parents;
 
-pub use asks::stat_error;
+pub use asks::look_error;
 pub use changes::change_ended;
 pub use ended::{Ended, There};
 pub use laws::{

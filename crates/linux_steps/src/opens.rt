@@ -3,7 +3,7 @@ ghost use Rattle.std.specs.Prelude.{◌≡◌};
 ghost use Rattle.dialogue.specs.Dialogue.{asked_of, ran, ran_by};
 ghost use Rattle.linux_steps.specs.Steps.{by_kind, close_step, dup_step, missing, open_any, open_step};
 
-use crate::asks::{by_path, close, kind_by_mode, opened, stat_error};
+use crate::asks::{by_path, close, kind_by_mode, opened, look_error};
 use crate::ended::Ended;
 use dialogue::{Answer, Asked, Question, ask};
 use path_text::Errno;
@@ -25,7 +25,7 @@ fn by_kind<'n>(answers: &mut &[Answer], fd: u32) -> Asked<'n, Ended>
     ensures { ran_by (λ x. x) asked_of result answers.new.now ≡ ran (by_kind fd) answers.old.now }
 {
     let about = ask(answers, Question::Stat(fd))?;
-    let error = stat_error(&about);
+    let error = look_error(&about);
     if error == 0 {
         return Ok(Ended::Opened(fd, kind_by_mode(about.mode)));
     }

@@ -3,7 +3,7 @@ ghost use Rattle.std.specs.Prelude.{◌≡◌};
 ghost use Rattle.dialogue.specs.Dialogue.{asked_of, ran, ran_by};
 ghost use Rattle.linux_steps.specs.Steps.{above_missing, by_entries, by_file_system, by_read, keeps_links, parent_step, there, to_read};
 
-use crate::asks::{by_path, close, opened, stat_error};
+use crate::asks::{by_path, close, opened, look_error};
 use crate::ended::{Ended, There};
 use dialogue::{Answer, Asked, How, Question, ask};
 use path_text::Errno;
@@ -86,7 +86,7 @@ pub fn is_there<'n>(answers: &mut &[Answer], dir: u32) -> Asked<'n, There>
     ensures { ran_by (λ x. x) asked_of result answers.new.now ≡ ran (there dir) answers.old.now }
 {
     let about = ask(answers, Question::Stat(dir))?;
-    let error = stat_error(&about);
+    let error = look_error(&about);
     if error != 0 {
         return Ok(There::Fails(error));
     }

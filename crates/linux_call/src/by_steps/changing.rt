@@ -1,5 +1,4 @@
 //! A step that changes an entry: the same system calls as where the kernel walks.
-use crate::by_steps::answers::refused;
 use crate::by_steps::slots::Handles;
 use crate::by_steps::state::{Part, Steps};
 use crate::change::{Change, make_change};
@@ -7,7 +6,8 @@ use crate::request::{RENAME as RENAMES, Reply};
 use crate::steps;
 use dialogue::{Answer, Asked};
 use find_proc::{Known, has_floor};
-use step_calls::{DONE, Facts, REFUSED, begin, next};
+use linux_steps::{Ended, change_ended};
+use std::alloc::Global;
 use system_calls::errors::{EIO, ENOSYS};
 use tree_model::{LentStep, StepOf};
 
@@ -71,24 +71,14 @@ impl Steps {
         Ok(self.changed_by(reply))
     }
 
-    fn facts_of_change(&self, what: u8) -> Facts {
-        Facts {
-            text: self.second.len(),
-            what,
-            mode: self.rename_mode(),
-            directory: false,
-            mount: false,
-            link: false,
-            second_name: self.request.linked,
-        }
-    }
-
     /// A change was made, or wasn't, for this error.
-    pub(crate) fn changed(&mut self, error: u32, made: Option<u32>, unopened: u32) {
+    pub(crate) fn changed(&mut self, alloc: Global, error: u32, made: Option<u32>, unopened: u32) {
         let what = self.attempt.step;
-        let facts = self.facts_of_change(what);
-        let course = next(&facts, begin(&facts), &crate::by_steps::there::plain(error));
-        let is_done = course.next == DONE;
+        let ended = match self.talk.step() {
+            Some(step) => change_ended(&step, self.request.linked, error),
+            None => Ended::Unmade(error),
+        };
+        let is_done = error == 0;
         let removes = what == steps::REMOVE_FILE || what == steps::REMOVE_DIR;
         if self.attempt.counts {
             self.attempt.begun = true;
@@ -103,11 +93,7 @@ impl Steps {
         }
         if is_done {
             self.attempt.changed = true;
-            self.answer(tree_model::Answer::Done);
-        } else if course.next == REFUSED {
-            self.answer(refused(course.error));
-        } else {
-            self.unmade(course.error);
         }
+        self.made(alloc, ended, b"");
     }
 }

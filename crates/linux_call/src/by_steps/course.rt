@@ -2,26 +2,26 @@
 use crate::by_steps::slots::{ROOT, Slot};
 use crate::by_steps::state::{Ended, Part, Stage, Steps};
 use crate::by_steps::talk::Talk;
-use crate::by_steps::work::{make, open_anew};
+use crate::by_steps::work::{Work, make};
 use crate::path::front;
 use crate::request::{
     MKDIR, MKDIR_ALL, MKFILE, READ_TEXT, REMOVE_ALL, RENAME, RESOLVE, RESOLVE_NOFOLLOW, RMDIR,
     SYMLINK, UNLINK,
 };
 use crate::steps;
-use crate::walk::{BENEATH, NO_LINKS, has, look_error};
+use crate::walk::{BENEATH, NO_LINKS, has};
 use call_course::{
     ANOTHER_PROC, Answer, BEGIN, CLOSE, CLOSE_PROC, CONVERSE, ENDS, FAILS, LET_GO, LOOK_AT_PROC,
     LOOK_AT_ROOT, PLACE, TAKE, begin, next, take,
 };
 use dialogue::{Answer as Gave, Asked, Question, ask};
 use find_proc::{Known, Proc, find, is_lost};
+use linux_steps::{Ended as Made, look_error};
 use path_text::{Bytes, Errno, Flags};
 use place_protocol::BY_ROOT;
 use root_ops::{Op, Reply};
 use std::alloc::Global;
-use step_calls::OPENED;
-use system_calls::errors::ENOSYS;
+use system_calls::errors::{EIO, ENOSYS};
 use system_calls::kind_of;
 use tree_model::Mode;
 
@@ -70,12 +70,11 @@ impl Steps {
         if !taking.anew {
             return Ok(Part::Thing(0, slot.fd.unwrap_or(0) as u64));
         }
-        let work = open_anew(self.attempt.handles.fd(handle), self.request.flags);
-        let made = make(answers, known, &work)?;
-        Ok(if made.course.next == OPENED {
-            Part::Thing(0, made.fd as u64)
-        } else {
-            Part::Thing(made.course.error, 0)
+        let work = Work::Dup(self.attempt.handles.fd(handle));
+        Ok(match make(answers, known, self.request.flags, work)? {
+            Made::Opened(fd, _) => Part::Thing(0, fd as u64),
+            Made::Unmade(error) => Part::Thing(error, 0),
+            _ => Part::Thing(EIO, 0),
         })
     }
 

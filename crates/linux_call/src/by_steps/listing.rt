@@ -1,7 +1,7 @@
 //! The names of a directory's entries, in the order of their bytes, a slash before each. For a large directory they
 //! are a part: the others' turn comes when the call finds that it isn't empty.
-use crate::by_steps::there::open_to_read;
 use crate::path::piece;
+use crate::walk::O_CLOEXEC;
 use dialogue::{Answer, Asked, Question, ask};
 use kernel_text::sort_names;
 use list_directory::{CLOSE, ENDS, FAILS, Listing, OPEN, READ, SORT, begin, next};
@@ -46,7 +46,7 @@ impl Names {
         fd: u32,
     ) -> Asked<'s, (u32, u32)> {
         let gave = match self.course.next {
-            OPEN => open_to_read(answers, fd, directory)?,
+            OPEN => ask(answers, Question::Open(fd, b".", O_CLOEXEC | directory, 0))?,
             READ => ask(answers, Question::ReadEntries(self.dir))?,
             CLOSE => ask(answers, Question::Close(self.dir))?,
             _ => return Ok((0, 0)),

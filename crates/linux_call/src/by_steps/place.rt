@@ -3,10 +3,10 @@ use crate::by_steps::search::{Found, look_first};
 use crate::by_steps::slots::{ROOT, Slot};
 use crate::by_steps::state::{Ended, Part, Stage, Steps};
 use crate::by_steps::there::is_dead;
-use crate::walk::look_error;
 use ask_place::{Answer, CLOSE, COPY, DEAD, ENDS, FAILS, FIND, LOOK};
 use dialogue::{Answer as Gave, Asked, Question, ask};
 use find_proc::Known;
+use linux_steps::look_error;
 use place_protocol::{ASK, AT_ROOT, Held, LOOK_UP, SEEN_BELOW, before_questions, behind_look_up};
 use std::alloc::Global;
 use system_calls::kind_of;
@@ -142,7 +142,7 @@ impl Steps {
                 Ok(Part::Object(plain(copied.error), copied.value))
             }
             DEAD => {
-                let yes = is_dead(answers, known.machine.directory, copy)?;
+                let yes = is_dead(answers, copy)?;
                 Ok(Part::Object(Answer { yes, ..plain(0) }, 0))
             }
             CLOSE => {

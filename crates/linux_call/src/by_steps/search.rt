@@ -3,11 +3,10 @@ use crate::by_proc::proc_error;
 use crate::by_steps::slots::Slot;
 use crate::by_steps::there::may_be_dead;
 use crate::path::piece;
-use crate::walk::{
-    RESOLVE_BENEATH, RESOLVE_NO_MAGICLINKS, RESOLVE_NO_SYMLINKS, look_error, opened,
-};
+use crate::walk::{RESOLVE_BENEATH, RESOLVE_NO_MAGICLINKS, RESOLVE_NO_SYMLINKS, opened};
 use dialogue::{Answer as Gave, Asked, Question, ask};
 use find_proc::{Known, Proc, find};
+use linux_steps::look_error;
 use place_protocol::{Answer, BY_NAME, BY_ROOT, Facts, SEEN_BELOW, Told, begin, next};
 use std::alloc::Global;
 use system_calls::errors::{EAGAIN, ENOMEM};
@@ -226,7 +225,7 @@ impl Search {
             ROOT_LINK => read_link(answers, known, proc, self.root),
             OBJECT_LINK | LINK_AGAIN => read_link(answers, known, proc, self.held_fd()),
             LOOK_UP => self.look_up(answers, known),
-            _ => Ok(Found::Dead(may_be_dead(answers, known.machine.directory, self.held_fd())?)),
+            _ => Ok(Found::Dead(may_be_dead(answers, self.held_fd())?)),
         }
     }
 

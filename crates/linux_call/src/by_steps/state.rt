@@ -6,7 +6,6 @@ use crate::by_steps::removal::Removing;
 use crate::by_steps::search::{Found, Search};
 use crate::by_steps::slots::Slot;
 use crate::by_steps::talk::Talk;
-use crate::by_steps::work::Made;
 use crate::request::{FAILED, MKDIR_ALL, PLACE, REMOVE_ALL, Request};
 use crate::walk::{NO_RETRY, has};
 use ask_place::Asking;
@@ -51,7 +50,7 @@ pub(crate) enum Part {
     /// Another /proc.
     Another(Result<Proc, u32>),
     /// A step that opens something, or reads a link.
-    Made(Made),
+    Made(linux_steps::Ended),
     /// What comes first as a place is asked for, and what the look-up by the names has found.
     Before(u8, Option<u32>),
     /// A question about a place.
@@ -235,7 +234,7 @@ impl Steps {
             Part::Made(made) => self.made(alloc, made, read),
             Part::Before(next, found) => self.before_asked(alloc, next, found),
             Part::Listed(error, value) => self.listed(alloc, error, value, read),
-            Part::Changed(error, made, unopened) => self.changed(error, made, unopened),
+            Part::Changed(error, made, unopened) => self.changed(alloc, error, made, unopened),
             Part::Closed => self.closed(),
             Part::Unmade(error) => self.unmade(error),
         }

@@ -1,18 +1,18 @@
 //! Each step that a proved call asks for: what comes before its system calls, and what its end is to the call.
-use crate::by_steps::answers::{listed, names, opened, refused, text, unmade};
+use crate::by_steps::answers::{LINK, listed, names, number_of, opened, text, unmade};
 use crate::by_steps::attempt::Attempt;
 use crate::by_steps::listing::Names;
 use crate::by_steps::slots::Slot;
 use crate::by_steps::state::{Part, Stage, Steps};
-use crate::by_steps::work::{Made, Work, make, open_anew, open_name, open_parent, read_text};
+use crate::by_steps::work::{Work, make};
 use crate::path::piece;
 use dialogue::{Answer, Asked, Question, ask};
 use find_proc::Known;
+use linux_steps::{Ended, LinkEntry};
 use place_protocol::{BY_NAME, BY_PARENT, BY_ROOT};
 use std::alloc::Global;
-use step_calls::{DONE, LINK, OPENED, REFUSED, TEXT};
 use system_calls::errors::{EMFILE, ENFILE};
-use tree_model::{Answer as Answered, LentStep, StepOf};
+use tree_model::{Answer as Answered, Kind, LentStep, StepOf};
 
 // What comes before the system calls of a step.
 fn stage_of(attempt: &mut Attempt, listing: &mut Names, step: &LentStep<'_>) -> Stage {
@@ -54,13 +54,13 @@ impl Steps {
         let handles = &self.attempt.handles;
         let entry = match self.attempt.passed.entry_of(handle) {
             Some((dir, name)) => match handles.at(dir).fd {
-                Some(dir) => Some((dir, name)),
+                Some(dir) => Some(LinkEntry { dir, name }),
                 None => None,
             },
             None => None,
         };
         let is_link = handles.at(handle).kind == LINK;
-        read_text(handles.fd(handle), is_link, entry)
+        Work::ReadLink(handles.fd(handle), is_link, entry)
     }
 
     fn handle_closed<'s>(&'s self, answers: &mut &[Answer], handle: u64) -> Asked<'s, Part> {
@@ -83,9 +83,9 @@ impl Steps {
             None => return Ok(Part::Replied),
         };
         let work = match &step {
-            StepOf::Open(dir, name) => open_name(handles.fd(dir.number()), name.bytes(), flags),
-            StepOf::Dup(dir) => open_anew(handles.fd(dir.number()), flags),
-            StepOf::Parent(dir) => open_parent(handles.fd(dir.number()), flags),
+            StepOf::Open(dir, name) => Work::Open(handles.fd(dir.number()), name.bytes()),
+            StepOf::Dup(dir) => Work::Dup(handles.fd(dir.number())),
+            StepOf::Parent(dir) => Work::Parent(handles.fd(dir.number())),
             StepOf::ReadLink(link) => self.read_text_of(link.number()),
             StepOf::NameBelow(_, handle) => {
                 return self.before_due(known, answers, handle.number());
@@ -93,15 +93,14 @@ impl Steps {
             StepOf::Close(handle) => return self.handle_closed(answers, handle.number()),
             _ => return self.change_due(known, answers, &step, read),
         };
-        Ok(Part::Made(make(answers, known, &work)?))
+        Ok(Part::Made(make(answers, known, flags, work)?))
     }
 
     // ---- what came of it
 
-    fn opened(&mut self, made: &Made) -> Answered {
+    fn opened(&mut self, fd: u32, kind: Kind) -> Answered {
         let Steps { talk, attempt, .. } = self;
-        let kind = made.course.kind;
-        let slot = Slot::new(Some(made.fd), kind, BY_NAME);
+        let slot = Slot::new(Some(fd), number_of(kind), BY_NAME);
         let handle = match talk.step() {
             Some(StepOf::Open(dir, name)) => attempt.opened(dir.number(), name.bytes(), slot),
             Some(StepOf::Dup(_)) => attempt.handles.put(Slot {
@@ -116,17 +115,17 @@ impl Steps {
         opened(handle, kind)
     }
 
-    /// A step was made that opens something, or reads a link. READ: the text that was read last.
-    pub(crate) fn made(&mut self, alloc: Global, made: Made, read: &[u8]) {
-        match made.course.next {
-            OPENED => {
-                let answer = self.opened(&made);
+    /// A step ended so. READ: the text that was read last.
+    pub(crate) fn made(&mut self, alloc: Global, ended: Ended, read: &[u8]) {
+        match ended {
+            Ended::Opened(fd, kind) => {
+                let answer = self.opened(fd, kind);
                 self.answer(answer);
             }
-            TEXT => self.answer(text(alloc, piece(read, 0, made.length as usize))),
-            DONE => self.answer(Answered::Done),
-            REFUSED => self.answer(refused(made.course.error)),
-            _ => self.unmade(made.course.error),
+            Ended::Text(length) => self.answer(text(alloc, piece(read, 0, length as usize))),
+            Ended::Done => self.answer(Answered::Done),
+            Ended::Refused(error) => self.answer(Answered::Refused(error)),
+            Ended::Unmade(error) => self.unmade(error),
         }
     }
 
