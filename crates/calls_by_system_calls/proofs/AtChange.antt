@@ -16,7 +16,7 @@ use Rattle.tree_model.specs.StepWith.{StepWith}
 use Rattle.linux_steps.specs.Changes.{change_ended, ChangeStood, ChangesStood, IsExcepted}
 use Rattle.linux_steps.specs.declared.ended.Ended.{Ended}
 use Rattle.linux_steps.specs.declared.ended.Ended.TheVariants as ended
-use Rattle.linux_steps.proofs.ChangeLemmas.{changes-stood}
+use Rattle.linux_steps.proofs.RenameLemmas.{changes-stood}
 use Rattle.root_ops.specs.Renumbered.{Numbering, step_by, answer_by}
 use Rattle.calls_by_system_calls.specs.Linux.{Change, Linux, both_open, found_behind, state_at, with_change}
 use Rattle.calls_by_system_calls.specs.Changes.{IsChange, TellsChange}
