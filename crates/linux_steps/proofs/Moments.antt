@@ -2,7 +2,7 @@
 use Rattle.std.proofs.Common.{◌≡◌, ◌≢◌, ◌≤◌, ◌<◌, ℕ, zero, suc, ◌+◌, ◌-◌, List, [], ◌∷◌, ◌++◌, Bool, true, false, if◌then◌else◌, not, Result, Ok, Err, refl, sym, ap, subst, ◌∙◌, arith}
 use Rattle.std.specs.Prelude.{◌==◌, ◌&&◌, bit_and, Option, Some, None}
 use Rattle.std.proofs.lemmas.Bool.{eqb-true, false≢true}
-use Rattle.system_calls.specs.Errors.{EINTR, ENOENT}
+use Rattle.system_calls.specs.Errors.{EINTR, ENOENT, ENOSYS}
 use Rattle.tree_model.specs.declared.inode.Object.{Object}
 use Rattle.tree_model.specs.State.{object_at}
 use Rattle.tree_model.specs.StepWith.{StepWith}
@@ -13,7 +13,7 @@ use Rattle.dialogue.specs.declared.calls.How.{How}
 use Rattle.dialogue.proofs.PartLemmas.{Parts, parts, same_end}
 use Rattle.linux_steps.specs.Linux.{AreAnswers, Closes, IsLinux, IsTold, Linux, Looks, OpenSays, Opens, Same, Says, moment_behind}
 use Rattle.linux_steps.specs.Promises.{Answered, OneLess, OneMore, Unchanged}
-use Rattle.linux_steps.specs.Steps.{closing, opening, tried}
+use Rattle.linux_steps.specs.Steps.{closing, look_error, opening, tried}
 
 -- ---- rules
 
@@ -247,6 +247,15 @@ pub fails_at : (x : Linux) (m n now error : ℕ) (a : Answer) → now ≡ suc n 
     → error ≢ 0 → (a.error ≢ 0 → Same x n) → Unchanged x m now
 fails_at x m n now error a is same fails some left =
     subst (Unchanged x m) (sym is) (λ fd. left (λ none. some (sym fails ∙ none)) fd ∙ same fd)
+
+-- ---- statx(2)
+
+pub looks_well : (a : Answer) → look_error a ≡ 0 → a.error ≡ 0
+looks_well a is = by (a.error == 0) a.has_mount refl is
+  where
+    by : (b c : Bool) → (a.error == 0) ≡ b → (if b && not c then ENOSYS else a.error) ≡ 0 → a.error ≡ 0
+    by true c e k = eqb-true a.error 0 e
+    by false c e k = k
 
 -- ---- what stays
 

@@ -18,10 +18,10 @@ use Rattle.dialogue.specs.Dialogue.{Dialogue, SystemCall, and_then, calling, end
 use Rattle.dialogue.specs.declared.calls.Answer.{Answer}
 use Rattle.linux_steps.specs.Linux.{IsDirectory, IsLinux, Linux, Looks, StatSays}
 use Rattle.linux_steps.specs.Promises.{Answered, IsFound, OneLess, OneMore, OpenStood, OpensStood, Unchanged}
-use Rattle.linux_steps.specs.Steps.{any_opened, by_kind, by_path, closing, directory_opened, kind_told, missing, open_any, open_step, opening, kind_by_mode}
+use Rattle.linux_steps.specs.Steps.{any_opened, by_kind, by_path, closing, directory_opened, kind_told, look_error, missing, open_any, open_step, opening, kind_by_mode}
 use Rattle.linux_steps.specs.declared.ended.Ended.{Ended}
 use Rattle.linux_steps.specs.declared.ended.Ended.TheVariants.{Opened, Refused, Unmade}
-use Rattle.linux_steps.proofs.Moments.{Answers, Failed, Holds, Tried, back, both, called, choose, end, lets_go, looked, one_more, stays, still, tries, unchanged}
+use Rattle.linux_steps.proofs.Moments.{Answers, Failed, Holds, Tried, back, both, called, choose, end, lets_go, looked, looks_well, one_more, stays, still, tries, unchanged}
 use Rattle.linux_steps.proofs.Moments.{Opened as HasOpened}
 
 -- ---- the step table
@@ -138,15 +138,15 @@ unfolding moved
 kind_ends x m m1 now d name fd a e linux h =
     let same = looked x m1 h.n now fd h.is h.same h.says in
     let one = still x m m1 now fd e.node e.one same in
-    choose x now (a.error == 0) (ends (Opened fd (kind_by_mode a.mode))) _ (λ now end. OpenStood x m now d name end)
-    (λ is. let s = h.says.tells e.node (h.same fd ∙ e.one.is_on) (eqb-true a.error 0 is) in
+    choose x now (look_error a == 0) (ends (Opened fd (kind_by_mode a.mode))) _ (λ now end. OpenStood x m now d name end)
+    (λ is. let s = h.says.tells e.node (h.same fd ∙ e.one.is_on) (looks_well a (eqb-true (look_error a) 0 is)) in
     let was = stays x e.n (suc h.n) e.node e.what linux (omega (arith, e.by, h.after)) e.is in
     end x now (Opened fd (kind_by_mode a.mode)) (λ now end. OpenStood x m now d name end)
     (found x m now d name fd (kind_by_mode a.mode) (moved x m m1 now d name fd e one (omega (arith, e.by, h.after, h.is)))
     (s.kind ∙ ap kind_of (same_Some s.what e.what (sym s.is ∙ was)))))
-    (λ is. both x now (closing fd) (λ u. ends (Unmade a.error)) (λ last u. OneLess x now last fd)
+    (λ is. both x now (closing fd) (λ u. ends (Unmade (look_error a))) (λ last u. OneLess x now last fd)
     (λ now end. OpenStood x m now d name end) (lets_go x now fd)
-    (λ last u c. end x last (Unmade a.error) (λ now end. OpenStood x m now d name end)
+    (λ last u c. end x last (Unmade (look_error a)) (λ now end. OpenStood x m now d name end)
     (back x m now last fd e.node one c)))
 
 looks_at_kind : (x : Linux) (m m1 d : ℕ) (name : List ℕ) (fd : ℕ) → IsLinux x → Entered x m m1 d name fd

@@ -17,14 +17,14 @@ use Rattle.tree_model.specs.Steps.{outcome}
 use Rattle.dialogue.specs.Dialogue.{Dialogue, SystemCall, and_then, calling, ends, open_above, open_same, reads_entries, stats, stats_file_system}
 use Rattle.dialogue.specs.declared.calls.Answer.{Answer}
 use Rattle.dialogue.specs.declared.calls.How.{How}
-use Rattle.linux_steps.specs.Linux.{IsAbove, IsDirectory, IsGone, IsLinux, IsThere, Linux, Looks, ReadSays, StatSays}
-use Rattle.linux_steps.specs.Promises.{Answered, IsFound, OneLess, OneMore, ParentStood, ParentsStood, Unchanged, WasAbove}
-use Rattle.linux_steps.specs.Steps.{above_missing, above_opened, above_there, by_entries, by_file_system, by_path, by_read, closing, entries_opened, file_system_told, keeps_links, links_told, opening, parent_step, there, to_read}
+use Rattle.linux_steps.specs.Linux.{IsAbove, IsDirectory, IsGone, IsLinux, IsThere, Linux, Looks, ReadSays, StatSays, moment_behind}
+use Rattle.linux_steps.specs.Promises.{Answered, At, IsFound, OneLess, OneMore, ParentStood, ParentsStood, ThereStood, ThereTold, Unchanged, WasAbove}
+use Rattle.linux_steps.specs.Steps.{above_missing, above_opened, above_there, by_entries, by_file_system, by_path, by_read, closing, entries_opened, file_system_told, keeps_links, links_told, look_error, opening, parent_step, there, to_read}
 use Rattle.linux_steps.specs.declared.ended.Ended.{Ended}
 use Rattle.linux_steps.specs.declared.ended.Ended.TheVariants.{Opened, Refused, Unmade}
 use Rattle.linux_steps.specs.declared.ended.There.{There}
 use Rattle.linux_steps.specs.declared.ended.There.TheVariants.{Yes, No, Unknown, Fails}
-use Rattle.linux_steps.proofs.Moments.{Answers, Failed, Holds, Tried, answered_later, back, both, both_by, called, choose, end, fails_at, lets_go, looked, negative, not_zero, one_more, positive, stays, stays_open, still, tries, unchanged}
+use Rattle.linux_steps.proofs.Moments.{Answers, Failed, Holds, Tried, answered_later, back, both, both_by, called, choose, end, fails_at, lets_go, looked, looks_well, negative, not_zero, one_more, positive, stays, stays_open, still, tries, unchanged}
 use Rattle.linux_steps.proofs.Moments.{Opened as HasOpened}
 
 -- ---- what stays
@@ -45,13 +45,6 @@ gone_stays x n now d linux by is gone =
     subst (λ i. IsGone x i d) e (gone_by x n d (now - n) linux is gone)
 
 -- ---- whether it is there
-
--- it was so at a moment of the calls
-record At (Is : Linux → ℕ → ℕ → Type 0) (x : Linux) (m now d : ℕ) : Type 0 where
-  n : ℕ
-  after : m < n
-  by : n ≤ now
-  is : Is x n d
 
 abbrev TellsThere : Linux → ℕ → ℕ → ℕ → There → Type 0
 TellsThere x m now d Yes = At IsThere x m now d
@@ -200,9 +193,10 @@ links_end : (x : Linux) (m n0 now dir d : ℕ) (a : Answer) → IsLinux x → n0
 links_end x m n0 now dir d a linux before directory on h =
     let same = looked x m h.n now dir h.is h.same h.says in
     let on_time : m ≤ now = omega (arith, h.is, h.after) in
-    choose x now (not (a.error == 0)) (ends (Fails a.error)) _ (λ now t. ThereSo x m now d t)
-    (λ is. end x now (Fails a.error) (λ now t. ThereSo x m now d t) (on_time, same, tt))
-    (λ is. let says = h.says.tells d (h.same dir ∙ on) (eqb-true a.error 0 (positive (a.error == 0) is)) in
+    let error = look_error a in
+    choose x now (not (error == 0)) (ends (Fails error)) _ (λ now t. ThereSo x m now d t)
+    (λ is. end x now (Fails error) (λ now t. ThereSo x m now d t) (on_time, same, tt))
+    (λ is. let says = h.says.tells d (h.same dir ∙ on) (looks_well a (eqb-true error 0 (positive (error == 0) is))) in
     let dir_now = stays x n0 (suc h.n) d object.Dir linux (omega (arith, before, h.after)) directory in
     let what = same_Some says.what object.Dir (sym says.is ∙ dir_now) in
     choose x now (a.links == 0) (ends No) (by_file_system dir) (λ now t. ThereSo x m now d t)
@@ -226,6 +220,19 @@ there_so x m n0 dir d linux before directory on =
     both x m (calling (stats dir)) (links_told dir) (λ now a. Answers x m now (stats dir) a)
     (λ now t. ThereSo x m now d t) (called x m (stats dir))
     (λ now a h. links_end x m n0 now dir d a linux before directory on h)
+
+told_so : (x : Linux) (m now d : ℕ) (t : There) → IsLinux x → IsDirectory x m d → TellsThere x m now d t
+    → ThereTold x m now d t
+told_so x m now d Yes linux directory h = h
+told_so x m now d No linux directory h =
+    gone_stays x h.n now d linux h.by (stays x m h.n d object.Dir linux (omega (arith, h.after)) directory) h.is
+told_so x m now d Unknown linux directory h = h
+told_so x m now d (Fails error) linux directory h = tt
+
+pub there-stood : ThereStood
+there-stood x m dir d es t linux directory on says w =
+    let h = there_so x m m dir d linux (omega arith) directory on es t says w in
+    (h.1, told_so x m (moment_behind m es) d t linux directory h.2)
 
 -- ---- the step table
 
