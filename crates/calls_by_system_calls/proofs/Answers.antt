@@ -181,12 +181,23 @@ same_close t k d e =
 pub passed_name : (nodes : List Inode) (d : ℕ) (name : List ℕ) (c : ℕ) (what : Object) → is_dir nodes d ≡ true
     → child nodes d name ≡ Some c → object_at nodes c ≡ Some what
     → (outcome (alone nodes d) 0 (Open 0 name)).answer ≡ Opened 1 c (kind_of what)
-passed_name nodes d name c what dir entry is = simp (dir, entry, is)
+passed_name nodes d name c what dir entry is =
+    open_is (alone nodes d) 0 0 d name refl refl
+    ∙ ap (λ o. entered nodes d o 1) entry
+    ∙ ap (λ b. refuse_if (not b) (Refused NotDir) (found_at nodes c 1)) dir
+    ∙ ap (λ o. with_some o (Refused NotFound) (λ what. Opened 1 c (kind_of what))) is
 
 pub missing_name : (nodes : List Inode) (d : ℕ) (name : List ℕ) → is_dir nodes d ≡ true → child nodes d name ≡ None
     → (outcome (alone nodes d) 0 (Open 0 name)).answer ≡ Refused NotFound
-missing_name nodes d name dir entry = simp (dir, entry)
+missing_name nodes d name dir entry =
+    open_is (alone nodes d) 0 0 d name refl refl
+    ∙ ap (λ o. entered nodes d o 1) entry
+    ∙ ap (λ b. refuse_if (not b) (Refused NotDir) (Refused NotFound)) dir
 
 pub passed_up : (nodes : List Inode) (d c : ℕ) → is_dir nodes d ≡ true → parent nodes d ≡ Some c
     → object_at nodes c ≡ Some object.Dir → (outcome (alone nodes d) 0 (Parent 0)).answer ≡ Opened 1 c kind.Dir
-passed_up nodes d c dir above is = simp (dir, above, is)
+passed_up nodes d c dir above is =
+    parent_is (alone nodes d) 0 0 d refl refl
+    ∙ ap (λ o. entered nodes d o 1) above
+    ∙ ap (λ b. refuse_if (not b) (Refused NotDir) (found_at nodes c 1)) dir
+    ∙ ap (λ o. with_some o (Refused NotFound) (λ what. Opened 1 c (kind_of what))) is

@@ -129,21 +129,21 @@ module _ (x : Linux) (nodes : ℕ → ℕ) (m calls : ℕ) (table : Descriptors)
         tells_only only (leaves nodes table (step h) answer (is.other h)
         (λ j y k e. false≢true (sym (ap only_tells e) ∙ only)))
 
-    ended_so : (asks : Bool) (on : ℕ → ℕ → Option ℕ) (layered : ℕ → Bool) (text : ℕ → List ℕ) (end : Ended)
-        (answer : Answer) → Ends (seen x asks on layered text) (m + calls) d (step 0) answer end
-        → Tells nodes (on (m + calls)) (text (m + calls)) end answer → Made x nodes m calls table (step h) answer
-    ended_so asks on layered text (ended.Opened fd kind) (Opened j y k) stood told =
+    ended_so : (asks : Bool) (fds : ℕ → ℕ → Option ℕ) (layered : ℕ → Bool) (text : ℕ → List ℕ) (end : Ended)
+        (answer : Answer) → Ends (seen x asks fds layered text) (m + calls) d (step 0) answer end
+        → Tells nodes (fds (m + calls)) (text (m + calls)) end answer → Made x nodes m calls table (step h) answer
+    ended_so asks fds layered text (ended.Opened fd kind) (Opened j y k) stood told =
         let found = stood.1 in
         let same = same_Some found.node (nodes y) (sym found.one.is_on ∙ told.1) in
         at (Opened j y k) (opens j y k stood.0) found.stood.0 (omega (arith, found.stood.1)) found.stood.2
         (found.stood.3 ∙ same_opened found.node (nodes y) kind k same (sym told.0))
-    ended_so asks on layered text (ended.Text length) (Text bytes) stood told =
+    ended_so asks fds layered text (ended.Text length) (Text bytes) stood told =
         at (Text bytes) (tells (Text bytes) refl) stood.0 (omega (arith, stood.1)) stood.2 (stood.3 ∙ ap Text (sym told))
-    ended_so asks on layered text (ended.Refused error) (Refused why) stood told =
+    ended_so asks fds layered text (ended.Refused error) (Refused why) stood told =
         let refused = stood why refl in
         at (Refused why) (tells (Refused why) refl) refused.0 (omega (arith, refused.1)) refused.2
         (refused.3 ∙ ap Refused (sym told))
-    ended_so asks on layered text end answer stood told = absurd told
+    ended_so asks fds layered text end answer stood told = absurd told
 
     talked : (asks : Bool) (dialogue : ℕ → Dialogue Ended) (answer : Answer)
         → (talk : IsTalked x nodes m calls d asks dialogue answer)

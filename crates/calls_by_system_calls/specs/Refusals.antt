@@ -44,7 +44,8 @@ pub data IsLeftAside (s : State) (a : ℕ) (step : StepWith ℕ) (error : Errno)
   not_open : error ≡ BadHandle → IsLeftAside s a step error
   no_room : error ≡ TooMany → IsLeftAside s a step error
   no_directory : error ≡ NotDir → OnNoDirectory s a step → IsLeftAside s a step error
-  text_has_nul : (h : ℕ) (n text : List ℕ) → step ≡ steps.MakeLink h n text → error ≡ Invalid → IsLeftAside s a step error
+  text_has_nul : (h : ℕ) (n text : List ℕ) → step ≡ steps.MakeLink h n text → error ≡ Invalid
+      → IsLeftAside s a step error
   into_itself : (h : ℕ) (n : List ℕ) (k : ℕ) (m : List ℕ) (mode : Mode) → step ≡ steps.Rename h n k m mode
       → error ≡ Invalid → IsLeftAside s a step error
 
