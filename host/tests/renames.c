@@ -1,7 +1,7 @@
 /*
  * renames: what inroot_rename() does by each of its modes to an entry that is there already, and to one that isn't. By the
  * kernel's walk and with INROOT_EXACT. Its inode shows which object an entry leads to, and kind and device show a whiteout. And for
- * which of several reasons the kernel refuses a rename, as renames_stood of crates/step_calls has it.
+ * which of several reasons the kernel refuses a rename, as changes_stood of crates/linux_steps has it.
  *
  * usage: renames DIR. Exits 0 where each is as inroot.h says. 78: no whiteouts here, so that a part is left out.
  */

@@ -143,6 +143,7 @@ fn resolve_of(how: &How) -> u64 {
     (followed | no_xdev) as u64
 }
 
+// Without a bit of RESOLVE by openat(2), which each filter knows.
 fn by_how(machine: &MachineFlags, dir: u32, how: &How) -> Due {
     let resolve = resolve_of(how);
     Due {

@@ -1,5 +1,5 @@
 -- A change was made, or refused, as the step table has it in the tree that its one system call finds.
-use Rattle.std.proofs.Common.{◌≡◌, ◌<◌, ◌≤◌, ◌⊎◌, inl, inr, ℕ, List, Bool, true, false, if◌then◌else◌, not, length, Some, None, refl, ap, ◌∙◌, arith}
+use Rattle.std.proofs.Common.{◌≡◌, ◌<◌, inl, ℕ, List, Bool, true, false, if◌then◌else◌, not, length, Some, None, refl, ap, ◌∙◌, arith}
 use Rattle.std.specs.Prelude.{◌==◌, ◌&&◌, nat_le, nat_lt}
 use Rattle.std.proofs.lemmas.Bool.{eqb-true, leb-true, ltb-true, false_from_ne_true}
 use Rattle.path_text.specs.declared.errno.Errno.{Errno}
@@ -136,8 +136,8 @@ module _ (s : State) (a h : ℕ) (name : List ℕ) (d : IsIn s a h) where
   links second error text fine says =
       let it = MakeLink h name text in
       let same =
-          on_held s a h d.node (λ n. tree.changes s (refuse_by (text_fault text) (makes s.nodes n name (object.Link text)))) d.is_open
-          ∙ ap (λ o. (tree.changes s (refuse_by o (makes s.nodes d.node name (object.Link text)))).answer) fine in
+      on_held s a h d.node (λ n. tree.changes s (refuse_by (text_fault text) (makes s.nodes n name (object.Link text)))) d.is_open
+      ∙ ap (λ o. (tree.changes s (refuse_by o (makes s.nodes d.node name (object.Link text)))).answer) fine in
       ended s a it second error (was_made it (object.Link text) error says same)
       (if_elim (Stood s a it) ((error == ENAMETOOLONG) && nat_lt 4095 (length text)) (Refused TooLong) (not_made error)
       (λ b. absurd (too_long (error == ENAMETOOLONG) b))

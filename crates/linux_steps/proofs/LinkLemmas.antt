@@ -1,5 +1,5 @@
 -- A text that was read was the link's; a directory is opened once more; what is closed is closed.
-use Rattle.std.proofs.Common.{◌≡◌, ◌≢◌, ◌≤◌, ◌<◌, ℕ, suc, List, [], ◌∷◌, Bool, true, false, if◌then◌else◌, not, Result, Ok, Err, refl, sym, ap, subst, ◌∙◌, arith}
+use Rattle.std.proofs.Common.{◌≡◌, ◌≢◌, ◌≤◌, ℕ, suc, List, [], ◌∷◌, Bool, true, false, if◌then◌else◌, not, Result, Ok, Err, refl, sym, ap, subst, ◌∙◌, arith}
 use Rattle.std.specs.Prelude.{◌==◌, ◌&&◌, Option, Some, None}
 use Rattle.std.proofs.lemmas.Bool.{eqb-true}
 use Rattle.std.proofs.lemmas.Option.{same_Some}
@@ -13,15 +13,13 @@ use Rattle.tree_model.specs.declared.step.Kind.TheVariants as kind
 use Rattle.tree_model.specs.declared.step.StepOf.TheVariants.{Dup, ReadLink}
 use Rattle.tree_model.specs.State.{object_at}
 use Rattle.tree_model.specs.Steps.{outcome}
-use Rattle.dialogue.specs.Dialogue.{Dialogue, SystemCall, and_then, calling, ends, open_name, open_same, reads_link, stats_file_system}
+use Rattle.dialogue.specs.Dialogue.{calling, ends, open_name, open_same, reads_link, stats_file_system}
 use Rattle.dialogue.specs.declared.calls.Answer.{Answer}
-use Rattle.linux_steps.specs.Linux.{IsLinux, Linux}
-use Rattle.linux_steps.specs.Promises.{Answered, ClosesStood, DupStood, DupsStood, IsFound, LinkStood, LinksWereRead, OneLess, OneMore, Unchanged}
+use Rattle.linux_steps.specs.Linux.{Linux}
+use Rattle.linux_steps.specs.Promises.{ClosesStood, DupStood, DupsStood, LinkStood, LinksWereRead, OneLess, OneMore, Unchanged}
 use Rattle.linux_steps.specs.Steps.{Entry, by_entry, by_holder, by_kernel, by_path, close_step, closing, dup_opened, dup_step, follow_told, followed, has_followed, has_magic, holder_told, is_ordinary, kernel_looked, link_text, not_ordinary, not_read, opening, read_link_step, text_of}
-use Rattle.linux_steps.specs.declared.ended.Ended.{Ended}
-use Rattle.linux_steps.specs.declared.ended.Ended.TheVariants.{Opened, Text, Done, Refused, Unmade}
-use Rattle.linux_steps.proofs.Moments.{Answers, Failed, Holds, Tried, back, both, called, choose, end, fails_at, lets_go, looked, one_more, tries, unchanged}
-use Rattle.linux_steps.proofs.Moments.{Opened as HasOpened}
+use Rattle.linux_steps.specs.declared.ended.Ended.TheVariants.{Text, Done, Refused, Unmade}
+use Rattle.linux_steps.proofs.Moments.{Answers, Holds, Tried, back, both, called, choose, end, fails_at, lets_go, looked, one_more, tries, unchanged}
 
 -- ---- the step table
 

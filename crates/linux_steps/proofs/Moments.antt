@@ -1,17 +1,17 @@
 -- What holds behind each part of a dialogue, by what its answers say.
-use Rattle.std.proofs.Common.{◌≡◌, ◌≢◌, ◌≤◌, ◌<◌, ℕ, zero, suc, ◌+◌, ◌-◌, List, [], ◌∷◌, ◌++◌, Bool, true, false, if◌then◌else◌, not, Result, Ok, Err, refl, sym, ap, subst, ◌∙◌, arith}
+use Rattle.std.proofs.Common.{◌≡◌, ◌≢◌, ◌≤◌, ℕ, zero, suc, ◌+◌, ◌-◌, List, [], ◌∷◌, ◌++◌, Bool, true, false, if◌then◌else◌, not, Result, Ok, Err, refl, sym, ap, subst, ◌∙◌, arith}
 use Rattle.std.specs.Prelude.{◌==◌, ◌&&◌, bit_and, Option, Some, None}
 use Rattle.std.proofs.lemmas.Bool.{eqb-true, false≢true}
-use Rattle.system_calls.specs.Errors.{EINTR, ENOENT, ENOSYS}
+use Rattle.system_calls.specs.Errors.{EINTR, ENOSYS}
 use Rattle.tree_model.specs.declared.inode.Object.{Object}
 use Rattle.tree_model.specs.State.{object_at}
 use Rattle.tree_model.specs.StepWith.{StepWith}
 use Rattle.tree_model.specs.declared.answer.Answer.{Answer as StepAnswer}
-use Rattle.dialogue.specs.Dialogue.{Dialogue, Exchange, SystemCall, Talks, Whole, again, and_then, asks, behind, calling, closes, ends, open_above, open_name, open_same, reads_entries, reads_link, stats, stats_file_system, copies_proc, look_up, opens, O_PATH, reads_object_link, reads_thread, stats_name}
+use Rattle.dialogue.specs.Dialogue.{Dialogue, Exchange, SystemCall, Talks, Whole, again, and_then, asks, calling, closes, ends, open_above, open_name, open_same, reads_entries, reads_link, stats, stats_file_system, copies_proc, look_up, opens, O_PATH, reads_object_link, reads_thread, stats_name}
 use Rattle.dialogue.specs.declared.calls.Answer.{Answer}
 use Rattle.dialogue.specs.declared.calls.How.{How}
-use Rattle.dialogue.proofs.PartLemmas.{Parts, parts, same_end}
-use Rattle.linux_steps.specs.Linux.{AreAnswers, Closes, IsLinux, IsTold, Linux, Looks, OpenSays, Opens, Same, Says, moment_behind}
+use Rattle.dialogue.proofs.PartLemmas.{parts, same_end}
+use Rattle.linux_steps.specs.Linux.{AreAnswers, IsLinux, IsTold, Linux, Looks, Opens, Same, Says, moment_behind}
 use Rattle.linux_steps.specs.Promises.{Answered, OneLess, OneMore, Unchanged}
 use Rattle.linux_steps.specs.Steps.{closing, look_error, opening, tried}
 

@@ -1,6 +1,6 @@
 -- What is opened at a name was there.
-use Rattle.std.proofs.Common.{◌≡◌, ◌≢◌, ◌≤◌, ◌<◌, ℕ, suc, List, [], ◌∷◌, Bool, true, false, if◌then◌else◌, not, Result, Ok, Err, refl, sym, ap, subst, ◌∙◌, arith}
-use Rattle.std.specs.Prelude.{◌==◌, Option, Some, None}
+use Rattle.std.proofs.Common.{◌≡◌, ◌≤◌, ◌<◌, ℕ, suc, List, [], ◌∷◌, Bool, true, false, if◌then◌else◌, Result, Ok, Err, refl, sym, ap, subst, ◌∙◌, arith}
+use Rattle.std.specs.Prelude.{◌==◌, Some, None}
 use Rattle.std.proofs.lemmas.Bool.{eqb-true}
 use Rattle.std.proofs.lemmas.Option.{same_Some}
 use Rattle.path_text.specs.declared.errno.Errno.TheVariants.{NotFound}
@@ -14,12 +14,11 @@ use Rattle.tree_model.specs.declared.step.Kind.TheVariants as kind
 use Rattle.tree_model.specs.declared.step.StepOf.TheVariants.{Open}
 use Rattle.tree_model.specs.State.{child, object_at}
 use Rattle.tree_model.specs.Steps.{kind_of, outcome}
-use Rattle.dialogue.specs.Dialogue.{Dialogue, SystemCall, and_then, calling, ends, open_name, stats}
+use Rattle.dialogue.specs.Dialogue.{calling, ends, open_name, stats}
 use Rattle.dialogue.specs.declared.calls.Answer.{Answer}
-use Rattle.linux_steps.specs.Linux.{IsDirectory, IsLinux, Linux, Looks, StatSays}
-use Rattle.linux_steps.specs.Promises.{Answered, IsFound, OneLess, OneMore, OpenStood, OpensStood, Unchanged}
+use Rattle.linux_steps.specs.Linux.{IsDirectory, IsLinux, Linux}
+use Rattle.linux_steps.specs.Promises.{IsFound, OneLess, OneMore, OpenStood, OpensStood, Unchanged}
 use Rattle.linux_steps.specs.Steps.{any_opened, by_kind, by_path, closing, directory_opened, kind_told, look_error, missing, open_any, open_step, opening, kind_by_mode}
-use Rattle.linux_steps.specs.declared.ended.Ended.{Ended}
 use Rattle.linux_steps.specs.declared.ended.Ended.TheVariants.{Opened, Refused, Unmade}
 use Rattle.linux_steps.proofs.Moments.{Answers, Failed, Holds, Tried, back, both, called, choose, end, lets_go, looked, looks_well, one_more, stays, still, tries, unchanged}
 use Rattle.linux_steps.proofs.Moments.{Opened as HasOpened}

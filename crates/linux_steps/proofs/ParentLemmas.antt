@@ -14,13 +14,11 @@ use Rattle.tree_model.specs.declared.step.Kind.TheVariants as kind
 use Rattle.tree_model.specs.declared.step.StepOf.TheVariants.{Parent}
 use Rattle.tree_model.specs.State.{TOP, is_gone, object_at, parent, place_at}
 use Rattle.tree_model.specs.Steps.{outcome}
-use Rattle.dialogue.specs.Dialogue.{Dialogue, SystemCall, and_then, calling, ends, open_above, open_same, reads_entries, stats, stats_file_system}
+use Rattle.dialogue.specs.Dialogue.{and_then, calling, ends, open_above, open_same, reads_entries, stats, stats_file_system}
 use Rattle.dialogue.specs.declared.calls.Answer.{Answer}
-use Rattle.dialogue.specs.declared.calls.How.{How}
-use Rattle.linux_steps.specs.Linux.{IsAbove, IsDirectory, IsGone, IsLinux, IsThere, Linux, Looks, ReadSays, StatSays, moment_behind}
-use Rattle.linux_steps.specs.Promises.{Answered, At, IsFound, OneLess, OneMore, ParentStood, ParentsStood, ThereStood, ThereTold, Unchanged, WasAbove}
+use Rattle.linux_steps.specs.Linux.{IsAbove, IsDirectory, IsGone, IsLinux, IsThere, Linux, ReadSays, moment_behind}
+use Rattle.linux_steps.specs.Promises.{Answered, At, OneLess, OneMore, ParentStood, ParentsStood, ThereStood, ThereTold, Unchanged, WasAbove}
 use Rattle.linux_steps.specs.Steps.{above_missing, above_opened, above_there, by_entries, by_file_system, by_path, by_read, closing, entries_opened, file_system_told, keeps_links, links_told, look_error, opening, parent_step, there, to_read}
-use Rattle.linux_steps.specs.declared.ended.Ended.{Ended}
 use Rattle.linux_steps.specs.declared.ended.Ended.TheVariants.{Opened, Refused, Unmade}
 use Rattle.linux_steps.specs.declared.ended.There.{There}
 use Rattle.linux_steps.specs.declared.ended.There.TheVariants.{Yes, No, Unknown, Fails}

@@ -1,5 +1,5 @@
 -- A rename was made, or refused, as the step table has it in the tree that its one system call finds.
-use Rattle.std.proofs.Common.{◌≡◌, ◌≢◌, ◌⊎◌, ⊎_elim, inl, inr, ℕ, List, Bool, true, false, not, if◌then◌else◌, Option, Some, None, Result, Ok, Err, refl, sym, ap, ◌∙◌, eq-eqb, ne_eqb}
+use Rattle.std.proofs.Common.{◌≡◌, ◌≢◌, ⊎_elim, inl, inr, ℕ, List, Bool, true, false, not, if◌then◌else◌, Option, Some, None, Result, Ok, Err, refl, sym, ap, ◌∙◌, eq-eqb, ne_eqb}
 use Rattle.std.specs.Prelude.{◌==◌}
 use Rattle.std.proofs.lemmas.Bool.{eqb-true, eqb-false, true≢false}
 use Rattle.path_text.specs.declared.errno.Errno.{Errno}
@@ -16,8 +16,7 @@ use Rattle.tree_model.specs.State.{State, child, has_entries, is_dir, is_gone, i
 use Rattle.tree_model.specs.Steps.{held, outcome}
 use Rattle.tree_model.specs.Steps as tree
 use Rattle.tree_model.specs.StepWith.{StepWith}
-use Rattle.linux_steps.specs.Changes.{Both, ChangesStood, ExchangeSays, HasBoth, HasNoEntry, IsFull, IsIn, IsMissing, IsOntoFull, MayMove, MayReplace, NoReplaceSays, PlainSays, change_ended}
-use Rattle.linux_steps.specs.declared.ended.Ended.{Ended}
+use Rattle.linux_steps.specs.Changes.{Both, ChangesStood, ExchangeSays, HasBoth, HasNoEntry, IsFull, IsIn, IsMissing, MayMove, MayReplace, NoReplaceSays, PlainSays, change_ended}
 use Rattle.linux_steps.specs.declared.ended.Ended.TheVariants.{Refused, Unmade}
 use Rattle.linux_steps.proofs.ChangeLemmas.{Stood, Tells, directories, directory_removals, ended, files, if_elim, links, on_held, refuses, removals}
 

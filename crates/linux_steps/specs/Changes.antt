@@ -1,7 +1,7 @@
 -- A step that changes an entry, by one system call: how the step ends by what that gives; and what the answer says of
 -- the tree as the system call finds it, each premise with its manual page. By these the step table answers so to the
 -- step in that tree. An error for another reason, as EACCES, ENOSPC or EROFS, ends a step as not made.
-use Rattle.std.specs.Prelude.{◌≡◌, ◌≢◌, ◌⊎◌, ◌<◌, ◌==◌, ◌&&◌, not, nat_lt, ℕ, List, length, Bool, true, false, if◌then◌else◌, Option, Some, None}
+use Rattle.std.specs.Prelude.{◌≡◌, ◌≢◌, ◌⊎◌, ◌<◌, ◌==◌, ◌&&◌, not, nat_lt, ℕ, List, length, Bool, true, false, if◌then◌else◌, Some, None}
 use Rattle.path_text.specs.declared.errno.Errno.TheVariants.{NotFound, Exists, IsDir, NotDir, NotEmpty, TooLong}
 use Rattle.path_text.specs.Text.{text_fault}
 use Rattle.system_calls.specs.Errors.{ENOENT, EEXIST, ENOTDIR, EISDIR, ENAMETOOLONG, ENOTEMPTY}
@@ -146,7 +146,8 @@ pub record DirectoryRemovalSays (nodes : List Inode) (d : ℕ) (name : List ℕ)
 
 -- without flags
 pub record PlainSays (nodes : List Inode) (b : Both) (error : ℕ) : Type 0 where
-  pub renamed : error ≡ 0 → (MayMove nodes b × HasNoEntry nodes b.e b.new) ⊎ ((both : HasBoth nodes b) × MayReplace both)
+  pub renamed : error ≡ 0 → (MayMove nodes b × HasNoEntry nodes b.e b.new)
+      ⊎ ((both : HasBoth nodes b) × MayReplace both)
   pub missing : error ≡ ENOENT → IsMissing nodes b
   pub other : error ≡ ENOTDIR → (both : HasBoth nodes b) × AreDirectories both true false
   pub directory : error ≡ EISDIR → (both : HasBoth nodes b) × AreDirectories both false true

@@ -5,7 +5,7 @@ use Rattle.system_calls.specs.Errors.{ENOENT, EINTR}
 use Rattle.tree_model.specs.declared.inode.Inode.{Inode}
 use Rattle.tree_model.specs.declared.inode.Object.{Object}
 use Rattle.tree_model.specs.declared.inode.Object.TheVariants as object
-use Rattle.tree_model.specs.State.{child, is_dir, is_gone, object_at, parent}
+use Rattle.tree_model.specs.State.{child, is_gone, object_at, parent}
 use Rattle.tree_model.specs.Steps.{kind_of}
 use Rattle.dialogue.specs.Dialogue.{Exchange, SystemCall, closes, copies_proc, look_up, open_above, open_name, open_same, opens, reads_entries, reads_link, reads_object_link, reads_thread, stats, stats_file_system, stats_name}
 use Rattle.dialogue.specs.declared.calls.Answer.{Answer}

@@ -6,19 +6,18 @@ use Rattle.system_calls.specs.Errors.{ENOENT, ENOTDIR}
 use Rattle.dialogue.specs.Dialogue.{SystemCall, closes, open_above, open_name, open_same, reads_entries, reads_link, stats, stats_file_system}
 use Rattle.dialogue.specs.Holds.{EachHolds, Watch}
 use Rattle.dialogue.specs.declared.calls.Answer.{Answer}
-use Rattle.dialogue.specs.declared.calls.How.{How}
 use Rattle.linux_steps.specs.Steps.{Entry, dup_step, has_followed, has_magic, is_ordinary, open_step, parent_step, read_link_step, look_error, there}
 use Rattle.linux_steps.specs.declared.ended.Ended.{Ended}
 use Rattle.linux_steps.specs.declared.ended.Ended.TheVariants.{Opened, Text, Done, Refused, Unmade}
 use Rattle.linux_steps.specs.declared.ended.There.{There}
-use Rattle.linux_steps.specs.declared.ended.There.TheVariants.{Yes, No, Unknown, Fails}
+use Rattle.linux_steps.specs.declared.ended.There.TheVariants.{Yes}
 
 -- what the answers have said so far
 pub record Seen : Type 0 where
   -- statfs(2), mount(8): a mount has links followed
   pub followed : Bool
-  -- statfs(2), proc(5): a file system has no magic link; openat2(2), RESOLVE_NO_MAGICLINKS: the kernel, which may follow
-  -- none, has looked where the link leads
+  -- statfs(2), proc(5): a file system has no magic link; openat2(2), RESOLVE_NO_MAGICLINKS: the kernel, which may
+  -- follow none, has looked where the link leads
   pub ordinary : Bool
   -- an error is passed over
   pub failed : Bool
@@ -78,7 +77,7 @@ Ends own s (Refused error) = own ≡ Some error
 Ends own s (Unmade error) = Unit {0}
 Ends own s Done = ⊥
 
--- openat(2): of `..` that is missing others are in the way, or the directory was removed, and so it is where it is asked
+-- it is said to be there only if no error was passed over
 abbrev pub ThereEnds : Seen → There → Type 0
 ThereEnds s Yes = s.failed ≡ false
 ThereEnds s t = Unit {0}

@@ -1,5 +1,5 @@
 -- The system calls of each step, one after another, and how it ends by what they give.
-use Rattle.std.specs.Prelude.{◌≡◌, ℕ, List, ◌==◌, Bool, true, false, not, ◌&&◌, ◌||◌, if◌then◌else◌, bit_and, Option, Some, None, Result, Ok, Err}
+use Rattle.std.specs.Prelude.{ℕ, List, ◌==◌, Bool, true, false, not, ◌&&◌, ◌||◌, if◌then◌else◌, bit_and, Option, Some, None, Result, Ok, Err}
 use Rattle.path_text.specs.declared.errno.Errno.TheVariants.{NotFound, Invalid}
 use Rattle.system_calls.specs.Errors.{EAGAIN, EINVAL, ELOOP, ENAMETOOLONG, ENOENT, ENOSYS, ENOTDIR, EPERM, EXDEV}
 use Rattle.system_calls.specs.Objects.{kind_of}

@@ -3,7 +3,7 @@ ghost use Rattle.std.specs.Prelude.{◌≡◌};
 ghost use Rattle.dialogue.specs.Dialogue.{asked_of, ran, ran_by};
 ghost use Rattle.linux_steps.specs.Steps.{by_kind, close_step, dup_step, missing, open_any, open_step};
 
-use crate::asks::{by_path, close, kind_by_mode, opened, look_error};
+use crate::asks::{by_path, close, kind_by_mode, look_error, opened};
 use crate::ended::Ended;
 use dialogue::{Answer, Asked, Question, ask};
 use path_text::Errno;

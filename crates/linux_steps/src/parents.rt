@@ -3,7 +3,7 @@ ghost use Rattle.std.specs.Prelude.{◌≡◌};
 ghost use Rattle.dialogue.specs.Dialogue.{asked_of, ran, ran_by};
 ghost use Rattle.linux_steps.specs.Steps.{above_missing, by_entries, by_file_system, by_read, keeps_links, parent_step, there, to_read};
 
-use crate::asks::{by_path, close, opened, look_error};
+use crate::asks::{by_path, close, look_error, opened};
 use crate::ended::{Ended, There};
 use dialogue::{Answer, Asked, How, Question, ask};
 use path_text::Errno;

@@ -11,8 +11,8 @@ pub(crate) enum Work<'n> {
     Open(u32, &'n [u8]),
     Dup(u32),
     Parent(u32),
-    /// A link, and whether it is surely one; and its entry where the link was opened last. Each link that is read is one
-    /// that the walk, or the caller, follows.
+    /// A link, and whether it is surely one; and its entry where the link was opened last. Each link that is read is
+    /// one that the walk, or the caller, follows.
     ReadLink(u32, bool, Option<LinkEntry<'n>>),
 }
 
