@@ -1,5 +1,5 @@
 -- The answer to a step is one by the nodes and by the node of its handle, but for the number of what it opens.
-use Rattle.std.proofs.Common.{◌≡◌, ℕ, Bool, true, false, not, List, length, Option, Some, None, slice_set, refl, sym, ap, ◌∙◌}
+use Rattle.std.proofs.Common.{◌≡◌, ℕ, Bool, true, false, not, List, [], ◌∷◌, length, Option, Some, None, slice_set, refl, sym, ap, ◌∙◌}
 use Rattle.path_text.specs.declared.errno.Errno.{Errno}
 use Rattle.path_text.specs.declared.errno.Errno.TheVariants.{NotFound, BadHandle, NotDir, TooMany}
 use Rattle.path_text.specs.Text.{text_fault}
@@ -10,9 +10,13 @@ use Rattle.tree_model.specs.declared.inode.Object.{Object}
 use Rattle.tree_model.specs.declared.inode.Object.TheVariants as object
 use Rattle.tree_model.specs.declared.step.StepOf.TheVariants.{Open, Dup, Parent, ReadLink, NameBelow, List as ListNames, Close, MakeLink}
 use Rattle.tree_model.specs.Entries.{makes, makes_link, refuse_by, refuse_if, with_some}
-use Rattle.tree_model.specs.declared.step.Kind.{Kind}
+use Rattle.tree_model.specs.declared.step.Kind.TheVariants as kind
 use Rattle.tree_model.specs.State.{State, object_at, child, parent, is_dir, names_below, names_in, sorted_names}
 use Rattle.tree_model.specs.Steps.{Outcome, refused, answered, changes, held, is_full, kind_of, with_handle, opens, reads, shows, outcome}
+
+-- the nodes with one open handle
+abbrev pub alone : List Inode → ℕ → State
+alone nodes d = record { nodes = nodes; handles = Some (record { actor = 0; node = d }) ∷ [] }
 
 -- ---- what is opened
 
@@ -98,44 +102,53 @@ entered_by nodes d to n m = on (not (is_dir nodes d)) to
     on false None = refl
     on false (Some c) = found_by nodes c n m
 
--- in two states with the same nodes a step by a handle on the same node is answered so
-pub same_open : (s t : State) (h k d : ℕ) (n : List ℕ) → t.nodes ≡ s.nodes → held s 0 h ≡ Some d → held t 0 k ≡ Some d
-    → is_full s 0 ≡ false → is_full t 0 ≡ false
-    → (outcome t 0 (Open k n)).answer ≡ at_number (length t.handles) (outcome s 0 (Open h n)).answer
-same_open s t h k d n same e1 e2 room1 room2 =
-    open_is t 0 k d n e2 room2
-    ∙ ap (λ nodes. entered nodes d (child nodes d n) (length t.handles)) same
-    ∙ sym (entered_by s.nodes d (child s.nodes d n) (length s.handles) (length t.handles))
-    ∙ ap (at_number (length t.handles)) (sym (open_is s 0 h d n e1 room1))
+-- in a state with these nodes a step by a handle on that node is answered as by a lone handle
+pub same_open : (nodes : List Inode) (t : State) (k d : ℕ) (n : List ℕ) → t.nodes ≡ nodes → held t 0 k ≡ Some d
+    → is_full t 0 ≡ false
+    → (outcome t 0 (Open k n)).answer ≡ at_number (length t.handles) (outcome (alone nodes d) 0 (Open 0 n)).answer
+same_open nodes t k d n same e room =
+    open_is t 0 k d n e room
+    ∙ ap (λ ns. entered ns d (child ns d n) (length t.handles)) same
+    ∙ sym (entered_by nodes d (child nodes d n) 1 (length t.handles))
+    ∙ ap (at_number (length t.handles)) (sym (open_is (alone nodes d) 0 0 d n refl refl))
 
-pub same_parent : (s t : State) (h k d : ℕ) → t.nodes ≡ s.nodes → held s 0 h ≡ Some d → held t 0 k ≡ Some d
-    → is_full s 0 ≡ false → is_full t 0 ≡ false
-    → (outcome t 0 (Parent k)).answer ≡ at_number (length t.handles) (outcome s 0 (Parent h)).answer
-same_parent s t h k d same e1 e2 room1 room2 =
-    parent_is t 0 k d e2 room2
-    ∙ ap (λ nodes. entered nodes d (parent nodes d) (length t.handles)) same
-    ∙ sym (entered_by s.nodes d (parent s.nodes d) (length s.handles) (length t.handles))
-    ∙ ap (at_number (length t.handles)) (sym (parent_is s 0 h d e1 room1))
+pub same_parent : (nodes : List Inode) (t : State) (k d : ℕ) → t.nodes ≡ nodes → held t 0 k ≡ Some d
+    → is_full t 0 ≡ false
+    → (outcome t 0 (Parent k)).answer ≡ at_number (length t.handles) (outcome (alone nodes d) 0 (Parent 0)).answer
+same_parent nodes t k d same e room =
+    parent_is t 0 k d e room
+    ∙ ap (λ ns. entered ns d (parent ns d) (length t.handles)) same
+    ∙ sym (entered_by nodes d (parent nodes d) 1 (length t.handles))
+    ∙ ap (at_number (length t.handles)) (sym (parent_is (alone nodes d) 0 0 d refl refl))
+
+pub same_dup : (nodes : List Inode) (t : State) (k d : ℕ) → t.nodes ≡ nodes → held t 0 k ≡ Some d
+    → is_full t 0 ≡ false
+    → (outcome t 0 (Dup k)).answer ≡ at_number (length t.handles) (outcome (alone nodes d) 0 (Dup 0)).answer
+same_dup nodes t k d same e room =
+    dup_is t 0 k d e room
+    ∙ ap (λ ns. found_at ns d (length t.handles)) same
+    ∙ sym (found_by nodes d 1 (length t.handles))
+    ∙ ap (at_number (length t.handles)) (sym (dup_is (alone nodes d) 0 0 d refl refl))
 
 -- ---- what is told
 
-reads_same : (s t : State) (o : Option Object) → (reads t o).answer ≡ (reads s o).answer
-reads_same s t None = refl
-reads_same s t (Some object.Dir) = refl
-reads_same s t (Some object.File) = refl
-reads_same s t (Some (object.Link text)) = refl
+reads_same : (s t : State) (o : Option Object) (n : ℕ) → (reads t o).answer ≡ at_number n (reads s o).answer
+unfolding at_number
+reads_same s t None n = refl
+reads_same s t (Some object.Dir) n = refl
+reads_same s t (Some object.File) n = refl
+reads_same s t (Some (object.Link text)) n = refl
+
+pub same_text : (nodes : List Inode) (t : State) (k d : ℕ) → t.nodes ≡ nodes → held t 0 k ≡ Some d
+    → (outcome t 0 (ReadLink k)).answer ≡ at_number (length t.handles) (outcome (alone nodes d) 0 (ReadLink 0)).answer
+same_text nodes t k d same e =
+    on_held t 0 k d (λ x. reads t (object_at t.nodes x)) e
+    ∙ ap (λ ns. (reads t (object_at ns d)).answer) same
+    ∙ reads_same (alone nodes d) t (object_at nodes d) (length t.handles)
 
 shows_same : (s t : State) (o : Option (List (List ℕ))) → (shows t o).answer ≡ (shows s o).answer
 shows_same s t None = refl
 shows_same s t (Some names) = refl
-
-pub same_text : (s t : State) (h k d : ℕ) → t.nodes ≡ s.nodes → held s 0 h ≡ Some d → held t 0 k ≡ Some d
-    → (outcome t 0 (ReadLink k)).answer ≡ (outcome s 0 (ReadLink h)).answer
-same_text s t h k d same e1 e2 =
-    on_held t 0 k d (λ x. reads t (object_at t.nodes x)) e2
-    ∙ ap (λ nodes. (reads t (object_at nodes d)).answer) same
-    ∙ reads_same s t (object_at s.nodes d)
-    ∙ sym (on_held s 0 h d (λ x. reads s (object_at s.nodes x)) e1)
 
 pub same_place : (s t : State) (r k top d : ℕ) → t.nodes ≡ s.nodes → held t 0 r ≡ Some top → held t 0 k ≡ Some d
     → (outcome t 0 (NameBelow r k)).answer ≡ (shows s (names_below s.nodes top d)).answer
@@ -164,48 +177,27 @@ pub same_close : (t : State) (k d : ℕ) → held t 0 k ≡ Some d → (outcome 
 same_close t k d e =
     on_held t 0 k d (λ x. record { answer = Done; after = record { nodes = t.nodes; handles = slice_set t.handles k None } }) e
 
-pub same_dup : (t : State) (k d : ℕ) (nodes : List Inode) → t.nodes ≡ nodes → held t 0 k ≡ Some d → is_full t 0 ≡ false
-    → object_at nodes d ≡ Some object.Dir → (outcome t 0 (Dup k)).answer ≡ Opened (length t.handles) d (kind_of object.Dir)
-same_dup t k d nodes same e room is =
-    dup_is t 0 k d e room
-    ∙ ap (λ o. with_some o (Refused NotFound) (λ what. Opened (length t.handles) d (kind_of what)))
-    (ap (λ ns. object_at ns d) same ∙ is)
-
-pub at_opened : (n h x : ℕ) (k : Kind) → at_number n (Opened h x k) ≡ Opened n x k
-unfolding at_number
-at_opened n h x k = refl
-
-pub at_refused : (n : ℕ) (error : Errno) → at_number n (Refused error) ≡ Refused error
-unfolding at_number
-at_refused n error = refl
-
 -- what was looked up with others
-pub passed_name : (t : State) (k d : ℕ) (name : List ℕ) (nodes : List Inode) (c : ℕ) (what : Object) → t.nodes ≡ nodes
-    → held t 0 k ≡ Some d → is_full t 0 ≡ false → is_dir nodes d ≡ true → child nodes d name ≡ Some c
-    → object_at nodes c ≡ Some what → (outcome t 0 (Open k name)).answer ≡ Opened (length t.handles) c (kind_of what)
-passed_name t k d name nodes c what same e room dir entry is =
-    open_is t 0 k d name e room
-    ∙ ap (λ ns. entered ns d (child ns d name) (length t.handles)) same
-    ∙ ap (λ o. entered nodes d o (length t.handles)) entry
-    ∙ ap (λ b. refuse_if (not b) (Refused NotDir) (found_at nodes c (length t.handles))) dir
-    ∙ ap (λ o. with_some o (Refused NotFound) (λ what. Opened (length t.handles) c (kind_of what))) is
+pub passed_name : (nodes : List Inode) (d : ℕ) (name : List ℕ) (c : ℕ) (what : Object) → is_dir nodes d ≡ true
+    → child nodes d name ≡ Some c → object_at nodes c ≡ Some what
+    → (outcome (alone nodes d) 0 (Open 0 name)).answer ≡ Opened 1 c (kind_of what)
+passed_name nodes d name c what dir entry is =
+    open_is (alone nodes d) 0 0 d name refl refl
+    ∙ ap (λ o. entered nodes d o 1) entry
+    ∙ ap (λ b. refuse_if (not b) (Refused NotDir) (found_at nodes c 1)) dir
+    ∙ ap (λ o. with_some o (Refused NotFound) (λ what. Opened 1 c (kind_of what))) is
 
-pub missing_name : (t : State) (k d : ℕ) (name : List ℕ) (nodes : List Inode) → t.nodes ≡ nodes
-    → held t 0 k ≡ Some d → is_full t 0 ≡ false → is_dir nodes d ≡ true → child nodes d name ≡ None
-    → (outcome t 0 (Open k name)).answer ≡ Refused NotFound
-missing_name t k d name nodes same e room dir entry =
-    open_is t 0 k d name e room
-    ∙ ap (λ ns. entered ns d (child ns d name) (length t.handles)) same
-    ∙ ap (λ o. entered nodes d o (length t.handles)) entry
+pub missing_name : (nodes : List Inode) (d : ℕ) (name : List ℕ) → is_dir nodes d ≡ true → child nodes d name ≡ None
+    → (outcome (alone nodes d) 0 (Open 0 name)).answer ≡ Refused NotFound
+missing_name nodes d name dir entry =
+    open_is (alone nodes d) 0 0 d name refl refl
+    ∙ ap (λ o. entered nodes d o 1) entry
     ∙ ap (λ b. refuse_if (not b) (Refused NotDir) (Refused NotFound)) dir
 
-pub passed_up : (t : State) (k d : ℕ) (nodes : List Inode) (c : ℕ) → t.nodes ≡ nodes
-    → held t 0 k ≡ Some d → is_full t 0 ≡ false → is_dir nodes d ≡ true → parent nodes d ≡ Some c
-    → object_at nodes c ≡ Some object.Dir
-    → (outcome t 0 (Parent k)).answer ≡ Opened (length t.handles) c (kind_of object.Dir)
-passed_up t k d nodes c same e room dir above is =
-    parent_is t 0 k d e room
-    ∙ ap (λ ns. entered ns d (parent ns d) (length t.handles)) same
-    ∙ ap (λ o. entered nodes d o (length t.handles)) above
-    ∙ ap (λ b. refuse_if (not b) (Refused NotDir) (found_at nodes c (length t.handles))) dir
-    ∙ ap (λ o. with_some o (Refused NotFound) (λ what. Opened (length t.handles) c (kind_of what))) is
+pub passed_up : (nodes : List Inode) (d c : ℕ) → is_dir nodes d ≡ true → parent nodes d ≡ Some c
+    → object_at nodes c ≡ Some object.Dir → (outcome (alone nodes d) 0 (Parent 0)).answer ≡ Opened 1 c kind.Dir
+passed_up nodes d c dir above is =
+    parent_is (alone nodes d) 0 0 d refl refl
+    ∙ ap (λ o. entered nodes d o 1) above
+    ∙ ap (λ b. refuse_if (not b) (Refused NotDir) (found_at nodes c 1)) dir
+    ∙ ap (λ o. with_some o (Refused NotFound) (λ what. Opened 1 c (kind_of what))) is

@@ -1,35 +1,33 @@
 -- A step that was made by system calls was made at the moment of one of them.
-use Rattle.std.proofs.Common.{◌≡◌, ⊎_elim, ℕ, ◌==◌, ◌+◌, ◌<◌, ◌≤◌, true, false, if◌then◌else◌, List, [], length, Option, Some, None, refl, sym, ap, ◌∙◌, subst, arith}
-use Rattle.std.proofs.lemmas.Bool.{eqb-true}
+use Rattle.std.proofs.Common.{◌≡◌, ◌≢◌, ⊎_elim, inl, inr, ℕ, ◌+◌, ◌-◌, ◌<◌, ◌≤◌, Bool, true, false, List, [], length, Option, Some, None, refl, sym, ap, ◌∙◌, subst, arith}
+use Rattle.std.proofs.lemmas.Bool.{eq-eqb, false≢true}
+use Rattle.std.proofs.lemmas.Option.{same_Some}
 use Rattle.path_text.specs.declared.errno.Errno.{Errno}
-use Rattle.path_text.specs.declared.errno.Errno.TheVariants as errors
-use Rattle.path_text.specs.Errno.{number_of}
 use Rattle.tree_model.specs.declared.answer.Answer.{Answer}
 use Rattle.tree_model.specs.declared.answer.Answer.TheVariants.{Opened, Text, Names, NotBelow, Listed, Done, Refused}
 use Rattle.tree_model.specs.declared.inode.Inode.{Inode}
-use Rattle.tree_model.specs.declared.inode.Object.{Object}
 use Rattle.tree_model.specs.declared.inode.Object.TheVariants as object
 use Rattle.tree_model.specs.declared.step.Kind.{Kind}
-use Rattle.tree_model.specs.declared.step.Kind.TheVariants as kind
 use Rattle.tree_model.specs.declared.step.StepOf.TheVariants as steps
-use Rattle.tree_model.specs.State.{State, is_dir, is_directory, names_below, object_at}
-use Rattle.tree_model.specs.Steps.{held, is_full, kind_of, outcome, shows}
+use Rattle.tree_model.specs.State.{State, names_below, object_at}
+use Rattle.tree_model.specs.Steps.{held, is_full, outcome, shows}
 use Rattle.tree_model.specs.StepLaws.{is_close_of, only_tells}
 use Rattle.tree_model.specs.StepWith.{StepWith}
-use Rattle.tree_model.proofs.Places.{object_at-within}
-use Rattle.step_calls.specs.History.{next_after}
-use Rattle.step_calls.specs.Moments.{moment, number_of_kind}
-use Rattle.step_calls.specs.Refusals.{is_refusal}
-use Rattle.step_calls.proofs.OpenLemmas.{opens-stood}
-use Rattle.step_calls.proofs.ParentLemmas.{parents-stood}
-use Rattle.step_calls.proofs.LinkLemmas.{links-were-read}
-use Rattle.step_calls.proofs.RefusalLemmas.{refusals-are-own}
+use Rattle.dialogue.specs.Dialogue.{Dialogue}
+use Rattle.linux_steps.specs.Linux.{Linux as Moments, moment_behind}
+use Rattle.linux_steps.specs.Promises.{Answered, DupStood, IsFound, IsNoLink, LinkStood, OpenStood, ParentStood}
+use Rattle.linux_steps.specs.Steps.{dup_step, open_step, parent_step, read_link_step, Entry}
+use Rattle.linux_steps.specs.declared.ended.Ended.{Ended}
+use Rattle.linux_steps.specs.declared.ended.Ended.TheVariants as ended
+use Rattle.linux_steps.proofs.LinkLemmas.{dups-stood, links-were-read}
+use Rattle.linux_steps.proofs.OpenLemmas.{opens-stood}
+use Rattle.linux_steps.proofs.ParentLemmas.{parents-stood}
 use Rattle.root_ops.specs.Renumbered.{Numbering, step_by, answer_by}
 use Rattle.calls_by_system_calls.specs.Linux.{Linux, state_at}
-use Rattle.calls_by_system_calls.specs.Lines.{Descriptors, HasRoom, OpenIsMade, ParentIsMade, TextIsRead, DupIsMade, NameIsPassed, NamesAreListed, TextIsRefused, UpIsPassed, LookIsMade, after_step, with_opened, with_closed, world}
+use Rattle.calls_by_system_calls.specs.Lines.{seen, Descriptors, HasRoom, IsTalked, LookIsMade, NameIsPassed, NamesAreListed, Tells, TextIsRefused, UpIsPassed, after_step, with_opened, with_closed}
 use Rattle.calls_by_system_calls.specs.Places.{PlaceIsTold}
-use Rattle.calls_by_system_calls.proofs.Answers.{at_number, at_opened, at_refused, same_open, same_parent, same_text, same_place, same_list, bad_text, same_close, same_dup, missing_name, passed_name, passed_up}
-use Rattle.calls_by_system_calls.proofs.Moments.{directory_later, is_world, object_later}
+use Rattle.calls_by_system_calls.proofs.Answers.{alone, at_number, bad_text, missing_name, passed_name, passed_up, same_close, same_dup, same_list, same_open, same_parent, same_place, same_text}
+use Rattle.calls_by_system_calls.proofs.Moments.{seen_is_linux}
 use Rattle.calls_by_system_calls.proofs.Places.{place_stood}
 
 abbrev pub numbering : (ℕ → ℕ) → (ℕ → ℕ) → Numbering
@@ -60,233 +58,233 @@ pub record Made (x : Linux) (nodes : ℕ → ℕ) (m calls : ℕ) (table : Descr
   pub by_handles : (f g : ℕ → ℕ) → ((h d : ℕ) → table.on h ≡ Some d → f h ≡ g h)
       → step_by (numbering f nodes) step ≡ step_by (numbering g nodes) step
 
--- ---- errors and kinds
+-- ---- what a step does to the descriptors
 
-abbrev errno_of : ℕ → Errno
-errno_of n =
-    if n == 2 then errors.NotFound else if n == 11 then errors.Raced else if n == 12 then errors.NoMemory
-    else if n == 16 then errors.Busy else if n == 17 then errors.Exists else if n == 18 then errors.CrossRoot
-    else if n == 20 then errors.NotDir else if n == 21 then errors.IsDir else if n == 22 then errors.Invalid
-    else if n == 24 then errors.TooMany else if n == 28 then errors.BookFull else if n == 36 then errors.TooLong
-    else if n == 39 then errors.NotEmpty else if n == 40 then errors.Loop else errors.BadHandle
+-- a step that is no Close, and opens nothing, leaves them
+pub leaves : (nodes : ℕ → ℕ) (table : Descriptors) (step : StepWith ℕ) (answer : Answer)
+    → ((j : ℕ) → is_close_of j step ≡ false) → ((h y : ℕ) (k : Kind) → answer ≡ Opened h y k → ⊥)
+    → after_step nodes table step answer ≡ table
+leaves nodes table (steps.Close h) answer other none = absurd (false≢true (sym (other h) ∙ eq-eqb h h refl))
+leaves nodes table step (Opened h y k) other none = absurd (none h y k refl)
+leaves nodes table step answer other none = refl
 
-pub same_error : (why error : Errno) → number_of why ≡ number_of error → why ≡ error
-same_error why error same = sym (by_number why) ∙ ap errno_of same ∙ by_number error
-  where
-    by_number : (error : Errno) → errno_of (number_of error) ≡ error
-    by_number errors.NotFound = refl
-    by_number errors.BadHandle = refl
-    by_number errors.Raced = refl
-    by_number errors.NoMemory = refl
-    by_number errors.Busy = refl
-    by_number errors.Exists = refl
-    by_number errors.CrossRoot = refl
-    by_number errors.NotDir = refl
-    by_number errors.IsDir = refl
-    by_number errors.Invalid = refl
-    by_number errors.TooMany = refl
-    by_number errors.BookFull = refl
-    by_number errors.TooLong = refl
-    by_number errors.NotEmpty = refl
-    by_number errors.Loop = refl
+-- an answer whose handle has the number 1, with another number in that place
+numbered : (nodes g : ℕ → ℕ) (number : ℕ) (answer : Answer)
+    → ((h y : ℕ) (k : Kind) → answer ≡ Opened h y k → g h ≡ number)
+    → at_number number (answer_by (numbering (λ h. 1) nodes) answer) ≡ answer_by (numbering g nodes) answer
+unfolding at_number
+numbered nodes g number (Opened h y k) is = ap (λ i. Opened i (nodes y) k) (sym (is h y k refl))
+numbered nodes g number answer is = refl
 
-same_kind : (j k : Kind) → number_of_kind j ≡ number_of_kind k → j ≡ k
-same_kind kind.Dir kind.Dir e = refl
-same_kind kind.Dir kind.File e = absurd (omega (arith, e))
-same_kind kind.Dir kind.Link e = absurd (omega (arith, e))
-same_kind kind.File kind.Dir e = absurd (omega (arith, e))
-same_kind kind.File kind.File e = refl
-same_kind kind.File kind.Link e = absurd (omega (arith, e))
-same_kind kind.Link kind.Dir e = absurd (omega (arith, e))
-same_kind kind.Link kind.File e = absurd (omega (arith, e))
-same_kind kind.Link kind.Link e = refl
-
-same_opened : (h j y z : ℕ) (k l : Kind) → h ≡ j → y ≡ z → k ≡ l → Opened h y k ≡ Opened j z l
-same_opened h j y z k l p q r = λ i. Opened (p i) (q i) (r i)
-
-directory_within : (nodes : List Inode) (y : ℕ) → is_dir nodes y ≡ true → y < length nodes
-directory_within nodes y is = on (object_at nodes y) refl
-  where
-    on : (o : Option Object) → object_at nodes y ≡ o → y < length nodes
-    on None e = cc (sym (ap is_directory e) ∙ is)
-    on (Some what) e = object_at-within nodes y what e
+same_opened : (y z : ℕ) (k l : Kind) → y ≡ z → k ≡ l → Opened 1 y k ≡ Opened 1 z l
+same_opened y z k l p q = λ i. Opened 1 (p i) (q i)
 
 module _ (x : Linux) (nodes : ℕ → ℕ) (m calls : ℕ) (table : Descriptors) where
+  -- ---- a step by one handle
+
+  -- It is no Close. It is answered by the nodes and by the node of that handle alone, but for the number of what it
+  -- opens.
+  record IsByHandle (step : ℕ → StepWith ℕ) (d : ℕ) : Type 0 where
+    by : (f : Numbering) (h : ℕ) → step_by f (step h) ≡ step (f.handle h)
+    other : (h j : ℕ) → is_close_of j (step h) ≡ false
+    same : (ns : List Inode) (t : State) (k : ℕ) → t.nodes ≡ ns → held t 0 k ≡ Some d
+        → (HasRoom table → is_full t 0 ≡ false)
+        → (outcome t 0 (step k)).answer ≡ at_number (length t.handles) (outcome (alone ns d) 0 (step 0)).answer
+
+  -- the end of a conversation as the step table has it, at one of its moments
+  abbrev Ends : Moments → ℕ → ℕ → StepWith ℕ → Answer → Ended → Type 0
+  Ends w now d step answer (ended.Opened fd kind) = HasRoom table × IsFound w m now d step fd kind
+  Ends w now d step answer (ended.Text length) = Answered w m now d step (Text (w.text now))
+  Ends w now d step answer (ended.Refused error) =
+      (why : Errno) → answer ≡ Refused why → Answered w m now d step (Refused error)
+  Ends w now d step answer end = Unit {0}
+
+  module _ (step : ℕ → StepWith ℕ) (h d : ℕ) (is : IsByHandle step d) (on : table.on h ≡ Some d) where
+    at : (answer : Answer) → Effect nodes table (step h) answer → (n : ℕ) → m ≤ n → n ≤ m + calls
+        → (outcome (alone (state_at x n).nodes d) 0 (step 0)).answer ≡ answer_by (numbering (λ j. 1) nodes) answer
+        → Made x nodes m calls table (step h) answer
+    at answer effect n after before stood =
+        let there : m + (n - m) ≡ n = omega (arith, after) in
+        record {
+          at = record {
+            n = n - m;
+            by = omega (arith, after, before);
+            tells = λ t f g same helds full number.
+                ap (λ z. (outcome t 0 z).answer) (is.by (numbering f nodes) h)
+                ∙ is.same (state_at x n).nodes t (f h) (same ∙ ap (λ i. (state_at x i).nodes) there) (helds h d on) full
+                ∙ ap (at_number (length t.handles)) stood
+                ∙ numbered nodes g (length t.handles) answer number;
+          };
+          effect = effect;
+          by_handles = λ f g same.
+              is.by (numbering f nodes) h ∙ ap step (same h d on) ∙ sym (is.by (numbering g nodes) h);
+        }
+
+    opens : (j y : ℕ) (k : Kind) → HasRoom table → Effect nodes table (step h) (Opened j y k)
+    opens j y k room =
+        opens_one j y k refl room (λ f i. ap (is_close_of i) (is.by f h) ∙ is.other (f.handle h) i) refl
+
+    tells : (answer : Answer) → only_tells answer ≡ true → Effect nodes table (step h) answer
+    tells answer only =
+        tells_only only (leaves nodes table (step h) answer (is.other h)
+        (λ j y k e. false≢true (sym (ap only_tells e) ∙ only)))
+
+    ended_so : (asks : Bool) (fds : ℕ → ℕ → Option ℕ) (layered : ℕ → Bool) (text : ℕ → List ℕ) (end : Ended)
+        (answer : Answer) → Ends (seen x asks fds layered text) (m + calls) d (step 0) answer end
+        → Tells nodes (fds (m + calls)) (text (m + calls)) end answer → Made x nodes m calls table (step h) answer
+    ended_so asks fds layered text (ended.Opened fd kind) (Opened j y k) stood told =
+        let found = stood.1 in
+        let same = same_Some found.node (nodes y) (sym found.one.is_on ∙ told.1) in
+        at (Opened j y k) (opens j y k stood.0) found.stood.0 (omega (arith, found.stood.1)) found.stood.2
+        (found.stood.3 ∙ same_opened found.node (nodes y) kind k same (sym told.0))
+    ended_so asks fds layered text (ended.Text length) (Text bytes) stood told =
+        at (Text bytes) (tells (Text bytes) refl) stood.0 (omega (arith, stood.1)) stood.2 (stood.3 ∙ ap Text (sym told))
+    ended_so asks fds layered text (ended.Refused error) (Refused why) stood told =
+        let refused = stood why refl in
+        at (Refused why) (tells (Refused why) refl) refused.0 (omega (arith, refused.1)) refused.2
+        (refused.3 ∙ ap Refused (sym told))
+    ended_so asks fds layered text end answer stood told = absurd told
+
+    talked : (asks : Bool) (dialogue : ℕ → Dialogue Ended) (answer : Answer)
+        → (talk : IsTalked x nodes m calls d asks dialogue answer)
+        → Ends (seen x asks talk.on talk.layered talk.text) (moment_behind m talk.exchanges) d (step 0) answer talk.end
+        → Made x nodes m calls table (step h) answer
+    talked asks dialogue answer talk stood =
+        ended_so asks talk.on talk.layered talk.text talk.end answer
+        (subst (λ now. Ends (seen x asks talk.on talk.layered talk.text) now d (step 0) answer talk.end) talk.all stood)
+        talk.tells
+
   -- ---- Open
 
-  at_open : (h dir : ℕ) (name : List ℕ) (answer : Answer) → HasRoom table → table.on h ≡ Some dir
-      → OpenIsMade x nodes m calls dir name answer → Made x nodes m calls table (steps.Open h name) answer
-  at_open h dir name (Opened j y k) room on made =
-      let w = world x m dir name made.on [] in
-      let stood = opens-stood w made.facts made.history made.what
-      (is_world x m dir name made.on [] (directory_within (state_at x m).nodes dir made.directory))
-      (λ n. directory_later x m n dir made.directory) made.says made.is in
-      let found = stood.0 made.tells.0 in
-      record {
-        at = record {
-          n = found.0;
-          by = omega (arith, found.1, made.all);
-          tells = λ t f g same helds full number.
-              same_open (w.states found.0) t 0 (f h) dir name same refl (helds h dir on) refl (full room)
-              ∙ ap (at_number (length t.handles)) found.4
-              ∙ at_opened (length t.handles) _ (made.on (moment made.history)) found.2
-              ∙ same_opened (length t.handles) (g j) (made.on (moment made.history)) (nodes y) found.2 k
-              (sym (number j y k refl)) (sym made.tells.2) (same_kind found.2 k (found.3 ∙ made.tells.1));
-        };
-        effect = opens_one j y k refl room (λ f i. refl) refl;
-        by_handles = λ f g same. ap (λ i. steps.Open i name) (same h dir on);
-      }
-  at_open h dir name (Refused error) room on made =
-      let w = world x m dir name made.on [] in
-      let stood = opens-stood w made.facts made.history made.what
-      (is_world x m dir name made.on [] (directory_within (state_at x m).nodes dir made.directory))
-      (λ n. directory_later x m n dir made.directory) made.says made.is in
-      let missing = stood.1 made.tells.0 in
-      let own = refusals-are-own made.facts made.history (λ e. absurd (omega (arith, e, made.what))) made.is made.tells.0 in
-      let own_open = subst (λ (i : ℕ). is_refusal i made.facts.mode made.facts.text (next_after made.facts made.history).error ≡ true) made.what own in
-      let error_is = same_error error errors.NotFound
-      (sym made.tells.1 ∙ eqb-true (next_after made.facts made.history).error 2 own_open) in
-      record {
-        at = record {
-          n = missing.0;
-          by = omega (arith, missing.1, made.all);
-          tells = λ t f g same helds full number.
-              same_open (w.states missing.0) t 0 (f h) dir name same refl (helds h dir on) refl (full room)
-              ∙ ap (at_number (length t.handles)) missing.2
-              ∙ at_refused (length t.handles) errors.NotFound
-              ∙ ap Refused (sym error_is);
-        };
-        effect = tells_only refl refl;
-        by_handles = λ f g same. ap (λ i. steps.Open i name) (same h dir on);
-      }
-  at_open h dir name (Text text) room on made = absurd made.tells
-  at_open h dir name (Names names) room on made = absurd made.tells
-  at_open h dir name NotBelow room on made = absurd made.tells
-  at_open h dir name (Listed names) room on made = absurd made.tells
-  at_open h dir name Done room on made = absurd made.tells
+  open_is_by : (name : List ℕ) (d : ℕ) → HasRoom table → IsByHandle (λ i. steps.Open i name) d
+  open_is_by name d room = record {
+    by = λ f h. refl;
+    other = λ h j. refl;
+    same = λ ns t k e on full. same_open ns t k d name e on (full room);
+  }
+
+  open_ends : (w : Moments) (now d : ℕ) (name : List ℕ) (answer : Answer) (end : Ended) → HasRoom table
+      → OpenStood w m now d name end → Ends w now d (steps.Open 0 name) answer end
+  open_ends w now d name answer (ended.Opened fd kind) room stood = (room, stood)
+  open_ends w now d name answer (ended.Refused error) room stood = λ why is. stood.1
+  open_ends w now d name answer (ended.Text length) room stood = absurd stood
+  open_ends w now d name answer end room stood = tt
+
+  at_open : (h dir : ℕ) (name : List ℕ) (no_xdev : Bool) (answer : Answer) → HasRoom table → table.on h ≡ Some dir
+      → IsTalked x nodes m calls dir false (λ fd. open_step fd name no_xdev) answer
+      → Made x nodes m calls table (steps.Open h name) answer
+  at_open h dir name no_xdev answer room on t =
+      let w = seen x false t.on t.layered t.text in
+      talked (λ i. steps.Open i name) h dir (open_is_by name dir room) on false (λ fd. open_step fd name no_xdev) answer t
+      (open_ends w (moment_behind m t.exchanges) dir name answer t.end room
+      (opens-stood w m t.fd dir name no_xdev t.exchanges t.end (seen_is_linux x false t.on t.layered t.text)
+      t.is_on t.says t.is))
+
+  at_name : (h dir : ℕ) (name : List ℕ) (answer : Answer) → HasRoom table → table.on h ≡ Some dir
+      → NameIsPassed x nodes m calls dir name answer → Made x nodes m calls table (steps.Open h name) answer
+  at_name h dir name (Opened j y k) room on made =
+      let step : ℕ → StepWith ℕ = λ i. steps.Open i name in
+      let is = open_is_by name dir room in
+      at step h dir is on (Opened j y k) (opens step h dir is on j y k room) (m + made.0) (omega arith)
+      (omega (arith, made.1))
+      (passed_name (state_at x (m + made.0)).nodes dir name (nodes y) made.2 made.3 made.4 made.5
+      ∙ ap (Opened 1 (nodes y)) (sym made.6))
+  at_name h dir name (Refused error) room on made =
+      let step : ℕ → StepWith ℕ = λ i. steps.Open i name in
+      let is = open_is_by name dir room in
+      at step h dir is on (Refused error) (tells step h dir is on (Refused error) refl) (m + made.0) (omega arith)
+      (omega (arith, made.1))
+      (missing_name (state_at x (m + made.0)).nodes dir name made.2 made.3 ∙ ap Refused (sym made.4))
+  at_name h dir name answer room on made = absurd made
 
   -- ---- Parent
 
-  at_parent : (h dir : ℕ) (answer : Answer) → HasRoom table → table.on h ≡ Some dir
-      → ParentIsMade x nodes m calls dir answer → Made x nodes m calls table (steps.Parent h) answer
-  at_parent h dir (Opened j y k) room on made =
-      let w = world x m dir [] made.on [] in
-      let stood = parents-stood w made.layered made.facts made.history made.what
-      (is_world x m dir [] made.on [] (directory_within (state_at x m).nodes dir made.directory))
-      (λ n. directory_later x m n dir made.directory) made.says made.is in
-      let found = stood.0 made.tells.0 in
-      let told : (outcome (w.states found.0) 0 (steps.Parent 0)).answer ≡ Opened 1 (made.on (moment made.history)) kind.Dir =
-      ⊎_elim (λ e. e) (λ e. absurd (made.could_ask e)) found.2 in
-      record {
-        at = record {
-          n = found.0;
-          by = omega (arith, found.1, made.all);
-          tells = λ t f g same helds full number.
-              same_parent (w.states found.0) t 0 (f h) dir same refl (helds h dir on) refl (full room)
-              ∙ ap (at_number (length t.handles)) told
-              ∙ at_opened (length t.handles) 1 (made.on (moment made.history)) kind.Dir
-              ∙ same_opened (length t.handles) (g j) (made.on (moment made.history)) (nodes y) kind.Dir k
-              (sym (number j y k refl)) (sym made.tells.2) (sym made.tells.1);
-        };
-        effect = opens_one j y k refl room (λ f i. refl) refl;
-        by_handles = λ f g same. ap (λ i. steps.Parent i) (same h dir on);
-      }
-  at_parent h dir (Refused error) room on made =
-      let w = world x m dir [] made.on [] in
-      let stood = parents-stood w made.layered made.facts made.history made.what
-      (is_world x m dir [] made.on [] (directory_within (state_at x m).nodes dir made.directory))
-      (λ n. directory_later x m n dir made.directory) made.says made.is in
-      let missing = stood.1 made.tells.0 in
-      let own = refusals-are-own made.facts made.history (λ e. absurd (omega (arith, e, made.what))) made.is made.tells.0 in
-      let own_parent = subst (λ (i : ℕ). is_refusal i made.facts.mode made.facts.text (next_after made.facts made.history).error ≡ true) made.what own in
-      let error_is = same_error error errors.NotFound
-      (sym made.tells.1 ∙ eqb-true (next_after made.facts made.history).error 2 own_parent) in
-      record {
-        at = record {
-          n = missing.0;
-          by = omega (arith, missing.1, made.all);
-          tells = λ t f g same helds full number.
-              same_parent (w.states missing.0) t 0 (f h) dir same refl (helds h dir on) refl (full room)
-              ∙ ap (at_number (length t.handles)) missing.2
-              ∙ at_refused (length t.handles) errors.NotFound
-              ∙ ap Refused (sym error_is);
-        };
-        effect = tells_only refl refl;
-        by_handles = λ f g same. ap (λ i. steps.Parent i) (same h dir on);
-      }
-  at_parent h dir (Text text) room on made = absurd made.tells
-  at_parent h dir (Names names) room on made = absurd made.tells
-  at_parent h dir NotBelow room on made = absurd made.tells
-  at_parent h dir (Listed names) room on made = absurd made.tells
-  at_parent h dir Done room on made = absurd made.tells
-
-  -- ---- ReadLink
-
-  at_text : (h link : ℕ) (answer : Answer) → link < length (state_at x m).nodes → table.on h ≡ Some link
-      → TextIsRead x m calls link answer → Made x nodes m calls table (steps.ReadLink h) answer
-  at_text h link (Text bytes) within on made =
-      let w = world x m link [] (λ n. 0) made.text in
-      let read = links-were-read w made.facts made.history made.what (is_world x m link [] (λ n. 0) made.text within)
-      made.none made.says made.is in
-      let found = read.0 made.tells.0 in
-      record {
-        at = record {
-          n = found.0;
-          by = omega (arith, found.1, made.all);
-          tells = λ t f g same helds full number.
-              same_text (w.states found.0) t 0 (f h) link same refl (helds h link on)
-              ∙ found.2 ∙ ap Text (sym made.tells.1);
-        };
-        effect = tells_only refl refl;
-        by_handles = λ f g same. ap (λ i. steps.ReadLink i) (same h link on);
-      }
-  at_text h link (Refused error) within on made =
-      let w = world x m link [] (λ n. 0) made.text in
-      let read = links-were-read w made.facts made.history made.what (is_world x m link [] (λ n. 0) made.text within)
-      made.none made.says made.is in
-      let none = read.1 made.tells.0 in
-      let own = refusals-are-own made.facts made.history (λ e. absurd (omega (arith, e, made.what))) made.is made.tells.0 in
-      let own_text = subst (λ (i : ℕ). is_refusal i made.facts.mode made.facts.text (next_after made.facts made.history).error ≡ true) made.what own in
-      let error_is = same_error error errors.Invalid
-      (sym made.tells.1 ∙ eqb-true (next_after made.facts made.history).error 22 own_text) in
-      record {
-        at = record {
-          n = none.0;
-          by = omega (arith, none.1, made.all);
-          tells = λ t f g same helds full number.
-              same_text (w.states none.0) t 0 (f h) link same refl (helds h link on)
-              ∙ none.2 ∙ ap Refused (sym error_is);
-        };
-        effect = tells_only refl refl;
-        by_handles = λ f g same. ap (λ i. steps.ReadLink i) (same h link on);
-      }
-  at_text h link (Opened j y k) within on made = absurd made.tells
-  at_text h link (Names names) within on made = absurd made.tells
-  at_text h link NotBelow within on made = absurd made.tells
-  at_text h link (Listed names) within on made = absurd made.tells
-  at_text h link Done within on made = absurd made.tells
-
-  -- ---- Dup, NameBelow, List, Close
-
-  at_dup : (h dir : ℕ) (answer : Answer) → HasRoom table → table.on h ≡ Some dir → DupIsMade x nodes m dir answer
-      → Made x nodes m calls table (steps.Dup h) answer
-  at_dup h dir (Opened j y k) room on made = record {
-    at = record {
-      n = 0;
-      by = omega arith;
-      tells = λ t f g same helds full number.
-          same_dup t (f h) dir (state_at x (m + 0)).nodes same (helds h dir on) (full room) (object_later x m 0 dir object.Dir made.0)
-          ∙ same_opened (length t.handles) (g j) dir (nodes y) kind.Dir k (sym (number j y k refl)) (sym made.2) (sym made.1);
-    };
-    effect = opens_one j y k refl room (λ f i. refl) refl;
-    by_handles = λ f g same. ap (λ i. steps.Dup i) (same h dir on);
+  parent_is_by : (d : ℕ) → HasRoom table → IsByHandle (λ i. steps.Parent i) d
+  parent_is_by d room = record {
+    by = λ f h. refl;
+    other = λ h j. refl;
+    same = λ ns t k e on full. same_parent ns t k d e on (full room);
   }
-  at_dup h dir (Text text) room on made = absurd made
-  at_dup h dir (Names names) room on made = absurd made
-  at_dup h dir NotBelow room on made = absurd made
-  at_dup h dir (Listed names) room on made = absurd made
-  at_dup h dir Done room on made = absurd made
-  at_dup h dir (Refused error) room on made = absurd made
+
+  parent_ends : (w : Moments) (now d : ℕ) (answer : Answer) (end : Ended) → HasRoom table → w.asks ≡ true
+      → ParentStood w m now d end → Ends w now d (steps.Parent 0) answer end
+  parent_ends w now d answer (ended.Opened fd kind) room asks (inl found) = (room, found)
+  parent_ends w now d answer (ended.Opened fd kind) room asks (inr none) =
+      absurd (false≢true (sym none.0 ∙ asks))
+  parent_ends w now d answer (ended.Refused error) room asks stood = λ why is. stood.1
+  parent_ends w now d answer (ended.Text length) room asks stood = absurd stood
+  parent_ends w now d answer end room asks stood = tt
+
+  at_parent : (h dir : ℕ) (no_xdev : Bool) (answer : Answer) → HasRoom table → table.on h ≡ Some dir
+      → IsTalked x nodes m calls dir true (λ fd. parent_step fd no_xdev) answer
+      → Made x nodes m calls table (steps.Parent h) answer
+  at_parent h dir no_xdev answer room on t =
+      let w = seen x true t.on t.layered t.text in
+      talked (λ i. steps.Parent i) h dir (parent_is_by dir room) on true (λ fd. parent_step fd no_xdev) answer t
+      (parent_ends w (moment_behind m t.exchanges) dir answer t.end room refl
+      (parents-stood w m t.fd dir no_xdev t.exchanges t.end (seen_is_linux x true t.on t.layered t.text)
+      t.is_on t.says t.is))
+
+  at_up : (h dir : ℕ) (answer : Answer) → HasRoom table → table.on h ≡ Some dir
+      → UpIsPassed x nodes m calls dir answer → Made x nodes m calls table (steps.Parent h) answer
+  at_up h dir (Opened j y k) room on made =
+      let step : ℕ → StepWith ℕ = λ i. steps.Parent i in
+      let is = parent_is_by dir room in
+      at step h dir is on (Opened j y k) (opens step h dir is on j y k room) (m + made.0) (omega arith)
+      (omega (arith, made.1))
+      (passed_up (state_at x (m + made.0)).nodes dir (nodes y) made.2 made.3 made.4 ∙ ap (Opened 1 (nodes y)) (sym made.5))
+  at_up h dir answer room on made = absurd made
+
+  -- ---- Dup and ReadLink
+
+  dup_ends : (w : Moments) (now d : ℕ) (answer : Answer) (end : Ended) → HasRoom table
+      → DupStood w m now d end → Ends w now d (steps.Dup 0) answer end
+  dup_ends w now d answer (ended.Opened fd kind) room stood = (room, stood)
+  dup_ends w now d answer (ended.Refused error) room stood = absurd stood
+  dup_ends w now d answer (ended.Text length) room stood = absurd stood
+  dup_ends w now d answer end room stood = tt
+
+  at_dup : (h dir : ℕ) (no_xdev : Bool) (answer : Answer) → HasRoom table → table.on h ≡ Some dir
+      → IsTalked x nodes m calls dir false (λ fd. dup_step fd no_xdev) answer
+      → Made x nodes m calls table (steps.Dup h) answer
+  at_dup h dir no_xdev answer room on t =
+      let w = seen x false t.on t.layered t.text in
+      talked (λ i. steps.Dup i) h dir
+      (record {
+        by = λ f i. refl;
+        other = λ i j. refl;
+        same = λ ns z k e held full. same_dup ns z k dir e held (full room);
+      })
+      on false (λ fd. dup_step fd no_xdev) answer t
+      (dup_ends w (moment_behind m t.exchanges) dir answer t.end room
+      (dups-stood w m t.fd dir no_xdev t.exchanges t.end t.is_on t.says t.is))
+
+  link_ends : (w : Moments) (now link : ℕ) (answer : Answer) (end : Ended)
+      → ((error : Errno) → answer ≡ Refused error → IsNoLink w link)
+      → LinkStood w m now link end → Ends w now link (steps.ReadLink 0) answer end
+  link_ends w now link answer (ended.Opened fd kind) none stood = absurd stood
+  link_ends w now link answer (ended.Refused error) none stood = λ why is. stood.1 (none why is)
+  link_ends w now link answer (ended.Text length) none stood = stood.1
+  link_ends w now link answer end none stood = tt
+
+  at_text : (h link : ℕ) (is_link : Bool) (entry : Option Entry) (answer : Answer) → table.on h ≡ Some link
+      → IsTalked x nodes m calls link false (λ fd. read_link_step fd is_link entry) answer
+      → ((error : Errno) (n : ℕ) (text : List ℕ) → answer ≡ Refused error
+      → object_at (state_at x n).nodes link ≢ Some (object.Link text))
+      → Made x nodes m calls table (steps.ReadLink h) answer
+  at_text h link is_link entry answer on t none =
+      let w = seen x false t.on t.layered t.text in
+      talked (λ i. steps.ReadLink i) h link
+      (record {
+        by = λ f i. refl;
+        other = λ i j. refl;
+        same = λ ns z k e held full. same_text ns z k link e held;
+      })
+      on false (λ fd. read_link_step fd is_link entry) answer t
+      (link_ends w (moment_behind m t.exchanges) link answer t.end (λ error is n text. none error n text is)
+      (links-were-read w m t.fd link is_link entry t.exchanges t.end t.is_on t.says t.is))
+
+  -- ---- NameBelow, List, Close
 
   tells_place : (r h : ℕ) (s : State) (o : Option (List (List ℕ))) → Effect nodes table (steps.NameBelow r h) (shows s o).answer
   tells_place r h s None = tells_only refl refl
@@ -354,74 +352,19 @@ module _ (x : Linux) (nodes : ℕ → ℕ) (m calls : ℕ) (table : Descriptors)
         by_handles = λ f g same. ap (λ i. steps.Close i) (same h node on);
       })
 
-  -- ---- names that were looked up with others
-
-  at_name : (h dir : ℕ) (name : List ℕ) (answer : Answer) → HasRoom table → table.on h ≡ Some dir
-      → NameIsPassed x nodes m calls dir name answer → Made x nodes m calls table (steps.Open h name) answer
-  at_name h dir name (Opened j y k) room on made = record {
-    at = record {
-      n = made.0;
-      by = made.1;
-      tells = λ t f g same helds full number.
-          passed_name t (f h) dir name (state_at x (m + made.0)).nodes (nodes y) made.2 same (helds h dir on) (full room) made.3 made.4 made.5
-          ∙ same_opened (length t.handles) (g j) (nodes y) (nodes y) (kind_of made.2) k (sym (number j y k refl)) refl (sym made.6);
-    };
-    effect = opens_one j y k refl room (λ f i. refl) refl;
-    by_handles = λ f g same. ap (λ i. steps.Open i name) (same h dir on);
-  }
-  at_name h dir name (Refused error) room on made = record {
-    at = record {
-      n = made.0;
-      by = made.1;
-      tells = λ t f g same helds full number.
-          missing_name t (f h) dir name (state_at x (m + made.0)).nodes same (helds h dir on) (full room) made.2 made.3
-          ∙ ap Refused (sym made.4);
-    };
-    effect = tells_only refl refl;
-    by_handles = λ f g same. ap (λ i. steps.Open i name) (same h dir on);
-  }
-  at_name h dir name (Text text) room on made = absurd made
-  at_name h dir name (Names names) room on made = absurd made
-  at_name h dir name NotBelow room on made = absurd made
-  at_name h dir name (Listed names) room on made = absurd made
-  at_name h dir name Done room on made = absurd made
-
-  at_up : (h dir : ℕ) (answer : Answer) → HasRoom table → table.on h ≡ Some dir
-      → UpIsPassed x nodes m calls dir answer → Made x nodes m calls table (steps.Parent h) answer
-  at_up h dir (Opened j y k) room on made = record {
-    at = record {
-      n = made.0;
-      by = made.1;
-      tells = λ t f g same helds full number.
-          passed_up t (f h) dir (state_at x (m + made.0)).nodes (nodes y) same (helds h dir on) (full room) made.2 made.3 made.4
-          ∙ same_opened (length t.handles) (g j) (nodes y) (nodes y) kind.Dir k (sym (number j y k refl)) refl (sym made.5);
-    };
-    effect = opens_one j y k refl room (λ f i. refl) refl;
-    by_handles = λ f g same. ap (λ i. steps.Parent i) (same h dir on);
-  }
-  at_up h dir (Text text) room on made = absurd made
-  at_up h dir (Names names) room on made = absurd made
-  at_up h dir NotBelow room on made = absurd made
-  at_up h dir (Listed names) room on made = absurd made
-  at_up h dir Done room on made = absurd made
-  at_up h dir (Refused error) room on made = absurd made
-
   pub made_at_moment : ((h d : ℕ) → table.on h ≡ Some d → d < length (state_at x m).nodes) → (step : StepWith ℕ) (answer : Answer)
       → LookIsMade x nodes m table calls step answer → Made x nodes m calls table step answer
   made_at_moment within (steps.Open h name) answer made =
-      ⊎_elim (at_open h made.1 name answer made.0 made.2) (at_name h made.1 name answer made.0 made.2) made.3
-  made_at_moment within (steps.Dup h) answer made = at_dup h made.1 answer made.0 made.2 made.3
+      ⊎_elim (λ talk. at_open h made.1 name talk.0 answer made.0 made.2 talk.1) (at_name h made.1 name answer made.0 made.2)
+      made.3
+  made_at_moment within (steps.Dup h) answer made = at_dup h made.1 made.3 answer made.0 made.2 made.4
   made_at_moment within (steps.Parent h) answer made =
-      ⊎_elim (at_parent h made.1 answer made.0 made.2) (at_up h made.1 answer made.0 made.2) made.3
-  made_at_moment within (steps.ReadLink h) answer made = at_text h made.0 answer (within h made.0 made.1) made.1 made.2
+      ⊎_elim (λ talk. at_parent h made.1 talk.0 answer made.0 made.2 talk.1) (at_up h made.1 answer made.0 made.2) made.3
+  made_at_moment within (steps.ReadLink h) answer made = at_text h made.0 made.2 made.3 answer made.1 made.4 made.5
   made_at_moment within (steps.NameBelow r h) answer made =
       at_place r h made.0 made.1 answer made.2 made.3
       (place_stood x m calls made.0 made.1 answer (within h made.1 made.3) made.4)
   made_at_moment within (steps.Close h) answer made = at_close h made.0 answer made.1 made.2
   made_at_moment within (steps.List h) answer made = at_list h made.0 answer made.1 made.2
-  made_at_moment within (steps.MakeDir h n) answer made = absurd made
-  made_at_moment within (steps.MakeFile h n) answer made = absurd made
   made_at_moment within (steps.MakeLink h n text) answer made = at_bad_text h made.0 n text answer made.1 made.2
-  made_at_moment within (steps.RemoveFile h n) answer made = absurd made
-  made_at_moment within (steps.RemoveDir h n) answer made = absurd made
-  made_at_moment within (steps.Rename h n j i mode) answer made = absurd made
+  made_at_moment within step answer made = absurd made

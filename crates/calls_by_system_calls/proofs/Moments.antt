@@ -1,14 +1,16 @@
 -- From moment to moment of the tree that Linux has meanwhile.
-use Rattle.std.proofs.Common.{◌≡◌, ◌≢◌, ℕ, zero, suc, ◌+◌, ◌<◌, ◌≤◌, true, List, [], ◌∷◌, ◌++◌, length, Option, Some, None, refl, sym, ap, ◌∙◌, subst, arith}
+use Rattle.std.proofs.Common.{◌≡◌, ◌≢◌, ℕ, zero, suc, ◌+◌, ◌<◌, ◌≤◌, Bool, true, List, [], ◌∷◌, ◌++◌, length, Option, Some, None, refl, sym, ap, ◌∙◌, subst, arith}
 use Rattle.std.specs.List.{AllByRecursion}
 use Rattle.tree_model.specs.declared.answer.Event.{Event}
 use Rattle.tree_model.specs.declared.inode.Object.{Object}
 use Rattle.tree_model.specs.History.{IsLegal, after_events}
-use Rattle.tree_model.specs.State.{object_at, is_directory, is_dir, is_gone}
+use Rattle.tree_model.specs.declared.inode.Object.TheVariants as object
+use Rattle.tree_model.specs.State.{object_at, is_gone}
+use Rattle.tree_model.proofs.Places.{object_at-within}
 use Rattle.tree_model.proofs.HistoryLaws.{IsLegal-append, after_events-append}
-use Rattle.step_calls.specs.Moments.{IsWorld}
+use Rattle.linux_steps.specs.Linux.{IsLinux as IsMoments}
 use Rattle.calls_by_system_calls.specs.Linux.{Linux, IsLinux, state_at, found_behind, meanwhile, with_change, ChangeNothing}
-use Rattle.calls_by_system_calls.specs.Lines.{world}
+use Rattle.calls_by_system_calls.specs.Lines.{seen}
 use Rattle.calls_by_system_calls.proofs.Trees.{gone_kept, gone_stays, nodes_grow, nodes_kept, object_kept, object_stays}
 
 all_append : (P : Event → Type 0) (xs ys : List Event) → AllByRecursion P xs → AllByRecursion P ys → AllByRecursion P (xs ++ ys)
@@ -77,15 +79,6 @@ module _ (x : Linux) where
       gone_kept (found_behind x n) (x.own (suc n)) y (omega (arith, within, nodes_grow (state_at x n) (x.others n)))
       (gone_stays (state_at x n) (x.others n) y within gone)
 
-  pub object_later : (m n y : ℕ) (what : Object) → object_at (state_at x m).nodes y ≡ Some what
-      → object_at (state_at x (m + n)).nodes y ≡ Some what
-  object_later m zero y what is =
-      let same : m ≡ m + 0 = omega arith in subst (λ (i : ℕ). object_at (state_at x i).nodes y ≡ Some what) same is
-  object_later m (suc n) y what is =
-      let same : suc (m + n) ≡ m + suc n = omega arith in
-      subst (λ (i : ℕ). object_at (state_at x i).nodes y ≡ Some what) same
-      (object_next (m + n) y what (object_later m n y what is))
-
   pub longer_later : (m n y : ℕ) → y < length (state_at x m).nodes → y < length (state_at x (m + n)).nodes
   longer_later m zero y within =
       let same : m ≡ m + 0 = omega arith in subst (λ (i : ℕ). y < length (state_at x i).nodes) same within
@@ -93,23 +86,9 @@ module _ (x : Linux) where
       let same : suc (m + n) ≡ m + suc n = omega arith in
       subst (λ (i : ℕ). y < length (state_at x i).nodes) same (longer_next (m + n) y (longer_later m n y within))
 
-  pub directory_later : (m n y : ℕ) → is_dir (state_at x m).nodes y ≡ true → is_dir (state_at x (m + n)).nodes y ≡ true
-  directory_later m n y is = on (object_at (state_at x m).nodes y) refl
-    where
-      on : (o : Option Object) → object_at (state_at x m).nodes y ≡ o → is_dir (state_at x (m + n)).nodes y ≡ true
-      on None e = cc (sym (ap is_directory e) ∙ is)
-      on (Some what) e = ap is_directory (object_later m n y what e ∙ sym e) ∙ is
-
-  pub is_world : (m node : ℕ) (name : List ℕ) (on : ℕ → ℕ) (text : List ℕ) → node < length (state_at x m).nodes
-      → IsWorld (world x m node name on text)
-  is_world m node name on text within = record {
-    held = λ n. refl;
-    room = λ n. refl;
-    stays = λ n y what is.
-        let same : suc (m + n) ≡ m + suc n = omega arith in
-        subst (λ (i : ℕ). object_at (state_at x i).nodes y ≡ Some what) same (object_next (m + n) y what is);
-    gone = λ n is.
-        let same : suc (m + n) ≡ m + suc n = omega arith in
-        subst (λ (i : ℕ). is_gone (state_at x i).nodes node ≡ true) same
-        (gone_next (m + n) node (longer_later m n node within) is);
+  pub seen_is_linux : (asks : Bool) (on : ℕ → ℕ → Option ℕ) (layered : ℕ → Bool) (text : ℕ → List ℕ)
+      → IsMoments (seen x asks on layered text)
+  seen_is_linux asks on layered text = record {
+    stays = object_next;
+    gone = λ n d is gone. gone_next n d (object_at-within (state_at x n).nodes d object.Dir is) gone;
   }

@@ -19,8 +19,12 @@ use Rattle.tree_model.specs.Steps.{Outcome, held, is_full, opens, reads, shows, 
 use Rattle.tree_model.specs.StepWith.{StepWith}
 use Rattle.tree_model.specs.Trees.{IsState}
 use Rattle.tree_model.proofs.PlaceLaws.{not_found_is_missing}
+use Rattle.system_calls.specs.Errors.{EINVAL}
+use Rattle.dialogue.specs.declared.calls.Answer.{Answer}
+use Rattle.linux_steps.specs.Steps.{link_text, not_read}
+use Rattle.linux_steps.specs.declared.ended.Ended.TheVariants as ended
 use Rattle.root_ops.specs.Renamed.{step_handles}
-use Rattle.calls_by_system_calls.specs.Refusals.{is_refused_by, IsOneOf, IsLeftAside, not_open, no_room, no_directory, invalid, StepsAreRefusedSo}
+use Rattle.calls_by_system_calls.specs.Refusals.{IsRefusedBy, IsOneOf, IsLeftAside, not_open, no_room, no_directory, text_has_nul, into_itself, StepsAreRefusedSo}
 use Rattle.std.proofs.lemmas.Bool.{not-true}
 
 -- ---- one test after another
@@ -59,6 +63,12 @@ module _ (P : Type 0) (error : Errno) where
   err_by None q is faulty onward = onward is
   err_by (Some fault) q is faulty onward = faulty fault refl (same_err fault error is)
 
+-- readlinkat(2) gives EINVAL
+no_text : (a : Answer) → a.error ≡ EINVAL → link_text false a ≡ ended.Refused Invalid
+no_text a e =
+    ap (λ n. if n == 0 then ended.Text a.value
+    else (if not_read n == EINVAL then ended.Refused Invalid else ended.Unmade (not_read n))) e
+
 same_error : (a b : Errno) → Refused a ≡ Refused b → a ≡ b
 same_error a b e = cc (e)
 
@@ -73,21 +83,17 @@ changed s (Ok nodes) error is = cc (is)
 
 module _ (s : State) (a : ℕ) (step : StepWith ℕ) (error : Errno) where
   abbrev Said : Type 0
-  Said = IsLeftAside s a step error ⊎ (is_refused_by step error ≡ true)
+  Said = IsLeftAside s a step error ⊎ IsRefusedBy step error
 
-  -- the table of numbers has this error
-  by : (fault : Errno) → fault ≡ error
-      → is_refused_by step fault ≡ true → Said
-  by fault same is = inr (subst (λ e. is_refused_by step e ≡ true) same is)
+  -- it is refused by this error
+  by : (fault : Errno) → fault ≡ error → IsRefusedBy step fault → Said
+  by fault same is = inr (subst (IsRefusedBy step) same is)
 
   closed : BadHandle ≡ error → Said
   closed e = inl (not_open (sym e))
 
   full : TooMany ≡ error → Said
   full e = inl (no_room (sym e))
-
-  odd : Invalid ≡ error → Said
-  odd e = inl (invalid (sym e))
 
   -- a handle of the step, on what is no directory
   flat : (h x : ℕ) → IsOneOf h (step_handles step) → held s a h ≡ Some x → not (is_dir s.nodes x) ≡ true → NotDir ≡ error → Said
@@ -142,7 +148,7 @@ module _ (s : State) (a : ℕ) (t : IsState s) (error : Errno) where
   read_so h is =
       let step = steps.ReadLink h in
       on_held (Said s a step error) error (held s a h) _ _ is (λ e. closed s a step error (same_error BadHandle error e))
-      (λ x _ e. odd s a step error (of_object (object_at s.nodes x) e))
+      (λ x _ e. by s a step error Invalid (of_object (object_at s.nodes x) e) no_text)
     where
       of_object : (o : Option Object) → (reads s o).answer ≡ Refused error → Invalid ≡ error
       of_object None e = same_error Invalid error e
@@ -226,8 +232,10 @@ module _ (s : State) (a : ℕ) (error : Errno) where
     where
       of_text : (fault : Errno) → fault ≡ error → Faulty text fault → Said s a (steps.MakeLink h n text) error
       of_text fault same (empty e) = by s a (steps.MakeLink h n text) error NotFound (e ∙ same) refl
-      of_text fault same (has_nul e) = odd s a (steps.MakeLink h n text) error (e ∙ same)
-      of_text fault same (long e l) = by s a (steps.MakeLink h n text) error TooLong (e ∙ same) l
+      of_text fault same (has_nul e) = inl (text_has_nul h n text refl (sym (e ∙ same)))
+      of_text fault same (long e l) =
+          by s a (steps.MakeLink h n text) error TooLong (e ∙ same)
+          (ap (λ b. if b then ended.Refused TooLong else ended.Unmade 36) l)
 
   remove_file_so : (h : ℕ) (n : List ℕ) → (outcome s a (steps.RemoveFile h n)).answer ≡ Refused error → Said s a (steps.RemoveFile h n) error
   remove_file_so h n is =
@@ -252,8 +260,11 @@ module _ (s : State) (a : ℕ) (error : Errno) (h : ℕ) (n : List ℕ) (k : ℕ
   abbrev Renamed : Mode → Type 0
   Renamed mode = Said s a (steps.Rename h n k m mode) error
 
+  itself : (mode : Mode) → failed Invalid ≡ Err error → Renamed mode
+  itself mode e = inl (into_itself h n k m mode refl (sym (same_err Invalid error e)))
+
   moved : (mode : Mode) (c d : ℕ) → moves s.nodes c d m ≡ Err error → Renamed mode
-  moved mode c d is = err_if (Renamed mode) error (is_within s.nodes c d) _ _ is (λ _ e. odd s a (steps.Rename h n k m mode) error (same_err Invalid error e)) (λ e. ok_err _ error e)
+  moved mode c d is = err_if (Renamed mode) error (is_within s.nodes c d) _ _ is (λ _ e. itself mode e) (λ e. ok_err _ error e)
 
   -- why one entry can't take another's place
   faults : (c e : ℕ) (fault : Errno) → replace_fault s.nodes c e ≡ Some fault → fault ≡ error → Renamed Plain
@@ -275,12 +286,12 @@ module _ (s : State) (a : ℕ) (error : Errno) (h : ℕ) (n : List ℕ) (k : ℕ
       from_first false i = from_second (not (is_dir s.nodes c) && is_dir s.nodes e) i
 
   replaced : (c d e : ℕ) → replaces s.nodes c d m e ≡ Err error → Renamed Plain
-  replaced c d e is = err_if (Renamed Plain) error (is_within s.nodes c d) _ _ is (λ _ f. odd s a (steps.Rename h n k m Plain) error (same_err Invalid error f))
+  replaced c d e is = err_if (Renamed Plain) error (is_within s.nodes c d) _ _ is (λ _ f. itself Plain f)
       (λ f. err_by (Renamed Plain) error (replace_fault s.nodes c e) _ f (faults c e) (λ g. ok_err _ error g))
 
   exchanged : (c d e f : ℕ) → exchanges s.nodes c d n e f m ≡ Err error → Renamed Exchange
-  exchanged c d e f is = err_if (Renamed Exchange) error (is_within s.nodes c f) _ _ is (λ _ g. odd s a (steps.Rename h n k m Exchange) error (same_err Invalid error g))
-      (λ g. err_if (Renamed Exchange) error (is_within s.nodes e d) _ _ g (λ _ i. odd s a (steps.Rename h n k m Exchange) error (same_err Invalid error i)) (λ i. ok_err _ error i))
+  exchanged c d e f is = err_if (Renamed Exchange) error (is_within s.nodes c f) _ _ is (λ _ g. itself Exchange g)
+      (λ g. err_if (Renamed Exchange) error (is_within s.nodes e d) _ _ g (λ _ i. itself Exchange i) (λ i. ok_err _ error i))
 
   child_so : (mode : Mode) (c d f : ℕ) (there : Option ℕ) → renames_child s.nodes c d n f m mode there ≡ Err error → Renamed mode
   child_so Plain c d f None is = moved Plain c f is

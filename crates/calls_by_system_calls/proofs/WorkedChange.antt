@@ -4,14 +4,12 @@ use Rattle.std.specs.Prelude.{codes}
 use Rattle.std.specs.List.{AllByRecursion}
 use Rattle.std.proofs.lemmas.Bool.{false≢true}
 use Rattle.std.proofs.lemmas.Option.{same_Some}
-use Rattle.tree_model.specs.declared.answer.Answer.TheVariants.{Opened, Names, Done}
+use Rattle.tree_model.specs.declared.answer.Answer.TheVariants.{Names, Done}
 use Rattle.tree_model.specs.declared.answer.Event.{Event}
-use Rattle.tree_model.specs.declared.step.Kind.TheVariants as kind
 use Rattle.tree_model.specs.declared.step.StepOf.TheVariants.{MakeDir}
 use Rattle.tree_model.specs.History.{IsLegal, after_events}
 use Rattle.tree_model.specs.State.{State}
 use Rattle.tree_model.proofs.TreeTests.{IsState-from_test}
-use Rattle.step_calls.specs.History.{opens_directory}
 use Rattle.system_calls.specs.declared.objects.Object.{Object}
 use Rattle.place_protocol.specs.Conversation.{Exchange}
 use Rattle.place_protocol.specs.Moments.{IsAnswer, TextsTell, World}
@@ -19,12 +17,12 @@ use Rattle.place_protocol.specs.declared.questions.Facts.{Facts as PlaceFacts}
 use Rattle.place_protocol.specs.declared.questions.Question.{Question}
 use Rattle.place_protocol.specs.declared.questions.Question.TheVariants.{RootLink, ObjectLink, LookUp, LinkAgain}
 use Rattle.calls_by_system_calls.specs.Linux.{Change, found_behind, state_at, with_change, ChangeNothing, IsLinux}
-use Rattle.calls_by_system_calls.specs.Changes.{MakeIsMade}
-use Rattle.calls_by_system_calls.specs.Lines.{AllDiffer, AreMade, OpenIsMade, numbers_opened}
+use Rattle.calls_by_system_calls.specs.Changes.{IsChange}
+use Rattle.calls_by_system_calls.specs.Lines.{AllDiffer, AreMade, numbers_opened}
 use Rattle.calls_by_system_calls.specs.Places.{place_world, PlaceIsAsked}
 use Rattle.calls_by_system_calls.specs.WorkedChange.{mkdir, mkdir_counts, mkdir_lines, mkdir_race, MkdirIsMade}
 use Rattle.calls_by_system_calls.specs.WorkedRace.{move, race_nodes, race_opening}
-use Rattle.calls_by_system_calls.proofs.WorkedRace.{facts_of, others_at, race_before}
+use Rattle.calls_by_system_calls.proofs.WorkedRace.{opens_name, others_at, race_before}
 
 kept : (s : State) (own : Option Change) → length (with_change s own).handles ≡ length s.handles
 kept s None = refl
@@ -52,32 +50,6 @@ nothing m calls apart n less =
     ap (λ (b : Bool). if b then Some mkdir else None)
     (ne_eqb (suc (m + n)) 8 (λ e. ⊎_elim (λ before. absurd (omega (arith, e, less, before)))
     (λ behind. absurd (omega (arith, e, behind))) apart))
-
-opens_a : OpenIsMade mkdir_race race_nodes 0 1 1 (codes "a") (Opened 51 51 kind.Dir)
-opens_a = record {
-  facts = facts_of 1;
-  history = opens_directory 0 ∷ [];
-  on = λ n. 2;
-  what = refl;
-  all = refl;
-  is = (refl, tt);
-  directory = refl;
-  says = (((λ e. record { entry = refl; is = refl }), (λ e. absurd (omega (arith, e)))), tt);
-  tells = (refl, refl, refl);
-}
-
-opens_b : OpenIsMade mkdir_race race_nodes 1 1 2 (codes "b") (Opened 52 52 kind.Dir)
-opens_b = record {
-  facts = facts_of 1;
-  history = opens_directory 0 ∷ [];
-  on = λ n. 3;
-  what = refl;
-  all = refl;
-  is = (refl, tt);
-  directory = refl;
-  says = (((λ e. record { entry = refl; is = refl }), (λ e. absurd (omega (arith, e)))), tt);
-  tells = (refl, refl, refl);
-}
 
 -- ---- the place
 
@@ -179,28 +151,32 @@ asks_b = record {
   tells = refl;
 }
 
-makes_new : MakeIsMade mkdir_race 7 1 8 3 (codes "new") [] (MakeDir 0 (codes "new")) Done
+makes_new : IsChange mkdir_race 7 1 3 3 (MakeDir 0 (codes "new")) Done
 makes_new =
     let eleven : length (found_behind mkdir_race 7).nodes ≡ 11 = refl in
     record {
-      is = record {
-        facts = facts_of 8;
-        error = 0;
-        what = refl;
-        one = refl;
-        own = refl;
-        directory = refl;
-        says = ((λ e. (refl, refl)), (λ e. absurd (omega (arith, e))), (λ e. absurd (omega (arith, e))));
-        tells = refl;
-      };
-      few = omega (arith, eleven);
+      second_name = false;
+      error = 0;
+      one = refl;
+      own = refl;
+      says = (
+        record { node = 3; is_open = refl; directory = refl },
+        record {
+          few = omega (arith, eleven);
+          made = λ e. (refl, refl);
+          exists = λ e. absurd (omega (arith, e));
+          missing = λ e. absurd (omega (arith, e));
+        },
+      );
+      tells = tt;
+      not_above = λ e. absurd (cc (e));
     }
 
 steps_made : AreMade mkdir_race race_nodes 0 race_before mkdir_lines mkdir_counts
 steps_made = (
-  inl (nothing 0 1 (inl (omega arith)), (omega arith, 1, refl, inl opens_a)),
+  inl (nothing 0 1 (inl (omega arith)), (omega arith, 1, refl, inl (false, opens_name mkdir_race race_nodes 0 1 2 51 (codes "a") refl refl refl refl refl refl))),
   (
-    inl (nothing 1 1 (inl (omega arith)), (omega arith, 2, refl, inl opens_b)),
+    inl (nothing 1 1 (inl (omega arith)), (omega arith, 2, refl, inl (false, opens_name mkdir_race race_nodes 1 2 3 52 (codes "b") refl refl refl refl refl refl))),
     (
       inl (nothing 2 1 (inl (omega arith)), (2, refl, refl)),
       (

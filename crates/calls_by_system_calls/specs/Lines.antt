@@ -1,10 +1,9 @@
--- A line of a call as a program makes it by system calls: a conversation of step_calls, each of whose answers says of
+-- A line of a call as a program makes it by system calls: a conversation of linux_steps, each of whose answers says of
 -- the tree what the manual pages say; or one of several names that one system call passes.
 use Rattle.std.specs.Prelude.{◌≡◌, ◌≢◌, ◌⊎◌, ◌≤◌, ◌<◌, ℕ, suc, ◌+◌, ◌-◌, ◌==◌, List, [], ◌∷◌, Bool, true, false, if◌then◌else◌, Option, Some, None}
 use Rattle.std.specs.List.{AllByRecursion}
 use Rattle.path_text.specs.declared.errno.Errno.TheVariants.{NotFound}
 use Rattle.path_text.specs.declared.errno.Errno.{Errno}
-use Rattle.path_text.specs.Errno.{number_of}
 use Rattle.path_text.specs.Text.{text_fault}
 use Rattle.tree_model.specs.declared.answer.Answer.{Answer}
 use Rattle.tree_model.specs.declared.answer.Answer.TheVariants as answers
@@ -15,13 +14,13 @@ use Rattle.tree_model.specs.declared.step.StepOf.TheVariants as steps
 use Rattle.tree_model.specs.State.{child, is_dir, names_in, object_at, parent, sorted_names}
 use Rattle.tree_model.specs.Steps.{kind_of}
 use Rattle.tree_model.specs.StepWith.{StepWith}
-use Rattle.step_calls.specs.History.{next_after, Exchange, IsHistory, Next}
-use Rattle.step_calls.specs.Moments.{moment, number_of_kind, AreAnswers, CouldNotAsk, IsNoLink, LinkSays, OpenSays, ParentSays, World}
-use Rattle.step_calls.specs.declared.course.TheConstants.{OPENED, TEXT, REFUSED}
-use Rattle.step_calls.specs.declared.facts.Facts.{Facts}
-use Rattle.step_calls.specs.declared.facts.TheConstants.{OPEN, PARENT, READ_TEXT}
+use Rattle.dialogue.specs.Dialogue.{Dialogue, Exchange, Whole}
+use Rattle.linux_steps.specs.Linux.{Linux as Moments, moment_behind, AreAnswers}
+use Rattle.linux_steps.specs.Steps.{dup_step, open_step, parent_step, read_link_step, Entry}
+use Rattle.linux_steps.specs.declared.ended.Ended.{Ended}
+use Rattle.linux_steps.specs.declared.ended.Ended.TheVariants as ended
 use Rattle.step_resolver.specs.Order.{Line, answered, no_room, not_made}
-use Rattle.calls_by_system_calls.specs.Changes.{DirectoryIsRemoved, FileIsRemoved, LinkIsMade, MakeIsMade, RenameIsMade}
+use Rattle.calls_by_system_calls.specs.Changes.{IsChange}
 use Rattle.calls_by_system_calls.specs.Linux.{Linux, state_at, ChangeNothing}
 use Rattle.calls_by_system_calls.specs.Places.{PlaceIsFound}
 
@@ -45,76 +44,39 @@ HasRoom table = table.count < 1024
 
 -- ---- one step's conversation
 
--- The tree from moment m on as a step's conversation has it, whose descriptor is open on the node. That handle is the
--- only one there, since what a step is answered depends on no other.
-abbrev pub world : Linux → ℕ → ℕ → List ℕ → (ℕ → ℕ) → List ℕ → World
-world x m node name on text = record {
-  states = λ n.
-      record { nodes = (state_at x (m + n)).nodes; handles = Some (record { actor = 0; node = node }) ∷ [] };
-  actor = 0;
-  handle = 0;
-  node = node;
-  name = name;
+-- The tree from moment to moment as a step's conversation has it, with the node on which each descriptor is open.
+abbrev pub seen : Linux → Bool → (ℕ → ℕ → Option ℕ) → (ℕ → Bool) → (ℕ → List ℕ) → Moments
+seen x asks on layered text = record {
+  nodes = λ n. (state_at x n).nodes;
   on = on;
+  layered = layered;
   text = text;
+  asks = asks;
 }
 
--- The program tells what was opened by its own number for that node, with its kind; and a refusal by its error.
-abbrev pub TellsOpened : (ℕ → ℕ) → ℕ → Next → Answer → Type 0
-TellsOpened nodes on due (answers.Opened h x k) = (due.next ≡ OPENED) × (due.kind ≡ number_of_kind k) × (nodes x ≡ on)
-TellsOpened nodes on due (answers.Refused error) = (due.next ≡ REFUSED) × (due.error ≡ number_of error)
-TellsOpened nodes on due answer = ⊥
+-- The program tells what was opened by its own number for that node, with its kind; a text that was read; and a refusal
+-- by its error. Where the step wasn't made, it has no answer.
+abbrev pub Tells : (ℕ → ℕ) → (ℕ → Option ℕ) → List ℕ → Ended → Answer → Type 0
+Tells nodes on text (ended.Opened fd kind) (answers.Opened h y k) = (k ≡ kind) × (on fd ≡ Some (nodes y))
+Tells nodes on text (ended.Text length) (answers.Text bytes) = bytes ≡ text
+Tells nodes on text (ended.Refused why) (answers.Refused error) = error ≡ why
+Tells nodes on text end answer = ⊥
 
--- what is above is a directory
-abbrev pub TellsAbove : (ℕ → ℕ) → ℕ → Next → Answer → Type 0
-TellsAbove nodes on due (answers.Opened h x k) = (due.next ≡ OPENED) × (k ≡ kind.Dir) × (nodes x ≡ on)
-TellsAbove nodes on due (answers.Refused error) = (due.next ≡ REFUSED) × (due.error ≡ number_of error)
-TellsAbove nodes on due answer = ⊥
-
-abbrev pub TellsText : List ℕ → Next → Answer → Type 0
-TellsText text due (answers.Text bytes) = (due.next ≡ TEXT) × (bytes ≡ text)
-TellsText text due (answers.Refused error) = (due.next ≡ REFUSED) × (due.error ≡ number_of error)
-TellsText text due answer = ⊥
-
--- Open of a name: a conversation of so many system calls from moment m on
-pub record OpenIsMade (x : Linux) (nodes : ℕ → ℕ) (m calls dir : ℕ) (name : List ℕ) (answer : Answer) : Type 0 where
-  pub facts : Facts
-  pub history : List Exchange
-  pub on : ℕ → ℕ
-  pub what : facts.what ≡ OPEN
-  pub all : moment history ≡ calls
-  pub is : IsHistory facts history
-  -- openat(2): of what is no directory the errors are others (ENOTDIR)
-  pub directory : is_dir (state_at x m).nodes dir ≡ true
-  pub says : AreAnswers (OpenSays (world x m dir name on [])) history
-  pub tells : TellsOpened nodes (on (moment history)) (next_after facts history) answer
-
--- Parent of a directory. `parents_stood` has two exceptions; here they are supposed not to be met: the child's file
--- system, and a directory of one that keeps links (overlayfs, cgroups, btrfs), could be asked.
-pub record ParentIsMade (x : Linux) (nodes : ℕ → ℕ) (m calls dir : ℕ) (answer : Answer) : Type 0 where
-  pub facts : Facts
-  pub history : List Exchange
-  pub on : ℕ → ℕ
-  pub layered : Bool
-  pub what : facts.what ≡ PARENT
-  pub all : moment history ≡ calls
-  pub is : IsHistory facts history
-  pub directory : is_dir (state_at x m).nodes dir ≡ true
-  pub says : AreAnswers (ParentSays (world x m dir [] on []) layered) history
-  pub could_ask : CouldNotAsk history → ⊥
-  pub tells : TellsAbove nodes (on (moment history)) (next_after facts history) answer
-
--- ReadLink of a link
-pub record TextIsRead (x : Linux) (m calls link : ℕ) (answer : Answer) : Type 0 where
-  pub facts : Facts
-  pub history : List Exchange
-  pub text : List ℕ
-  pub what : facts.what ≡ READ_TEXT
-  pub all : moment history ≡ calls
-  pub is : IsHistory facts history
-  pub none : facts.link ≡ false → IsNoLink (world x m link [] (λ n. 0) text)
-  pub says : AreAnswers (LinkSays (world x m link [] (λ n. 0) text)) history
-  pub tells : TellsText text (next_after facts history) answer
+-- A step, by a descriptor that is open on the node: a whole conversation of so many system calls from moment m on. The
+-- program answers by its end. Nothing is supposed but what each answer of Linux says of the tree.
+pub record IsTalked (x : Linux) (nodes : ℕ → ℕ) (m calls node : ℕ) (asks : Bool) (step : ℕ → Dialogue Ended)
+    (answer : Answer) : Type 0 where
+  pub fd : ℕ
+  pub on : ℕ → ℕ → Option ℕ
+  pub layered : ℕ → Bool
+  pub text : ℕ → List ℕ
+  pub exchanges : List Exchange
+  pub end : Ended
+  pub is_on : on m fd ≡ Some node
+  pub all : moment_behind m exchanges ≡ m + calls
+  pub says : AreAnswers (seen x asks on layered text) m exchanges
+  pub is : Whole (step fd) exchanges end
+  pub tells : Tells nodes (on (m + calls)) (text (m + calls)) end answer
 
 -- Open of a name by a look-up of several at once (openat2(2), RESOLVE_NO_SYMLINKS): path_resolution(7), the kernel
 -- looks names up one after another, each in the directory that the one before gave. At one of the moments the object
@@ -138,12 +100,6 @@ UpIsPassed x nodes m calls dir (answers.Opened h y k) =
     × (object_at (state_at x (m + n)).nodes (nodes y) ≡ Some object.Dir) × (k ≡ kind.Dir)
 UpIsPassed x nodes m calls dir answer = ⊥
 
--- Dup of a directory: the new descriptor is open on the same node (openat(2) of `.`; or the program shares the old one)
-abbrev pub DupIsMade : Linux → (ℕ → ℕ) → ℕ → ℕ → Answer → Type 0
-DupIsMade x nodes m dir (answers.Opened h y k) =
-    (object_at (state_at x m).nodes dir ≡ Some object.Dir) × (k ≡ kind.Dir) × (nodes y ≡ dir)
-DupIsMade x nodes m dir answer = ⊥
-
 -- List, which the kernel answers in several calls: its answer was the whole directory at one of the moments (a
 -- premise). A driver that reads a whole directory so meets it if nobody changes that one's entries meanwhile.
 pub record NamesAreListed (x : Linux) (m calls dir : ℕ) (answer : Answer) : Type 0 where
@@ -163,14 +119,22 @@ pub record TextIsRefused (text : List ℕ) (answer : Answer) : Type 0 where
 abbrev pub LookIsMade : Linux → (ℕ → ℕ) → ℕ → Descriptors → ℕ → StepWith ℕ → Answer → Type 0
 LookIsMade x nodes m table calls (steps.Open h name) answer =
     HasRoom table × (dir : ℕ) × (table.on h ≡ Some dir)
-    × (OpenIsMade x nodes m calls dir name answer ⊎ NameIsPassed x nodes m calls dir name answer)
+    × (((no_xdev : Bool) × IsTalked x nodes m calls dir false (λ fd. open_step fd name no_xdev) answer)
+    ⊎ NameIsPassed x nodes m calls dir name answer)
 LookIsMade x nodes m table calls (steps.Dup h) answer =
-    HasRoom table × (dir : ℕ) × (table.on h ≡ Some dir) × DupIsMade x nodes m dir answer
+    HasRoom table × (dir : ℕ) × (table.on h ≡ Some dir)
+    × (no_xdev : Bool) × IsTalked x nodes m calls dir false (λ fd. dup_step fd no_xdev) answer
+-- `parents_stood` has an exception. Here it is supposed not to be met: whether the directory is there could be asked.
 LookIsMade x nodes m table calls (steps.Parent h) answer =
     HasRoom table × (dir : ℕ) × (table.on h ≡ Some dir)
-    × (ParentIsMade x nodes m calls dir answer ⊎ UpIsPassed x nodes m calls dir answer)
+    × (((no_xdev : Bool) × IsTalked x nodes m calls dir true (λ fd. parent_step fd no_xdev) answer)
+    ⊎ UpIsPassed x nodes m calls dir answer)
+-- it is refused where the object is no link
 LookIsMade x nodes m table calls (steps.ReadLink h) answer =
-    (link : ℕ) × (table.on h ≡ Some link) × TextIsRead x m calls link answer
+    (link : ℕ) × (table.on h ≡ Some link) × (is_link : Bool) × (entry : Option Entry)
+    × IsTalked x nodes m calls link false (λ fd. read_link_step fd is_link entry) answer
+    × ((error : Errno) (n : ℕ) (text : List ℕ) → answer ≡ answers.Refused error
+    → object_at (state_at x n).nodes link ≢ Some (object.Link text))
 LookIsMade x nodes m table calls (steps.NameBelow r h) answer =
     (top node : ℕ) × (table.on r ≡ Some top) × (table.on h ≡ Some node) × PlaceIsFound x m calls top node answer
 LookIsMade x nodes m table calls (steps.List h) answer =
@@ -184,18 +148,18 @@ LookIsMade x nodes m table calls step answer = ⊥
 -- The same of one that changes an entry.
 abbrev pub ChangeIsMade : Linux → ℕ → Descriptors → ℕ → StepWith ℕ → Answer → Type 0
 ChangeIsMade x m table calls (steps.MakeDir h name) answer =
-    (dir : ℕ) × (table.on h ≡ Some dir) × MakeIsMade x m calls 8 dir name [] (steps.MakeDir 0 name) answer
+    (dir : ℕ) × (table.on h ≡ Some dir) × IsChange x m calls dir dir (steps.MakeDir 0 name) answer
 ChangeIsMade x m table calls (steps.MakeFile h name) answer =
-    (dir : ℕ) × (table.on h ≡ Some dir) × MakeIsMade x m calls 9 dir name [] (steps.MakeFile 0 name) answer
+    (dir : ℕ) × (table.on h ≡ Some dir) × IsChange x m calls dir dir (steps.MakeFile 0 name) answer
 ChangeIsMade x m table calls (steps.MakeLink h name text) answer =
-    (dir : ℕ) × (table.on h ≡ Some dir) × LinkIsMade x m calls dir name text answer
+    (dir : ℕ) × (table.on h ≡ Some dir) × IsChange x m calls dir dir (steps.MakeLink 0 name text) answer
 ChangeIsMade x m table calls (steps.RemoveFile h name) answer =
-    (dir : ℕ) × (table.on h ≡ Some dir) × FileIsRemoved x m calls dir name answer
+    (dir : ℕ) × (table.on h ≡ Some dir) × IsChange x m calls dir dir (steps.RemoveFile 0 name) answer
 ChangeIsMade x m table calls (steps.RemoveDir h name) answer =
-    (dir : ℕ) × (table.on h ≡ Some dir) × DirectoryIsRemoved x m calls dir name answer
+    (dir : ℕ) × (table.on h ≡ Some dir) × IsChange x m calls dir dir (steps.RemoveDir 0 name) answer
 ChangeIsMade x m table calls (steps.Rename h name k new mode) answer =
     (dir second : ℕ) × (table.on h ≡ Some dir) × (table.on k ≡ Some second)
-    × RenameIsMade x m calls dir second name new mode answer
+    × IsChange x m calls dir second (steps.Rename 0 name 1 new mode) answer
 ChangeIsMade x m table calls step answer = ⊥
 
 abbrev pub StepIsMade : Linux → (ℕ → ℕ) → ℕ → Descriptors → ℕ → StepWith ℕ → Answer → Type 0

@@ -29,18 +29,18 @@ pub fn unmade_steps_end_calls()
     ensures { UnmadeStepsEndCalls }
 {}
 
-/// The step table refuses a step by no other error than those of `is_refusal` of `step_calls`, in any tree: except for
-/// a handle that isn't open or is on no directory, for want of handles or numbers, and for EINVAL, which is a
-/// directory's that can't go into itself (renameat2(2)) or a text's with a NUL.
+/// The step table refuses a step by no other error than those by which `linux_steps` refuses it, in any tree: except
+/// for a handle that isn't open or is on no directory, for want of handles or numbers, and for EINVAL of a text with a
+/// NUL, or of a directory that can't go into itself (renameat2(2)).
 pub fn steps_are_refused_so()
     ensures { StepsAreRefusedSo }
 {}
 
-/// A call each of whose Opens, Parents and ReadLinks is a whole conversation of system calls by `step_calls`, and each
-/// change of an entry one system call, while others change the tree between any two of these.
-/// What each answer of Linux says of the tree at its moment is a premise (openat(2), fstat(2), readlink(2), rmdir(2),
-/// statfs(2), getdents(2), mkdir(2), mknod(2), symlink(2), unlink(2), renameat2(2); `specs/Lines.antt`,
-/// `specs/Changes.antt`). So is it that a Dup and a Close do what they say. The answer to a NameBelow is a place in
+/// A call each of whose Opens, Dups, Parents and ReadLinks is a whole conversation of `linux_steps`, and each change of
+/// an entry one system call, while others change the tree between any two of these.
+/// What each answer of Linux says of the tree at its moment is a premise (openat2(2), statx(2), readlink(2), rmdir(2),
+/// statfs(2), getdents(2), mkdir(2), mknod(2), symlink(2), link(2), unlink(2), renameat2(2); `specs/Linux.antt` and
+/// `specs/Changes.antt` of `linux_steps`). So is it that a Close closes. The answer to a NameBelow is a place in
 /// which a conversation of `place_protocol` ended, or the root's own; that any other, and that to a List, was so at
 /// one of its moments is a premise. Then there is a history that begins with the tree as the call did: what others
 /// did, with the call's steps among it, each at a moment of its own system calls. In this history the call tells what

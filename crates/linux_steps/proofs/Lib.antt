@@ -3,5 +3,5 @@ pub mod Moments
 pub mod OpenLemmas
 pub mod ParentLemmas
 mod ChangeLemmas
-mod RenameLemmas
+pub mod RenameLemmas
 mod RuleLemmas
