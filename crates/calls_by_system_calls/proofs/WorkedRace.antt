@@ -11,7 +11,7 @@ use Rattle.tree_model.specs.declared.step.Kind.TheVariants as kind
 use Rattle.tree_model.specs.History.{IsLegal, after_events}
 use Rattle.tree_model.specs.State.{child, object_at}
 use Rattle.tree_model.proofs.TreeTests.{IsState-from_test}
-use Rattle.dialogue.specs.Dialogue.{Talks, and_then, calling, open_above, open_name, stats, stats_file_system}
+use Rattle.dialogue.specs.Dialogue.{Talks, and_then, asking, calling, open_above, open_name, stats, stats_file_system}
 use Rattle.dialogue.specs.declared.calls.Answer.{Answer as Given}
 use Rattle.linux_steps.specs.Linux.{IsAbove, IsEntry, StatSays}
 use Rattle.linux_steps.specs.Steps.{by_file_system, by_path, open_step, opening, parent_step, there}
@@ -54,7 +54,7 @@ pub opens_name : (x : Linux) (nodes : ℕ → ℕ) (m d y h : ℕ) (name : List 
     → nat_le (suc m) m ≡ false → object_at (state_at x (suc m)).nodes d ≡ Some object.Dir
     → child (state_at x (suc m)).nodes d name ≡ Some y → object_at (state_at x (suc m)).nodes y ≡ Some object.Dir
     → nodes h ≡ y → IsTalked x nodes m 1 d false (λ fd. open_step fd name false) (Opened h h kind.Dir)
-unfolding open_step opening calling and_then Talks
+unfolding open_step opening asking and_then Talks
 opens_name x nodes m d y h name now later directory entry is number =
     let next : suc m ≡ m + 1 = omega arith in
     let on : on_two m d y (suc m) 4 ≡ Some y = ap (λ b. if b then None else Some y) later in
@@ -115,7 +115,7 @@ linux = record {
 }
 
 opens_above : IsTalked race race_nodes 3 3 3 true (λ fd. parent_step fd false) (Opened 53 53 kind.Dir)
-unfolding parent_step there by_file_system opening calling and_then Talks
+unfolding parent_step there by_file_system opening asking and_then Talks
 opens_above =
     let w = seen race true (on_two 3 3 9) (λ z. false) (λ n. []) in
     record {

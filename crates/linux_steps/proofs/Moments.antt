@@ -7,7 +7,7 @@ use Rattle.tree_model.specs.declared.inode.Object.{Object}
 use Rattle.tree_model.specs.State.{object_at}
 use Rattle.tree_model.specs.StepWith.{StepWith}
 use Rattle.tree_model.specs.declared.answer.Answer.{Answer as StepAnswer}
-use Rattle.dialogue.specs.Dialogue.{Dialogue, Exchange, SystemCall, Talks, Whole, again, and_then, asks, calling, closes, ends, open_above, open_name, open_same, reads_entries, reads_link, stats, stats_file_system, copies_proc, look_up, opens, O_PATH, reads_object_link, reads_thread, stats_name}
+use Rattle.dialogue.specs.Dialogue.{Dialogue, Exchange, SystemCall, Talks, Whole, again, and_then, asking, asks, calling, closes, ends, open_above, open_name, open_same, reads_entries, reads_link, stats, stats_file_system, copies_proc, look_up, opens, O_PATH, reads_object_link, reads_thread, stats_name}
 use Rattle.dialogue.specs.declared.calls.Answer.{Answer}
 use Rattle.dialogue.specs.declared.calls.How.{How}
 use Rattle.dialogue.proofs.PartLemmas.{parts, same_end}
@@ -155,7 +155,7 @@ called_by x q (e ∷ es) m a says w =
     (called_by x q es (suc m) a says.2)
 
 pub called : (x : Linux) (m : ℕ) (q : SystemCall) → Holds x m (calling q) (λ now a. Answers x m now q a)
-unfolding calling
+unfolding asking
 called x m q es a says w = called_by x q es m a says w
 
 -- ---- descriptors
