@@ -84,7 +84,8 @@ opens_name x nodes m d y h name now later directory entry is number =
           failed = λ e. absurd (e refl);
           missing = λ e. absurd (omega (arith, e));
         },
-        ((λ asks. refl), tt),
+        (λ asks. refl),
+        tt,
       );
       is = (refl, refl);
       tells = (refl, ap (λ n. on_two m d y n 4) (sym next) ∙ on ∙ ap Some (sym number));
@@ -146,21 +147,20 @@ opens_above =
           failed = λ e. absurd (e refl);
           missing = λ e. absurd (omega (arith, e));
         },
+        (λ asks. refl),
         (
+          record {
+            same = λ fd. refl;
+            tells = λ z on e. subst (λ y. StatSays w 5 y gives) (same_Some 3 z on) (record {
+              what = object.Dir;
+              is = refl;
+              kind = refl;
+              none = λ is none. absurd (omega (arith, none));
+              some = λ is some. inr refl;
+            });
+          },
           (λ asks. refl),
-          (
-            record {
-              same = λ fd. refl;
-              tells = λ z on e. subst (λ y. StatSays w 5 y gives) (same_Some 3 z on) (record {
-                what = object.Dir;
-                is = refl;
-                kind = refl;
-                none = λ is none. absurd (omega (arith, none));
-                some = λ is some. inr refl;
-              });
-            },
-            ((λ asks. refl), (record { same = λ fd. refl; tells = λ z on e type. refl }, ((λ asks. refl), tt))),
-          ),
+          (record { same = λ fd. refl; tells = λ z on e type. refl }, (λ asks. refl), tt),
         ),
       );
       is = (refl, (refl, (refl, refl)));
