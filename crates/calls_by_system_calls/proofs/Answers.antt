@@ -27,7 +27,7 @@ abbrev entered : List Inode → ℕ → Option ℕ → ℕ → Answer
 entered nodes d to number =
     refuse_if (not (is_dir nodes d)) (Refused NotDir) (with_some to (Refused NotFound) (λ c. found_at nodes c number))
 
-pub at_number : ℕ → Answer → Answer
+unfoldable pub at_number : ℕ → Answer → Answer
 at_number n (Opened h x k) = Opened n x k
 at_number n answer = answer
 

@@ -1,6 +1,6 @@
 -- A step that changes an entry was made at the moment of its one system call, and the tree behind that is the one that
 -- the step leaves.
-use Rattle.std.proofs.Common.{◌≡◌, inl, inr, ℕ, suc, Bool, false, List, [], ◌∷◌, Option, Some, Result, Ok, Err, refl, sym, ap, ◌∙◌, subst}
+use Rattle.std.proofs.Common.{◌≡◌, inl, inr, ℕ, suc, false, List, Option, Some, Result, Ok, Err, refl, sym, ap, ◌∙◌, subst}
 use Rattle.path_text.specs.declared.errno.Errno.{Errno}
 use Rattle.path_text.specs.declared.errno.Errno.TheVariants.{BadHandle, NotEmpty}
 use Rattle.tree_model.specs.declared.answer.Answer.{Answer}
@@ -13,7 +13,7 @@ use Rattle.tree_model.specs.State.{State}
 use Rattle.tree_model.specs.Steps.{Outcome, changes, held, on_handle, outcome, refused}
 use Rattle.tree_model.specs.StepLaws.{is_close_of}
 use Rattle.tree_model.specs.StepWith.{StepWith}
-use Rattle.linux_steps.specs.Changes.{change_ended, ChangeStood, ChangesStood, IsExcepted}
+use Rattle.linux_steps.specs.Changes.{change_ended, ChangeStood, IsExcepted}
 use Rattle.linux_steps.specs.declared.ended.Ended.{Ended}
 use Rattle.linux_steps.specs.declared.ended.Ended.TheVariants as ended
 use Rattle.linux_steps.proofs.RenameLemmas.{changes-stood}

@@ -1,10 +1,10 @@
 -- A step that was made by system calls was made at the moment of one of them.
-use Rattle.std.proofs.Common.{◌≡◌, ◌≢◌, ⊎_elim, inl, inr, ℕ, ◌+◌, ◌-◌, ◌<◌, ◌≤◌, Bool, true, false, List, [], length, Option, Some, None, refl, sym, ap, ◌∙◌, subst, arith}
+use Rattle.std.proofs.Common.{◌≡◌, ◌≢◌, ⊎_elim, inl, inr, ℕ, ◌+◌, ◌-◌, ◌<◌, ◌≤◌, Bool, true, false, List, length, Option, Some, None, refl, sym, ap, ◌∙◌, subst, arith}
 use Rattle.std.proofs.lemmas.Bool.{eq-eqb, false≢true}
 use Rattle.std.proofs.lemmas.Option.{same_Some}
 use Rattle.path_text.specs.declared.errno.Errno.{Errno}
 use Rattle.tree_model.specs.declared.answer.Answer.{Answer}
-use Rattle.tree_model.specs.declared.answer.Answer.TheVariants.{Opened, Text, Names, NotBelow, Listed, Done, Refused}
+use Rattle.tree_model.specs.declared.answer.Answer.TheVariants.{Opened, Text, Done, Refused}
 use Rattle.tree_model.specs.declared.inode.Inode.{Inode}
 use Rattle.tree_model.specs.declared.inode.Object.TheVariants as object
 use Rattle.tree_model.specs.declared.step.Kind.{Kind}
@@ -34,7 +34,8 @@ abbrev pub numbering : (ℕ → ℕ) → (ℕ → ℕ) → Numbering
 numbering f nodes = record { handle = f; node = nodes }
 
 -- the step table answers so in each state with the nodes of that moment, where the handles are open
-pub record AtMoment (x : Linux) (nodes : ℕ → ℕ) (m calls : ℕ) (table : Descriptors) (step : StepWith ℕ) (answer : Answer) : Type 0 where
+pub record AtMoment (x : Linux) (nodes : ℕ → ℕ) (m calls : ℕ) (table : Descriptors) (step : StepWith ℕ)
+    (answer : Answer) : Type 0 where
   pub n : ℕ
   pub by : n ≤ calls
   pub tells : (t : State) (f g : ℕ → ℕ) → t.nodes ≡ (state_at x (m + n)).nodes
@@ -52,7 +53,8 @@ pub data Effect (nodes : ℕ → ℕ) (table : Descriptors) (step : StepWith ℕ
       → after_step nodes table step answer ≡ with_closed table h → Effect nodes table step answer
   tells_only : only_tells answer ≡ true → after_step nodes table step answer ≡ table → Effect nodes table step answer
 
-pub record Made (x : Linux) (nodes : ℕ → ℕ) (m calls : ℕ) (table : Descriptors) (step : StepWith ℕ) (answer : Answer) : Type 0 where
+pub record Made (x : Linux) (nodes : ℕ → ℕ) (m calls : ℕ) (table : Descriptors) (step : StepWith ℕ)
+    (answer : Answer) : Type 0 where
   pub at : AtMoment x nodes m calls table step answer
   pub effect : Effect nodes table step answer
   pub by_handles : (f g : ℕ → ℕ) → ((h d : ℕ) → table.on h ≡ Some d → f h ≡ g h)
@@ -138,7 +140,8 @@ module _ (x : Linux) (nodes : ℕ → ℕ) (m calls : ℕ) (table : Descriptors)
         at (Opened j y k) (opens j y k stood.0) found.stood.0 (omega (arith, found.stood.1)) found.stood.2
         (found.stood.3 ∙ same_opened found.node (nodes y) kind k same (sym told.0))
     ended_so asks fds layered text (ended.Text length) (Text bytes) stood told =
-        at (Text bytes) (tells (Text bytes) refl) stood.0 (omega (arith, stood.1)) stood.2 (stood.3 ∙ ap Text (sym told))
+        at (Text bytes) (tells (Text bytes) refl) stood.0 (omega (arith, stood.1)) stood.2
+        (stood.3 ∙ ap Text (sym told))
     ended_so asks fds layered text (ended.Refused error) (Refused why) stood told =
         let refused = stood why refl in
         at (Refused why) (tells (Refused why) refl) refused.0 (omega (arith, refused.1)) refused.2
@@ -232,7 +235,8 @@ module _ (x : Linux) (nodes : ℕ → ℕ) (m calls : ℕ) (table : Descriptors)
       let is = parent_is_by dir room in
       at step h dir is on (Opened j y k) (opens step h dir is on j y k room) (m + made.0) (omega arith)
       (omega (arith, made.1))
-      (passed_up (state_at x (m + made.0)).nodes dir (nodes y) made.2 made.3 made.4 ∙ ap (Opened 1 (nodes y)) (sym made.5))
+      (passed_up (state_at x (m + made.0)).nodes dir (nodes y) made.2 made.3 made.4
+      ∙ ap (Opened 1 (nodes y)) (sym made.5))
   at_up h dir answer room on made = absurd made
 
   -- ---- Dup and ReadLink
@@ -352,14 +356,15 @@ module _ (x : Linux) (nodes : ℕ → ℕ) (m calls : ℕ) (table : Descriptors)
         by_handles = λ f g same. ap (λ i. steps.Close i) (same h node on);
       })
 
-  pub made_at_moment : ((h d : ℕ) → table.on h ≡ Some d → d < length (state_at x m).nodes) → (step : StepWith ℕ) (answer : Answer)
-      → LookIsMade x nodes m table calls step answer → Made x nodes m calls table step answer
+  pub made_at_moment : ((h d : ℕ) → table.on h ≡ Some d → d < length (state_at x m).nodes)
+      → (step : StepWith ℕ) (answer : Answer) → LookIsMade x nodes m table calls step answer → Made x nodes m calls table step answer
   made_at_moment within (steps.Open h name) answer made =
-      ⊎_elim (λ talk. at_open h made.1 name talk.0 answer made.0 made.2 talk.1) (at_name h made.1 name answer made.0 made.2)
-      made.3
+      ⊎_elim (λ talk. at_open h made.1 name talk.0 answer made.0 made.2 talk.1)
+      (at_name h made.1 name answer made.0 made.2) made.3
   made_at_moment within (steps.Dup h) answer made = at_dup h made.1 made.3 answer made.0 made.2 made.4
   made_at_moment within (steps.Parent h) answer made =
-      ⊎_elim (λ talk. at_parent h made.1 talk.0 answer made.0 made.2 talk.1) (at_up h made.1 answer made.0 made.2) made.3
+      ⊎_elim (λ talk. at_parent h made.1 talk.0 answer made.0 made.2 talk.1)
+      (at_up h made.1 answer made.0 made.2) made.3
   made_at_moment within (steps.ReadLink h) answer made = at_text h made.0 made.2 made.3 answer made.1 made.4 made.5
   made_at_moment within (steps.NameBelow r h) answer made =
       at_place r h made.0 made.1 answer made.2 made.3

@@ -174,9 +174,25 @@ makes_new =
 
 steps_made : AreMade mkdir_race race_nodes 0 race_before mkdir_lines mkdir_counts
 steps_made = (
-  inl (nothing 0 1 (inl (omega arith)), (omega arith, 1, refl, inl (false, opens_name mkdir_race race_nodes 0 1 2 51 (codes "a") refl refl refl refl refl refl))),
+  inl (
+    nothing 0 1 (inl (omega arith)),
+    (
+      omega arith,
+      1,
+      refl,
+      inl (false, opens_name mkdir_race race_nodes 0 1 2 51 (codes "a") refl refl refl refl refl refl),
+    ),
+  ),
   (
-    inl (nothing 1 1 (inl (omega arith)), (omega arith, 2, refl, inl (false, opens_name mkdir_race race_nodes 1 2 3 52 (codes "b") refl refl refl refl refl refl))),
+    inl (
+      nothing 1 1 (inl (omega arith)),
+      (
+        omega arith,
+        2,
+        refl,
+        inl (false, opens_name mkdir_race race_nodes 1 2 3 52 (codes "b") refl refl refl refl refl refl),
+      ),
+    ),
     (
       inl (nothing 2 1 (inl (omega arith)), (2, refl, refl)),
       (

@@ -84,7 +84,8 @@ opens_name x nodes m d y h name now later directory entry is number =
           failed = λ e. absurd (e refl);
           missing = λ e. absurd (omega (arith, e));
         },
-        ((λ asks. refl), tt),
+        (λ asks. refl),
+        tt,
       );
       is = (refl, refl);
       tells = (refl, ap (λ n. on_two m d y n 4) (sym next) ∙ on ∙ ap Some (sym number));
@@ -104,14 +105,16 @@ others_at at event P there else_none n = by (n == at) refl
 three : (n : ℕ) → length (state_at race n).handles ≡ 3
 three zero = refl
 three (suc n) =
-    others_at 2 move (λ i events. length (state_at race i).handles ≡ 3 → length (after_events (state_at race i) events).handles ≡ 3)
+    others_at 2 move (λ i events. length (state_at race i).handles ≡ 3
+    → length (after_events (state_at race i) events).handles ≡ 3)
     (λ e. refl) (λ i e. e) n (three n)
 
 linux : IsLinux race 0
 linux = record {
   tree = IsState-from_test race_opening refl;
   legal = others_at 2 move (λ n events. IsLegal (state_at race n) events) (refl, tt) (λ n. tt);
-  by_others = others_at 2 move (λ n events. AllByRecursion (λ (event : Event). event.actor ≢ 0) events) ((λ e. absurd (omega (arith, e))), tt) (λ n. tt);
+  by_others = others_at 2 move (λ n events. AllByRecursion (λ (event : Event). event.actor ≢ 0) events)
+      ((λ e. absurd (omega (arith, e))), tt) (λ n. tt);
 }
 
 opens_above : IsTalked race race_nodes 3 3 3 true (λ fd. parent_step fd false) (Opened 53 53 kind.Dir)
@@ -146,21 +149,20 @@ opens_above =
           failed = λ e. absurd (e refl);
           missing = λ e. absurd (omega (arith, e));
         },
+        (λ asks. refl),
         (
+          record {
+            same = λ fd. refl;
+            tells = λ z on e. subst (λ y. StatSays w 5 y gives) (same_Some 3 z on) (record {
+              what = object.Dir;
+              is = refl;
+              kind = refl;
+              none = λ is none. absurd (omega (arith, none));
+              some = λ is some. inr refl;
+            });
+          },
           (λ asks. refl),
-          (
-            record {
-              same = λ fd. refl;
-              tells = λ z on e. subst (λ y. StatSays w 5 y gives) (same_Some 3 z on) (record {
-                what = object.Dir;
-                is = refl;
-                kind = refl;
-                none = λ is none. absurd (omega (arith, none));
-                some = λ is some. inr refl;
-              });
-            },
-            ((λ asks. refl), (record { same = λ fd. refl; tells = λ z on e type. refl }, ((λ asks. refl), tt))),
-          ),
+          (record { same = λ fd. refl; tells = λ z on e type. refl }, (λ asks. refl), tt),
         ),
       );
       is = (refl, (refl, (refl, refl)));
@@ -172,9 +174,25 @@ race_before = record { count = 1; on = λ h. if h == 50 then Some 1 else None }
 
 steps_made : AreMade race race_nodes 0 race_before race_lines race_counts
 steps_made = (
-  inl ((λ n by. refl), (omega arith, 1, refl, inl (false, opens_name race race_nodes 0 1 2 51 (codes "a") refl refl refl refl refl refl))),
+  inl (
+    (λ n by. refl),
+    (
+      omega arith,
+      1,
+      refl,
+      inl (false, opens_name race race_nodes 0 1 2 51 (codes "a") refl refl refl refl refl refl),
+    ),
+  ),
   (
-    inl ((λ n by. refl), (omega arith, 2, refl, inl (false, opens_name race race_nodes 1 2 3 52 (codes "b") refl refl refl refl refl refl))),
+    inl (
+      (λ n by. refl),
+      (
+        omega arith,
+        2,
+        refl,
+        inl (false, opens_name race race_nodes 1 2 3 52 (codes "b") refl refl refl refl refl refl),
+      ),
+    ),
     (
       inl ((λ n by. refl), (2, refl, refl)),
       (

@@ -1,5 +1,5 @@
 -- The step table refuses a step by no other error that a call meets than those by which `linux_steps` refuses it.
-use Rattle.std.specs.Prelude.{◌≡◌, ◌⊎◌, ℕ, List, [], ◌∷◌, Bool, false, Some}
+use Rattle.std.specs.Prelude.{◌≡◌, ◌⊎◌, ℕ, List, [], ◌∷◌, false, Some}
 use Rattle.path_text.specs.declared.errno.Errno.{Errno}
 use Rattle.path_text.specs.declared.errno.Errno.TheVariants.{BadHandle, TooMany, NotDir, Invalid}
 use Rattle.path_text.specs.Errno.{number_of}
