@@ -26,7 +26,11 @@ pub(crate) enum Gave<'n> {
 /// What a call on so much of the path gave, in the words of `make_through_links`.
 pub(crate) fn outcome_of(error: u32, found: u64, rest: usize, finds: bool) -> Outcome {
     Outcome {
-        rest: rest as u32,
+        rest: if rest < 0xffff_ffff {
+            rest as u32
+        } else {
+            0xffff_ffff
+        },
         error,
         descriptor: (found % 0x1_0000_0000) as u32,
         directory: finds && found / 0x1_0000_0000 == A_DIRECTORY as u64,

@@ -94,7 +94,7 @@ pub(crate) fn text_read<'r>(state: &State, reads: bool, read: &'r [u8]) -> &'r [
 // Goes on to the next call of a path's opening: whether it could.
 fn next_course(state: &mut State, path: &mut [u8], read: &[u8]) -> bool {
     let course = state.course;
-    if course.length > path.len() {
+    if path.len() < TEXT_MAX || course.length > path.len() {
         return false;
     }
     let text = text_read(state, course.next == open_or_make::READ_LINK, read);
