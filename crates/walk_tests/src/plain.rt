@@ -177,7 +177,7 @@ struct Beginning {
     flags: Flags,
 }
 
-fn beginning(words: &str) -> Beginning {
+fn begins_at(words: &str) -> Beginning {
     let (root, rest) = cut(words);
     Beginning {
         root: Node::new(root.parse().unwrap_or(u64::MAX)),
@@ -209,11 +209,11 @@ fn count_right(nodes: &[Inode], from: &Beginning, wanted: &str, paths: &str) -> 
 
 /// The first line that is wrong, or what is wrong of the number of paths.
 fn wrong_line<'a>(nodes: &[Inode], lines: &'a str, paths: usize) -> &'a str {
-    let mut from = beginning("");
+    let mut from = begins_at("");
     let mut right = 0usize;
     for line in lines.lines() {
         match cut(line) {
-            ("from", words) => from = beginning(words),
+            ("from", words) => from = begins_at(words),
             (wanted, words) => match count_right(nodes, &from, wanted, words) {
                 Some(count) => right = right.saturating_add(count),
                 None => return line,
