@@ -5,13 +5,13 @@
 //! Its steps come each with the answer after an arrow: `=>` where the answer passes in place, `->` where it
 //! must be taken.
 use crate::words::{are_parts, goal_of};
-use fixtures::{answer_of, cut, flags_of, root};
+use fixtures::{answer_of, are_numbers, column, cut, flags_of, root};
 use handles::Standing;
 use path_text::{Errno, Path};
 use std::alloc::Global;
 use step_resolver::{Turn, Walk};
 use step_text::Output;
-use tree_model::{Answer, HandleNo};
+use tree_model::Answer;
 
 // A walk, its steps, and its end: `more` where it goes on, and `opened dir 11 /a left b ..` where it is held at /a with
 // the parts `b` and `..` left.
@@ -62,11 +62,6 @@ a/f/b | open 0 a => dir 4 11, open 4 f => file 5 12, close 4 => done, close 5 ->
 a/l no_links | open 0 a => dir 4 11, open 4 l => link 5 12, close 5 -> done, close 4 -> done | fault ELOOP
 a/b | open 0 a => dir 4 11, open 4 b => not_below, close 4 -> done | fault EBADF
 a/b | open 0 a -> refused ENOENT | fault ENOENT";
-
-// A row's first column, and the others.
-fn column(row: &str) -> (&str, &str) {
-    row.split_once(" | ").unwrap_or((row, ""))
-}
 
 // The steps that a word stands for.
 fn steps_of(steps: &str) -> &str {
@@ -257,18 +252,6 @@ closes | 5 4
 open 0 a => dir 4 11, open 4 b => dir 5 12 | 4 5
 open 0 a => dir 4 11, open 4 b => link 5 12, read_link 5 -> text c | 5 4
 open 0 a => dir 4 11, open 4 b => done | 4";
-
-fn are_numbers(handles: &[HandleNo], numbers: &str) -> bool {
-    let mut left = numbers;
-    for handle in handles {
-        let (word, others) = cut(left);
-        if word.parse::<u64>().ok() != Some(handle.number()) {
-            return false;
-        }
-        left = others;
-    }
-    left.is_empty()
-}
 
 // Whether a walk below handle 0 holds these handles.
 fn holds_handles(alloc: Global, turn: &Turn, numbers: &str) -> bool {
