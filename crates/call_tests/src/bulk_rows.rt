@@ -1,10 +1,10 @@
 //! Rows of bulk calls: `PATH WORDS | STEPS END | HELD ENTRIES | PLACES | BEFORE | AFTER OTHERS`.
 //!
 //! Actor 0 calls on a path below `/c`, in which `x*256` stands for so many `x`, with the restrictions of the words, or
-//! with `each` without one, with `beneath` and with `no_links`, on a tree of its own each time. So many steps lead to the
-//! end. Then the actor has so many handles open, the root's among them, the tree has so many entries, and nodes stand at
-//! these places, as `12 /c/a/n, none /c/m`. The other makes its steps before the call begins, and those of the last
-//! column after so many of the call's.
+//! with `each` without one, with `beneath` and with `no_links`, on a tree of its own each time. So many steps lead to
+//! the end. Then the actor has so many handles open, the root's among them, the tree has so many entries, and nodes
+//! stand at these places, as `12 /c/a/n, none /c/m`. The other makes its steps before the call begins, and those of the
+//! last column after so many of the call's.
 use crate::bulk_calls::{Bulk, Scene, base_scene, called, is_end, others_act};
 use crate::requests::number;
 use fixtures::{BENEATH, NO_LINKS, PLAIN, column, cut, flags_of, names_of};

@@ -126,8 +126,8 @@ struct Table<'a> {
     flags: Flags,
     /// Others make these steps after so many of each call. Their handles are 1 on `/c`, 2 on `/c/a` and 3 on `/secret`.
     others: &'a str,
-    /// What a call opened: the step that is made before the release; the tag of the owner that releases, how many handles
-    /// the root's owner has then, and how the release ends.
+    /// What a call opened: the step that is made before the release; the tag of the owner that releases, how many
+    /// handles the root's owner has then, and how the release ends.
     before: &'a str,
     released: &'a str,
 }

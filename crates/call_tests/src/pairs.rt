@@ -1,9 +1,9 @@
-//! Pairs of bulk calls that are under way, alike but for the numbers of their handles or not: `STEPS PATH | STEPS PATH |
-//! LIKENESS | HANDLES | HANDLES`, and `while OTHERS`.
+//! Pairs of bulk calls that are under way, alike but for the numbers of their handles or not:
+//! `STEPS PATH | STEPS PATH | LIKENESS | HANDLES | HANDLES`, and `while OTHERS`.
 //!
 //! A path, and how many steps its call has made; the same of another call, in the tree where each later handle has a
-//! greater number, and before whose steps others make theirs; whether the two are `like` or `unlike`; and the handles of
-//! each.
+//! greater number, and before whose steps others make theirs; whether the two are `like` or `unlike`; and the handles
+//! of each.
 use crate::bulk_calls::{Bulk, Scene, advance, base_scene, grant, run};
 use crate::requests::number;
 use bulk_ops::BulkTurn;

@@ -90,8 +90,8 @@ fn are_same(log: &EventLog, other: &EventLog) -> bool {
     log.len() == other.len()
 }
 
-/// Whether a book of that many lines answers all rows so, and has as many events and free lines then. Where the rows are
-/// made into another log too, that has the book's events then.
+/// Whether a book of that many lines answers all rows so, and has as many events and free lines then. Where the rows
+/// are made into another log too, that has the book's events then.
 fn keeps(alloc: Global, row: &Kept, is_logged: bool) -> bool {
     let (lines, rows, events, free) = *row;
     let Ok(mut book) = opened(alloc, lines) else {

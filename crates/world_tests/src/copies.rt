@@ -9,9 +9,9 @@ use step_text::Output;
 use tree_list::ListTree;
 use tree_model::{Actor, HandleNo, StepOf};
 
-// Plans, the turns that a world of them takes, and other turns. The world is copied before each of its turns, where each
-// kind of call is under way once: a walk with a link before the copy and after it, a rename's two walks, both bulk calls,
-// a step of one's own, a release; and what is kept, calls that are to come and those that ended.
+// Plans, the turns that a world of them takes, and other turns. The world is copied before each of its turns, where
+// each kind of call is under way once: a walk with a link before the copy and after it, a rename's two walks, both bulk
+// calls, a step of one's own, a release; and what is kept, calls that are to come and those that ended.
 const FORKED: &str = "\
 moved_out | 11111100010000 | 000000
 /c: remove_all a: resolve abs/f; /: resolve c/a/b: make_file 1 new | 00011100001100000000 | 1111110101

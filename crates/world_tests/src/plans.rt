@@ -1,5 +1,5 @@
-//! What worlds are made of: trees, turns, and plans read from text: each actor's root, and its calls each after a colon,
-//! with a semicolon between two actors.
+//! What worlds are made of: trees, turns, and plans read from text: each actor's root, and its calls each after a
+//! colon, with a semicolon between two actors.
 //!
 //! A step and a report have many parts, and each place where one is dropped is long to prove: they are moved, or given
 //! to `drop`.
