@@ -242,6 +242,12 @@ pub fn run<T: Tree>(
     }
 }
 
+// The same by a row's words: after how many steps, and then the others' steps.
+fn run_among<T: Tree>(alloc: Global, tree: &mut T, turn: CallTurn, others: &str) -> (Reply, u32) {
+    let (after, steps) = cut(others);
+    run(alloc, tree, turn, after.parse().unwrap_or(u32::MAX), steps)
+}
+
 fn tell(alloc: Global, told: &mut Output, reply: &Reply) -> Result<(), NoMemory> {
     match reply {
         Reply::Opened(standing) => {
@@ -287,12 +293,6 @@ fn is_end(alloc: Global, reply: &Reply, steps: Option<u32>, wanted: &str) -> boo
     let mut told = Output::new(alloc);
     let is_told = tell_end(alloc, &mut told, reply, steps, wanted).is_ok();
     is_told && told.as_slice() == wanted.as_bytes()
-}
-
-// The same by a row's words: the number, and then the others' steps.
-fn run_among<T: Tree>(alloc: Global, tree: &mut T, turn: CallTurn, others: &str) -> (Reply, u32) {
-    let (after, steps) = cut(others);
-    run(alloc, tree, turn, after.parse().unwrap_or(u32::MAX), steps)
 }
 
 // The reply to what is asked, and the number of steps to there where that is known.
