@@ -1,9 +1,11 @@
 //! Every schedule of two actors, and turns one by one.
-use crate::plans::world_after;
-use crate::told::tell_outcome;
-use path_text::NoMemory;
+use crate::plans::{plans, tree, world_after};
+use crate::told::{ran, tell_outcome};
+use fixtures::PLAIN;
+use path_text::{Errno, NoMemory};
 use race_core::{Report, WorldFault};
 use std::alloc::Global;
+use std::test::*;
 use step_text::Output;
 use tree_list::ListTree;
 
@@ -56,27 +58,40 @@ const ALL: [Interleaved; 3] = [
     ),
 ];
 
-// Which of these ends the first call has by that schedule.
-fn end_by(alloc: Global, all: &Interleaved, bits: u32) -> Result<Option<usize>, WorldFault> {
+// Which of these ends the first call has.
+fn place_of(alloc: Global, report: &Report<ListTree>, ends: &str) -> Option<usize> {
+    let told = first_outcome(alloc, report).ok()?;
+    ends.split(", ")
+        .position(|end| told.as_slice() == end.as_bytes())
+}
+
+// The same by that schedule.
+fn end_by(
+    alloc: Global,
+    tree: &ListTree,
+    all: &Interleaved,
+    bits: u32,
+) -> Result<Option<usize>, Errno> {
     let (text, turns, _, _, ends) = *all;
-    let schedule = schedule_of(alloc, bits, turns).map_err(|_| WorldFault::NoMemory)?;
-    let report = world_after(alloc, text, &schedule)?.run(alloc, &[])?;
-    let told = first_outcome(alloc, &report);
-    drop(report);
-    let told = told.map_err(|_| WorldFault::NoMemory)?;
-    Ok(
-        ends.split(", ")
-            .position(|end| told.as_slice() == end.as_bytes()),
-    )
+    let schedule = schedule_of(alloc, bits, turns)?;
+    let plans = plans(alloc, text, PLAIN)?;
+    match ran(alloc, tree.copy(alloc)?, plans, &schedule, 1000) {
+        Ok(report) => {
+            let place = place_of(alloc, &report, ends);
+            drop(report);
+            Ok(place)
+        }
+        Err(_) => Ok(None),
+    }
 }
 
 // Whether the call has one of these ends, however the turns are interleaved, and each of them once at least.
-fn has_all(alloc: Global, all: &Interleaved) -> bool {
+fn has_all(alloc: Global, tree: &ListTree, all: &Interleaved) -> bool {
     let (_, _, others, schedules, ends) = *all;
     let mut seen = [false; 4];
     for bits in 0..schedules {
         if bits.count_ones() == others {
-            match end_by(alloc, all, bits) {
+            match end_by(alloc, tree, all, bits) {
                 Ok(Some(at)) if at < 4 => seen[at] = true,
                 _ => return false,
             }
@@ -85,11 +100,19 @@ fn has_all(alloc: Global, all: &Interleaved) -> bool {
     seen.iter().filter(|is_seen| **is_seen).count() == ends.split(", ").count()
 }
 
+fn first_wrong(alloc: Global) -> Result<&'static str, Errno> {
+    let tree = tree(alloc)?;
+    for all in &ALL {
+        if !has_all(alloc, &tree, all) {
+            return Ok(all.0);
+        }
+    }
+    Ok("")
+}
+
 #[test]
 fn every_schedule_ends_so(rt: HostRuntime) {
-    for all in &ALL {
-        assert!(rt; has_all(rt.alloc(), all), "{}", all.0);
-    }
+    assert_eq!(rt; first_wrong(rt.alloc()), Ok(""));
 }
 
 // Whether there are so many events after each turn of actor 0, and so many once the world then ran to its end.
