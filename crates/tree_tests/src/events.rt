@@ -11,7 +11,7 @@ use tree_model::{Actor, Answer, Event, HandleNo, StepOf};
 /// The event of a step and an answer, each answer to an actor of its own.
 fn event_of(alloc: Global, step: &str, actor: usize, row: &str) -> Result<Event, Errno> {
     Ok(Event {
-        actor: Actor::new(actor as u32),
+        actor: Actor::new(u32::try_from(actor).unwrap_or(u32::MAX)),
         step: step_of(alloc, step)?,
         answer: answer_of(alloc, words_and_line(row).0),
     })
