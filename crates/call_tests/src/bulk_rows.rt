@@ -1,45 +1,44 @@
-//! Rows of bulk calls: the path, what others do meanwhile, the end, and what is left.
+//! Rows of bulk calls: `PATH WORDS | STEPS END | HELD ENTRIES | PLACES | BEFORE | AFTER OTHERS`.
+//!
+//! Actor 0 calls on a path below `/c`, in which `x*256` stands for so many `x`, with the restrictions of the words, or
+//! with `each` without one, with `beneath` and with `no_links`, on a tree of its own each time. So many steps lead to
+//! the end. Then the actor has so many handles open, the root's among them, the tree has so many entries, and nodes
+//! stand at these places, as `12 /c/a/n, none /c/m`. The other makes its steps before the call begins, and those of the
+//! last column after so many of the call's.
 use crate::bulk_calls::{Bulk, Scene, base_scene, called, is_end, others_act};
-use fixtures::{PLAIN, names_of};
+use crate::requests::number;
+use fixtures::{BENEATH, NO_LINKS, PLAIN, column, cut, flags_of, names_of};
 use path_text::{Errno, Flags, Names, NoMemory};
 use std::alloc::Global;
 use tree_list::ListTree;
 use tree_model::{Actor, Inode, Snapshot, Tree, child, top};
 
-/// A call of actor 0 on a path below `/c`, made with each of these restrictions on a tree of its own.
-#[derive(Drop)]
-pub struct Row {
-    pub path: &'static str,
-    /// So many `x` are added to the path.
-    pub xs: usize,
-    pub flags: &'static [Flags],
-    /// The other's steps before the call begins, and those after so many of its steps.
-    pub before: &'static str,
-    pub after: u64,
-    pub others: &'static str,
-    pub end: &'static str,
-    pub steps: u64,
-    /// How many handles the actor has open then, the root's among them.
-    pub held: usize,
-    /// How many entries the tree has then, and which nodes stand where, as `12 /c/a/n, none /c/m`.
-    pub entries: usize,
-    pub places: &'static str,
+/// The columns of a row.
+#[derive(Clone, Copy)]
+struct Row {
+    call: &'static str,
+    end: &'static str,
+    counts: &'static str,
+    places: &'static str,
+    before: &'static str,
+    others: &'static str,
 }
 
-/// A call that nobody disturbs, on no path.
-pub const QUIET: Row = Row {
-    path: "",
-    xs: 0,
-    flags: &[PLAIN],
-    before: "",
-    after: 0,
-    others: "",
-    end: "",
-    steps: 0,
-    held: 1,
-    entries: 10,
-    places: "0 /",
-};
+fn row_of(line: &'static str) -> Row {
+    let (call, rest) = column(line);
+    let (end, rest) = column(rest);
+    let (counts, rest) = column(rest);
+    let (places, rest) = column(rest);
+    let (before, others) = column(rest);
+    Row {
+        call,
+        end,
+        counts,
+        places,
+        before,
+        others,
+    }
+}
 
 // The number of the node at these names from the top, and None where none is there.
 fn node_at(nodes: &[Inode], names: &Names) -> Option<u64> {
@@ -58,7 +57,7 @@ fn node_at(nodes: &[Inode], names: &Names) -> Option<u64> {
 
 // Whether that node stands at that path from the top.
 fn stands(alloc: Global, nodes: &[Inode], place: &str) -> bool {
-    let (node, path) = place.split_once(' ').unwrap_or((place, ""));
+    let (node, path) = cut(place);
     match names_of(alloc, path) {
         Ok(names) => node_at(nodes, &names) == node.parse::<u64>().ok(),
         Err(_) => false,
@@ -79,45 +78,52 @@ fn count_entries(alloc: Global, snapshot: &Snapshot) -> Result<usize, NoMemory> 
     Ok(rows.len())
 }
 
-// Whether the tree is left so.
-fn is_left(alloc: Global, tree: &ListTree, row: &Row) -> Result<bool, NoMemory> {
+// Whether the tree is left with so many entries, and these nodes.
+fn is_left(alloc: Global, tree: &ListTree, entries: &str, places: &str) -> Result<bool, NoMemory> {
     let snapshot = tree.snapshot(alloc)?;
-    let is_left = count_entries(alloc, &snapshot) == Ok(row.entries)
-        && all_stand(alloc, snapshot.nodes(), row.places);
+    let count = count_entries(alloc, &snapshot)?;
+    let is_left = count as u64 == number(entries) && all_stand(alloc, snapshot.nodes(), places);
     drop(snapshot);
     Ok(is_left)
 }
 
-fn path_of(alloc: Global, row: &Row) -> Result<String, Errno> {
-    let mut path = String::from_str(alloc, row.path)?;
-    for _ in 0..row.xs {
+fn path_of(alloc: Global, text: &str) -> Result<String, Errno> {
+    let Some(begun) = text.strip_suffix("x*256") else {
+        return Ok(String::from_str(alloc, text)?);
+    };
+    let mut path = String::from_str(alloc, begun)?;
+    for _ in 0..256 {
         path.push('x')?;
     }
     Ok(path)
 }
 
-// Whether the call on that path ends so.
+// Whether the call on that path ends so, in so many steps.
 fn ends<C: Bulk>(alloc: Global, scene: &mut Scene, path: &str, flags: Flags, row: &Row) -> bool {
+    let (steps, wanted) = cut(row.end);
     let end = called::<C, Scene>(alloc, scene, path, flags);
-    let is_end = is_end(alloc, &end, row.end);
+    let is_end = is_end(alloc, &end, wanted);
     drop(end);
-    is_end && scene.steps == row.steps
+    is_end && scene.steps == number(steps)
 }
 
-/// Whether a row's call ends so in a scene, and leaves what it is to leave.
-pub fn ends_so<C: Bulk>(
+// Whether a row's call ends so in a scene, and leaves what it is to leave.
+fn ends_so<C: Bulk>(
     alloc: Global,
     scene: &mut Scene,
     row: &Row,
     flags: Flags,
 ) -> Result<bool, Errno> {
     others_act(alloc, &mut scene.tree, row.before);
+    let (after, others) = cut(row.others);
     scene.steps = 0;
-    scene.after = row.after;
-    scene.others = row.others;
-    let path = path_of(alloc, row)?;
+    scene.after = number(after);
+    scene.others = others;
+    let path = path_of(alloc, cut(row.call).0)?;
     let is_end = ends::<C>(alloc, scene, path.as_str(), flags, row);
-    Ok(is_end && scene.tree.held(Actor::new(0)) == row.held && is_left(alloc, &scene.tree, row)?)
+    let (held, entries) = cut(row.counts);
+    let holds = scene.tree.held(Actor::new(0)) as u64 == number(held);
+    Ok(is_end && holds && is_left(alloc, &scene.tree, entries, row.places)?)
 }
 
 // The same in a scene of its own.
@@ -126,36 +132,36 @@ fn ends_anew<C: Bulk>(alloc: Global, at: &str, row: &Row, flags: Flags) -> Resul
     ends_so::<C>(alloc, &mut scene, row, flags)
 }
 
-// Whether it does so with each of the row's restrictions, and there is one.
-fn ends_each_time<C: Bulk>(alloc: Global, at: &str, row: &Row) -> bool {
-    for flags in row.flags {
-        if ends_anew::<C>(alloc, at, row, *flags) != Ok(true) {
+fn ends_with_each<C: Bulk>(alloc: Global, at: &str, row: &Row) -> bool {
+    for flags in [PLAIN, BENEATH, NO_LINKS] {
+        if ends_anew::<C>(alloc, at, row, flags) != Ok(true) {
             return false;
         }
     }
-    !row.flags.is_empty()
+    true
 }
 
-/// The place of the first row that ends otherwise, where the other has handles on these directories.
-pub fn first_wrong<C: Bulk>(alloc: Global, at: &str, rows: &[Row]) -> Option<usize> {
-    for (place, row) in rows.iter().enumerate() {
-        if !ends_each_time::<C>(alloc, at, row) {
-            return Some(place);
-        }
+/// Whether a row holds where the other has handles on these directories. A line after `#` is a remark.
+pub fn holds<C: Bulk>(alloc: Global, at: &str, line: &'static str) -> bool {
+    let row = row_of(line);
+    match cut(row.call).1 {
+        _ if line.starts_with('#') => true,
+        "each" => ends_with_each::<C>(alloc, at, &row),
+        words => ends_anew::<C>(alloc, at, &row, flags_of(words)) == Ok(true),
     }
-    None
 }
 
-/// The same, where each call is made on what the calls before it left.
-pub fn first_wrong_in_turn<C: Bulk>(
+/// The first row that doesn't hold, and of none nothing, where each call is made on what the calls before it left.
+pub fn wrong_in_turn<C: Bulk>(
     alloc: Global,
-    scene: &mut Scene,
-    rows: &[Row],
-) -> Option<usize> {
-    for (place, row) in rows.iter().enumerate() {
-        if ends_so::<C>(alloc, scene, row, PLAIN) != Ok(true) {
-            return Some(place);
+    at: &str,
+    lines: &'static str,
+) -> Result<&'static str, Errno> {
+    let mut scene = base_scene(alloc, at)?;
+    for line in lines.lines() {
+        if !ends_so::<C>(alloc, &mut scene, &row_of(line), PLAIN)? {
+            return Ok(line);
         }
     }
-    None
+    Ok("")
 }

@@ -7,8 +7,8 @@ ghost use Rattle.root_ops.specs.TurnView.{steps_to_come};
 
 use crate::copies::run_copies;
 use crate::passes::run_passing;
-use crate::requests::{asked, cut};
-use fixtures::{BENEATH, BOTH, NO_LINKS, PLAIN, answered, base_tree, names_of, root};
+use crate::requests::{asked, number};
+use fixtures::{PLAIN, answered, base_tree, column, cut, flags_of, names_of, root};
 use handles::Standing;
 use path_text::{Errno, Flags, NoMemory};
 use root_ops::{Call, CallTurn, Op, Reply, Request, run_call};
@@ -120,98 +120,62 @@ enum How {
     Copied,
 }
 
-/// Lines of calls, each line on a tree of its own.
+/// What is said of the calls of some lines.
+#[derive(Clone, Copy)]
 struct Table<'a> {
-    lines: &'a str,
     flags: Flags,
     /// Others make these steps after so many of each call. Their handles are 1 on `/c`, 2 on `/c/a` and 3 on `/secret`.
-    after: u32,
     others: &'a str,
-    /// What a call opened: the step that is made before it is released, the tag of the owner that releases it, how the
-    /// release ends, and how many handles the root's owner has then.
+    /// What a call opened: the step that is made before the release; the tag of the owner that releases, how many
+    /// handles the root's owner has then, and how the release ends.
     before: &'a str,
-    tag: u64,
     released: &'a str,
-    held: usize,
 }
 
-const QUIET: Table<'static> = Table {
-    lines: OPENED,
-    flags: PLAIN,
-    after: 0,
-    others: "",
-    before: "",
-    tag: OWN,
-    released: "1 done",
-    held: 1,
-};
+// `WORDS | AFTER OTHERS | BEFORE | TAG HELD END`.
+fn table_of(columns: &str) -> Table<'_> {
+    let (words, rest) = column(columns);
+    let (others, rest) = column(rest);
+    let (before, released) = column(rest);
+    Table {
+        flags: flags_of(words),
+        others,
+        before,
+        released: if released.is_empty() {
+            "7 1 1 done"
+        } else {
+            released
+        },
+    }
+}
 
-// Among these nobody else acts.
-const ALONE: [Table<'static>; 10] = [
-    Table {
-        lines: RENAMES,
-        ..QUIET
-    },
-    Table {
-        lines: CHANGES,
-        ..QUIET
-    },
-    Table {
-        lines: BULK,
-        ..QUIET
-    },
-    Table {
-        lines: SINGLES,
-        ..QUIET
-    },
-    Table {
-        lines: WITH_BENEATH,
-        flags: BENEATH,
-        ..QUIET
-    },
-    Table {
-        lines: WITH_NO_LINKS,
-        flags: NO_LINKS,
-        ..QUIET
-    },
-    Table {
-        lines: WITH_BOTH,
-        flags: BOTH,
-        ..QUIET
-    },
-    QUIET,
-    Table {
-        tag: 8,
-        released: "0 kept",
-        held: 2,
-        ..QUIET
-    },
-    Table {
-        before: "close 4",
-        released: "1 fault EBADF",
-        ..QUIET
-    },
+// What is said of the calls, and lines of them, each line on a tree of its own. Nobody else acts.
+const ALONE: [(&str, &str); 10] = [
+    ("", RENAMES),
+    ("", CHANGES),
+    ("", BULK),
+    ("", SINGLES),
+    ("beneath", WITH_BENEATH),
+    ("no_links", WITH_NO_LINKS),
+    ("beneath no_links", WITH_BOTH),
+    ("", OPENED),
+    (" |  |  | 8 2 0 kept", OPENED),
+    (" |  | close 4 | 7 1 1 fault EBADF", OPENED),
 ];
 
-const AMONG_OTHERS: [Table<'static>; 3] = [
-    Table {
-        lines: "remove_all a -> 12 count 2",
-        after: 6,
-        others: "rename 2 b 1 b2 plain, make_link 2 b /secret",
-        ..QUIET
-    },
-    Table {
-        lines: "mkdir_all a/n/m -> 7 fault ENOTDIR",
-        after: 4,
-        others: "remove_dir 2 n, make_link 2 n /secret",
-        ..QUIET
-    },
-    Table {
-        lines: "mkdir_all a/n -> 8 fault EAGAIN",
-        after: 6,
-        others: "rename 1 a 3 a plain",
-        ..QUIET
-    },
+const AMONG_OTHERS: [(&str, &str); 3] = [
+    (
+        " | 6 rename 2 b 1 b2 plain, make_link 2 b /secret",
+        "remove_all a -> 12 count 2",
+    ),
+    (
+        " | 4 remove_dir 2 n, make_link 2 n /secret",
+        "mkdir_all a/n/m -> 7 fault ENOTDIR",
+    ),
+    (
+        " | 6 rename 1 a 3 a plain",
+        "mkdir_all a/n -> 8 fault EAGAIN",
+    ),
 ];
 
 /// Opens that directory for an actor.
@@ -278,6 +242,12 @@ pub fn run<T: Tree>(
     }
 }
 
+// The same by a row's words: after how many steps, and then the others' steps.
+fn run_among<T: Tree>(alloc: Global, tree: &mut T, turn: CallTurn, others: &str) -> (Reply, u32) {
+    let (after, steps) = cut(others);
+    run(alloc, tree, turn, after.parse().unwrap_or(u32::MAX), steps)
+}
+
 fn tell(alloc: Global, told: &mut Output, reply: &Reply) -> Result<(), NoMemory> {
     match reply {
         Reply::Opened(standing) => {
@@ -341,7 +311,7 @@ fn replied<T: Tree>(
     let (reply, steps) = match how {
         How::Copied => run_copies(alloc, tree, turn),
         How::Passed => run_passing(alloc, tree, turn, &mut 0),
-        _ => run(alloc, tree, turn, table.after, table.others),
+        _ => run_among(alloc, tree, turn, table.others),
     };
     (reply, Some(steps))
 }
@@ -355,12 +325,14 @@ fn is_released<T: Tree>(
     how: How,
 ) -> bool {
     let _told = answered(alloc, tree, 0, table.before);
+    let (tag, rest) = cut(table.released);
+    let (held, end) = cut(rest);
     let op = Op::Release(standing);
     let request = Request { op, flags: PLAIN };
-    let (reply, steps) = replied(alloc, tree, request, root(table.tag), &QUIET, how);
-    let is_right = is_end(alloc, &reply, steps, table.released);
+    let (reply, steps) = replied(alloc, tree, request, root(number(tag)), &table_of(""), how);
+    let is_right = is_end(alloc, &reply, steps, end);
     drop(reply);
-    is_right && tree.held(Actor::new(0)) == table.held
+    is_right && tree.held(Actor::new(0)) as u64 == number(held)
 }
 
 // Whether what a reply opened is released so. Of one that opened nothing the root's handle alone is to be open.
@@ -417,9 +389,9 @@ fn all_end_on_slab(alloc: Global, line: &str, table: &Table, how: How) -> bool {
     all
 }
 
-// The first line of the table of which a call ends otherwise on one of the trees, and of none nothing.
-fn wrong_line<'a>(alloc: Global, table: &Table<'a>, how: How) -> &'a str {
-    for line in table.lines.lines() {
+// The first line of which a call ends otherwise on one of the trees, and of none nothing.
+fn wrong_line<'a>(alloc: Global, lines: &'a str, table: &Table, how: How) -> &'a str {
+    for line in lines.lines() {
         if !all_end_on_list(alloc, line, table, how) || !all_end_on_slab(alloc, line, table, how) {
             return line;
         }
@@ -427,37 +399,17 @@ fn wrong_line<'a>(alloc: Global, table: &Table<'a>, how: How) -> &'a str {
     ""
 }
 
-// The same of some tables.
-fn first_wrong<'a>(alloc: Global, tables: &[Table<'a>], how: How) -> &'a str {
-    for table in tables {
-        let wrong = wrong_line(alloc, table, how);
-        if !wrong.is_empty() {
-            return wrong;
-        }
-    }
-    ""
-}
-
 #[test]
 fn operations_end_as_they_do_on_linux(rt: HostRuntime) {
-    assert_eq!(rt; first_wrong(rt.alloc(), ALONE.as_slice(), How::Taken), "");
-    assert_eq!(rt;
-        first_wrong(rt.alloc(), AMONG_OTHERS.as_slice(), How::Taken),
-        ""
-    );
-}
-
-#[test]
-fn copies_end_the_same(rt: HostRuntime) {
-    assert_eq!(rt; first_wrong(rt.alloc(), ALONE.as_slice(), How::Copied), "");
-}
-
-#[test]
-fn calls_whose_answers_pass_end_the_same(rt: HostRuntime) {
-    assert_eq!(rt; first_wrong(rt.alloc(), ALONE.as_slice(), How::Passed), "");
-}
-
-#[test]
-fn calls_run_whole_end_the_same(rt: HostRuntime) {
-    assert_eq!(rt; first_wrong(rt.alloc(), ALONE.as_slice(), How::Whole), "");
+    for how in [How::Taken, How::Passed, How::Whole, How::Copied] {
+        for (columns, lines) in ALONE {
+            assert_eq!(rt; wrong_line(rt.alloc(), lines, &table_of(columns), how), "");
+        }
+    }
+    for (columns, lines) in AMONG_OTHERS {
+        assert_eq!(rt;
+            wrong_line(rt.alloc(), lines, &table_of(columns), How::Taken),
+            ""
+        );
+    }
 }

@@ -1,69 +1,47 @@
 //! Requests, answers and calls that differ in the numbers of their handles alone, and others that don't.
 use crate::calls::{OWN, grant, open, run, step};
 use crate::requests::request_of;
-use fixtures::{PLAIN, base_tree, root};
+use fixtures::{PLAIN, are_numbers, base_tree, column, root};
 use path_text::{Errno, NoMemory};
 use root_ops::{Call, CallTurn, Request, like_answers, push_answer_handles};
 use std::alloc::Global;
-use std::test::*;
 use step_resolver::Root;
 use tree_list::ListTree;
 use tree_model::{Answer, HandleNo, Kind, Node};
 
 // Two requests, whether they are alike, and the handles of the first.
-const REQUESTS: [(&str, &str, bool, &[u64]); 12] = [
-    ("resolve a", "resolve a", true, &[]),
-    ("resolve a", "resolve b", false, &[]),
-    ("resolve a", "no_follow a", false, &[]),
-    ("create_link l q", "create_link l r", false, &[]),
-    ("rename a b plain", "rename a b exchange", false, &[]),
-    ("list 3", "list 4", true, &[3]),
-    ("list 3", "close 3", false, &[3]),
-    ("below 5 6", "below 0 0", true, &[5, 6]),
-    ("make_link 2 l q", "make_link 2 l r", false, &[2]),
-    (
-        "rename 2 b 1 c plain",
-        "rename 1 b 1 c plain",
-        true,
-        &[2, 1],
-    ),
-    (
-        "rename 2 b 1 c plain",
-        "rename 2 b 1 d plain",
-        false,
-        &[2, 1],
-    ),
-    (
-        "rename 2 b 1 c plain",
-        "rename 2 b 1 c exchange",
-        false,
-        &[2, 1],
-    ),
-];
-
-// Whether these are the handles of those numbers.
-fn are(handles: &[HandleNo], numbers: &[u64]) -> bool {
-    handles.len() == numbers.len()
-        && handles
-            .iter()
-            .zip(numbers)
-            .all(|(handle, number)| handle.number() == *number)
-}
+const REQUESTS: &str = "\
+resolve a | resolve a | like
+resolve a | resolve b | unlike
+resolve a | no_follow a | unlike
+create_link l q | create_link l r | unlike
+rename a b plain | rename a b exchange | unlike
+list 3 | list 4 | like | 3
+list 3 | close 3 | unlike | 3
+below 5 6 | below 0 0 | like | 5 6
+make_link 2 l q | make_link 2 l r | unlike | 2
+rename 2 b 1 c plain | rename 1 b 1 c plain | like | 2 1
+rename 2 b 1 c plain | rename 2 b 1 d plain | unlike | 2 1
+rename 2 b 1 c plain | rename 2 b 1 c exchange | unlike | 2 1";
 
 // Whether the request has these handles.
-fn has_handles(alloc: Global, request: &Request, numbers: &[u64]) -> bool {
+fn has_handles(alloc: Global, request: &Request, numbers: &str) -> bool {
     let mut handles = Vec::new(alloc);
-    request.push_handles(&mut handles).is_ok() && are(&handles, numbers)
+    request.push_handles(&mut handles).is_ok() && are_numbers(&handles, numbers)
 }
 
-// Whether the request of a line is like the other or not, as it is said, and has these handles.
-fn is_so(alloc: Global, line: &str, other: &str, is_like: bool, numbers: &[u64]) -> bool {
+// Whether a row's requests are as the row says.
+fn are_so(alloc: Global, row: &str) -> bool {
+    let (line, rest) = column(row);
+    let (other, rest) = column(rest);
+    let (likeness, numbers) = column(rest);
     let request = request_of(alloc, line, PLAIN);
     let other = request_of(alloc, other, PLAIN);
-    let is_so = request.is_like(&other) == is_like && has_handles(alloc, &request, numbers);
+    let is_like = request.is_like(&other) == (likeness == "like");
+    let are_so = is_like && has_handles(alloc, &request, numbers);
     drop(request);
     drop(other);
-    is_so
+    are_so
 }
 
 fn opened(handle: u64, node: u64) -> Answer {
@@ -93,28 +71,25 @@ fn pushes(answer: Answer, handles: &mut Vec<HandleNo>) -> bool {
 // Whether two answers have the handle that the first opened.
 fn have_their_handle(alloc: Global) -> bool {
     let mut handles = Vec::new(alloc);
-    pushes(opened(7, 1), &mut handles) && pushes(Answer::Done, &mut handles) && are(&handles, &[7])
+    pushes(opened(7, 1), &mut handles)
+        && pushes(Answer::Done, &mut handles)
+        && are_numbers(&handles, "7")
 }
 
 // A call, another on an equal tree where each handle's number is one greater, and whether the two are alike.
-const CALLS: [(&str, &str, bool); 12] = [
-    ("resolve abs/f", "resolve abs/f", true),
-    ("read_link a/../abs", "read_link a/../abs", true),
-    ("create_link a/l q", "create_link a/l q", true),
-    ("rename a/b/ z plain", "rename a/b/ z plain", true),
-    (
-        "rename abs up/none/x exchange",
-        "rename abs up/none/x exchange",
-        true,
-    ),
-    ("mkdir_all abs/n/m", "mkdir_all abs/n/m", true),
-    ("remove_all a", "remove_all a", true),
-    ("list 0", "list 1", true),
-    ("resolve a", "no_follow a", false),
-    ("create_dir n", "create_file n", false),
-    ("rename a/b x plain", "rename a/b x noreplace", false),
-    ("rename a/b c/x plain", "rename a/b c/y plain", false),
-];
+const CALLS: &str = "\
+resolve abs/f | resolve abs/f | like
+read_link a/../abs | read_link a/../abs | like
+create_link a/l q | create_link a/l q | like
+rename a/b/ z plain | rename a/b/ z plain | like
+rename abs up/none/x exchange | rename abs up/none/x exchange | like
+mkdir_all abs/n/m | mkdir_all abs/n/m | like
+remove_all a | remove_all a | like
+list 0 | list 1 | like
+resolve a | no_follow a | unlike
+create_dir n | create_file n | unlike
+rename a/b x plain | rename a/b x noreplace | unlike
+rename a/b c/x plain | rename a/b c/y plain | unlike";
 
 fn handles_of(alloc: Global, call: &Call) -> Result<Vec<HandleNo>, NoMemory> {
     let mut handles = Vec::new(alloc);
@@ -201,31 +176,23 @@ fn are_alike_on(
     go_alike(alloc, tree, turn, more, other_turn) && is_open
 }
 
-// The same on two base trees.
-fn are_alike_on_trees(alloc: Global, line: &str, other: &str) -> Result<bool, Errno> {
+// Whether a row's calls are alike or not on two base trees, as the row says.
+fn go_so(alloc: Global, row: &str) -> Result<bool, Errno> {
+    let (line, rest) = column(row);
+    let (other, likeness) = column(rest);
     let mut tree = base_tree(alloc)?;
     let mut more = base_tree(alloc)?;
-    Ok(are_alike_on(alloc, &mut tree, line, &mut more, other))
-}
-
-// The first line that is alike or unlike otherwise, and of none nothing.
-fn first_wrong(alloc: Global) -> &'static str {
-    for (line, other, is_like, numbers) in REQUESTS.as_slice() {
-        if !is_so(alloc, line, other, *is_like, numbers) {
-            return line;
-        }
-    }
-    for (line, other, is_like) in CALLS.as_slice() {
-        if are_alike_on_trees(alloc, line, other) != Ok(*is_like) {
-            return line;
-        }
-    }
-    ""
+    Ok(are_alike_on(alloc, &mut tree, line, &mut more, other) == (likeness == "like"))
 }
 
 #[test]
 fn calls_are_alike_but_for_handles(rt: HostRuntime) {
-    assert_eq!(rt; first_wrong(rt.alloc()), "");
+    for row in REQUESTS.lines() {
+        assert!(rt; are_so(rt.alloc(), row), "{row}");
+    }
+    for row in CALLS.lines() {
+        assert!(rt; go_so(rt.alloc(), row) == Ok(true), "{row}");
+    }
 }
 
 #[test]

@@ -1,10 +1,9 @@
 //! RemoveAll on the plain tree, with another's steps in between, and one that is answered by hand, as unlink(2) and
 //! rmdir(2) tell.
-use crate::bulk_calls::{Answers, Scene, base_scene, called, is_end, others_act};
-use crate::bulk_rows::{QUIET, Row, ends_so, first_wrong, first_wrong_in_turn};
-use crate::pairs::{Pair, first_wrong_pair};
+use crate::bulk_calls::{Answers, called, is_end};
+use crate::bulk_rows::{holds, wrong_in_turn};
 use bulk_ops::RemoveAll;
-use fixtures::{BENEATH, NO_LINKS, PLAIN};
+use fixtures::PLAIN;
 use path_text::{Errno, Names, NoMemory};
 use std::alloc::Global;
 use std::test::*;
@@ -13,138 +12,39 @@ use tree_model::{Answer, HandleNo, Kind, LentStep, Node, StepOf};
 // Where the other's handle 1 is.
 const OTHER_AT: &str = "/c";
 
-const REMOVED: [Row; 11] = [
-    Row {
-        path: "a",
-        before: "open 1 a, open 2 b, make_link 3 s /secret",
-        end: "count 4",
-        steps: 15,
-        entries: 7,
-        places: "none /c/a, 10 /secret/key",
-        ..QUIET
-    },
-    Row {
-        path: "none",
-        end: "count 0",
-        steps: 4,
-        places: "4 /c/a/b/f",
-        ..QUIET
-    },
-    Row {
-        path: "d",
-        before: "make_dir 1 d",
-        end: "count 1",
-        steps: 8,
-        places: "none /c/d, 4 /c/a/b/f",
-        ..QUIET
-    },
-    Row {
-        path: "abs/f",
-        end: "count 1",
-        steps: 9,
-        entries: 9,
-        places: "3 /c/a/b, none /c/a/b/f",
-        ..QUIET
-    },
-    Row {
-        path: "abs/f",
-        flags: &[NO_LINKS],
-        end: "fault ELOOP",
-        steps: 2,
-        places: "4 /c/a/b/f",
-        ..QUIET
-    },
-    Row {
-        path: "abs",
-        flags: &[NO_LINKS],
-        end: "count 1",
-        steps: 4,
-        entries: 9,
-        places: "none /c/abs, 4 /c/a/b/f",
-        ..QUIET
-    },
-    Row {
-        path: "/abs",
-        flags: &[BENEATH],
-        end: "fault EXDEV",
-        places: "5 /c/abs",
-        ..QUIET
-    },
-    Row {
-        path: "a/b/f/x",
-        end: "fault ENOTDIR",
-        steps: 8,
-        places: "4 /c/a/b/f",
-        ..QUIET
-    },
-    Row {
-        path: "none/x",
-        end: "fault ENOENT",
-        steps: 1,
-        places: "4 /c/a/b/f",
-        ..QUIET
-    },
-    // what is below it is moved away, and a link out of the root is there instead
-    Row {
-        path: "a",
-        flags: &[PLAIN, BENEATH, NO_LINKS],
-        before: "open 1 a",
-        after: 6,
-        others: "rename 2 b 1 b2 plain, make_link 2 b /secret",
-        end: "count 2",
-        steps: 12,
-        entries: 9,
-        places: "none /c/a, 4 /c/b2/f, 10 /secret/key",
-        ..QUIET
-    },
-    // a file is there instead
-    Row {
-        path: "a",
-        after: 3,
-        others: "rename 1 a 1 b plain, make_file 1 a",
-        end: "count 1",
-        steps: 7,
-        places: "none /c/a, 2 /c/b, 4 /c/b/b/f",
-        ..QUIET
-    },
-];
+const ROWS: &str = "\
+a | 15 count 4 | 1 7 | none /c/a, 10 /secret/key | open 1 a, open 2 b, make_link 3 s /secret
+none | 4 count 0 | 1 10 | 4 /c/a/b/f
+d | 8 count 1 | 1 10 | none /c/d, 4 /c/a/b/f | make_dir 1 d
+abs/f | 9 count 1 | 1 9 | 3 /c/a/b, none /c/a/b/f
+abs/f no_links | 2 fault ELOOP | 1 10 | 4 /c/a/b/f
+abs no_links | 4 count 1 | 1 9 | none /c/abs, 4 /c/a/b/f
+/abs beneath | 0 fault EXDEV | 1 10 | 5 /c/abs
+a/b/f/x | 8 fault ENOTDIR | 1 10 | 4 /c/a/b/f
+none/x | 1 fault ENOENT | 1 10 | 4 /c/a/b/f
+# what is below it is moved away, and a link out of the root is there instead
+a each | 12 count 2 | 1 9 | none /c/a, 4 /c/b2/f, 10 /secret/key | open 1 a | 6 rename 2 b 1 b2 plain, \
+    make_link 2 b /secret
+# a file is there instead
+a | 7 count 1 | 1 10 | none /c/a, 2 /c/b, 4 /c/b/b/f |  | 3 rename 1 a 1 b plain, make_file 1 a";
 
 #[test]
 fn removes_with_all_below(rt: HostRuntime) {
-    assert_eq!(rt;
-        first_wrong::<RemoveAll>(rt.alloc(), OTHER_AT, REMOVED.as_slice()),
-        None
-    );
+    for line in ROWS.lines() {
+        assert!(rt; holds::<RemoveAll>(rt.alloc(), OTHER_AT, line), "{line}");
+    }
 }
 
-const AGAIN: [Row; 2] = [
-    Row {
-        path: "a",
-        end: "count 3",
-        steps: 14,
-        entries: 7,
-        places: "none /c/a",
-        ..QUIET
-    },
-    Row {
-        path: "a",
-        end: "count 0",
-        steps: 4,
-        entries: 7,
-        places: "none /c/a",
-        ..QUIET
-    },
-];
-
-// The place of the first row that ends otherwise.
-fn first_wrong_again(alloc: Global) -> Result<Option<usize>, Errno> {
-    let mut scene = base_scene(alloc, OTHER_AT)?;
-    Ok(first_wrong_in_turn::<RemoveAll>(alloc, &mut scene, AGAIN.as_slice()))
-}
+const AGAIN: &str = "\
+a | 14 count 3 | 1 7 | none /c/a
+a | 4 count 0 | 1 7 | none /c/a";
 
 #[test]
 fn finds_nothing_the_second_time(rt: HostRuntime) {
-    assert_eq!(rt; first_wrong_again(rt.alloc()), Ok(None));
+    assert_eq!(rt;
+        wrong_in_turn::<RemoveAll>(rt.alloc(), OTHER_AT, AGAIN),
+        Ok("")
+    );
 }
 
 // A tree in which each directory is empty when it is listed, and not when it is removed, until it has been asked for so

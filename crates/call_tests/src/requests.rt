@@ -1,16 +1,16 @@
 //! Requests read from words: an operation's own word and its texts, or the line of a single step.
 //!
 //! A request has many kinds, and each place where one is dropped is long to prove: it is moved, or given to `drop`.
-use fixtures::PLAIN;
+use fixtures::{PLAIN, cut};
 use path_text::{Bytes, Flags, NoMemory};
 use root_ops::{Op, Request};
 use std::alloc::Global;
 use step_text::read_step;
 use tree_model::Mode;
 
-/// A word, and what comes after it.
-pub fn cut(line: &str) -> (&str, &str) {
-    line.split_once(' ').unwrap_or((line, ""))
+/// The number that a word is, and of another word the greatest.
+pub fn number(word: &str) -> u64 {
+    word.parse().unwrap_or(u64::MAX)
 }
 
 fn mode_of(word: &str) -> Mode {

@@ -1,6 +1,6 @@
 //! Trees built of lists of entries, and lists that are refused.
 use crate::grown::grown;
-use fixtures::{base_tree, entries, names_of};
+use fixtures::{BASE, base_tree, column, cut, entries, names_of};
 use path_text::{Bytes, Errno};
 use std::alloc::Global;
 use std::test::Fail;
@@ -9,20 +9,19 @@ use tree_model::{Actor, Tree, same_nodes};
 use tree_slab::SlabTree;
 
 /// Two entries, the place of the first that is refused, and why.
-const REFUSED: [(&str, &str, &str, &str, usize, &str); 12] = [
-    ("/c", "dir", "/", "dir", 1, "EEXIST"),
-    ("/x/y", "dir", "/c", "dir", 0, "ENOENT"),
-    ("/c", "dir", "/c/x/y", "file", 1, "ENOENT"),
-    ("/f", "file", "/f/x", "dir", 1, "ENOTDIR"),
-    ("/f", "file", "/f/x/y", "dir", 1, "ENOENT"),
-    ("/f", "file", "/f/x/y/z", "dir", 1, "ENOENT"),
-    ("/l", "c", "/l/x", "dir", 1, "ENOTDIR"),
-    ("/l", "c", "/l/x/y", "dir", 1, "ENOENT"),
-    ("/c", "dir", "/c", "file", 1, "EEXIST"),
-    ("/l", "", "/", "dir", 0, "ENOENT"),
-    ("/c", "dir", "/", "", 1, "ENOENT"),
-    ("/c", "dir", "/x/y", "\0", 1, "EINVAL"),
-];
+const REFUSED: &str = "\
+/c/, / | 1 EEXIST
+/x/y/, /c/ | 0 ENOENT
+/c/, /c/x/y | 1 ENOENT
+/f, /f/x/ | 1 ENOTDIR
+/f, /f/x/y/ | 1 ENOENT
+/f, /f/x/y/z/ | 1 ENOENT
+/l -> c, /l/x/ | 1 ENOTDIR
+/l -> c, /l/x/y/ | 1 ENOENT
+/c/, /c | 1 EEXIST
+/l -> , / | 0 ENOENT
+/c/, / ->  | 1 ENOENT
+/c/, /x/y -> \0 | 1 EINVAL";
 
 fn is_refused(fault: Option<BuildFault>, at: usize, cause: &str) -> bool {
     match fault {
@@ -32,7 +31,7 @@ fn is_refused(fault: Option<BuildFault>, at: usize, cause: &str) -> bool {
 }
 
 /// Why the plain tree, the indexed one and listed nodes refuse a list of entries.
-fn faults_of(alloc: Global, rows: &[(&str, &str)]) -> Result<[Option<BuildFault>; 3], Errno> {
+fn faults_of(alloc: Global, rows: &str) -> Result<[Option<BuildFault>; 3], Errno> {
     let entries = entries(alloc, rows)?;
     let plain = ListTree::from_entries(alloc, &entries).err();
     let mut tree = SlabTree::new(alloc, 4)?;
@@ -41,21 +40,20 @@ fn faults_of(alloc: Global, rows: &[(&str, &str)]) -> Result<[Option<BuildFault>
     Ok([plain, indexed, listed])
 }
 
-/// The first row of which something else is refused.
-fn first_other(alloc: Global) -> Result<Option<usize>, Errno> {
-    for (row, (first, what, second, other, at, cause)) in REFUSED.iter().enumerate() {
-        let [plain, indexed, listed] = faults_of(alloc, &[(first, what), (second, other)])?;
-        let is_plain = is_refused(plain, *at, cause) && is_refused(listed, *at, cause);
-        if !is_plain || !is_refused(indexed, *at, cause) {
-            return Ok(Some(row));
-        }
-    }
-    Ok(None)
+fn are_refused(alloc: Global, row: &str) -> Result<bool, Errno> {
+    let (rows, end) = column(row);
+    let (at, cause) = cut(end);
+    let at = at.parse().unwrap_or(usize::MAX);
+    let [plain, indexed, listed] = faults_of(alloc, rows)?;
+    let is_plain = is_refused(plain, at, cause) && is_refused(listed, at, cause);
+    Ok(is_plain && is_refused(indexed, at, cause))
 }
 
 #[test]
 fn refuses_the_first_wrong_entry(rt: HostRuntime) -> Result<(), Fail> {
-    assert_eq!(rt; first_other(rt.alloc())?, None);
+    for row in REFUSED.lines() {
+        assert!(rt; are_refused(rt.alloc(), row)?, "{row}");
+    }
     Ok(())
 }
 
@@ -88,18 +86,13 @@ fn bounds_a_links_text(rt: HostRuntime) -> Result<(), Fail> {
 }
 
 /// Entries below those of the base tree, of each kind.
-const MORE: [(&str, &str); 4] = [
-    ("/c/a/more", "dir"),
-    ("/c/a/more/deep", "dir"),
-    ("/c/a/more/deep/f", "file"),
-    ("/l", "c/a/more"),
-];
+const MORE: &str = "/c/a/more/, /c/a/more/deep/, /c/a/more/deep/f, /l -> c/a/more";
 
 /// Adds more entries: whether the tree then has the nodes of the plain tree that is built of all, and its handle still.
 fn is_same_once_added(alloc: Global, tree: &mut SlabTree, built: &ListTree) -> Result<bool, Errno> {
     let actor = Actor::new(0);
     tree.grant(alloc, actor, &names_of(alloc, "/c")?)?;
-    let more = entries(alloc, MORE.as_slice())?;
+    let more = entries(alloc, MORE)?;
     if tree.add_all(alloc, &more).is_err() {
         return Ok(false);
     }
@@ -109,8 +102,8 @@ fn is_same_once_added(alloc: Global, tree: &mut SlabTree, built: &ListTree) -> R
 
 /// The plain tree with the base tree's entries and more.
 fn all_built(alloc: Global) -> Result<Option<ListTree>, Errno> {
-    let mut all = entries(alloc, fixtures::BASE.as_slice())?;
-    for entry in entries(alloc, MORE.as_slice())? {
+    let mut all = entries(alloc, BASE)?;
+    for entry in entries(alloc, MORE)? {
         all.push(entry)?;
     }
     Ok(ListTree::from_entries(alloc, &all).ok())
@@ -121,7 +114,7 @@ fn are_more(alloc: Global) -> Result<bool, Errno> {
         return Ok(false);
     };
     let mut tree = SlabTree::new(alloc, 4)?;
-    let base = entries(alloc, fixtures::BASE.as_slice())?;
+    let base = entries(alloc, BASE)?;
     Ok(tree.add_all(alloc, &base).is_ok() && is_same_once_added(alloc, &mut tree, &built)?)
 }
 

@@ -1,31 +1,30 @@
 //! Logs of each step with each answer, there and back.
-use super::rows::{ANSWERS, STEPS, answer_of, step_of};
+use super::rows::{ANSWERS, STEPS, step_of, words_and_line};
 use event_log::EventLog;
+use fixtures::answer_of;
 use path_text::{Errno, LentBytes, Name, NoMemory};
 use std::alloc::Global;
 use std::test::Fail;
 use step_text::Output;
 use tree_model::{Actor, Answer, Event, HandleNo, StepOf};
 
-/// Each step with each answer.
-const COUNT: usize = STEPS.len() * ANSWERS.len();
-
-/// The event of that place: the answers of a step come in their order, each to an actor of its own.
-fn event_at(alloc: Global, at: usize) -> Result<Event, Errno> {
-    let actor = at % ANSWERS.len();
-    let (word, text, _) = ANSWERS[actor];
+/// The event of a step and an answer, each answer to an actor of its own.
+fn event_of(alloc: Global, step: &str, actor: usize, row: &str) -> Result<Event, Errno> {
     Ok(Event {
-        actor: Actor::new(actor as u32),
-        step: step_of(alloc, STEPS[at / ANSWERS.len() % STEPS.len()])?,
-        answer: answer_of(alloc, word, text)?,
+        actor: Actor::new(u32::try_from(actor).unwrap_or(u32::MAX)),
+        step: step_of(alloc, step)?,
+        answer: answer_of(alloc, words_and_line(row).0),
     })
 }
 
+/// Each step with each answer.
 fn filled(alloc: Global) -> Result<EventLog, Errno> {
     let mut log = EventLog::new(alloc);
-    for at in 0..COUNT {
-        let event = event_at(alloc, at)?;
-        log.push(event.actor, &event.step.lend(), &event.answer)?;
+    for step in STEPS.lines() {
+        for (actor, row) in ANSWERS.lines().enumerate() {
+            let event = event_of(alloc, step, actor, row)?;
+            log.push(event.actor, &event.step.lend(), &event.answer)?;
+        }
     }
     Ok(log)
 }
@@ -40,19 +39,18 @@ fn holds_at(alloc: Global, log: &EventLog, at: usize, event: &Event) -> Result<b
     Ok(read.actor == event.actor && is_step && read.answer.same(&event.answer))
 }
 
-fn holds_all(alloc: Global, log: &EventLog) -> Result<bool, Errno> {
-    for at in 0..COUNT {
-        let event = event_at(alloc, at)?;
-        if !holds_at(alloc, log, at, &event)? {
-            return Ok(false);
-        }
-    }
-    Ok(log.len() == 209 && !log.is_empty())
-}
-
 fn reads_back(alloc: Global) -> Result<bool, Errno> {
     let log = filled(alloc)?;
-    holds_all(alloc, &log)
+    let mut at = 0usize;
+    for step in STEPS.lines() {
+        for (actor, row) in ANSWERS.lines().enumerate() {
+            if !holds_at(alloc, &log, at, &event_of(alloc, step, actor, row)?)? {
+                return Ok(false);
+            }
+            at = at.saturating_add(1);
+        }
+    }
+    Ok(at == 209 && log.len() == 209 && !log.is_empty())
 }
 
 #[test]
@@ -72,11 +70,11 @@ fn write_events(out: &mut Output, log: &EventLog) -> Result<(), NoMemory> {
 
 /// Writes the lines of each step with each answer.
 fn write_rows(out: &mut Output) -> Result<(), NoMemory> {
-    for step in &STEPS {
-        for (_, _, answer) in &ANSWERS {
+    for step in STEPS.lines() {
+        for row in ANSWERS.lines() {
             out.text(step)?;
             out.text(" = ")?;
-            out.text(answer)?;
+            out.text(words_and_line(row).1)?;
             out.text("\n")?;
         }
     }
@@ -147,19 +145,19 @@ fn adds_a_close(rt: HostRuntime) -> Result<(), Fail> {
 
 /// Steps with their answers, and whether after each of them handle 5 is open, and handle 6, which was open before.
 const LEFT: [(&str, &str, bool, bool); 6] = [
-    ("open 0 a", "opened", true, true),
-    ("close 5", "refused", true, true),
+    ("open 0 a", "file 5 12", true, true),
+    ("close 5", "refused EMFILE", true, true),
     ("close 6", "done", true, false),
     ("close 5", "done", false, false),
     ("remove_file 0 a", "done", false, false),
-    ("dup 0", "opened", true, false),
+    ("dup 0", "file 5 12", true, false),
 ];
 
 fn leaves_open(alloc: Global) -> Result<bool, Errno> {
     let mut log = EventLog::new(alloc);
-    for (line, word, five, six) in &LEFT {
+    for (line, words, five, six) in &LEFT {
         let step = step_of(alloc, line)?;
-        let answer = answer_of(alloc, word, "")?;
+        let answer = answer_of(alloc, words);
         log.push(Actor::new(0), &step.lend(), &answer)?;
         let is_five = log.leaves_open(HandleNo::new(5), false);
         let is_six = log.leaves_open(HandleNo::new(6), true);

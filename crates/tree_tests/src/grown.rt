@@ -58,10 +58,7 @@ fn top_alone(alloc: Global) -> Result<Listed, NoMemory> {
 }
 
 /// Why a list of entries is refused, and the nodes then.
-pub fn grown(
-    alloc: Global,
-    rows: &[(&str, &str)],
-) -> Result<(Option<BuildFault>, Vec<Inode>), Errno> {
+pub fn grown(alloc: Global, rows: &str) -> Result<(Option<BuildFault>, Vec<Inode>), Errno> {
     let entries = entries(alloc, rows)?;
     let mut listed = top_alone(alloc)?;
     let fault = add_all(&mut listed, alloc, &entries).err();
@@ -71,8 +68,8 @@ pub fn grown(
 /// Whether the base tree's entries make its nodes, and an entry that stands there already is refused after them.
 fn are_grown(alloc: Global) -> Result<bool, Errno> {
     let base = base_tree(alloc)?.snapshot(alloc)?;
-    let (fault, nodes) = grown(alloc, BASE.as_slice())?;
-    let (twice, kept) = grown(alloc, &[("/c", "dir"), ("/l", "c"), ("/c", "file")])?;
+    let (fault, nodes) = grown(alloc, BASE)?;
+    let (twice, kept) = grown(alloc, "/c/, /l -> c, /c")?;
     let is_twice = matches!(twice, Some(fault) if fault.at == 2 && fault.cause == Errno::Exists);
     Ok(fault.is_none() && same_nodes(&nodes, base.nodes()) && is_twice && kept.len() == 3)
 }

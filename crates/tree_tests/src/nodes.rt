@@ -1,58 +1,25 @@
 //! Values compared and copied with ample memory, and the rows of a small tree. A table is plain data, and a maker
 //! turns a row into its value.
-use fixtures::names_of;
+use crate::rows::step_of;
+use fixtures::answer_of;
 use path_text::{Bytes, Errno, Name};
 use std::alloc::Global;
 use std::test::Fail;
-use step_text::read_step;
 use tree_model::{
-    Actor, Answer, HandleNo, Inode, Kind, Node, Object, OpenHandle, Place, Row, Snapshot, Step,
-    child, has_entries, is_dir, is_gone, object_at, parent, place_at, same_nodes, top,
+    Actor, Inode, Kind, Node, Object, OpenHandle, Place, Row, Snapshot, child, has_entries, is_dir,
+    is_gone, object_at, parent, place_at, same_nodes, top,
 };
 
 /// One step of each kind at least, no two of them equal.
-const STEPS: [&str; 19] = [
-    "open 3 a",
-    "open 3 b",
-    "dup 3",
-    "dup 4",
-    "parent 3",
-    "read_link 3",
-    "below 3 4",
-    "below 4 3",
-    "list 3",
-    "close 3",
-    "make_dir 3 a",
-    "make_file 3 a",
-    "make_link 3 a ../x",
-    "make_link 3 a x",
-    "remove_file 3 a",
-    "remove_dir 3 a",
-    "rename 3 a 4 b plain",
-    "rename 3 a 4 b noreplace",
-    "rename 3 a 4 b exchange",
-];
-
-/// An answer's word, its numbers, and its kind, text or names.
-type AnswerRow = (&'static str, u64, u64, &'static str);
+const STEPS: &str =
+    "open 3 a, open 3 b, dup 3, dup 4, parent 3, read_link 3, below 3 4, below 4 3, list 3, close 3, make_dir 3 a, \
+    make_file 3 a, make_link 3 a ../x, make_link 3 a x, remove_file 3 a, remove_dir 3 a, rename 3 a 4 b plain, \
+    rename 3 a 4 b noreplace, rename 3 a 4 b exchange";
 
 /// One answer of each kind at least, no two of them equal.
-const ANSWERS: [AnswerRow; 14] = [
-    ("opened", 1, 2, "dir"),
-    ("opened", 2, 2, "dir"),
-    ("opened", 1, 3, "dir"),
-    ("opened", 1, 2, "link"),
-    ("text", 0, 0, "a"),
-    ("text", 0, 0, "b"),
-    ("names", 0, 0, "a"),
-    ("names", 0, 0, "b"),
-    ("not_below", 0, 0, ""),
-    ("listed", 0, 0, "a"),
-    ("listed", 0, 0, ""),
-    ("done", 0, 0, ""),
-    ("refused_enoent", 0, 0, ""),
-    ("refused_enotdir", 0, 0, ""),
-];
+const ANSWERS: &str =
+    "dir 1 2, dir 2 2, dir 1 3, link 1 2, text a, text b, names a, names b, not_below, listed a, listed , done, \
+    refused ENOENT, refused ENOTDIR";
 
 /// A node's word, its parent and name, empty where it stands nowhere, and its text.
 type NodeRow = (&'static str, u64, &'static str, &'static str);
@@ -72,10 +39,6 @@ const NODES: [NodeRow; 10] = [
     ("file", 0, "", ""),
 ];
 
-fn step_of(alloc: Global, line: &str) -> Result<Step, Errno> {
-    read_step(alloc, line.as_bytes())?.ok_or(Errno::Invalid)
-}
-
 /// Whether the copy of a row's step is equal to another row's.
 fn copy_is_step(alloc: Global, line: &str, other: &str) -> Result<bool, Errno> {
     let step = step_of(alloc, line)?;
@@ -92,28 +55,10 @@ fn kind(word: &str) -> Kind {
     }
 }
 
-fn answer(alloc: Global, row: &AnswerRow) -> Result<Answer, Errno> {
-    let (word, handle, node, text) = *row;
-    match word {
-        "opened" => Ok(Answer::Opened {
-            handle: HandleNo::new(handle),
-            node: Node::new(node),
-            kind: kind(text),
-        }),
-        "text" => Ok(Answer::Text(Bytes::from_slice(alloc, text.as_bytes())?)),
-        "names" => Ok(Answer::Names(names_of(alloc, text)?)),
-        "listed" => Ok(Answer::Listed(names_of(alloc, text)?)),
-        "not_below" => Ok(Answer::NotBelow),
-        "done" => Ok(Answer::Done),
-        "refused_enoent" => Ok(Answer::Refused(Errno::NotFound)),
-        _ => Ok(Answer::Refused(Errno::NotDir)),
-    }
-}
-
-fn copy_is_answer(alloc: Global, row: &AnswerRow, other: &AnswerRow) -> Result<bool, Errno> {
-    let first = answer(alloc, row)?;
+fn copy_is_answer(alloc: Global, words: &str, other: &str) -> Result<bool, Errno> {
+    let first = answer_of(alloc, words);
     let copy = first.copy(alloc)?;
-    let another = answer(alloc, other)?;
+    let another = answer_of(alloc, other);
     Ok(copy.same(&another))
 }
 
@@ -151,25 +96,33 @@ fn copy_is_inode(alloc: Global, row: &NodeRow, other: &NodeRow) -> Result<bool, 
     Ok(copy.same(&another) && copy.object.kind() == kind(row.0))
 }
 
-/// Whether the values of two rows are equal, as a copy of the one, where they are one row alone.
-fn rows_differ(alloc: Global, i: usize, j: usize) -> Result<bool, Errno> {
-    let is_one = i == j;
-    if i < 19 && j < 19 && copy_is_step(alloc, STEPS[i], STEPS[j])? != is_one {
-        return Ok(false);
-    }
-    if i < 14 && j < 14 && copy_is_answer(alloc, &ANSWERS[i], &ANSWERS[j])? != is_one {
-        return Ok(false);
-    }
-    if i < 10 && j < 10 && copy_is_inode(alloc, &NODES[i], &NODES[j])? != is_one {
-        return Ok(false);
+/// Whether each value is equal to its own copy alone.
+fn steps_differ(alloc: Global) -> Result<bool, Errno> {
+    for (i, line) in STEPS.split(", ").enumerate() {
+        for (j, other) in STEPS.split(", ").enumerate() {
+            if copy_is_step(alloc, line, other)? != (i == j) {
+                return Ok(false);
+            }
+        }
     }
     Ok(true)
 }
 
-fn all_rows_differ(alloc: Global) -> Result<bool, Errno> {
-    for i in 0..19 {
-        for j in 0..19 {
-            if !rows_differ(alloc, i, j)? {
+fn answers_differ(alloc: Global) -> Result<bool, Errno> {
+    for (i, words) in ANSWERS.split(", ").enumerate() {
+        for (j, other) in ANSWERS.split(", ").enumerate() {
+            if copy_is_answer(alloc, words, other)? != (i == j) {
+                return Ok(false);
+            }
+        }
+    }
+    Ok(true)
+}
+
+fn inodes_differ(alloc: Global) -> Result<bool, Errno> {
+    for (i, row) in NODES.iter().enumerate() {
+        for (j, other) in NODES.iter().enumerate() {
+            if copy_is_inode(alloc, row, other)? != (i == j) {
                 return Ok(false);
             }
         }
@@ -179,7 +132,8 @@ fn all_rows_differ(alloc: Global) -> Result<bool, Errno> {
 
 #[test]
 fn values_equal_their_copies_alone(rt: HostRuntime) -> Result<(), Fail> {
-    assert!(rt; all_rows_differ(rt.alloc())?);
+    let alloc = rt.alloc();
+    assert!(rt; steps_differ(alloc)? && answers_differ(alloc)? && inodes_differ(alloc)?);
     Ok(())
 }
 
@@ -323,25 +277,15 @@ const CHILDREN: [(u64, &str, Option<u64>); 6] = [
     (9, "key", None),
 ];
 
-/// The first node that is read otherwise, or the first directory in which another child is found.
-fn first_misread(nodes: &[Inode]) -> Option<u64> {
-    for wanted in &READINGS {
-        if !reads(nodes, wanted) {
-            return Some(wanted.0);
-        }
-    }
-    for (dir, name, wanted) in &CHILDREN {
-        let found = child(nodes, Node::new(*dir), name.as_bytes());
-        if found != wanted.map(Node::new) {
-            return Some(*dir);
-        }
-    }
-    None
-}
-
 #[test]
 fn nodes_and_children_are_read(rt: HostRuntime) -> Result<(), Fail> {
     let nodes = inodes(rt.alloc())?;
-    assert_eq!(rt; first_misread(&nodes), None);
+    for wanted in &READINGS {
+        assert!(rt; reads(&nodes, wanted), "node {}", wanted.0);
+    }
+    for (dir, name, wanted) in &CHILDREN {
+        let found = child(&nodes, Node::new(*dir), name.as_bytes());
+        assert!(rt; found == wanted.map(Node::new), "{dir} {name}");
+    }
     Ok(())
 }

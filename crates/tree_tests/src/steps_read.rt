@@ -1,6 +1,6 @@
 //! Each form of a line, and the lines that are none.
-use super::rows::{ANSWERS, STEPS, answer_of};
-use fixtures::names_of;
+use super::rows::{ANSWERS, STEPS, words_and_line};
+use fixtures::{answer_of, names_of};
 use path_text::{Errno, NoMemory};
 use std::alloc::Global;
 use std::test::Fail;
@@ -40,59 +40,35 @@ fn is_read(alloc: Global, line: &str) -> Result<bool, NoMemory> {
     Ok(written.as_slice() == line.as_bytes())
 }
 
-/// The first line that isn't read and written again.
-fn first_unread(alloc: Global, lines: &[&'static str]) -> Result<Option<&'static str>, NoMemory> {
-    for line in lines {
-        if !is_read(alloc, line)? {
-            return Ok(Some(line));
-        }
-    }
-    Ok(None)
-}
-
 #[test]
 fn reads_each_step(rt: HostRuntime) -> Result<(), Fail> {
-    assert_eq!(rt; first_unread(rt.alloc(), &STEPS)?, None);
-    Ok(())
-}
-
-/// Whether each line, alone in a list, is none that is read.
-fn reads_none(alloc: Global) -> Result<bool, NoMemory> {
-    for line in &OTHERS {
-        let step = read_step(alloc, line.as_bytes())?;
-        if step.is_some() {
-            return Ok(false);
-        }
+    for line in STEPS.lines() {
+        assert!(rt; is_read(rt.alloc(), line)?, "{line}");
     }
-    Ok(true)
+    Ok(())
 }
 
 #[test]
 fn reads_nothing_else(rt: HostRuntime) -> Result<(), Fail> {
-    assert!(rt; reads_none(rt.alloc())?);
+    for line in &OTHERS {
+        assert!(rt; read_step(rt.alloc(), line.as_bytes())?.is_none(), "{line}");
+    }
     Ok(())
 }
 
-fn is_written(alloc: Global, word: &str, text: &str, line: &str) -> Result<bool, Errno> {
-    let answer = answer_of(alloc, word, text)?;
+fn is_written(alloc: Global, row: &str) -> Result<bool, NoMemory> {
+    let (words, line) = words_and_line(row);
+    let answer = answer_of(alloc, words);
     let mut written = Output::new(alloc);
     written.answer(alloc, &answer)?;
     Ok(written.as_slice() == line.as_bytes())
 }
 
-/// The first answer that is written otherwise.
-fn first_miswritten(alloc: Global) -> Result<Option<&'static str>, Errno> {
-    for (word, text, line) in &ANSWERS {
-        if !is_written(alloc, word, text, line)? {
-            return Ok(Some(line));
-        }
-    }
-    Ok(None)
-}
-
 #[test]
 fn writes_each_answer(rt: HostRuntime) -> Result<(), Fail> {
-    assert_eq!(rt; first_miswritten(rt.alloc())?, None);
+    for row in ANSWERS.lines() {
+        assert!(rt; is_written(rt.alloc(), row)?, "{row}");
+    }
     Ok(())
 }
 

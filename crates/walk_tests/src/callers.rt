@@ -12,13 +12,7 @@ use tree_list::ListTree;
 use tree_model::{Actor, HandleNo, StepOf, Tree, steps_keep_trees};
 
 // Entry k is node k + 1.
-const ENTRIES: [(&str, &str); 5] = [
-    ("/c", "dir"),
-    ("/c/a", "dir"),
-    ("/c/a/b", "dir"),
-    ("/c/link", "/a/b"),
-    ("/host", "dir"),
-];
+const ENTRIES: &str = "/c/, /c/a/, /c/a/b/, /c/link -> /a/b, /host/";
 
 // How a path is used, each below `/c`.
 #[derive(Clone, Copy)]
@@ -36,13 +30,10 @@ enum Use {
 // A use, a path, and what it comes to: a node's or the steps' number, and how many parts are left.
 type Row<'a> = (Use, &'a str, Result<(u64, usize), Errno>);
 
-const NODES: [Row; 3] = [
+const ROWS: [Row; 15] = [
     (Use::NodeAt, "a/b", Ok((3, 0))),
     (Use::NodeAt, "../../link/.", Ok((3, 0))),
     (Use::NodeAt, "host", Err(Errno::NotFound)),
-];
-
-const GOALS: [Row; 8] = [
     (Use::Resolve(Goal::Follow), "a/b", Ok((3, 0))),
     (Use::Resolve(Goal::Follow), "link", Ok((3, 0))),
     (Use::Resolve(Goal::NoFollow), "link", Ok((4, 0))),
@@ -51,15 +42,9 @@ const GOALS: [Row; 8] = [
     (Use::Resolve(Goal::Deepest), "a/b", Ok((3, 0))),
     (Use::Resolve(Goal::Deepest), "link/../n/m", Ok((2, 2))),
     (Use::Resolve(Goal::Deepest), "none", Ok((1, 1))),
-];
-
-const AMONG: [Row; 2] = [
     (Use::Among, "none", Ok((3, 0))),
     (Use::Among, "b", Err(Errno::NotFound)),
-];
-
-// Open a, NameBelow, Close; and for one name more: Open b, and Close of a.
-const COUNTS: [Row; 2] = [
+    // Open a, NameBelow, Close; and for one name more: Open b, and Close of a.
     (Use::Counting, "a", Ok((3, 0))),
     (Use::Counting, "a/b", Ok((5, 0))),
 ];
@@ -70,7 +55,7 @@ fn tree(alloc: Global) -> Result<(ListTree, Root), Errno>
         IsReady made.0 made.1.owner.actor made.1.handle (node_of made.0 made.1.owner.actor made.1.handle)) }
 {
     steps_keep_trees();
-    let entries = entries(alloc, ENTRIES.as_slice())?;
+    let entries = entries(alloc, ENTRIES)?;
     let names = names_of(alloc, "/c/a")?;
     let root = names_of(alloc, "/c")?;
     let mut tree = match ListTree::from_entries(alloc, &entries) {
@@ -87,7 +72,7 @@ fn tree(alloc: Global) -> Result<(ListTree, Root), Errno>
 }
 
 fn node_below(alloc: Global, text: &str) -> Result<(u64, usize), Errno> {
-    let entries = entries(alloc, ENTRIES.as_slice())?;
+    let entries = entries(alloc, ENTRIES)?;
     let root = names_of(alloc, "/c")?;
     let node = node_at(alloc, &entries, &root, text.as_bytes(), PLAIN)?;
     Ok((node.number(), 0))
@@ -136,36 +121,12 @@ fn told(alloc: Global, used: Use, text: &str) -> Result<(u64, usize), Errno> {
     }
 }
 
-// The path of the first row that doesn't hold.
-fn wrong_path<'a>(alloc: Global, rows: &[Row<'a>]) -> &'a str {
-    for (used, text, wanted) in rows {
-        if told(alloc, *used, text) != *wanted {
-            return text;
-        }
+#[test]
+fn paths_come_to_their_ends(rt: HostRuntime) {
+    for (at, (used, text, wanted)) in ROWS.iter().enumerate() {
+        assert!(rt;
+            told(rt.alloc(), *used, text) == *wanted,
+            "row {at}, {text}"
+        );
     }
-    ""
-}
-
-#[test]
-fn nodes_are_looked_up(rt: HostRuntime) {
-    let wrong = wrong_path(rt.alloc(), NODES.as_slice());
-    assert!(rt; wrong.is_empty(), "{wrong}");
-}
-
-#[test]
-fn paths_are_resolved_for_each_goal(rt: HostRuntime) {
-    let wrong = wrong_path(rt.alloc(), GOALS.as_slice());
-    assert!(rt; wrong.is_empty(), "{wrong}");
-}
-
-#[test]
-fn a_walk_goes_on_among_others(rt: HostRuntime) {
-    let wrong = wrong_path(rt.alloc(), AMONG.as_slice());
-    assert!(rt; wrong.is_empty(), "{wrong}");
-}
-
-#[test]
-fn steps_are_counted(rt: HostRuntime) {
-    let wrong = wrong_path(rt.alloc(), COUNTS.as_slice());
-    assert!(rt; wrong.is_empty(), "{wrong}");
 }

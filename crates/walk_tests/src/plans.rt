@@ -1,6 +1,6 @@
 //! Plans, step by step.
-use crate::words::{are_parts, are_printed, cut, goal_of, text_of};
-use fixtures::{PLAIN, flags_of};
+use crate::words::{are_parts, are_printed, goal_of, text_of};
+use fixtures::{PLAIN, cut, flags_of};
 use path_text::{Bytes, Errno, Flags, Name, Part, Path};
 use std::alloc::Global;
 use walk_plan::Plan;
@@ -319,44 +319,26 @@ fn wrong_pair(
     None
 }
 
-#[derive(Clone, Copy)]
-enum Table {
-    Steps,
-    LastLinks,
-    Pairs,
+// The place of the first wrong row of each table. Two plans serve for all rows, since each function that has one by
+// value is dear to prove.
+fn wrong_with(alloc: Global, plan: &mut Plan, other: &mut Plan) -> [Option<usize>; 3] {
+    [
+        wrong_row(alloc, plan, ROWS.as_slice()),
+        wrong_last(alloc, plan, LAST.as_slice()),
+        wrong_pair(alloc, plan, other, PAIRS.as_slice()),
+    ]
 }
 
-// Two plans serve for all rows, since each function that has one by value is dear to prove.
-fn wrong_with(alloc: Global, plan: &mut Plan, other: &mut Plan, table: Table) -> Option<usize> {
-    match table {
-        Table::Steps => wrong_row(alloc, plan, ROWS.as_slice()),
-        Table::LastLinks => wrong_last(alloc, plan, LAST.as_slice()),
-        Table::Pairs => wrong_pair(alloc, plan, other, PAIRS.as_slice()),
-    }
-}
-
-fn wrong_in(alloc: Global, table: Table) -> Result<Option<usize>, Errno> {
+fn wrong_rows(alloc: Global) -> Result<[Option<usize>; 3], Errno> {
     let mut plan = plan_of(alloc, b"/", "")?;
     let mut other = plan_of(alloc, b"/", "")?;
-    Ok(wrong_with(alloc, &mut plan, &mut other, table))
+    Ok(wrong_with(alloc, &mut plan, &mut other))
 }
 
 #[test]
-fn steps_of_plans(rt: HostRuntime) {
-    let wrong = wrong_in(rt.alloc(), Table::Steps);
-    assert!(rt; wrong == Ok(None), "{wrong:?}");
-}
-
-#[test]
-fn the_last_link(rt: HostRuntime) {
-    let wrong = wrong_in(rt.alloc(), Table::LastLinks);
-    assert!(rt; wrong == Ok(None), "{wrong:?}");
-}
-
-#[test]
-fn plans_with_the_same_to_come(rt: HostRuntime) {
-    let wrong = wrong_in(rt.alloc(), Table::Pairs);
-    assert!(rt; wrong == Ok(None), "{wrong:?}");
+fn plans_show_what_is_to_come(rt: HostRuntime) {
+    let wrong = wrong_rows(rt.alloc());
+    assert!(rt; wrong == Ok([None; 3]), "{wrong:?}");
 }
 
 // Whether the parts left are these, where the next one is of the caller's own text.

@@ -1,5 +1,5 @@
 //! What an answer that a step doesn't go on with counts as.
-use crate::words::answer_of;
+use fixtures::answer_of;
 use path_text::Errno;
 use std::alloc::Global;
 use step_resolver::{check_refusal, refusal_of};
@@ -16,19 +16,15 @@ const ANSWERS: [(&str, Errno, Errno); 8] = [
     ("refused ENOSPC", Errno::BookFull, Errno::BookFull),
 ];
 
-/// The first answer that counts as something else.
-fn first_wrong(alloc: Global) -> &'static str {
-    for (words, refusal, raced) in &ANSWERS {
-        let answer = answer_of(alloc, words);
-        if refusal_of(&answer) != *refusal || check_refusal(&answer) != *raced {
-            return words;
-        }
-    }
-    ""
+fn counts(alloc: Global, row: &(&str, Errno, Errno)) -> bool {
+    let (words, refusal, raced) = row;
+    let answer = answer_of(alloc, words);
+    refusal_of(&answer) == *refusal && check_refusal(&answer) == *raced
 }
 
 #[test]
 fn answers_count_as_refusals(rt: HostRuntime) {
-    let wrong = first_wrong(rt.alloc());
-    assert!(rt; wrong.is_empty(), "{wrong}");
+    for row in &ANSWERS {
+        assert!(rt; counts(rt.alloc(), row), "{}", row.0);
+    }
 }

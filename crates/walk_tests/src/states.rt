@@ -1,6 +1,6 @@
 //! A handle's states, each call with values from outside.
-use crate::words::{answer_of, are_printed, closes, let_go, owner, reached_by};
-use fixtures::names_of;
+use crate::words::{are_printed, closes, let_go, owner, reached_by};
+use fixtures::{answer_of, names_of};
 use handles::{Reached, Standing};
 use path_text::Names;
 use std::alloc::Global;
@@ -95,34 +95,21 @@ fn is_judged(alloc: Global, expected: &str, answer: &str, state: &str) -> bool {
     }
 }
 
-fn wrong_answer<'a>(alloc: Global, rows: &[(&'a str, bool)]) -> &'a str {
-    for (answer, wanted) in rows {
-        if reaches(alloc, answer) != *wanted {
-            return answer;
-        }
-    }
-    ""
-}
-
-fn wrong_judgement<'a>(alloc: Global, rows: &[(&str, &'a str, &str)]) -> &'a str {
-    for (expected, answer, state) in rows {
-        if !is_judged(alloc, expected, answer, state) {
-            return answer;
-        }
-    }
-    ""
-}
-
 #[test]
 fn reaches_only_what_was_opened(rt: HostRuntime) {
-    let wrong = wrong_answer(rt.alloc(), ANSWERS.as_slice());
-    assert!(rt; wrong.is_empty(), "{wrong}");
+    for (answer, wanted) in ANSWERS {
+        assert!(rt; reaches(rt.alloc(), answer) == wanted, "{answer}");
+    }
 }
 
 #[test]
 fn stands_only_at_the_expected_names(rt: HostRuntime) {
-    let wrong = wrong_judgement(rt.alloc(), JUDGED.as_slice());
-    assert!(rt; wrong.is_empty(), "{wrong}");
+    for (expected, answer, state) in JUDGED {
+        assert!(rt;
+            is_judged(rt.alloc(), expected, answer, state),
+            "{expected} {answer}"
+        );
+    }
 }
 
 // What is opened beside `dir 5 11`, and whether it is the same but for its handle.
@@ -132,40 +119,24 @@ const BESIDE: [(&str, bool); 3] = [
     ("file 5 11", false),
 ];
 
-// Nothing where the answer opens nothing.
-fn is_like(alloc: Global, held: &Reached, other: &str) -> Option<bool> {
-    match reached_by(alloc, other) {
+// Whether two answers open the same but for its handle. Nothing where one of them opens nothing.
+fn is_like(alloc: Global, opened: &str, other: &str) -> Option<bool> {
+    let held = reached_by(alloc, opened)?;
+    let like = match reached_by(alloc, other) {
         Some(other) => {
-            let like = like_held(held, &other);
+            let like = like_held(&held, &other);
             let_go(other);
             Some(like)
         }
         None => None,
-    }
-}
-
-fn wrong_opened<'a>(alloc: Global, held: &Reached, rows: &[(&'a str, bool)]) -> &'a str {
-    for (other, like) in rows {
-        if is_like(alloc, held, other) != Some(*like) {
-            return other;
-        }
-    }
-    ""
-}
-
-fn wrong_beside<'a>(alloc: Global, opened: &str, rows: &[(&'a str, bool)]) -> &'a str {
-    match reached_by(alloc, opened) {
-        Some(held) => {
-            let wrong = wrong_opened(alloc, &held, rows);
-            let_go(held);
-            wrong
-        }
-        None => "nothing is opened",
-    }
+    };
+    let_go(held);
+    like
 }
 
 #[test]
 fn what_is_held_but_for_its_handle(rt: HostRuntime) {
-    let wrong = wrong_beside(rt.alloc(), OPENED, BESIDE.as_slice());
-    assert!(rt; wrong.is_empty(), "{wrong}");
+    for (other, like) in BESIDE {
+        assert!(rt; is_like(rt.alloc(), OPENED, other) == Some(like), "{other}");
+    }
 }

@@ -4,176 +4,74 @@
 //! A walk is a path below handle 0 and the words of its goal and its restrictions, as `l nofollow no_links`.
 //! Its steps come each with the answer after an arrow: `=>` where the answer passes in place, `->` where it
 //! must be taken.
-use crate::words::{answer_of, are_parts, cut, goal_of, is_number};
-use fixtures::{flags_of, root};
+use crate::words::{are_parts, goal_of};
+use fixtures::{answer_of, are_numbers, column, cut, flags_of, root};
 use handles::Standing;
 use path_text::{Errno, Path};
 use std::alloc::Global;
 use step_resolver::{Turn, Walk};
 use step_text::Output;
-use tree_model::{Answer, HandleNo};
+use tree_model::Answer;
 
 // A walk, its steps, and its end: `more` where it goes on, and `opened dir 11 /a left b ..` where it is held at /a with
 // the parts `b` and `..` left.
-type Row<'a> = (&'a str, &'a str, &'a str);
+const WALKS: &str = "\
+# a walk begins at the root
+/ | dup 0 -> dir 4 1, below 0 4 -> names / | opened dir 1 /
+/../.. | dup 0 -> dir 4 1, below 0 4 -> names / | opened dir 1 /
+/a beneath |  | fault EXDEV
+./.. beneath |  | fault EXDEV
+/ | dup 0 -> refused EMFILE | fault EMFILE
+# names and links are passed
+a/b | open 0 a => dir 4 11, open 4 b => file 5 12, close 4 => done, below 0 5 -> names /a/b | opened file 12 /a/b
+l/b | open 0 l => link 4 11, read_link 4 -> text c/d, close 4 -> done, open 0 c => dir 5 12, open 5 d => dir 6 13, \
+    close 5 => done, open 6 b => file 7 14, close 6 => done, below 0 7 -> names /c/d/b | opened file 14 /c/d/b
+a/l | open 0 a => dir 4 11, open 4 l => link 5 12, read_link 5 -> text /c, close 5 -> done, close 4 -> done, \
+    open 0 c => dir 6 13, below 0 6 -> names /c | opened dir 13 /c
+l nofollow no_links | open 0 l => link 4 11, below 0 4 -> names /l | opened link 11 /l
+l no_links | open 0 l => link 4 11, close 4 -> done | fault ELOOP
+l beneath | open 0 l => link 4 11, read_link 4 -> text /c, close 4 -> done | fault EXDEV
+f/ | open 0 f => file 4 11, close 4 -> done | fault ENOTDIR
+# the place is checked after a parent and at the end
+a/.. | open 0 a => dir 4 11, parent 4 -> dir 5 1, close 4 -> done, below 0 5 -> names /, below 0 5 -> names / | \
+    opened dir 1 /
+a/../b | open 0 a => dir 4 11, parent 4 -> dir 5 20, close 4 -> done, below 0 5 -> not_below, close 5 -> done | \
+    fault EAGAIN
+a/.. | open 0 a => dir 4 11, parent 4 -> refused ENOENT, close 4 -> done | fault EAGAIN
+a | open 0 a => dir 4 11, below 0 4 -> names /b, close 4 -> done | fault EAGAIN
+# a walk ends in the deepest directory
+a/b/../c deepest | open 0 a => dir 4 11, open 4 b => refused ENOENT, below 0 4 -> names /a | \
+    opened dir 11 /a left b .. c
+a deepest | open 0 a -> refused ENOENT, dup 0 -> dir 4 1, below 0 4 -> names / | opened dir 1 / left a
+l/b deepest | open 0 l => link 4 11, read_link 4 -> text none, close 4 -> done, open 0 none -> refused ENOENT | \
+    fault ENOENT
+a/b | open 0 a => dir 4 11, open 4 b => refused ENOENT, close 4 -> done | fault ENOENT
+# what is held is closed before a walk fails
+a/l | open 0 a => dir 4 11, open 4 l => link 5 12, read_link 5 -> refused ENOMEM, close 5 -> done, \
+    close 4 -> refused ENOMEM | fault ENOMEM
+a/b | open 0 a => dir 4 11, open 4 b => refused ENOSPC, close 4 -> done | fault ENOSPC
+a | open 0 a -> names /a | fault EBADF
+a | open 0 a => dir 4 11, below 0 4 -> done, close 4 -> not_below | fault EBADF
+a | open 0 a => dir 4 11 | more
+# what else passes in place, and what does not
+a/l | open 0 a => dir 4 11, open 4 l => link 5 12, read_link 5 -> text b, close 5 => done, open 4 b => dir 6 13, \
+    close 4 => refused ENOMEM, below 0 6 -> names /a/b | opened dir 13 /a/b
+a/b/.. | open 0 a => dir 4 11, open 4 b => dir 5 12, close 4 => done, parent 5 -> dir 6 11, close 5 -> done, \
+    below 0 6 -> names /a, below 0 6 -> names /a | opened dir 11 /a
+a/f/b | open 0 a => dir 4 11, open 4 f => file 5 12, close 4 => done, close 5 -> done | fault ENOTDIR
+a/l no_links | open 0 a => dir 4 11, open 4 l => link 5 12, close 5 -> done, close 4 -> done | fault ELOOP
+a/b | open 0 a => dir 4 11, open 4 b => not_below, close 4 -> done | fault EBADF
+a/b | open 0 a -> refused ENOENT | fault ENOENT";
 
-const BEGINNINGS: [Row; 5] = [
-    (
-        "/",
-        "dup 0 -> dir 4 1, below 0 4 -> names /",
-        "opened dir 1 /",
-    ),
-    (
-        "/../..",
-        "dup 0 -> dir 4 1, below 0 4 -> names /",
-        "opened dir 1 /",
-    ),
-    ("/a beneath", "", "fault EXDEV"),
-    ("./.. beneath", "", "fault EXDEV"),
-    ("/", "dup 0 -> refused EMFILE", "fault EMFILE"),
-];
-
-const NAMES_AND_LINKS: [Row; 7] = [
-    (
-        "a/b",
-        "open 0 a => dir 4 11, open 4 b => file 5 12, close 4 => done, below 0 5 -> names /a/b",
-        "opened file 12 /a/b",
-    ),
-    (
-        "l/b",
-        "open 0 l => link 4 11, read_link 4 -> text c/d, close 4 -> done, open 0 c => dir 5 12, \
-            open 5 d => dir 6 13, close 5 => done, open 6 b => file 7 14, close 6 => done, \
-            below 0 7 -> names /c/d/b",
-        "opened file 14 /c/d/b",
-    ),
-    (
-        "a/l",
-        "open 0 a => dir 4 11, open 4 l => link 5 12, read_link 5 -> text /c, close 5 -> done, \
-            close 4 -> done, open 0 c => dir 6 13, below 0 6 -> names /c",
-        "opened dir 13 /c",
-    ),
-    (
-        "l nofollow no_links",
-        "open 0 l => link 4 11, below 0 4 -> names /l",
-        "opened link 11 /l",
-    ),
-    (
-        "l no_links",
-        "open 0 l => link 4 11, close 4 -> done",
-        "fault ELOOP",
-    ),
-    (
-        "l beneath",
-        "open 0 l => link 4 11, read_link 4 -> text /c, close 4 -> done",
-        "fault EXDEV",
-    ),
-    (
-        "f/",
-        "open 0 f => file 4 11, close 4 -> done",
-        "fault ENOTDIR",
-    ),
-];
-
-const CHECKS: [Row; 4] = [
-    (
-        "a/..",
-        "open 0 a => dir 4 11, parent 4 -> dir 5 1, close 4 -> done, below 0 5 -> names /, \
-            below 0 5 -> names /",
-        "opened dir 1 /",
-    ),
-    (
-        "a/../b",
-        "open 0 a => dir 4 11, parent 4 -> dir 5 20, close 4 -> done, below 0 5 -> not_below, \
-            close 5 -> done",
-        "fault EAGAIN",
-    ),
-    (
-        "a/..",
-        "open 0 a => dir 4 11, parent 4 -> refused ENOENT, close 4 -> done",
-        "fault EAGAIN",
-    ),
-    (
-        "a",
-        "open 0 a => dir 4 11, below 0 4 -> names /b, close 4 -> done",
-        "fault EAGAIN",
-    ),
-];
-
-const DEEPEST: [Row; 4] = [
-    (
-        "a/b/../c deepest",
-        "open 0 a => dir 4 11, open 4 b => refused ENOENT, below 0 4 -> names /a",
-        "opened dir 11 /a left b .. c",
-    ),
-    (
-        "a deepest",
-        "open 0 a -> refused ENOENT, dup 0 -> dir 4 1, below 0 4 -> names /",
-        "opened dir 1 / left a",
-    ),
-    (
-        "l/b deepest",
-        "open 0 l => link 4 11, read_link 4 -> text none, close 4 -> done, open 0 none -> refused ENOENT",
-        "fault ENOENT",
-    ),
-    (
-        "a/b",
-        "open 0 a => dir 4 11, open 4 b => refused ENOENT, close 4 -> done",
-        "fault ENOENT",
-    ),
-];
-
-const FAILURES: [Row; 5] = [
-    (
-        "a/l",
-        "open 0 a => dir 4 11, open 4 l => link 5 12, read_link 5 -> refused ENOMEM, close 5 -> done, \
-            close 4 -> refused ENOMEM",
-        "fault ENOMEM",
-    ),
-    (
-        "a/b",
-        "open 0 a => dir 4 11, open 4 b => refused ENOSPC, close 4 -> done",
-        "fault ENOSPC",
-    ),
-    ("a", "open 0 a -> names /a", "fault EBADF"),
-    (
-        "a",
-        "open 0 a => dir 4 11, below 0 4 -> done, close 4 -> not_below",
-        "fault EBADF",
-    ),
-    ("a", "open 0 a => dir 4 11", "more"),
-];
-
-// What else passes, and what doesn't.
-const IN_PLACE: [Row; 6] = [
-    (
-        "a/l",
-        "open 0 a => dir 4 11, open 4 l => link 5 12, read_link 5 -> text b, close 5 => done, \
-            open 4 b => dir 6 13, close 4 => refused ENOMEM, below 0 6 -> names /a/b",
-        "opened dir 13 /a/b",
-    ),
-    (
-        "a/b/..",
-        "open 0 a => dir 4 11, open 4 b => dir 5 12, close 4 => done, parent 5 -> dir 6 11, close 5 -> done, \
-            below 0 6 -> names /a, below 0 6 -> names /a",
-        "opened dir 11 /a",
-    ),
-    (
-        "a/f/b",
-        "open 0 a => dir 4 11, open 4 f => file 5 12, close 4 => done, close 5 -> done",
-        "fault ENOTDIR",
-    ),
-    (
-        "a/l no_links",
-        "open 0 a => dir 4 11, open 4 l => link 5 12, close 5 -> done, close 4 -> done",
-        "fault ELOOP",
-    ),
-    (
-        "a/b",
-        "open 0 a => dir 4 11, open 4 b => not_below, close 4 -> done",
-        "fault EBADF",
-    ),
-    ("a/b", "open 0 a -> refused ENOENT", "fault ENOENT"),
-];
+// The steps that a word stands for.
+fn steps_of(steps: &str) -> &str {
+    match steps {
+        "opens" => "open 0 a => dir 4 11",
+        "reads" => "open 0 a => dir 4 11, open 4 b => link 5 12",
+        "closes" => "open 0 a => dir 4 11, open 4 b => link 5 12, read_link 5 -> done",
+        others => others,
+    }
+}
 
 fn start(alloc: Global, call: &str) -> Turn {
     let (path, words) = cut(call);
@@ -221,7 +119,7 @@ fn answered(alloc: Global, mut walk: Walk, line: &str, offers: bool) -> (Turn, b
 fn walked(alloc: Global, call: &str, steps: &str, offers: bool) -> (Turn, bool) {
     let mut turn = start(alloc, call);
     let mut all_right = true;
-    for line in steps.split(", ").filter(|line| !line.is_empty()) {
+    for line in steps_of(steps).split(", ").filter(|line| !line.is_empty()) {
         turn = match turn {
             Turn::More(walk) => {
                 let (next, is_right) = answered(alloc, walk, line, offers);
@@ -269,109 +167,42 @@ fn is_end(alloc: Global, turn: &Turn, end: &str) -> bool {
 }
 
 // Whether the steps are right, and the walk comes to its end.
-fn holds(alloc: Global, row: &Row<'_>, offers: bool) -> bool {
-    let (call, steps, end) = row;
+fn holds(alloc: Global, row: &str, offers: bool) -> bool {
+    let (call, rest) = column(row);
+    let (steps, end) = column(rest);
     let (turn, all_right) = walked(alloc, call, steps, offers);
     let is_end = is_end(alloc, &turn, end);
     give_up(alloc, turn);
     all_right && is_end
 }
 
-// The steps of the first row that doesn't hold where each answer is taken, or is offered to `pass` first.
-fn wrong_steps<'a>(alloc: Global, rows: &[Row<'a>]) -> &'a str {
-    for row in rows {
-        if !holds(alloc, row, false) || !holds(alloc, row, true) {
-            return row.1;
-        }
+// Each walk, where each answer is taken, and where it is offered to `pass` first.
+#[test]
+fn walks_step_and_end_so(rt: HostRuntime) {
+    let alloc = rt.alloc();
+    for row in WALKS.lines().filter(|row| !row.starts_with('#')) {
+        assert!(rt;
+            holds(alloc, row, false) && holds(alloc, row, true),
+            "{row}"
+        );
     }
-    ""
 }
-
-#[test]
-fn begins_at_the_root(rt: HostRuntime) {
-    let wrong = wrong_steps(rt.alloc(), BEGINNINGS.as_slice());
-    assert!(rt; wrong.is_empty(), "{wrong}");
-}
-
-#[test]
-fn passes_names_and_links(rt: HostRuntime) {
-    let wrong = wrong_steps(rt.alloc(), NAMES_AND_LINKS.as_slice());
-    assert!(rt; wrong.is_empty(), "{wrong}");
-}
-
-#[test]
-fn checks_the_place_after_a_parent_and_at_the_end(rt: HostRuntime) {
-    let wrong = wrong_steps(rt.alloc(), CHECKS.as_slice());
-    assert!(rt; wrong.is_empty(), "{wrong}");
-}
-
-#[test]
-fn ends_in_the_deepest_directory(rt: HostRuntime) {
-    let wrong = wrong_steps(rt.alloc(), DEEPEST.as_slice());
-    assert!(rt; wrong.is_empty(), "{wrong}");
-}
-
-#[test]
-fn closes_what_it_holds_before_it_fails(rt: HostRuntime) {
-    let wrong = wrong_steps(rt.alloc(), FAILURES.as_slice());
-    assert!(rt; wrong.is_empty(), "{wrong}");
-}
-
-#[test]
-fn passes_answers_in_place(rt: HostRuntime) {
-    let wrong = wrong_steps(rt.alloc(), IN_PLACE.as_slice());
-    assert!(rt; wrong.is_empty(), "{wrong}");
-}
-
-const OPENS: &str = "open 0 a => dir 4 11";
-
-const READS: &str = "open 0 a => dir 4 11, open 4 b => link 5 12";
-
-const CLOSES: &str = "open 0 a => dir 4 11, open 4 b => link 5 12, read_link 5 -> done";
 
 // The steps of a walk along `a/b`; another walk and its steps; and whether the two are like each other, and go the same
 // way.
-type Pair<'a> = (&'a str, &'a str, &'a str, &'a str);
-
-const LIKE: [Pair; 12] = [
-    (OPENS, "a/b", "open 0 a => dir 7 11", "walk way"),
-    (OPENS, "a/b deepest", "open 0 a => dir 7 11", "walk"),
-    (OPENS, "a/b nofollow", OPENS, "neither"),
-    (OPENS, "a/b", "open 0 a => dir 4 12", "way"),
-    (OPENS, "a/c", OPENS, "way"),
-    (OPENS, "c/b", "open 0 c => dir 4 11", "way"),
-    (
-        OPENS,
-        "l/b",
-        "open 0 l => link 4 9, read_link 4 -> text a, close 4 -> done, open 0 a => dir 4 11",
-        "way",
-    ),
-    (OPENS, "a/b", READS, "way"),
-    (
-        READS,
-        "a/b",
-        "open 0 a => dir 5 11, open 5 b => link 6 12",
-        "walk way",
-    ),
-    (
-        READS,
-        "a/b",
-        "open 0 a => dir 4 11, open 4 b => link 5 13",
-        "way",
-    ),
-    (
-        CLOSES,
-        "a/b",
-        "open 0 a => dir 5 11, open 5 b => link 6 12, read_link 6 -> done",
-        "walk way",
-    ),
-    (
-        CLOSES,
-        "a/b",
-        "open 0 a => dir 4 11, open 4 b => done",
-        "way",
-    ),
-];
+const LIKE: &str = "\
+opens | a/b | open 0 a => dir 7 11 | walk way
+opens | a/b deepest | open 0 a => dir 7 11 | walk
+opens | a/b nofollow | opens | neither
+opens | a/b | open 0 a => dir 4 12 | way
+opens | a/c | opens | way
+opens | c/b | open 0 c => dir 4 11 | way
+opens | l/b | open 0 l => link 4 9, read_link 4 -> text a, close 4 -> done, open 0 a => dir 4 11 | way
+opens | a/b | reads | way
+reads | a/b | open 0 a => dir 5 11, open 5 b => link 6 12 | walk way
+reads | a/b | open 0 a => dir 4 11, open 4 b => link 5 13 | way
+closes | a/b | open 0 a => dir 5 11, open 5 b => link 6 12, read_link 6 -> done | walk way
+closes | a/b | open 0 a => dir 4 11, open 4 b => done | way";
 
 // Whether the walks are like each other, and whether they go the same way. Nothing where one of them ended.
 fn likeness(turn: &Turn, other: &Turn) -> &'static str {
@@ -389,56 +220,38 @@ fn likeness(turn: &Turn, other: &Turn) -> &'static str {
 }
 
 // Whether that is told of the two. The other walk's answers are taken, also where the first one's pass.
-fn is_told(alloc: Global, pair: &Pair<'_>, offers: bool) -> bool {
-    let (steps, call, others_steps, told) = pair;
+fn is_told(alloc: Global, row: &str, offers: bool) -> bool {
+    let (steps, rest) = column(row);
+    let (call, rest) = column(rest);
+    let (others_steps, told) = column(rest);
     let (turn, is_right) = walked(alloc, "a/b", steps, offers);
     let (other, is_other_right) = walked(alloc, call, others_steps, false);
     let likeness = likeness(&turn, &other);
     give_up(alloc, turn);
     give_up(alloc, other);
-    is_right && is_other_right && likeness == *told
-}
-
-fn wrong_pair<'a>(alloc: Global, rows: &[Pair<'a>]) -> &'a str {
-    for pair in rows {
-        if !is_told(alloc, pair, false) || !is_told(alloc, pair, true) {
-            return pair.2;
-        }
-    }
-    ""
+    is_right && is_other_right && likeness == told
 }
 
 #[test]
 fn walks_that_are_like_each_other(rt: HostRuntime) {
-    let wrong = wrong_pair(rt.alloc(), LIKE.as_slice());
-    assert!(rt; wrong.is_empty(), "{wrong}");
+    let alloc = rt.alloc();
+    for row in LIKE.lines() {
+        assert!(rt;
+            is_told(alloc, row, false) && is_told(alloc, row, true),
+            "{row}"
+        );
+    }
 }
 
 // The steps of a walk along `a/b/..`, and the handles that it then holds, in their order.
-const HELD: [(&str, &str); 7] = [
-    ("", ""),
-    (OPENS, "4"),
-    (READS, "4 5"),
-    (CLOSES, "5 4"),
-    ("open 0 a => dir 4 11, open 4 b => dir 5 12", "4 5"),
-    (
-        "open 0 a => dir 4 11, open 4 b => link 5 12, read_link 5 -> text c",
-        "5 4",
-    ),
-    ("open 0 a => dir 4 11, open 4 b => done", "4"),
-];
-
-fn are_numbers(handles: &[HandleNo], numbers: &str) -> bool {
-    let mut left = numbers;
-    for handle in handles {
-        let (word, others) = cut(left);
-        if !is_number(word, handle.number()) {
-            return false;
-        }
-        left = others;
-    }
-    left.is_empty()
-}
+const HELD: &str = "\
+opens | 4
+ | 
+reads | 4 5
+closes | 5 4
+open 0 a => dir 4 11, open 4 b => dir 5 12 | 4 5
+open 0 a => dir 4 11, open 4 b => link 5 12, read_link 5 -> text c | 5 4
+open 0 a => dir 4 11, open 4 b => done | 4";
 
 // Whether a walk below handle 0 holds these handles.
 fn holds_handles(alloc: Global, turn: &Turn, numbers: &str) -> bool {
@@ -450,26 +263,21 @@ fn holds_handles(alloc: Global, turn: &Turn, numbers: &str) -> bool {
     told && are_numbers(handles.as_slice(), numbers)
 }
 
-fn comes_to_hold(alloc: Global, steps: &str, numbers: &str, offers: bool) -> bool {
+fn comes_to_hold(alloc: Global, row: &str, offers: bool) -> bool {
+    let (steps, numbers) = column(row);
     let (turn, is_right) = walked(alloc, "a/b/..", steps, offers);
     let holds = holds_handles(alloc, &turn, numbers);
     give_up(alloc, turn);
     is_right && holds
 }
 
-fn wrong_holder<'a>(alloc: Global, rows: &[(&'a str, &str)]) -> &'a str {
-    for (steps, numbers) in rows {
-        if !comes_to_hold(alloc, steps, numbers, false)
-            || !comes_to_hold(alloc, steps, numbers, true)
-        {
-            return steps;
-        }
-    }
-    ""
-}
-
 #[test]
 fn handles_that_a_walk_holds(rt: HostRuntime) {
-    let wrong = wrong_holder(rt.alloc(), HELD.as_slice());
-    assert!(rt; wrong.is_empty(), "{wrong}");
+    let alloc = rt.alloc();
+    for row in HELD.lines() {
+        assert!(rt;
+            comes_to_hold(alloc, row, false) && comes_to_hold(alloc, row, true),
+            "{row}"
+        );
+    }
 }

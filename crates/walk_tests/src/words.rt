@@ -1,23 +1,10 @@
-//! What words of a row say: goals, parts and answers.
-use fixtures::names_of;
+//! What words of a row say: goals, parts, and what an answer opens.
+use fixtures::{answer_of, cut};
 use handles::{Owner, Reached};
-use path_text::{Bytes, Errno, Names, Part, Parts};
+use path_text::{Names, Part, Parts};
 use std::alloc::Global;
-use tree_model::{Actor, Answer, HandleNo, Kind, Node, Step, StepOf};
+use tree_model::{Actor, Step, StepOf};
 use walk_plan::Goal;
-
-/// A word, and what comes after it.
-pub fn cut(line: &str) -> (&str, &str) {
-    line.split_once(' ').unwrap_or((line, ""))
-}
-
-fn number(word: &str) -> u64 {
-    word.parse().unwrap_or(u64::MAX)
-}
-
-pub fn is_number(word: &str, wanted: u64) -> bool {
-    number(word) == wanted
-}
 
 /// The goal that words name: `deepest`, `nofollow`, or none.
 pub fn goal_of(words: &str) -> Goal {
@@ -57,48 +44,6 @@ pub fn are_printed(alloc: Global, names: &Names, path: &[u8]) -> bool {
     match names.print(alloc) {
         Ok(printed) => printed.as_slice() == path,
         Err(_) => false,
-    }
-}
-
-fn opened(kind: Kind, numbers: &str) -> Answer {
-    let (handle, node) = cut(numbers);
-    Answer::Opened {
-        handle: HandleNo::new(number(handle)),
-        node: Node::new(number(node)),
-        kind,
-    }
-}
-
-fn refusal(word: &str) -> Errno {
-    match word {
-        "ENOENT" => Errno::NotFound,
-        "ENOMEM" => Errno::NoMemory,
-        "ENOSPC" => Errno::BookFull,
-        _ => Errno::TooMany,
-    }
-}
-
-fn names(alloc: Global, path: &str) -> Names {
-    names_of(alloc, path).unwrap_or(Names::new(alloc))
-}
-
-fn bytes(alloc: Global, text: &str) -> Bytes {
-    Bytes::from_slice(alloc, text.as_bytes()).unwrap_or(Bytes::from_vec(Vec::new(alloc)))
-}
-
-/// The answer that words say: `dir 5 12` opens handle 5 on the directory 12.
-pub fn answer_of(alloc: Global, words: &str) -> Answer {
-    let (word, rest) = cut(words);
-    match word {
-        "dir" => opened(Kind::Dir, rest),
-        "file" => opened(Kind::File, rest),
-        "link" => opened(Kind::Link, rest),
-        "text" => Answer::Text(bytes(alloc, rest)),
-        "names" => Answer::Names(names(alloc, rest)),
-        "listed" => Answer::Listed(names(alloc, rest)),
-        "not_below" => Answer::NotBelow,
-        "done" => Answer::Done,
-        _ => Answer::Refused(refusal(rest)),
     }
 }
 

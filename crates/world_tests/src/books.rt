@@ -1,18 +1,16 @@
 //! Books: steps as lines of text, by tables.
 use event_log::EventLog;
-use fixtures::{names_of, tree_of};
+use fixtures::{cut, names_of, tree_of};
 use path_text::{Errno, NoMemory};
 use race_core::Book;
 use std::alloc::Global;
-use std::test::*;
 use step_text::{Output, read_step};
 use tree_list::ListTree;
 use tree_model::{Actor, Answer, HandleNo, LentStep, StepOf, Tree};
 
 /// Directories `/c` and `/c/a` and a link in `/c`, and handle 0 of actor 0 on `/c`.
 fn tree(alloc: Global) -> Result<ListTree, Errno> {
-    let rows = [("/c", "dir"), ("/c/a", "dir"), ("/c/abs", "/a/b")];
-    let mut tree = tree_of(alloc, &rows)?;
+    let mut tree = tree_of(alloc, "/c/, /c/a/, /c/abs -> /a/b")?;
     tree.grant(alloc, Actor::new(0), &names_of(alloc, "/c")?)?;
     Ok(tree)
 }
@@ -66,7 +64,7 @@ fn is_answered(
     own: Option<&mut EventLog>,
     row: &str,
 ) -> Result<bool, NoMemory> {
-    let (who, rest) = row.split_once(' ').unwrap_or((row, ""));
+    let (who, rest) = cut(row);
     let (line, wanted) = rest.split_once(" = ").unwrap_or((rest, ""));
     let Some(step) = read_step(alloc, line.as_bytes())? else {
         return Ok(false);
@@ -82,20 +80,6 @@ fn is_answered(
     Ok(told.as_slice() == wanted.as_bytes())
 }
 
-/// Whether a book of that many lines answers all rows so, and has as many events and free lines then.
-fn keeps(alloc: Global, row: &Kept) -> bool {
-    let Ok(mut book) = opened(alloc, row.lines) else {
-        return false;
-    };
-    let mut all = true;
-    for line in row.rows.lines() {
-        all = is_answered(alloc, &mut book, None, line) == Ok(true) && all;
-    }
-    let counts = book.events().len() == row.events && book.free() == row.free;
-    drop(book);
-    all && counts
-}
-
 /// Whether two logs have the same events.
 fn are_same(log: &EventLog, other: &EventLog) -> bool {
     for at in 0..log.len() {
@@ -106,20 +90,28 @@ fn are_same(log: &EventLog, other: &EventLog) -> bool {
     log.len() == other.len()
 }
 
-/// Whether it answers all rows so where they are made into another log too, which has the book's events then.
-fn keeps_both(alloc: Global, row: &Kept) -> bool {
-    let Ok(mut book) = opened(alloc, row.lines) else {
+/// Whether a book of that many lines answers all rows so, and has as many events and free lines then. Where the rows
+/// are made into another log too, that has the book's events then.
+fn keeps(alloc: Global, row: &Kept, is_logged: bool) -> bool {
+    let (lines, rows, events, free) = *row;
+    let Ok(mut book) = opened(alloc, lines) else {
         return false;
     };
     let mut own = EventLog::new(alloc);
     let mut all = true;
-    for line in row.rows.lines() {
-        all = is_answered(alloc, &mut book, Some(&mut own), line) == Ok(true) && all;
+    for line in rows.lines() {
+        let answered = if is_logged {
+            is_answered(alloc, &mut book, Some(&mut own), line)
+        } else {
+            is_answered(alloc, &mut book, None, line)
+        };
+        all = answered == Ok(true) && all;
     }
-    let same = book.events().len() == row.events && are_same(book.events(), &own);
+    let counts = book.events().len() == events && book.free() == free;
+    let same = !is_logged || are_same(book.events(), &own);
     drop(book);
     drop(own);
-    all && same
+    all && counts && same
 }
 
 /// A step that opens takes two lines, one of them for its Close, which is never refused for want of lines.
@@ -145,47 +137,20 @@ const STEPS: &str = "0 open 0 abs = opened 1 3 link
 0 close 1 = done";
 
 /// How many lines a book has, its steps and their answers, and its events and its free lines then.
-struct Kept<'a> {
-    lines: u32,
-    rows: &'a str,
-    events: usize,
-    free: u32,
-}
+type Kept = (u32, &'static str, usize, u32);
 
-const BOOKS: [Kept<'static>; 3] = [
-    Kept {
-        lines: 2,
-        rows: "0 open 0 a = ENOSPC\n0 close 0 = done",
-        events: 1,
-        free: 1,
-    },
-    Kept {
-        lines: 3,
-        rows: CLOSED,
-        events: 3,
-        free: 0,
-    },
-    Kept {
-        lines: 20,
-        rows: STEPS,
-        events: 11,
-        free: 7,
-    },
+const BOOKS: [Kept; 3] = [
+    (2, "0 open 0 a = ENOSPC\n0 close 0 = done", 1, 1),
+    (3, CLOSED, 3, 0),
+    (20, STEPS, 11, 7),
 ];
-
-/// How many lines the first book has that doesn't keep its rows, and of none 0.
-fn first_wrong(alloc: Global) -> u32 {
-    for row in BOOKS.as_slice() {
-        if !keeps(alloc, row) || !keeps_both(alloc, row) {
-            return row.lines;
-        }
-    }
-    0
-}
 
 #[test]
 fn lines_are_kept_for_closes(rt: HostRuntime) {
-    assert_eq!(rt; first_wrong(rt.alloc()), 0);
+    for row in &BOOKS {
+        let keeps = keeps(rt.alloc(), row, false) && keeps(rt.alloc(), row, true);
+        assert!(rt; keeps, "a book of {} lines", row.0);
+    }
 }
 
 /// Why a book of that many lines isn't opened, and the handles of the tree that came back.

@@ -1,76 +1,25 @@
 //! Worlds that are copied in the midst of calls, and books.
-use crate::plans::{plans, tree};
+use crate::plans::{tree, turns, world_after};
 use crate::told::tell;
-use crate::worlds::{ALONE, MOVED_OUT};
-use fixtures::PLAIN;
+use fixtures::column;
 use path_text::{Errno, NoMemory};
-use race_core::{Book, Report, World};
+use race_core::{Book, Report, World, WorldFault};
 use std::alloc::Global;
-use std::test::*;
 use step_text::Output;
 use tree_list::ListTree;
 use tree_model::{Actor, HandleNo, StepOf};
 
-// Plans, the turns that a world of them takes, and other turns. It is copied before each of its turns.
-struct Forked<'a> {
-    lines: &'a str,
-    turns: &'a [u32],
-    others: &'a [u32],
-}
-
-// Each kind of call is under way at a copy: a walk with a link before it and after it, a rename's two walks, both bulk
+// Plans, the turns that a world of them takes, and other turns. The world is copied before each of its turns, where
+// each kind of call is under way once: a walk with a link before the copy and after it, a rename's two walks, both bulk
 // calls, a step of one's own, a release; and what is kept, calls that are to come and those that ended.
-const FORKED: [Forked<'static>; 6] = [
-    Forked {
-        lines: MOVED_OUT,
-        turns: &[1, 1, 1, 1, 1, 1, 0, 0, 0, 1, 0, 0, 0, 0],
-        others: &[0, 0, 0, 0, 0, 0],
-    },
-    Forked {
-        lines: "/c: remove_all a: resolve abs/f\n/: resolve c/a/b: make_file 1 new",
-        turns: &[0, 0, 0, 1, 1, 1, 0, 0, 0, 0, 1, 1, 0, 0, 0, 0, 0, 0, 0, 0],
-        others: &[1, 1, 1, 1, 1, 1, 0, 1, 0, 1],
-    },
-    Forked {
-        lines: "/c: mkdir_all abs/n/m: mkdir_all e/x/y\n/c: remove_all a/b: release 0",
-        turns: &[0, 0, 0, 0, 0, 0, 0, 1, 1, 0, 0, 1, 1, 0, 1, 0, 1, 1, 1, 1],
-        others: &[1, 0, 1, 0, 1, 0],
-    },
-    Forked {
-        lines: "/c: resolve a: resolve abs/b: rename 1 b 0 b2 plain: release 0: list 0: read_link 0",
-        turns: &[0, 0, 0, 0, 0, 0, 0, 0, 0, 0, 0, 0],
-        others: &[],
-    },
-    Forked {
-        lines: "/c: resolve a/b/../../abs/f: resolve loop: resolve up/f\n/c: make_link 0 l a/b: resolve l/f",
-        turns: &[
-            0, 0, 0, 0, 1, 0, 0, 0, 0, 0, 0, 0, 0, 1, 1, 1, 0, 0, 0, 0, 0, 0,
-        ],
-        others: &[1, 1, 1, 1, 1, 1, 1],
-    },
-    Forked {
-        lines: ALONE,
-        turns: &[0, 0, 0, 0, 0],
-        others: &[],
-    },
-];
-
-// The world of these plans after these turns.
-fn world_after(
-    alloc: Global,
-    lines: &str,
-    turns: &[u32],
-) -> Result<Option<World<ListTree>>, Errno> {
-    let plans = plans(alloc, lines, PLAIN)?;
-    let Ok(mut world) = World::new(alloc, tree(alloc)?, plans, 1000) else {
-        return Ok(None);
-    };
-    for actor in turns {
-        let turned = world.turn(alloc, *actor);
-        drop(turned);
-    }
-    Ok(Some(world))
-}
+const FORKED: &str = "\
+moved_out | 11111100010000 | 000000
+/c: remove_all a: resolve abs/f; /: resolve c/a/b: make_file 1 new | 00011100001100000000 | 1111110101
+/c: mkdir_all abs/n/m: mkdir_all e/x/y; /c: remove_all a/b: release 0 | 00000001100110101111 | 101010
+/c: resolve a: resolve abs/b: rename 1 b 0 b2 plain: release 0: list 0: read_link 0 | 000000000000
+/c: resolve a/b/../../abs/f: resolve loop: resolve up/f; /c: make_link 0 l a/b: resolve l/f | \
+    0000100000000111000000 | 1111111
+alone | 00000";
 
 // How each call ended, and then each event.
 fn tell_all(alloc: Global, told: &mut Output, report: &Report<ListTree>) -> Result<(), NoMemory> {
@@ -97,27 +46,22 @@ fn told_of(alloc: Global, world: World<ListTree>, turns: &[u32]) -> Output {
 // The same of a world of these plans that isn't copied, after its turns so far.
 fn told_without(
     alloc: Global,
-    lines: &str,
+    text: &str,
     before: &[u32],
     after: &[u32],
-) -> Result<Output, Errno> {
-    match world_after(alloc, lines, before)? {
-        Some(world) => Ok(told_of(alloc, world, after)),
-        None => Ok(Output::new(alloc)),
-    }
+) -> Result<Output, WorldFault> {
+    Ok(told_of(alloc, world_after(alloc, text, before)?, after))
 }
 
 // What is told of a copy, made after these turns, that goes on by others, and then of the world itself by its own.
 fn told_of_both(
     alloc: Global,
-    lines: &str,
+    text: &str,
     before: &[u32],
     others: &[u32],
     after: &[u32],
-) -> Result<(Output, Output), Errno> {
-    let Some(world) = world_after(alloc, lines, before)? else {
-        return Ok((Output::new(alloc), Output::new(alloc)));
-    };
+) -> Result<(Output, Output), WorldFault> {
+    let world = world_after(alloc, text, before)?;
     let of_copy = match world.copy(alloc) {
         Ok(copy) => told_of(alloc, copy, others),
         Err(_) => Output::new(alloc),
@@ -129,52 +73,45 @@ fn told_of_both(
 // first and then the others.
 fn ends_alike(
     alloc: Global,
-    lines: &str,
+    text: &str,
     before: &[u32],
     others: &[u32],
     after: &[u32],
-) -> Result<bool, Errno> {
-    let of_copy = told_without(alloc, lines, before, others)?;
-    let of_world = told_without(alloc, lines, before, after)?;
-    let (copy, world) = told_of_both(alloc, lines, before, others, after)?;
+) -> Result<bool, WorldFault> {
+    let of_copy = told_without(alloc, text, before, others)?;
+    let of_world = told_without(alloc, text, before, after)?;
+    let (copy, world) = told_of_both(alloc, text, before, others, after)?;
     let is_told = !copy.as_slice().is_empty() && !world.as_slice().is_empty();
     Ok(is_told && copy.as_slice() == of_copy.as_slice() && world.as_slice() == of_world.as_slice())
 }
 
-// Whether that is so before each turn, by the same turns and by others.
-fn all_end_alike(alloc: Global, forked: &Forked) -> bool {
-    for at in 0..forked.turns.len() {
-        let (before, after) = (&forked.turns[..at], &forked.turns[at..]);
-        if ends_alike(alloc, forked.lines, before, after, after) != Ok(true)
-            || ends_alike(alloc, forked.lines, before, forked.others, after) != Ok(true)
+// Whether that is so before each turn of a row, by the same turns and by others.
+fn all_end_alike(alloc: Global, row: &str) -> Result<bool, NoMemory> {
+    let (text, rest) = column(row);
+    let (digits, others) = column(rest);
+    let (turns, others) = (turns(alloc, digits)?, turns(alloc, others)?);
+    for at in 0..turns.len() {
+        let (before, after) = (&turns[..at], &turns[at..]);
+        if ends_alike(alloc, text, before, after, after) != Ok(true)
+            || ends_alike(alloc, text, before, &others, after) != Ok(true)
         {
-            return false;
+            return Ok(false);
         }
     }
-    true
-}
-
-// The first plans of which that isn't so.
-fn first_wrong(alloc: Global) -> &'static str {
-    for forked in FORKED.as_slice() {
-        if !all_end_alike(alloc, forked) {
-            return forked.lines;
-        }
-    }
-    ""
+    Ok(true)
 }
 
 #[test]
 fn copies_go_on_by_themselves(rt: HostRuntime) {
-    assert_eq!(rt; first_wrong(rt.alloc()), "");
+    for row in FORKED.lines() {
+        assert!(rt; all_end_alike(rt.alloc(), row) == Ok(true), "{row}");
+    }
 }
 
 // How many events a world of these plans has, in which one turn was made, and a copy of it that is given up after two
 // more.
-fn events_of(alloc: Global, lines: &str) -> Result<Option<(usize, usize)>, Errno> {
-    let Some(world) = world_after(alloc, lines, &[0])? else {
-        return Ok(None);
-    };
+fn events_of(alloc: Global, text: &str) -> Result<Option<(usize, usize)>, WorldFault> {
+    let world = world_after(alloc, text, &[0])?;
     let counts = match world.copy(alloc) {
         Ok(mut copy) => {
             let turned = copy.turn(alloc, 0).is_ok() && copy.turn(alloc, 0).is_ok();
@@ -195,7 +132,7 @@ fn events_of(alloc: Global, lines: &str) -> Result<Option<(usize, usize)>, Errno
 // A copy is given up in the midst of a call, and so is the world.
 #[test]
 fn copies_are_given_up(rt: HostRuntime) {
-    assert!(rt; events_of(rt.alloc(), ALONE) == Ok(Some((1, 3))));
+    assert!(rt; events_of(rt.alloc(), "alone") == Ok(Some((1, 3))));
 }
 
 // How many events and free lines a book of that many lines has, and a copy of it in which a handle was opened.

@@ -16,7 +16,7 @@ use tree_model::{Actor, Answer, HandleNo, Kind, Node, StepOf, Tree};
 
 /// The top with a directory `c`, and actor 0 with the top for its root.
 fn granted(alloc: Global) -> Result<ListTree, Errno> {
-    let mut tree = tree_of(alloc, &[("/c", "dir")])?;
+    let mut tree = tree_of(alloc, "/c/")?;
     tree.grant(alloc, Actor::new(0), &Names::new(alloc))?;
     Ok(tree)
 }

@@ -77,20 +77,13 @@ fn is_drawn(alloc: Global, case: &Case) -> Result<bool, Errno> {
     })
 }
 
-fn first_wrong(alloc: Global) -> Result<Option<usize>, Errno> {
-    for (at, case) in CASES.iter().enumerate() {
-        if !is_drawn(alloc, case)? {
-            return Ok(Some(at));
-        }
-    }
-    Ok(None)
-}
-
 #[test]
 fn keeps_to_its_limits(rt: HostRuntime) -> Result<(), Fail> {
     xml_text_is_plain();
     svg_is_well_formed();
     rows_fit();
-    assert_eq!(rt; first_wrong(rt.alloc())?, None);
+    for (at, case) in CASES.iter().enumerate() {
+        assert!(rt; is_drawn(rt.alloc(), case)?, "case {at}");
+    }
     Ok(())
 }

@@ -2,14 +2,12 @@
 ghost use Rattle.std.specs.Prelude.{◌≡◌, ◌↔◌, IsTrue, false};
 ghost use Rattle.tree_model.specs.Steps.{takes_no_memory};
 
-use crate::plans::{plans, tree_with};
+use crate::plans::{plans, tree_with, turns};
 use crate::told::{ran, tell};
-use crate::worlds::{ALONE, MOVED_OUT};
-use fixtures::PLAIN;
+use fixtures::{PLAIN, column};
 use path_text::{Errno, Names, NoMemory};
 use race_core::Report;
 use std::alloc::Global;
-use std::test::*;
 use step_text::Output;
 use tree_list::ListTree;
 use tree_model::{Actor, Answer, HandleNo, LentStep, Snapshot, StepOf, Tree};
@@ -73,128 +71,47 @@ impl Tree for Short {
     }
 }
 
-// Of a world: its plans, its schedule, and what is told as the step of each number is refused, one number after
-// another, each text for so many of them. By the last one no step was left to refuse.
-struct Refusals<'a> {
-    lines: &'a str,
-    schedule: &'a [u32],
-    told: &'a [(u32, &'a str)],
-}
-
+// Plans, turns, after how many steps that take memory the next one is refused, and what is told then. By the greatest
+// number no step was left to refuse.
+//
 // The call that met the refusal tells ENOMEM, and holds nothing; the others tell what the steps come to that were made.
 // What another actor opens isn't there to be moved where that was refused.
-const WORLDS: [Refusals<'static>; 5] = [
-    Refusals {
-        lines: ALONE,
-        schedule: &[],
-        told: &[
-            (4, "1 refused\nheld 1\nfault ENOMEM\n"),
-            (1, "0 refused\nheld 2\nopened file 4 /a/b/f\n"),
-        ],
-    },
-    Refusals {
-        lines: "/c: resolve abs/f\n/: resolve secret/key",
-        schedule: &[0, 1, 0, 1],
-        told: &[
-            (
-                1,
-                "1 refused\nheld 1\nfault ENOMEM\nheld 2\nopened file 10 /secret/key\n",
-            ),
-            (
-                1,
-                "1 refused\nheld 2\nopened file 4 /a/b/f\nheld 1\nfault ENOMEM\n",
-            ),
-            (
-                1,
-                "1 refused\nheld 1\nfault ENOMEM\nheld 2\nopened file 10 /secret/key\n",
-            ),
-            (
-                1,
-                "1 refused\nheld 2\nopened file 4 /a/b/f\nheld 1\nfault ENOMEM\n",
-            ),
-            (
-                4,
-                "1 refused\nheld 1\nfault ENOMEM\nheld 2\nopened file 10 /secret/key\n",
-            ),
-            (
-                1,
-                "1 refused\nheld 2\nopened file 4 /a/b/f\nheld 1\nfault ENOMEM\n",
-            ),
-            (
-                1,
-                "0 refused\nheld 2\nopened file 4 /a/b/f\nheld 2\nopened file 10 /secret/key\n",
-            ),
-        ],
-    },
-    Refusals {
-        lines: MOVED_OUT,
-        schedule: &[1, 1, 1, 1, 1, 1, 0, 0, 0, 1],
-        told: &[
-            (
-                3,
-                "1 refused\nheld 2\nopened dir 2 /a\nheld 2\nfault ENOMEM\nopened dir 9 /secret\nfault EBADF\n",
-            ),
-            (
-                2,
-                "1 refused\nheld 2\nopened dir 2 /a\nheld 2\nopened dir 2 /c/a\nfault ENOMEM\nfault EBADF\n",
-            ),
-            (
-                2,
-                "1 refused\nheld 1\nfault ENOMEM\nheld 3\nopened dir 2 /c/a\nopened dir 9 /secret\nstepped done\n",
-            ),
-            (
-                1,
-                "1 refused\nheld 2\nopened dir 2 /a\nheld 3\nopened dir 2 /c/a\nopened dir 9 /secret\nfault ENOMEM\n",
-            ),
-            (
-                2,
-                "1 refused\nheld 1\nfault ENOMEM\nheld 3\nopened dir 2 /c/a\nopened dir 9 /secret\nstepped done\n",
-            ),
-            (
-                1,
-                "0 refused\nheld 1\nfault EAGAIN\nheld 3\nopened dir 2 /c/a\nopened dir 9 /secret\nstepped done\n",
-            ),
-        ],
-    },
-    Refusals {
-        lines: "/c: remove_all a: remove_all a",
-        schedule: &[],
-        told: &[
-            (6, "1 refused\nheld 1\nfault ENOMEM\ncount 4\n"),
-            (2, "1 refused\nheld 1\ncount 4\nfault ENOMEM\n"),
-            (1, "0 refused\nheld 1\ncount 4\ncount 0\n"),
-        ],
-    },
-    Refusals {
-        lines: "/c: mkdir_all abs/n/m: mkdir_all abs/n/m",
-        schedule: &[],
-        told: &[
-            (
-                11,
-                "1 refused\nheld 2\nfault ENOMEM\nopened dir 13 /a/b/n/m\n",
-            ),
-            (
-                7,
-                "1 refused\nheld 2\nopened dir 13 /a/b/n/m\nfault ENOMEM\n",
-            ),
-            (
-                1,
-                "0 refused\nheld 3\nopened dir 13 /a/b/n/m\nopened dir 13 /a/b/n/m\n",
-            ),
-        ],
-    },
-];
+const WORLDS: &str = "\
+alone |  | 0 1 2 3 | 1 refused; held 1, fault ENOMEM;
+alone |  | 4 | 0 refused; held 2, opened file 4 /a/b/f;
+/c: resolve abs/f; /: resolve secret/key | 0101 | 0 2 4 5 6 7 | 1 refused; held 1, fault ENOMEM; held 2, \
+    opened file 10 /secret/key;
+/c: resolve abs/f; /: resolve secret/key | 0101 | 1 3 8 | 1 refused; held 2, opened file 4 /a/b/f; held 1, fault ENOMEM;
+/c: resolve abs/f; /: resolve secret/key | 0101 | 9 | 0 refused; held 2, opened file 4 /a/b/f; held 2, \
+    opened file 10 /secret/key;
+moved_out | 1111110001 | 0 1 2 | 1 refused; held 2, opened dir 2 /a; held 2, fault ENOMEM, opened dir 9 /secret, \
+    fault EBADF;
+moved_out | 1111110001 | 3 4 | 1 refused; held 2, opened dir 2 /a; held 2, opened dir 2 /c/a, fault ENOMEM, fault EBADF;
+moved_out | 1111110001 | 5 6 8 9 | 1 refused; held 1, fault ENOMEM; held 3, opened dir 2 /c/a, opened dir 9 /secret, \
+    stepped done;
+moved_out | 1111110001 | 7 | 1 refused; held 2, opened dir 2 /a; held 3, opened dir 2 /c/a, opened dir 9 /secret, \
+    fault ENOMEM;
+moved_out | 1111110001 | 10 | 0 refused; held 1, fault EAGAIN; held 3, opened dir 2 /c/a, opened dir 9 /secret, \
+    stepped done;
+/c: remove_all a: remove_all a |  | 0 1 2 3 4 5 | 1 refused; held 1, fault ENOMEM, count 4;
+/c: remove_all a: remove_all a |  | 6 7 | 1 refused; held 1, count 4, fault ENOMEM;
+/c: remove_all a: remove_all a |  | 8 | 0 refused; held 1, count 4, count 0;
+/c: mkdir_all abs/n/m: mkdir_all abs/n/m |  | 0 1 2 3 4 5 6 7 8 9 10 | 1 refused; held 2, fault ENOMEM, \
+    opened dir 13 /a/b/n/m;
+/c: mkdir_all abs/n/m: mkdir_all abs/n/m |  | 11 12 13 14 15 16 17 | 1 refused; held 2, opened dir 13 /a/b/n/m, \
+    fault ENOMEM;
+/c: mkdir_all abs/n/m: mkdir_all abs/n/m |  | 18 | 0 refused; held 3, opened dir 13 /a/b/n/m, opened dir 13 /a/b/n/m;";
 
 // Tells how many steps were refused, and how all ended.
 fn tell_all(alloc: Global, told: &mut Output, report: &Report<Short>) -> Result<(), NoMemory> {
     told.number(report.tree.refused as u64)?;
-    told.text(" refused\n")?;
+    told.text(" refused; ")?;
     tell(alloc, told, report, false)
 }
 
 // The base tree with a link to `/secret`, node 11, which refuses the step after so many.
 fn refusing(alloc: Global, before: u32) -> Result<Short, Errno> {
-    let tree = tree_with(alloc, "/c/a/b/s", "/secret")?;
+    let tree = tree_with(alloc, "/c/a/b/s -> /secret")?;
     Ok(Short {
         tree,
         before,
@@ -203,9 +120,15 @@ fn refusing(alloc: Global, before: u32) -> Result<Short, Errno> {
 }
 
 // Whether that is told where the step after so many is refused.
-fn is_told(alloc: Global, world: &Refusals, before: u32, wanted: &str) -> Result<bool, Errno> {
-    let plans = plans(alloc, world.lines, PLAIN)?;
-    match ran(alloc, refusing(alloc, before)?, plans, world.schedule, 1000) {
+fn is_told(
+    alloc: Global,
+    text: &str,
+    digits: &str,
+    before: u32,
+    wanted: &str,
+) -> Result<bool, Errno> {
+    let (plans, turns) = (plans(alloc, text, PLAIN)?, turns(alloc, digits)?);
+    match ran(alloc, refusing(alloc, before)?, plans, &turns, 1000) {
         Ok(report) => {
             let mut told = Output::new(alloc);
             let is_told = tell_all(alloc, &mut told, &report).is_ok();
@@ -216,31 +139,23 @@ fn is_told(alloc: Global, world: &Refusals, before: u32, wanted: &str) -> Result
     }
 }
 
-// Whether that is told as each step is refused in turn.
-fn tells(alloc: Global, world: &Refusals) -> bool {
-    let mut before = 0u32;
-    for (times, wanted) in world.told {
-        for _ in 0..*times {
-            if is_told(alloc, world, before, wanted) != Ok(true) {
-                return false;
-            }
-            before = before.saturating_add(1);
+// Whether that is told as each of these steps is refused in turn.
+fn tells(alloc: Global, row: &str) -> bool {
+    let (text, rest) = column(row);
+    let (digits, rest) = column(rest);
+    let (numbers, wanted) = column(rest);
+    for number in numbers.split(' ') {
+        let before = number.parse().unwrap_or(u32::MAX);
+        if is_told(alloc, text, digits, before, wanted) != Ok(true) {
+            return false;
         }
     }
     true
 }
 
-// The first plans of which something else is told.
-fn first_wrong(alloc: Global) -> &'static str {
-    for world in WORLDS.as_slice() {
-        if !tells(alloc, world) {
-            return world.lines;
-        }
-    }
-    ""
-}
-
 #[test]
 fn each_step_is_refused(rt: HostRuntime) {
-    assert_eq!(rt; first_wrong(rt.alloc()), "");
+    for row in WORLDS.lines() {
+        assert!(rt; tells(rt.alloc(), row), "{row}");
+    }
 }

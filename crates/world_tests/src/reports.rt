@@ -101,13 +101,7 @@ fn writes_an_event(rt: HostRuntime) -> Result<(), Fail> {
     Ok(())
 }
 
-const ENTRIES: [(&str, &str); 5] = [
-    ("/c", "dir"),
-    ("/c/b", "file"),
-    ("/c/B\\", "x"),
-    ("/d", "dir"),
-    ("/c/a b", "file"),
-];
+const ENTRIES: &str = "/c/, /c/b, /c/B\\ -> x, /d/, /c/a b";
 
 /// The entries by directory and name, and then the handles of three actors, of whom two have a root.
 const STATE: &str = "row 0 c 1 dir
@@ -121,7 +115,7 @@ held 2 0
 ";
 
 fn granted(alloc: Global) -> Result<ListTree, Errno> {
-    let mut tree = tree_of(alloc, ENTRIES.as_slice())?;
+    let mut tree = tree_of(alloc, ENTRIES)?;
     tree.grant(alloc, Actor::new(0), &names_of(alloc, "/c")?)?;
     tree.grant(alloc, Actor::new(1), &Names::new(alloc))?;
     Ok(tree)

@@ -1,27 +1,9 @@
 //! Seats that are kept apart from their worlds, without what came of the calls; and that, compared.
-use crate::plans::{plans, tree};
-use fixtures::PLAIN;
-use path_text::{Errno, NoMemory};
-use race_core::{Outcome, World, is_like_outcome};
+use crate::plans::{turns, world_after};
+use path_text::NoMemory;
+use race_core::{Outcome, World, WorldFault, is_like_outcome};
 use std::alloc::Global;
-use std::test::*;
 use tree_list::ListTree;
-
-// A world of these plans, after these actors' turns.
-fn world_after(
-    alloc: Global,
-    lines: &str,
-    turns: &[u32],
-) -> Result<Option<World<ListTree>>, Errno> {
-    let Ok(mut world) = World::new(alloc, tree(alloc)?, plans(alloc, lines, PLAIN)?, 100) else {
-        return Ok(None);
-    };
-    for actor in turns {
-        let turned = world.turn(alloc, *actor);
-        drop(turned);
-    }
-    Ok(Some(world))
-}
 
 // Whether each outcome is like that of the same place, and so is its copy.
 fn are_like(alloc: Global, outcomes: &[Outcome], others: &[Outcome]) -> Result<bool, NoMemory> {
@@ -62,95 +44,42 @@ fn compared(
 }
 
 // The same of worlds of these plans, after these turns and after others.
-fn found(
-    alloc: Global,
-    lines: &str,
-    turns: &[u32],
-    others: &[u32],
-) -> Result<Option<Found>, Errno> {
-    let Some(mut world) = world_after(alloc, lines, turns)? else {
-        return Ok(None);
-    };
-    let other = match world_after(alloc, lines, others) {
-        Ok(Some(other)) => other,
-        _ => {
+fn found(alloc: Global, text: &str, digits: &str, others: &str) -> Result<Found, WorldFault> {
+    let turns_here = turns(alloc, digits).map_err(|_| WorldFault::NoMemory)?;
+    let turns_there = turns(alloc, others).map_err(|_| WorldFault::NoMemory)?;
+    let mut world = world_after(alloc, text, &turns_here)?;
+    let other = match world_after(alloc, text, &turns_there) {
+        Ok(other) => other,
+        Err(fault) => {
             world.give_up(alloc);
-            return Ok(None);
+            return Err(fault);
         }
     };
     let found = compared(alloc, &mut world, &other);
     world.give_up(alloc);
     other.give_up(alloc);
-    Ok(Some(found?))
+    found.map_err(|_| WorldFault::NoMemory)
 }
-
-const BOTH_OPEN: &str = "/c: resolve a\n/c: resolve a: release 0";
-
-const ONE_LISTS: &str = "/c: list 0\n/c: remove_dir 0 e";
-
-const BOTH_MAKE: &str = "/c: make_dir 0 x\n/c: make_dir 0 y";
 
 // Plans, the turns of two worlds, and what is found of their first actor.
-struct Row<'a> {
-    lines: &'a str,
-    turns: &'a [u32],
-    others: &'a [u32],
-    wanted: Found,
-}
-
-const ROWS: [Row<'static>; 6] = [
+const ROWS: [(&str, &str, &str, Found); 6] = [
     // The walk has opened a handle, which is closed.
-    Row {
-        lines: BOTH_OPEN,
-        turns: &[0],
-        others: &[0],
-        wanted: (0, 0, true, true, 1),
-    },
+    ("both_open", "0", "0", (0, 0, true, true, 1)),
     // Two walks have a handle each, whose numbers differ.
-    Row {
-        lines: BOTH_OPEN,
-        turns: &[0, 1],
-        others: &[1, 0],
-        wanted: (0, 0, true, true, 0),
-    },
-    Row {
-        lines: BOTH_OPEN,
-        turns: &[0],
-        others: &[1],
-        wanted: (0, 0, true, false, 0),
-    },
-    Row {
-        lines: BOTH_OPEN,
-        turns: &[0, 0, 1],
-        others: &[1, 0, 0],
-        wanted: (1, 1, true, true, 0),
-    },
+    ("both_open", "01", "10", (0, 0, true, true, 0)),
+    ("both_open", "0", "1", (0, 0, true, false, 0)),
+    ("both_open", "001", "100", (1, 1, true, true, 0)),
     // A listing has a name more before it is removed.
-    Row {
-        lines: ONE_LISTS,
-        turns: &[0, 1],
-        others: &[1, 0],
-        wanted: (1, 1, false, true, 0),
-    },
-    Row {
-        lines: BOTH_MAKE,
-        turns: &[0],
-        others: &[],
-        wanted: (1, 0, false, false, 0),
-    },
+    ("one_lists", "01", "10", (1, 1, false, true, 0)),
+    ("both_make", "0", "", (1, 0, false, false, 0)),
 ];
-
-// The place of the first row of which something else is found.
-fn first_wrong(alloc: Global) -> Option<usize> {
-    for (at, row) in ROWS.iter().enumerate() {
-        if found(alloc, row.lines, row.turns, row.others) != Ok(Some(row.wanted)) {
-            return Some(at);
-        }
-    }
-    None
-}
 
 #[test]
 fn seats_are_compared_without_outcomes(rt: HostRuntime) {
-    assert_eq!(rt; first_wrong(rt.alloc()), None);
+    for (at, (text, digits, others, wanted)) in ROWS.iter().enumerate() {
+        assert!(rt;
+            found(rt.alloc(), text, digits, others) == Ok(*wanted),
+            "row {at}"
+        );
+    }
 }

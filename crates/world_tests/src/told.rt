@@ -46,7 +46,7 @@ fn own_events(events: &EventLog, actor: Actor) -> u64 {
     own
 }
 
-// Of an actor: how many handles it holds, and how its calls ended, each on a line.
+// Of an actor: how many handles it holds, and how its calls ended.
 fn tell_actor<T: Tree>(
     alloc: Global,
     told: &mut Output,
@@ -57,13 +57,13 @@ fn tell_actor<T: Tree>(
     told.text("held ")?;
     told.number(tree.held(actor) as u64)?;
     for outcome in outcomes.as_slice() {
-        told.text("\n")?;
+        told.text(", ")?;
         tell_outcome(alloc, told, outcome)?;
     }
-    told.text("\n")
+    told.text(";")
 }
 
-/// Of each actor: how many handles it holds, and how its calls ended, each on a line; and before that where it is
+/// Of each actor: how many handles it holds, and how its calls ended, as `held 1, done;`; and before that where it is
 /// wanted how many events are its own.
 pub fn tell<T: Tree>(
     alloc: Global,
@@ -74,6 +74,7 @@ pub fn tell<T: Tree>(
     let mut number = 0u32;
     for outcomes in &report.replies {
         let actor = Actor::new(number);
+        told.text(if number == 0 { "" } else { " " })?;
         if with_events {
             told.number(own_events(&report.events, actor))?;
             told.text(" ")?;
