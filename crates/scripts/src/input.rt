@@ -1,5 +1,5 @@
-//! Reading a script to its end, and its JSON text.
-ghost use Rattle.std.specs.Prelude.{◌≡◌, ◌≤◌, vec_len, Ok, IfOk, IfErr, IfSome};
+//! Reading a script to its end, and its JSON text, once.
+ghost use Rattle.std.specs.Prelude.{◌≡◌, ◌≤◌, vec_len, Ok, IfOk, IfErr, IfSome, MatchResult};
 ghost use Rattle.serde_json.specs.View.{view};
 ghost use Rattle.scripts.specs.Fault.{IsFaultOf};
 ghost use Rattle.scripts.specs.Input.{IsReadFault, data_of};
@@ -64,6 +64,35 @@ pub fn value_of(alloc: Global, bytes: &[u8]) -> Result<Value, RunFault>
                     column: error.column(),
                 })))
             }
+        }
+    }
+}
+
+/// A script as it is read once: its bytes, and the value of their JSON text, or why they have none.
+#[derive(Drop)]
+pub struct Script {
+    pub bytes: Vec<u8>,
+    pub read: Result<Value, RunFault>,
+    ghost is: { MatchResult read (λ value. data_of bytes.items ≡ Ok (view value)) (IsFaultOf (data_of bytes.items)) },
+}
+
+impl Script {
+    /// The script that these bytes are.
+    pub fn of(alloc: Global, bytes: Vec<u8>) -> Script
+        ensures { result.bytes.items ≡ bytes.items }
+    {
+        let read = value_of(alloc, &bytes);
+        Script { bytes, read }
+    }
+
+    /// The value of its JSON text. Errors as of `value_of`.
+    pub fn value(&self) -> Result<&Value, RunFault>
+        ensures ok { IfOk result (λ value. data_of self.now.bytes.items ≡ Ok (view value.now)) }
+        ensures err { IfErr result (IsFaultOf (data_of self.now.bytes.items)) }
+    {
+        match &self.read {
+            Ok(value) => Ok(value),
+            Err(fault) => Err(*fault),
         }
     }
 }
