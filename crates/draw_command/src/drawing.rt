@@ -6,7 +6,7 @@ ghost use Rattle.draw_command.specs.declared.drawing.DrawFault.TheVariants as dr
 ghost use Rattle.scripts.specs.declared.fault.RunFault.TheVariants.{NoMemory as OutOfMemory};
 ghost use Rattle.draw_command.specs.Drawing.{form_text, opened_by, told_of};
 ghost use Rattle.draw_command.specs.Drawing.{IsDraw, IsDrawingOf, IsNoDrawing, IsRunFrom, IsUndrawn, IsWellFormed};
-ghost use Rattle.scripts.specs.Scenario.{said_by, IsPlayable};
+ghost use Rattle.scripts.specs.Scenario.{said_by, said_for, IsPlayable};
 ghost use Rattle.scripts.specs.Writing.{IsNoRun};
 ghost use Rattle.step_text.specs.Output.{Gains};
 
@@ -15,7 +15,7 @@ use path_text::NoMemory;
 use race_core::{ActorPlan, Report};
 use scripts::{ACTORS_MAX, RunFault, Scenario, Script, TurnOrder, read_scene};
 use std::alloc::Global;
-use std::io::{Read, Write};
+use std::io::Write;
 use step_text::Output;
 use thiserror::Error;
 use tree_list::ListTree;

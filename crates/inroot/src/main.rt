@@ -25,9 +25,9 @@ use explore_page_command::{ExplorePageFault, explore_page};
 use explore_parts::{Asked, merge_parts, read_asked};
 use reading::{number_rows, script_of, searched};
 use run_command::run_jobs;
-use scripts::{RunFault, TurnOrder, read_strictly};
+use scripts::{RunFault, Script, TurnOrder, check_strictly};
 use std::alloc::Global;
-use std::io::{IsTerminal, Read};
+use std::io::IsTerminal;
 use std::process::ExitCode;
 use std::sync::Wait;
 use std::thread::Threads;
@@ -143,11 +143,11 @@ fn judged(holds: bool) -> Result<(), Fault> {
 }
 
 /// Does it, over a script. Only `run` starts threads.
-fn perform<R: Threads + Wait + Sync, S: Read>(
+fn perform<R: Threads + Wait + Sync>(
     rt: &HostRuntime,
     threads: &R,
     task: &Task<'_>,
-    script: &mut S,
+    script: &Script,
 ) -> Result<(), Fault> {
     let (alloc, mut output) = (rt.alloc(), rt.stdout());
     match task {
@@ -200,7 +200,7 @@ fn perform<R: Threads + Wait + Sync, S: Read>(
             let (told, wait) = (&mut output, &mut waiting);
             explore_part(alloc, script, told, asked, &taken, wait)?;
         }
-        Task::Merge => return judged(merge_parts(alloc, script, &mut output)?),
+        Task::Merge => return judged(merge_parts(alloc, &mut rt.stdin(), &mut output)?),
     }
     Ok(())
 }
@@ -213,8 +213,8 @@ fn search_of<'t>(task: &'t mut Task<'_>) -> Option<&'t mut Asked> {
     }
 }
 
-/// Reads the command line, and does what it asks for over the script. Where it asks for strictness, the whole script is
-/// read strictly first. Parts are no script, and are read as they come.
+/// Reads the command line, and does what it asks for over the script, which is read once. Where it asks for strictness,
+/// the whole script is looked at strictly first. Parts are no script, and are read as they come.
 fn run<R: Threads + Wait + Sync>(
     rt: &HostRuntime,
     threads: &R,
@@ -228,17 +228,17 @@ fn run<R: Threads + Wait + Sync>(
     };
     let mut task = task_of(rt, &matches)?;
     if let Task::Merge = task {
-        return perform(rt, threads, &task, &mut rt.stdin());
+        return perform(rt, threads, &task, &told.script);
     }
-    told.script = script_of(rt, script_named(&matches))?;
+    told.script = Script::of(alloc, script_of(rt, script_named(&matches))?);
     if is_strict(&matches) {
-        read_strictly(alloc, &mut told.script.as_slice())?;
+        check_strictly(&told.script)?;
     }
     if let Some(asked) = search_of(&mut task) {
         told.states = asked.limits.states;
         number_rows(alloc, asked, told)?;
     }
-    let ended = perform(rt, threads, &task, &mut told.script.as_slice());
+    let ended = perform(rt, threads, &task, &told.script);
     match (search_of(&mut task), ended) {
         (Some(asked), Err(fault)) => Err(searched(alloc, asked, fault, told)),
         (_, ended) => ended,

@@ -7,7 +7,7 @@ ghost use Rattle.scripts.specs.declared.calls.Purpose.TheVariants.{Jobs as JobsP
 ghost use Rattle.scripts.specs.declared.fault.RunFault.TheVariants.{NoMemory as OutOfMemory};
 ghost use Rattle.run_command.specs.declared.jobs.JobsFault.TheVariants as jobs_fault;
 ghost use Rattle.scripts.specs.Calls.{is_job};
-ghost use Rattle.run_command.specs.Jobs.{outcome_of, opened_by, opened_in, closed_line, told_of_opening, told_of_serving, told_of_closing, CanRefuse, CanUnserve, IsUnserved, IsBegun, IsOurs, AreInPlace, IsReleased, AreReleased, Closes, RefusesToClose, IsJobsText, IsNoService, IsJobs};
+ghost use Rattle.run_command.specs.Jobs.{outcome_of, opened_by, opened_in, closed_line, told_of_opening, told_of_serving, told_of_closing, CanRefuse, CanUnserve, IsUnserved, IsBegun, IsOurs, AreInPlace, IsReleased, AreReleased, Closes, RefusesToClose, IsJobsText, IsNoService, IsJobs, jobs_said};
 ghost use Rattle.scripts.specs.Scenario.{first_root, first_calls, said_by, IsPlayable, IsFitFor};
 
 use event_log::EventLog;
@@ -18,7 +18,7 @@ use root_ops::{Op, Reply, Request};
 use scripts::{Purpose, RunFault, Scenario, Script, TurnOrder, read_as};
 use sessions::{CloseCause, NoGate, OpenCause, Service, Session};
 use std::alloc::Global;
-use std::io::{Read, Write};
+use std::io::Write;
 use std::sync::Wait;
 use std::thread::Threads;
 use step_text::Output;
