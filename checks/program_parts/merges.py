@@ -49,8 +49,9 @@ def is_merged(how, script, *words):
     with tempfile.TemporaryDirectory() as room:
         if not states or not how(room, script, words):
             return False, 0
-        merged = run("explore", "--merge", given="".join(map(read, sorted(glob.glob(f"{room}/*")))))
-    return merged[:2] == (whole.status, whole.out.replace(states[0], "")), int(states[1])
+        parts = sorted(glob.glob(f"{room}/*"))
+        merged = [run("explore", "--merge", given="".join(map(read, parts))), run("explore", "--merge", *parts, given="")]
+    return {it[:2] for it in merged} == {(whole.status, whole.out.replace(states[0], ""))}, int(states[1])
 
 
 def merged():
@@ -103,6 +104,9 @@ def wrong_parts():
         fails_to_merge(f"a part of {name}", "part 1 is of another question than part 0", first, other)
     own = parts["0,1"].rstrip("\n")
     verdict(sealed(own[:-74]) == own, "a part has its digest")
+    none = run("explore", "--merge", "examples/none", given=first)
+    verdict(is_alone(none, 'inroot: "examples/none": No such file or directory (os error 2)\ninroot: read failed\n'),
+            "a file of parts that is missing", none.err)
     changed = parts["1,0"].replace('"schedules":', '"schedules":1', 1)
     fails_to_merge("a changed part", "part 2 isn't as it was written", first, parts["0,1"], changed)
 

@@ -8,6 +8,7 @@
 
 ghost use Rattle.std.specs.Prelude.{◌<◌, ◌≤◌};
 
+mod files;
 mod reading;
 mod taken;
 mod telling;
@@ -23,6 +24,7 @@ use drawings::Closes;
 use explore_command::{explore_part, explore_script};
 use explore_page_command::{ExplorePageFault, explore_page};
 use explore_parts::{Asked, merge_parts, read_asked};
+use files::FilesRead;
 use reading::{number_rows, script_of, searched};
 use run_command::run_jobs;
 use scripts::{RunFault, Script, TurnOrder, check_strictly};
@@ -82,7 +84,7 @@ enum Task<'a> {
     Explore(Asked),
     ExplorePage(Asked),
     Part(Asked),
-    Merge,
+    Merge(&'a [&'a str]),
 }
 
 /// A variable of the environment, if it is set to a text that isn't empty.
@@ -129,7 +131,7 @@ fn task_of<'m>(rt: &HostRuntime, matches: &'m ArgMatches<'_>) -> Result<Task<'m>
         Request::Explore(options) => Task::Explore(read_asked(alloc, options)?),
         Request::ExplorePage(options) => Task::ExplorePage(read_asked(alloc, options)?),
         Request::Part(options) => Task::Part(read_asked(alloc, options)?),
-        Request::Merge => Task::Merge,
+        Request::Merge(files) => Task::Merge(files),
     })
 }
 
@@ -200,7 +202,11 @@ fn perform<R: Threads + Wait + Sync>(
             let (told, wait) = (&mut output, &mut waiting);
             explore_part(alloc, script, told, asked, &taken, wait)?;
         }
-        Task::Merge => return judged(merge_parts(alloc, &mut rt.stdin(), &mut output)?),
+        Task::Merge([]) => return judged(merge_parts(alloc, &mut rt.stdin(), &mut output)?),
+        Task::Merge(files) => {
+            let mut parts = FilesRead::new(rt, files);
+            return judged(merge_parts(alloc, &mut parts, &mut output)?);
+        }
     }
     Ok(())
 }
@@ -227,7 +233,7 @@ fn run<R: Threads + Wait + Sync>(
         Err(error) => return told_by(rt, &error),
     };
     let mut task = task_of(rt, &matches)?;
-    if let Task::Merge = task {
+    if let Task::Merge(_) = task {
         return perform(rt, threads, &task, &told.script);
     }
     told.script = Script::of(alloc, script_of(rt, script_named(&matches))?);
