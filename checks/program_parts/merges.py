@@ -104,9 +104,6 @@ def wrong_parts():
         fails_to_merge(f"a part of {name}", "part 1 is of another question than part 0", first, other)
     own = parts["0,1"].rstrip("\n")
     verdict(sealed(own[:-74]) == own, "a part has its digest")
-    none = run("explore", "--merge", "examples/none", given=first)
-    verdict(is_alone(none, 'inroot: "examples/none": No such file or directory (os error 2)\ninroot: read failed\n'),
-            "a file of parts that is missing", none.err)
     changed = parts["1,0"].replace('"schedules":', '"schedules":1', 1)
     fails_to_merge("a changed part", "part 2 isn't as it was written", first, parts["0,1"], changed)
 

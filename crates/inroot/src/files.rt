@@ -1,5 +1,5 @@
 //! Files that are read one after another.
-ghost use Rattle.io.specs.Counts.{IsPrefixLen};
+ghost use Rattle.std.specs.Io.{ReadsAtMost};
 
 use std::fs::File;
 use std::io::{self, Read};
@@ -25,15 +25,15 @@ fn told(rt: &HostRuntime, name: &str, error: io::Error) -> io::Error {
 }
 
 /// Puts a newline in front. Returns how many bytes it has there.
-fn newline(block: &mut [u8]) -> usize
-    ensures { IsPrefixLen result block.new }
+fn newline(block: &mut [u8]) -> io::Result<usize>
+    ensures { ReadsAtMost result block.new }
 {
     match block.first_mut() {
         Some(byte) => {
             *byte = b'\n';
-            1
+            Ok(1)
         }
-        None => 0,
+        None => Ok(0),
     }
 }
 
@@ -66,7 +66,7 @@ impl Read for FilesRead<'_> {
             }
         };
         match file.read(block) {
-            Ok(0) => Ok(newline(block)),
+            Ok(0) => newline(block),
             Ok(count) => {
                 self.open = Some((file, name));
                 Ok(count)
