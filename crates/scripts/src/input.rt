@@ -1,5 +1,5 @@
 //! Reading a script to its end, and its JSON text, once.
-ghost use Rattle.std.specs.Prelude.{◌≡◌, ◌≤◌, vec_len, Ok, IfOk, IfErr, IfSome, MatchResult};
+ghost use Rattle.std.specs.Prelude.{◌≡◌, ◌≤◌, vec_len, Ok, IfOk, IfErr, IfSome};
 ghost use Rattle.serde_json.specs.View.{view};
 ghost use Rattle.scripts.specs.Fault.{IsFaultOf};
 ghost use Rattle.scripts.specs.Input.{IsReadFault, data_of};
@@ -73,7 +73,8 @@ pub fn value_of(alloc: Global, bytes: &[u8]) -> Result<Value, RunFault>
 pub struct Script {
     pub bytes: Vec<u8>,
     pub read: Result<Value, RunFault>,
-    ghost is: { MatchResult read (λ value. data_of bytes.items ≡ Ok (view value)) (IsFaultOf (data_of bytes.items)) },
+    ghost ok: { IfOk read (λ value. data_of bytes.items ≡ Ok (view value)) },
+    ghost err: { IfErr read (IsFaultOf (data_of bytes.items)) },
 }
 
 impl Script {
