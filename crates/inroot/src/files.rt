@@ -58,9 +58,11 @@ impl Read for FilesRead<'_> {
                 let Some((name, rest)) = self.names.split_first() else {
                     return Ok(0);
                 };
-                self.names = rest;
                 match File::open(self.rt, name) {
-                    Ok(file) => (file, *name),
+                    Ok(file) => {
+                        self.names = rest;
+                        (file, *name)
+                    }
                     Err(error) => return Err(told(self.rt, name, error)),
                 }
             }
