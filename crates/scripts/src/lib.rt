@@ -2,11 +2,10 @@
 //! text.
 //!
 //! A `Script` is read once. What `read_scenario` reads of it is what the script says, or the first check that fails.
-//! Whoever wants the script's
-//! tree as a list beside its scenario reads both by `read_scene`; whoever serves its first actor's calls as jobs
-//! reads it by `read_as`. A walk looks at less of a script, and opens it by `open_script`. The layers above take
-//! from these contracts what is said (`Said`), that it can be played (`IsPlayable`), and by which fault it is told
-//! otherwise.
+//! Whoever wants the script's tree as a list beside its scenario reads both by `read_scene`; whoever serves its first
+//! actor's calls as jobs reads it by `read_as`. A walk looks at less of a script, and opens it by `open_script`. The
+//! layers above take from these contracts what is said (`Said`), that it can be played (`IsPlayable`), and by which
+//! fault it is told otherwise.
 #![tactic(auto)]
 
 mod actors;
