@@ -200,7 +200,7 @@ pub fn draw<W: Write>(
     order: &TurnOrder,
     style: Style,
 ) -> Result<(), DrawFault>
-    ensures run { IsDraw style (said_for order.now script.now.bytes.items) (W.contents writer.old)
+    ensures run { IsDraw style (said_for order.now script.now) (W.contents writer.old)
         (W.contents writer.new) result }
 {
     let (scenario, tree) = read_scene(alloc, script, order)?;

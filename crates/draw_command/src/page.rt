@@ -92,7 +92,7 @@ pub fn replay_json<W: Write>(
     writer: &mut W,
     order: &TurnOrder,
 ) -> Result<(), JsonFault>
-    ensures run { IsJson (said_for order.now script.now.bytes.items) (W.contents writer.old) (W.contents writer.new)
+    ensures run { IsJson (said_for order.now script.now) (W.contents writer.old) (W.contents writer.new)
         result }
 {
     let (scenario, tree) = read_scene(alloc, script, order)?;
@@ -167,7 +167,7 @@ pub fn draw_page<W: Write>(
     order: &TurnOrder,
     closes: Closes,
 ) -> Result<(), DrawFault>
-    ensures run { IsPage closes (said_for order.now script.now.bytes.items) (W.contents writer.old)
+    ensures run { IsPage closes (said_for order.now script.now) (W.contents writer.old)
         (W.contents writer.new) result }
 {
     let (scenario, tree) = read_scene(alloc, script, order)?;

@@ -22,7 +22,7 @@ pub fn explore_part<W: Write, G: Gauge, P: Waiter>(
     gauge: &G,
     progress: &mut P,
 ) -> Result<(), ExploreFault>
-    ensures { IsExplorePart asked.now script.now.bytes.items (W.contents writer.old) (W.contents writer.new) result }
+    ensures { IsExplorePart asked.now script.now (W.contents writer.old) (W.contents writer.new) result }
 {
     let (scenario, tree) = read_scene(alloc, script, &TurnOrder::OfScript)?;
     let (plans, lines) = (scenario.plans, scenario.lines);
@@ -36,7 +36,7 @@ pub fn explore_part<W: Write, G: Gauge, P: Waiter>(
         Ok(part) => part,
         Err(fault) => return Err(fault),
     };
-    let Ok(digest) = sum_of(alloc, script.bytes.as_slice()) else {
+    let Ok(digest) = sum_of(alloc, script.bytes()) else {
         return Err(ExploreFault::Run(RunFault::NoMemory));
     };
     let Ok(text) = part_text(alloc, digest.as_bytes(), asked, &part) else {

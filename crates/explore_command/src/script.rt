@@ -67,7 +67,7 @@ pub fn explore_script<W: Write, G: Gauge, P: Waiter>(
     gauge: &G,
     progress: &mut P,
 ) -> Result<bool, ExploreFault>
-    ensures run { IsExplore asked.now (said_for OfScript script.now.bytes.items) (W.contents writer.old)
+    ensures run { IsExplore asked.now (said_for OfScript script.now) (W.contents writer.old)
         (W.contents writer.new) result }
     ensures memory { MatchResult result (λ _. SaysNoMore (G.may_say gauge.now) asked.now.memory)
         (WhyTooMuch (G.may_say gauge.now)) }

@@ -84,7 +84,7 @@ pub fn explore_page<W: Write, G: Gauge, P: Waiter>(
     gauge: &G,
     progress: &mut P,
 ) -> Result<bool, ExplorePageFault>
-    ensures run { IsExplorePage asked.now (said_for OfScript script.now.bytes.items) (W.contents writer.old)
+    ensures run { IsExplorePage asked.now (said_for OfScript script.now) (W.contents writer.old)
         (W.contents writer.new) result }
     ensures memory { MatchResult result (λ _. SaysNoMore (G.may_say gauge.now) asked.now.memory)
         (WhyPageTookTooMuch (G.may_say gauge.now)) }

@@ -43,7 +43,7 @@ pub fn number_rows(alloc: Global, asked: &mut Asked, told: &mut Told) -> Result<
     for (place, property) in asked.properties.iter_mut().enumerate() {
         let text = property.text.as_slice();
         match row_line(alloc, value, text)? {
-            Some(line) if can_be_named(&told.script.bytes, text) => {
+            Some(line) if can_be_named(told.script.bytes(), text) => {
                 property.text = Bytes::from_slice(alloc, line.as_slice())?;
             }
             _ => {

@@ -88,7 +88,7 @@ fn tell_entry(rt: &HostRuntime, fault: ScriptFault, script: &Value) -> io::Resul
 /// Tells what is wrong with a script, or else what was wanted, and what the script has there.
 fn tell_script(rt: &HostRuntime, fault: ScriptFault, script: &Script) -> io::Result<()> {
     if let ScriptFault::NotJson(fault) = fault {
-        return tell_no_json(rt, fault, &script.bytes);
+        return tell_no_json(rt, fault, script.bytes());
     }
     let value = script.value().ok();
     if let Some(reason) = value.and_then(|value| reason_of(value, fault)) {

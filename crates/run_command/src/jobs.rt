@@ -389,7 +389,7 @@ pub fn run_jobs<R: Threads + Wait + Sync, W: Write>(
 ) -> Result<(), JobsFault>
     requires some { 0 < workers }
     requires few { workers ≤ WORKERS_MAX }
-    ensures run { IsJobs workers (jobs_said script.now.bytes.items) (W.contents writer.old) (W.contents writer.new)
+    ensures run { IsJobs workers (jobs_said script.now) (W.contents writer.old) (W.contents writer.new)
         result }
 {
     let scenario = read_as(alloc, Purpose::Jobs, script, &TurnOrder::OfScript)?;

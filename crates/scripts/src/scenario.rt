@@ -119,12 +119,12 @@ pub fn read_as(
     order: &TurnOrder,
 ) -> Result<Scenario, RunFault>
     ensures said { IfOk result (λ scenario.
-        said_as purpose order.now script.now.bytes.items ≡ Ok (said_by scenario)) }
+        said_as purpose order.now script.now ≡ Ok (said_by scenario)) }
     ensures playable { IfOk result (λ scenario. IsPlayable (said_by scenario)) }
     ensures fit { IfOk result (λ scenario. IsFitFor purpose (said_by scenario)) }
     ensures none { IfOk result (λ scenario. scenario.tree.handles ≡ []) }
     ensures tree { IfOk result (λ scenario. IsState scenario.tree) }
-    ensures err { IfErr result (IsFaultOf (said_as purpose order.now script.now.bytes.items)) }
+    ensures err { IfErr result (IsFaultOf (said_as purpose order.now script.now)) }
 {
     let script = script.value()?;
     let header = header_of(script)?;
@@ -139,11 +139,11 @@ pub fn read_scenario(
     script: &Script,
     order: &TurnOrder,
 ) -> Result<Scenario, RunFault>
-    ensures said { IfOk result (λ scenario. said_for order.now script.now.bytes.items ≡ Ok (said_by scenario)) }
+    ensures said { IfOk result (λ scenario. said_for order.now script.now ≡ Ok (said_by scenario)) }
     ensures playable { IfOk result (λ scenario. IsPlayable (said_by scenario)) }
     ensures none { IfOk result (λ scenario. scenario.tree.handles ≡ []) }
     ensures tree { IfOk result (λ scenario. IsState scenario.tree) }
-    ensures err { IfErr result (IsFaultOf (said_for order.now script.now.bytes.items)) }
+    ensures err { IfErr result (IsFaultOf (said_for order.now script.now)) }
 {
     read_as(alloc, Purpose::Turns, script, order)
 }
@@ -154,11 +154,11 @@ pub fn read_scene(
     script: &Script,
     order: &TurnOrder,
 ) -> Result<(Scenario, ListTree), RunFault>
-    ensures said { IfOk result (λ read. said_for order.now script.now.bytes.items ≡ Ok (said_by read.0)) }
+    ensures said { IfOk result (λ read. said_for order.now script.now ≡ Ok (said_by read.0)) }
     ensures playable { IfOk result (λ read. IsPlayable (said_by read.0)) }
     ensures none { IfOk result (λ read. read.0.tree.handles ≡ []) }
     ensures same { IfOk result (λ read. read.1 ≡ read.0.tree) }
-    ensures err { IfErr result (IsFaultOf (said_for order.now script.now.bytes.items)) }
+    ensures err { IfErr result (IsFaultOf (said_for order.now script.now)) }
 {
     let scenario = read_scenario(alloc, script, order)?;
     let list = ListTree::from_nodes(alloc, copy_nodes(alloc, scenario.tree.nodes())?);

@@ -149,8 +149,8 @@ pub fn first_loose(script: &Value) -> Option<Loose>
 /// Looks at a script strictly. Errors, in this order: those of `Script::value`; `Script(Loose)` with what `first_loose`
 /// finds. So a key that is misspelled is told as that, and not as one that is missing.
 pub fn check_strictly(script: &Script) -> Result<(), RunFault>
-    ensures ok { IfOk result (λ _. IsOk (strictly script.now.bytes.items)) }
-    ensures err { IfErr result (IsFaultOf (strictly script.now.bytes.items)) }
+    ensures ok { IfOk result (λ _. IsOk (strictly script.now)) }
+    ensures err { IfErr result (IsFaultOf (strictly script.now)) }
 {
     match first_loose(script.value()?) {
         Some(loose) => Err(RunFault::Script(ScriptFault::Loose(loose))),

@@ -102,7 +102,7 @@ pub fn replay<W: Write>(
     writer: &mut W,
     order: &TurnOrder,
 ) -> Result<(), RunFault>
-    ensures run { IsReplay (said_for order.now script.now.bytes.items) (W.contents writer.old) (W.contents writer.new)
+    ensures run { IsReplay (said_for order.now script.now) (W.contents writer.old) (W.contents writer.new)
         result }
 {
     let scenario = read_scenario(alloc, script, order)?;

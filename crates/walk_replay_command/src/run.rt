@@ -121,9 +121,9 @@ pub fn walk<W: Write>(
     text: &[u8],
     flags: Flags,
 ) -> Result<(), RunFault>
-    ensures run { IsRun (written_for script.now.bytes.items text.now flags) (W.contents writer.old)
+    ensures run { IsRun (written_for script.now text.now flags) (W.contents writer.old)
         (W.contents writer.new) result }
-    ensures refused { WritesNothingIfRefused (written_for script.now.bytes.items text.now flags)
+    ensures refused { WritesNothingIfRefused (written_for script.now text.now flags)
         (W.contents writer.old) (W.contents writer.new) }
 {
     let line = line_for(alloc, script.value()?, text, flags)?;

@@ -13,7 +13,7 @@ pub returns-in-Ok-write_all : goal.returns-in-Ok-write_all
 returns-in-Ok-write_all g c =
     let scenario = c.in_ok-scenario.scenario in
     let asked = c.args.asked.now in
-    let script = c.args.script.now.bytes.items in
+    let script = c.args.script.now in
     let says : said_for OfScript script ≡ Ok (said_by scenario) = search rules in
     let alone : scenario.tree ≡ tree_of (said_by scenario) = (λ i. record { nodes = scenario.tree.nodes; handles = c.in_ok-scenario.ensures.none i }) in
     let is : IsPart asked c.in_ok-scenario.tree scenario.plans.items scenario.lines c.in-Ok.part = c.in-Ok.ensures.part in

@@ -10,7 +10,7 @@ use Rattle.explore_page_command.proofs.page.explore_page.Goals as goal
 pub returns-in_err-shown-clause-run : goal.returns-in_err-shown-clause-run
 returns-in_err-shown-clause-run g c =
     let asked = c.args.asked.now in
-    let made = said_for OfScript c.args.script.now.bytes.items in
+    let made = said_for OfScript c.args.script.now in
     let old = g.W.Write.contents c.args.writer.now in
     let is : c.from_residual-in_err-shown.result ≡ Err c.in_err-shown.field-0.0 = search rules in
     subst (λ (result : Result Bool ExplorePageFault). IsExplorePage asked made old old result) (sym is)
