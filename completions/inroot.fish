@@ -29,7 +29,7 @@ complete -c inroot -n '__fish_seen_subcommand_from explore' -l cuts -x -d 'Take 
 complete -c inroot -n '__fish_seen_subcommand_from explore' -l begin -x -d 'Take schedules that begin so'
 complete -c inroot -n '__fish_seen_subcommand_from explore' -l html -d 'Print a page for a browser'
 complete -c inroot -n '__fish_seen_subcommand_from explore' -l part -d 'Print a line for a merge'
-complete -c inroot -n '__fish_seen_subcommand_from explore' -l merge -d 'Print what such lines make together'
+complete -c inroot -n '__fish_seen_subcommand_from explore' -l merge -d 'Print what such lines of these files make together'
 complete -c inroot -n '__fish_seen_subcommand_from explore' -l states -x -d 'Give up past so many states'
 complete -c inroot -n '__fish_seen_subcommand_from explore' -l memory -x -d 'Give up where more megabytes are taken'
 complete -c inroot -n '__fish_seen_subcommand_from explore' -l outside -d 'Count steps outside of the root'

@@ -49,8 +49,9 @@ def is_merged(how, script, *words):
     with tempfile.TemporaryDirectory() as room:
         if not states or not how(room, script, words):
             return False, 0
-        merged = run("explore", "--merge", given="".join(map(read, sorted(glob.glob(f"{room}/*")))))
-    return merged[:2] == (whole.status, whole.out.replace(states[0], "")), int(states[1])
+        parts = sorted(glob.glob(f"{room}/*"))
+        merged = [run("explore", "--merge", given="".join(map(read, parts))), run("explore", "--merge", *parts, given="")]
+    return {it[:2] for it in merged} == {(whole.status, whole.out.replace(states[0], ""))}, int(states[1])
 
 
 def merged():

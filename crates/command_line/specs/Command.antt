@@ -81,16 +81,24 @@ pub record IsExploration (matches : ArgMatches) (options : Options) : Type 0 whe
   pub never : texts_in options.never.now ≡ texts_given matches (codes "never")
   pub always : texts_in options.always.now ≡ texts_given matches (codes "always")
 
+-- `--merge` was given, with the files that are named
+abbrev pub IsMergeOf : ArgMatches → List (Bor (List ℕ)) → Type 0
+IsMergeOf matches files =
+    option_map raw_values (matched_of (found_of matches) (codes "merge")) ≡ Some (texts_in files)
+
+abbrev pub IsNoMerge : ArgMatches → Type 0
+IsNoMerge matches = option_map raw_values (matched_of (found_of matches) (codes "merge")) ≡ None
+
 -- `--merge` asks for a merge, `--part` for a part, `--html` for a page, and else all is explored
 abbrev pub IsExploreRequest : ArgMatches → Request → Type 0
-IsExploreRequest matches request.Merge = IsOption matches (codes "merge") true
+IsExploreRequest matches (request.Merge files) = IsMergeOf matches files.now
 IsExploreRequest matches (request.Part options) =
-    IsOption matches (codes "merge") false × IsOption matches (codes "part") true × IsExploration matches options
+    IsNoMerge matches × IsOption matches (codes "part") true × IsExploration matches options
 IsExploreRequest matches (request.ExplorePage options) =
-    IsOption matches (codes "merge") false × IsOption matches (codes "part") false
+    IsNoMerge matches × IsOption matches (codes "part") false
     × IsOption matches (codes "html") true × IsExploration matches options
 IsExploreRequest matches (request.Explore options) =
-    IsOption matches (codes "merge") false × IsOption matches (codes "part") false
+    IsNoMerge matches × IsOption matches (codes "part") false
     × IsOption matches (codes "html") false × IsExploration matches options
 IsExploreRequest matches other = ⊥
 
@@ -122,8 +130,8 @@ IsRequest matches (Some (request.ExplorePage options)) =
     (own : ArgMatches) × (AreOf matches (codes "explore") own × IsExploreRequest own (request.ExplorePage options))
 IsRequest matches (Some (request.Part options)) =
     (own : ArgMatches) × (AreOf matches (codes "explore") own × IsExploreRequest own (request.Part options))
-IsRequest matches (Some request.Merge) =
-    (own : ArgMatches) × (AreOf matches (codes "explore") own × IsExploreRequest own request.Merge)
+IsRequest matches (Some (request.Merge files)) =
+    (own : ArgMatches) × (AreOf matches (codes "explore") own × IsExploreRequest own (request.Merge files))
 IsRequest matches None =
     (subcommand_name_of matches ≢ Some (codes "replay")) × (subcommand_name_of matches ≢ Some (codes "draw"))
     × (subcommand_name_of matches ≢ Some (codes "explore"))

@@ -58,8 +58,8 @@ pub enum Request<'a> {
     ExplorePage(Options<'a>),
     /// The same, as a part of all schedules.
     Part(Options<'a>),
-    /// Of parts, in place of a script.
-    Merge,
+    /// Of parts, in place of a script: of these files, or of standard input without one.
+    Merge(&'a [&'a str]),
 }
 
 /// The walk that the arguments of `walk` ask for, if they have a path.
@@ -149,8 +149,8 @@ fn exploration_asked<'m>(matches: &'m ArgMatches<'_>) -> Options<'m>
 fn request_of_explore<'m>(matches: &'m ArgMatches<'_>) -> Request<'m>
     ensures { IsExploreRequest matches.now result }
 {
-    if matches.get_flag(MERGE) {
-        return Request::Merge;
+    if let Some(files) = matches.get_strs(MERGE) {
+        return Request::Merge(files);
     }
     let options = exploration_asked(matches);
     if matches.get_flag(PART) {

@@ -89,8 +89,8 @@ enum Takes<'a> {
     Nothing,
     // Nothing, and it isn't beside the option of that name.
     NothingBeside(&'a str),
-    // Nothing, and it is alone.
-    NothingElse,
+    // Any number of values, which help names so, and it is alone.
+    AnyAlone(&'a str),
     // A value, which help names so.
     Once(&'a str),
     // The same, and it may come more than once.
@@ -132,7 +132,12 @@ fn option<'a>(alloc: Global, row: Row<'a>) -> Result<Arg<'a>, AllocError> {
     match takes {
         Takes::Nothing => Ok(arg.action(ArgAction::SetTrue)),
         Takes::NothingBeside(other) => arg.action(ArgAction::SetTrue).conflicts_with(other),
-        Takes::NothingElse => Ok(arg.action(ArgAction::SetTrue).exclusive(true)),
+        Takes::AnyAlone(value) => Ok(
+            arg.action(ArgAction::Set)
+                .num_args(0..)
+                .value_name(value)
+                .exclusive(true),
+        ),
         Takes::Once(value) => Ok(arg.action(ArgAction::Set).value_name(value)),
         Takes::Often(value) => Ok(arg.action(ArgAction::Append).value_name(value)),
     }
@@ -357,8 +362,8 @@ const EXPLORE_OPTIONS: [Row<'static>; 13] = [
     ),
     Row(
         MERGE,
-        Takes::NothingElse,
-        "Read such lines in place of a script, and print what all schedules come to",
+        Takes::AnyAlone("FILE"),
+        "Read such lines of these files, or of standard input, and print what all schedules come to",
     ),
     Row(
         OUTSIDE,

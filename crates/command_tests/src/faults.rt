@@ -1,7 +1,8 @@
 //! Faults, told.
 use path_text::Errno;
 use scripts::{
-    Cause, RunFault, ScriptFault, each_refusal_is_told, first_refused_entry_is_told, read_strictly,
+    Cause, RunFault, Script, ScriptFault, check_strictly, each_refusal_is_told,
+    first_refused_entry_is_told,
 };
 use std::alloc::Global;
 
@@ -38,17 +39,20 @@ fn tells_faults(rt: HostRuntime) {
     assert!(rt; are_told);
 }
 
-/// Whether a script that is read strictly is given back, or else is refused in these words.
-fn is_read_strictly(alloc: Global, script: &str, want: Option<&str>) -> bool {
-    match (read_strictly(alloc, &mut script.as_bytes()), want) {
-        (Ok(bytes), None) => bytes.as_slice() == script.as_bytes(),
+/// Whether a script that is looked at strictly passes, or else is refused in these words.
+fn is_checked_strictly(alloc: Global, script: &str, want: Option<&str>) -> bool {
+    let Ok(bytes) = Vec::from_slice(alloc, script.as_bytes()) else {
+        return false;
+    };
+    match (check_strictly(&Script::of(alloc, bytes)), want) {
+        (Ok(()), None) => true,
         (Err(fault), Some(words)) => tells(alloc, fault, words),
         _ => false,
     }
 }
 
 #[test]
-fn reads_strictly(rt: HostRuntime) {
+fn checks_strictly(rt: HostRuntime) {
     for (script, want) in [
         (r#"{"version":1,"tree":[],"actors":[]}"#, None),
         (
@@ -56,6 +60,6 @@ fn reads_strictly(rt: HostRuntime) {
             Some("script: unknown key\na script has version, tree, actors, schedule and lines"),
         ),
     ] {
-        assert!(rt; is_read_strictly(rt.alloc(), script, want), "{script}");
+        assert!(rt; is_checked_strictly(rt.alloc(), script, want), "{script}");
     }
 }

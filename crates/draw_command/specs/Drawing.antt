@@ -1,5 +1,5 @@
 -- What `inroot draw` writes: the picture of a report on a run of the world that the script says.
-use Rattle.std.specs.Prelude.{⊤, ◌≡◌, ◌≢◌, ◌<◌, ℕ, List, length, codes, Option, Some, None, Result, Ok, Err, MatchResult, IsOkAnd, IfSome}
+use Rattle.std.specs.Prelude.{⊤, ◌≡◌, ◌≢◌, ◌<◌, ℕ, List, length, codes, Option, Some, None, Result, Ok, Err, MatchResult, IsOkAnd}
 use Rattle.std.specs.Io.KnownBytes.{Keeps}
 use Rattle.drawings.specs.declared.picture.Closes.{Closes}
 use Rattle.drawings.specs.declared.picture.PictureFault.{PictureFault}
@@ -21,10 +21,9 @@ use Rattle.draw_command.specs.declared.drawing.Form.TheVariants.{Text, Svg}
 use Rattle.draw_command.specs.declared.drawing.Style.{Style}
 use Rattle.scripts.specs.declared.fault.RunFault.TheVariants.{WriteFailed, NoMemory}
 use Rattle.scripts.specs.declared.fault.ScriptFault.{ScriptFault}
-use Rattle.scripts.specs.declared.turns.TurnOrder.{TurnOrder}
 use Rattle.walk_replay_command.specs.Replay.{IsRunOf}
 use Rattle.scripts.specs.Writing.{IsNoRun, IsWritingFaultOf, Wrote}
-use Rattle.scripts.specs.Scenario.{Said, said_for}
+use Rattle.scripts.specs.Scenario.{Said}
 
 -- the tree in which all roots are granted, if they are
 abbrev pub opened_by : Grants → Option State
@@ -84,17 +83,16 @@ IsNoDrawing closes said (Run fault) = IsNoRun said fault
 IsNoDrawing closes said TooManyActors = ACTORS_MAX < length said.plans
 IsNoDrawing closes said TooManyLines = HasManyLines closes said
 
--- a drawing's fault is one of reading, running or writing; or there are too many actors or lines
+-- a drawing's fault is one of running or writing; or there are too many actors or lines
 abbrev pub IsDrawFaultOf : Style → Result Said ScriptFault → DrawFault → Type 0
 IsDrawFaultOf style said (Run fault) = IsWritingFaultOf (IsDrawingOf style) said fault
 IsDrawFaultOf style said TooManyActors = IsOkAnd said (λ s. ACTORS_MAX < length s.plans)
 IsDrawFaultOf style said TooManyLines = IsOkAnd said (HasManyLines style.closes)
 
 -- The picture of a run of what the script says was written, and nothing else; or it failed as it should, and but for
--- a writer that failed nothing was written. `known` is what the reader had left.
-abbrev pub IsDraw : {T : Type 0} → TurnOrder → Style → Option (List ℕ) → Option (List ℕ) → Option (List ℕ)
+-- a writer that failed nothing was written.
+abbrev pub IsDraw : {T : Type 0} → Style → Result Said ScriptFault → Option (List ℕ) → Option (List ℕ)
     → Result T DrawFault → Type 0
-IsDraw order style known old new result = MatchResult result
-    (λ _. IfSome known (λ input. Wrote (IsDrawingOf style) (said_for order input) old new))
-    (λ fault. IfSome known (λ input. IsDrawFaultOf style (said_for order input) fault)
-    × (fault ≢ Run WriteFailed → Keeps old new))
+IsDraw style said old new result = MatchResult result
+    (λ _. Wrote (IsDrawingOf style) said old new)
+    (λ fault. IsDrawFaultOf style said fault × (fault ≢ Run WriteFailed → Keeps old new))

@@ -1,6 +1,6 @@
 -- What `inroot replay --json` and `inroot draw --html` write: a report on a run of the world that the script says as
 -- JSON, and a page of it.
-use Rattle.std.specs.Prelude.{◌≡◌, ◌≢◌, ◌<◌, ℕ, List, [], ◌∷◌, length, Option, Result, MatchResult, IsOkAnd, IfSome}
+use Rattle.std.specs.Prelude.{◌≡◌, ◌≢◌, ◌<◌, ℕ, List, [], ◌∷◌, length, Option, Result, MatchResult, IsOkAnd}
 use Rattle.std.specs.Io.KnownBytes.{Keeps}
 use Rattle.drawings.specs.declared.picture.Closes.{Closes}
 use Rattle.drawings.specs.declared.picture.TheConstants.{ACTORS_MAX}
@@ -20,8 +20,7 @@ use Rattle.draw_command.specs.Drawing.{drawn, HasManyLines}
 use Rattle.walk_replay_command.specs.Replay.{IsRunOf}
 use Rattle.scripts.specs.declared.fault.RunFault.TheVariants.{WriteFailed, NoMemory}
 use Rattle.scripts.specs.declared.fault.ScriptFault.{ScriptFault}
-use Rattle.scripts.specs.declared.turns.TurnOrder.{TurnOrder}
-use Rattle.scripts.specs.Scenario.{Said, said_for}
+use Rattle.scripts.specs.Scenario.{Said}
 use Rattle.scripts.specs.Writing.{IsNoRun, IsWritingFaultOf, Wrote}
 
 -- ---- JSON
@@ -62,13 +61,12 @@ IsJsonFaultOf said (json.Run fault) = IsWritingFaultOf IsJsonOf said fault
 IsJsonFaultOf said json.TooManyEvents = IsOkAnd said HasManyEvents
 
 -- The report on a run of what the script says was written as JSON, and nothing else; or it failed as it should, and
--- but for a writer that failed nothing was written. `known` is what the reader had left.
-abbrev pub IsJson : {T : Type 0} → TurnOrder → Option (List ℕ) → Option (List ℕ) → Option (List ℕ)
-    → Result T JsonFault → Type 0
-IsJson order known old new result = MatchResult result
-    (λ _. IfSome known (λ input. Wrote IsJsonOf (said_for order input) old new))
-    (λ fault. IfSome known (λ input. IsJsonFaultOf (said_for order input) fault)
-    × (fault ≢ json.Run WriteFailed → Keeps old new))
+-- but for a writer that failed nothing was written.
+abbrev pub IsJson : {T : Type 0} → Result Said ScriptFault → Option (List ℕ) → Option (List ℕ) → Result T JsonFault
+    → Type 0
+IsJson said old new result = MatchResult result
+    (λ _. Wrote IsJsonOf said old new)
+    (λ fault. IsJsonFaultOf said fault × (fault ≢ json.Run WriteFailed → Keeps old new))
 
 -- ---- the page
 
@@ -96,9 +94,8 @@ IsPageFaultOf closes said TooManyActors = IsOkAnd said (λ s. ACTORS_MAX < lengt
 IsPageFaultOf closes said TooManyLines = IsOkAnd said (HasManyLines closes)
 
 -- the page of a run of what the script says was written, and nothing else; or it failed as a drawing does
-abbrev pub IsPage : {T : Type 0} → TurnOrder → Closes → Option (List ℕ) → Option (List ℕ) → Option (List ℕ)
+abbrev pub IsPage : {T : Type 0} → Closes → Result Said ScriptFault → Option (List ℕ) → Option (List ℕ)
     → Result T DrawFault → Type 0
-IsPage order closes known old new result = MatchResult result
-    (λ _. IfSome known (λ input. Wrote (IsPageOf closes) (said_for order input) old new))
-    (λ fault. IfSome known (λ input. IsPageFaultOf closes (said_for order input) fault)
-    × (fault ≢ Run WriteFailed → Keeps old new))
+IsPage closes said old new result = MatchResult result
+    (λ _. Wrote (IsPageOf closes) said old new)
+    (λ fault. IsPageFaultOf closes said fault × (fault ≢ Run WriteFailed → Keeps old new))

@@ -6,16 +6,16 @@ ghost use Rattle.draw_command.specs.declared.drawing.DrawFault.TheVariants as dr
 ghost use Rattle.scripts.specs.declared.fault.RunFault.TheVariants.{NoMemory as OutOfMemory};
 ghost use Rattle.draw_command.specs.Drawing.{form_text, opened_by, told_of};
 ghost use Rattle.draw_command.specs.Drawing.{IsDraw, IsDrawingOf, IsNoDrawing, IsRunFrom, IsUndrawn, IsWellFormed};
-ghost use Rattle.scripts.specs.Scenario.{said_by, IsPlayable};
+ghost use Rattle.scripts.specs.Scenario.{said_by, said_for, IsPlayable};
 ghost use Rattle.scripts.specs.Writing.{IsNoRun};
 ghost use Rattle.step_text.specs.Output.{Gains};
 
 use drawings::{CallWords, Closes, Look, Picture, PictureFault, calls_of};
 use path_text::NoMemory;
 use race_core::{ActorPlan, Report};
-use scripts::{ACTORS_MAX, RunFault, Scenario, TurnOrder, read_scene};
+use scripts::{ACTORS_MAX, RunFault, Scenario, Script, TurnOrder, read_scene};
 use std::alloc::Global;
-use std::io::{Read, Write};
+use std::io::Write;
 use step_text::Output;
 use thiserror::Error;
 use tree_list::ListTree;
@@ -185,7 +185,7 @@ fn drawing_of(
     picture_text(alloc, tree, &calls, &came_to, style)
 }
 
-/// Reads a script, runs its world in this order of turns, and writes a picture of it: a heading with each actor's
+/// Runs a script's world in this order of turns, and writes a picture of it: a heading with each actor's
 /// root and how its calls ended, and a column for each actor, in which its steps stand at their moments, those that
 /// close a handle only where they are asked for. As SVG it is well-formed XML, whatever names the script has.
 ///
@@ -193,17 +193,17 @@ fn drawing_of(
 /// has actors; `TooManyActors` over 4; `TooManyLines` where the run has more than 2,000 events or the picture more
 /// than 2,000 lines; `NoMemory`, where room for the world or the picture was refused, in place of any of the last
 /// three too; `WriteFailed`. Nothing is written before the picture is whole.
-pub fn draw<R: Read, W: Write>(
+pub fn draw<W: Write>(
     alloc: Global,
-    reader: &mut R,
+    script: &Script,
     writer: &mut W,
     order: &TurnOrder,
     style: Style,
 ) -> Result<(), DrawFault>
-    ensures run { IsDraw order.now style (R.remaining reader.old) (W.contents writer.old)
+    ensures run { IsDraw style (said_for order.now script.now) (W.contents writer.old)
         (W.contents writer.new) result }
 {
-    let (scenario, tree) = read_scene(alloc, reader, order)?;
+    let (scenario, tree) = read_scene(alloc, script, order)?;
     let text = drawing_of(alloc, scenario, tree, style)?;
     match writer.write_all(text.as_slice()) {
         Ok(()) => Ok(()),

@@ -8,7 +8,7 @@ ghost use Rattle.draw_command.specs.Page.{IsJsonOf, IsNoJson, IsUntold, IsJson, 
 ghost use Rattle.pages.specs.Page.{page_of, played_of};
 ghost use Rattle.pages.specs.Run.{report_json};
 ghost use Rattle.report_text.specs.Report.{report_text};
-ghost use Rattle.scripts.specs.Scenario.{said_by, IsPlayable};
+ghost use Rattle.scripts.specs.Scenario.{said_by, said_for, IsPlayable};
 
 use crate::drawing::{DrawFault, run_of};
 use drawings::{CallWords, Closes, calls_of};
@@ -16,9 +16,9 @@ use pages::{Played, report_json, runs_page};
 use path_text::NoMemory;
 use race_core::Report;
 use report_text::report;
-use scripts::{RunFault, Scenario, TurnOrder, read_scene};
+use scripts::{RunFault, Scenario, Script, TurnOrder, read_scene};
 use std::alloc::Global;
-use std::io::{Read, Write};
+use std::io::Write;
 use step_text::Output;
 use thiserror::Error;
 use tree_list::ListTree;
@@ -80,21 +80,22 @@ fn json_of(alloc: Global, scenario: Scenario, mut tree: ListTree) -> Result<Outp
     json_text(alloc, tree, &came_to)
 }
 
-/// Reads a script, runs its world in this order of turns, and writes the report as one line of JSON: the tree as the
-/// run begins, each event with what it changed, and how each call ended.
+/// Runs a script's world in this order of turns, and writes the report as one line of JSON: the tree as the run begins,
+/// each event with what it changed, and how each call ended.
 ///
 /// Errors, in this order: those of `read_scenario`; `BookFull` where the script gives its book fewer lines than it
 /// has actors; `TooManyEvents` where the run has more than 2,000; `NoMemory`, where room for the world or the report
 /// was refused, in place of either of the last two too; `WriteFailed`. Nothing is written before the text is whole.
-pub fn replay_json<R: Read, W: Write>(
+pub fn replay_json<W: Write>(
     alloc: Global,
-    reader: &mut R,
+    script: &Script,
     writer: &mut W,
     order: &TurnOrder,
 ) -> Result<(), JsonFault>
-    ensures run { IsJson order.now (R.remaining reader.old) (W.contents writer.old) (W.contents writer.new) result }
+    ensures run { IsJson (said_for order.now script.now) (W.contents writer.old) (W.contents writer.new)
+        result }
 {
-    let (scenario, tree) = read_scene(alloc, reader, order)?;
+    let (scenario, tree) = read_scene(alloc, script, order)?;
     let text = json_of(alloc, scenario, tree)?;
     match writer.write_all(text.as_slice()) {
         Ok(()) => Ok(()),
@@ -154,22 +155,22 @@ fn page_of(
     page_played(alloc, tree, &calls, &came_to, actors, closes)
 }
 
-/// Reads a script, runs its world in this order of turns, and writes a page of HTML that needs nothing beside itself:
+/// Runs a script's world in this order of turns, and writes a page of HTML that needs nothing beside itself:
 /// it has the report as `replay` writes it, as text and as JSON, and the picture as `draw` draws it, with the closes
 /// that are asked for. A script of the page shows the tree of each moment. Names have no byte in it that begins a tag.
 ///
 /// Errors, in this order: those of `draw`, for the same reasons.
-pub fn draw_page<R: Read, W: Write>(
+pub fn draw_page<W: Write>(
     alloc: Global,
-    reader: &mut R,
+    script: &Script,
     writer: &mut W,
     order: &TurnOrder,
     closes: Closes,
 ) -> Result<(), DrawFault>
-    ensures run { IsPage order.now closes (R.remaining reader.old) (W.contents writer.old)
+    ensures run { IsPage closes (said_for order.now script.now) (W.contents writer.old)
         (W.contents writer.new) result }
 {
-    let (scenario, tree) = read_scene(alloc, reader, order)?;
+    let (scenario, tree) = read_scene(alloc, script, order)?;
     let text = page_of(alloc, scenario, tree, closes)?;
     match writer.write_all(text.as_slice()) {
         Ok(()) => Ok(()),

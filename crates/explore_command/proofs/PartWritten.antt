@@ -1,6 +1,6 @@
 -- The line of the part of what a script says was written.
-use Rattle.std.proofs.Common.{◌≡◌, ℕ, List, Option, Some, None, sym, ap, ◌∙◌, subst}
-use Rattle.std.specs.Prelude.{IfSome, IsOkAnd, Result, Ok}
+use Rattle.std.proofs.Common.{◌≡◌, ℕ, List, Option, sym, ap, ◌∙◌, subst}
+use Rattle.std.specs.Prelude.{IsOkAnd, Result, Ok}
 use Rattle.std.specs.Io.KnownBytes.{Appends}
 use Rattle.outcome_text.specs.declared.part.Part.{Part}
 use Rattle.scripts.specs.declared.fault.ScriptFault.{ScriptFault}
@@ -15,15 +15,8 @@ use Rattle.explore_parts.specs.PartText.{part_line}
 use Rattle.explore_parts.specs.Seal.{sum_of}
 
 module _ (old new : Option (List ℕ)) (script sum text : List ℕ) (asked : Asked) (said : Said) (tree : State) (part : Part) where
-  wrote : said_for OfScript script ≡ Ok said → tree ≡ tree_of said → IsPart asked tree said.plans said.lines part → sum ≡ sum_of script
+  pub part_written : said_for OfScript script ≡ Ok said → tree ≡ tree_of said → IsPart asked tree said.plans said.lines part → sum ≡ sum_of script
       → text ≡ part_line sum asked part → Appends old new text → Wrote (IsLineOf asked script) (said_for OfScript script) old new
-  wrote says whole is digest line appends =
+  part_written says whole is digest line appends =
       subst (λ (r : Result Said ScriptFault). IsOkAnd r (λ s. (t : List ℕ) × IsLineOf asked script s t × Appends old new t)) (sym says)
       (text, (part, (subst (λ (t : State). IsPart asked t said.plans said.lines part) whole is, line ∙ ap (λ (d : List ℕ). part_line d asked part) digest)), appends)
-
-  pub part_written : (known : Option (List ℕ)) → IfSome known (λ input. script ≡ input) → said_for OfScript script ≡ Ok said → tree ≡ tree_of said
-      → IsPart asked tree said.plans said.lines part → sum ≡ sum_of script → text ≡ part_line sum asked part → Appends old new text
-      → IfSome known (λ input. Wrote (IsLineOf asked input) (said_for OfScript input) old new)
-  part_written None same says whole is digest line appends = tt
-  part_written (Some input) same says whole is digest line appends =
-      subst (λ (bs : List ℕ). Wrote (IsLineOf asked bs) (said_for OfScript bs) old new) same (wrote says whole is digest line appends)

@@ -1,11 +1,10 @@
 -- What `inroot explore` writes: the text of what a search of all schedules of a script's world finds.
-use Rattle.std.specs.Prelude.{◌≢◌, ℕ, Bool, List, Option, Result, MatchResult, IsOkAnd, IfSome}
+use Rattle.std.specs.Prelude.{◌≢◌, ℕ, Bool, List, Option, Result, MatchResult, IsOkAnd}
 use Rattle.std.specs.Io.KnownBytes.{Keeps}
 use Rattle.scripts.specs.declared.fault.RunFault.TheVariants.{WriteFailed}
 use Rattle.scripts.specs.declared.fault.ScriptFault.{ScriptFault}
-use Rattle.scripts.specs.declared.turns.TurnOrder.TheVariants.{OfScript}
 use Rattle.scripts.specs.Writing.{tree_of, IsNoRun, IsWritingFaultOf, Wrote}
-use Rattle.scripts.specs.Scenario.{Said, said_for}
+use Rattle.scripts.specs.Scenario.{Said}
 use Rattle.outcome_text.specs.declared.fault.ExploreFault.{ExploreFault}
 use Rattle.outcome_text.specs.declared.fault.ExploreFault.TheVariants.{Run}
 use Rattle.explore_parts.specs.declared.asked.Asked.{Asked}
@@ -20,16 +19,16 @@ abbrev pub IsNoSurvey : Asked → Said → ExploreFault → Type 0
 IsNoSurvey asked said (Run fault) = IsNoRun said fault
 IsNoSurvey asked said other = WhyNoSurvey asked (tree_of said) said.plans said.lines other
 
--- a fault of reading, making the world or writing; or there is no survey
+-- a fault of the script, of making its world or of writing; or there is no survey
 abbrev pub IsExploreFaultOf : Asked → Result Said ScriptFault → ExploreFault → Type 0
 IsExploreFaultOf asked said (Run fault) =
     IsWritingFaultOf (λ s text. (holds : Bool) × IsSurveyOf asked holds s text) said fault
 IsExploreFaultOf asked said other = IsOkAnd said (λ s. IsNoSurvey asked s other)
 
 -- The text of all that is found was written, and nothing else, and the answer is whether no property fails; or it
--- failed as it should, and but for a writer that failed nothing was written. `known` is what the reader had left.
-abbrev pub IsExplore : Asked → Option (List ℕ) → Option (List ℕ) → Option (List ℕ) → Result Bool ExploreFault → Type 0
-IsExplore asked known old new result = MatchResult result
-    (λ holds. IfSome known (λ input. Wrote (IsSurveyOf asked holds) (said_for OfScript input) old new))
-    (λ fault. IfSome known (λ input. IsExploreFaultOf asked (said_for OfScript input) fault)
-    × (fault ≢ Run WriteFailed → Keeps old new))
+-- failed as it should, and but for a writer that failed nothing was written.
+abbrev pub IsExplore : Asked → Result Said ScriptFault → Option (List ℕ) → Option (List ℕ) → Result Bool ExploreFault
+    → Type 0
+IsExplore asked said old new result = MatchResult result
+    (λ holds. Wrote (IsSurveyOf asked holds) said old new)
+    (λ fault. IsExploreFaultOf asked said fault × (fault ≢ Run WriteFailed → Keeps old new))

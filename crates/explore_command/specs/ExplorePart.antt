@@ -1,5 +1,5 @@
 -- What `inroot explore --part` writes: the line of the part of what a script says.
-use Rattle.std.specs.Prelude.{◌≡◌, ◌≢◌, ℕ, List, Option, Result, MatchResult, IfSome}
+use Rattle.std.specs.Prelude.{◌≡◌, ◌≢◌, ℕ, List, Option, Result, MatchResult}
 use Rattle.std.specs.Io.KnownBytes.{Keeps}
 use Rattle.scripts.specs.declared.fault.RunFault.TheVariants.{WriteFailed}
 use Rattle.scripts.specs.declared.turns.TurnOrder.TheVariants.{OfScript}
@@ -19,10 +19,9 @@ IsLineOf asked script said text =
     (part : Part) × (IsPart asked (tree_of said) said.plans said.lines part
     × (text ≡ part_line (sum_of script) asked part))
 
--- That line was written, and nothing else; or, but for a writer that failed, nothing was written. `known` is what the
--- reader had left.
-abbrev pub IsExplorePart : {A : Type 0} → Asked → Option (List ℕ) → Option (List ℕ) → Option (List ℕ)
-    → Result A ExploreFault → Type 0
-IsExplorePart asked known old new result = MatchResult result
-    (λ _. IfSome known (λ script. Wrote (IsLineOf asked script) (said_for OfScript script) old new))
+-- That line was written, and nothing else; or, but for a writer that failed, nothing was written.
+abbrev pub IsExplorePart : {A : Type 0} → Asked → List ℕ → Option (List ℕ) → Option (List ℕ) → Result A ExploreFault
+    → Type 0
+IsExplorePart asked script old new result = MatchResult result
+    (λ _. Wrote (IsLineOf asked script) (said_for OfScript script) old new)
     (λ fault. fault ≢ Run WriteFailed → Keeps old new)

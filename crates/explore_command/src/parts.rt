@@ -7,26 +7,24 @@ use crate::waiter::Waiter;
 use explore::Scene;
 use explore_parts::{Asked, part_text, sum_of};
 use outcome_text::ExploreFault;
-use scripts::{RunFault, TurnOrder, read_scene, read_script};
+use scripts::{RunFault, Script, TurnOrder, read_scene};
 use std::alloc::Global;
-use std::io::{Read, Write};
+use std::io::Write;
 
-/// Reads a script, goes through the schedules that begin with the turns that are asked for, and writes what they come
-/// to as a line of JSON that `merge_parts` reads, and that ends with its digest.
+/// Goes through a script's schedules that begin with the turns that are asked for, and writes what they come to as a line of JSON that `merge_parts` reads, and that ends with its digest.
 ///
 /// Errors as of `explore_script`, but that turns which can't be taken make a part of no schedules.
-pub fn explore_part<R: Read, W: Write, G: Gauge, P: Waiter>(
+pub fn explore_part<W: Write, G: Gauge, P: Waiter>(
     alloc: Global,
-    reader: &mut R,
+    script: &Script,
     writer: &mut W,
     asked: &Asked,
     gauge: &G,
     progress: &mut P,
 ) -> Result<(), ExploreFault>
-    ensures { IsExplorePart asked.now (R.remaining reader.old) (W.contents writer.old) (W.contents writer.new) result }
+    ensures { IsExplorePart asked.now script.now (W.contents writer.old) (W.contents writer.new) result }
 {
-    let script = read_script(alloc, reader)?;
-    let (scenario, tree) = read_scene(alloc, &mut script.as_slice(), &TurnOrder::OfScript)?;
+    let (scenario, tree) = read_scene(alloc, script, &TurnOrder::OfScript)?;
     let (plans, lines) = (scenario.plans, scenario.lines);
     if (lines as usize) < plans.len() {
         return Err(ExploreFault::Run(RunFault::BookFull));
@@ -38,7 +36,7 @@ pub fn explore_part<R: Read, W: Write, G: Gauge, P: Waiter>(
         Ok(part) => part,
         Err(fault) => return Err(fault),
     };
-    let Ok(digest) = sum_of(alloc, script.as_slice()) else {
+    let Ok(digest) = sum_of(alloc, script.bytes()) else {
         return Err(ExploreFault::Run(RunFault::NoMemory));
     };
     let Ok(text) = part_text(alloc, digest.as_bytes(), asked, &part) else {

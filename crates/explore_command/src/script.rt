@@ -1,6 +1,7 @@
 //! A script explored: all schedules of its world are gone through, and what they come to is written.
 ghost use Rattle.std.specs.Prelude.{◌≡◌, ◌≢◌, [], IfOk, MatchResult};
-ghost use Rattle.scripts.specs.Scenario.{said_by, IsPlayable};
+ghost use Rattle.scripts.specs.declared.turns.TurnOrder.TheVariants.{OfScript};
+ghost use Rattle.scripts.specs.Scenario.{said_by, said_for, IsPlayable};
 ghost use Rattle.explore_command.specs.Explore.{IsExplore, IsNoSurvey, IsSurveyOf};
 ghost use Rattle.explore_command.specs.Gauge.{SaysNoMore, WhyTooMuch};
 
@@ -10,13 +11,13 @@ use crate::waiter::Waiter;
 use explore::{Progress, Scene};
 use explore_parts::Asked;
 use outcome_text::{ExploreFault, Survey};
-use scripts::{RunFault, Scenario, TurnOrder, read_scene};
+use scripts::{RunFault, Scenario, Script, TurnOrder, read_scene};
 use std::alloc::Global;
-use std::io::{Read, Write};
+use std::io::Write;
 use tree_list::ListTree;
 
-// All schedules of what a script says gone through. Errors as of `explore_script`, but for those of reading and
-// writing.
+// All schedules of what a script says gone through. Errors as of `explore_script`, but for those of the script and
+// of writing.
 fn surveyed<G: Gauge, P: Progress>(
     alloc: Global,
     scenario: Scenario,
@@ -45,7 +46,7 @@ fn surveyed<G: Gauge, P: Progress>(
     }
 }
 
-/// Reads a script, goes through all schedules of its world, those with at most so many cuts that begin with the turns
+/// Goes through all schedules of a script's world, those with at most so many cuts that begin with the turns
 /// that are asked for, and writes what they come to. The script's own schedule is checked and not used. The result is
 /// whether no property fails. On the way `progress` gets the number of worlds so far, and then that the search is
 /// over.
@@ -58,19 +59,20 @@ fn surveyed<G: Gauge, P: Progress>(
 /// `TooManyStates` where there are more worlds than are gone through, `TooManyTurns` where a schedule has more turns
 /// than the limit, and `TooMuchMemory`, whichever is met first; `NoMemory`; `WriteFailed`. Nothing is written before
 /// the text is whole.
-pub fn explore_script<R: Read, W: Write, G: Gauge, P: Waiter>(
+pub fn explore_script<W: Write, G: Gauge, P: Waiter>(
     alloc: Global,
-    reader: &mut R,
+    script: &Script,
     writer: &mut W,
     asked: &Asked,
     gauge: &G,
     progress: &mut P,
 ) -> Result<bool, ExploreFault>
-    ensures run { IsExplore asked.now (R.remaining reader.old) (W.contents writer.old) (W.contents writer.new) result }
+    ensures run { IsExplore asked.now (said_for OfScript script.now) (W.contents writer.old)
+        (W.contents writer.new) result }
     ensures memory { MatchResult result (λ _. SaysNoMore (G.may_say gauge.now) asked.now.memory)
         (WhyTooMuch (G.may_say gauge.now)) }
 {
-    let (scenario, tree) = read_scene(alloc, reader, &TurnOrder::OfScript)?;
+    let (scenario, tree) = read_scene(alloc, script, &TurnOrder::OfScript)?;
     let explored = surveyed(alloc, scenario, tree, asked, gauge, progress);
     progress.over();
     let survey = explored?;

@@ -1,6 +1,6 @@
 -- The page of an exploration.
 use Rattle.std.proofs.Common.{◌≡◌, ◌≢◌, ◌≤◌, ℕ, Bool, List, [], length, sym, subst}
-use Rattle.std.specs.Prelude.{All, Option, Some, None, Result, Ok, Err, IfSome}
+use Rattle.std.specs.Prelude.{All, Option, Result, Ok, Err}
 use Rattle.std.proofs.KnownBytes.{Keeps-refl}
 use Rattle.explore_parts.specs.declared.asked.Asked.{Asked}
 use Rattle.explore_command.specs.Explore.{IsSurveyOf}
@@ -18,8 +18,7 @@ use Rattle.pages.specs.declared.played.Played.{Played}
 use Rattle.pages.specs.Page.{page_of}
 use Rattle.scripts.specs.declared.fault.RunFault.TheVariants as run
 use Rattle.scripts.specs.declared.fault.ScriptFault.{ScriptFault}
-use Rattle.scripts.specs.declared.turns.TurnOrder.TheVariants.{OfScript}
-use Rattle.scripts.specs.Scenario.{Said, said_on, said_for, IsPlayable}
+use Rattle.scripts.specs.Scenario.{Said, said_on, IsPlayable}
 use Rattle.scripts.specs.Writing.{tree_of}
 use Rattle.scripts.proofs.Texts.{first_byte}
 use Rattle.tree_model.specs.State.{State}
@@ -70,13 +69,8 @@ no_page asked said (Explore (TooMuchMemory most)) why = why
 no_page asked said (Explore NoGauge) why = why
 no_page asked said (Draw fault) why = why
 
--- the same of what a reader had
-pub no_page_of : (asked : Asked) (made : Result Said ScriptFault) (said : Said) (fault : ExplorePageFault) → made ≡ Ok said → IsNoExplorationPage asked said fault
-    → IsExplorePageFaultOf asked made fault
-no_page_of asked made said fault is why =
-    subst (λ (s : Result Said ScriptFault). IsExplorePageFaultOf asked s fault) (sym is) (no_page asked said fault why)
-
-pub not_written : (asked : Asked) (known old : Option (List ℕ)) (said : Said) (fault : ExplorePageFault) → IfSome known (λ input. said_for OfScript input ≡ Ok said)
-    → IsNoExplorationPage asked said fault → IsExplorePage asked known old old (Err fault)
-not_written asked None old said fault says why = (tt, λ other. Keeps-refl old)
-not_written asked (Some input) old said fault says why = (no_page_of asked (said_for OfScript input) said fault says why, λ other. Keeps-refl old)
+-- the same of a script
+pub not_written : (asked : Asked) (made : Result Said ScriptFault) (old : Option (List ℕ)) (said : Said) (fault : ExplorePageFault) → made ≡ Ok said
+    → IsNoExplorationPage asked said fault → IsExplorePage asked made old old (Err fault)
+not_written asked made old said fault is why =
+    (subst (λ (s : Result Said ScriptFault). IsExplorePageFaultOf asked s fault) (sym is) (no_page asked said fault why), λ other. Keeps-refl old)

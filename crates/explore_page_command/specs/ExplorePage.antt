@@ -1,6 +1,6 @@
 -- What `inroot explore --html` writes: a page of the text that `inroot explore` writes, and of a run for each outcome
 -- that it plays.
-use Rattle.std.specs.Prelude.{⊤, ◌≡◌, ◌≢◌, ℕ, Bool, List, Option, Result, MatchResult, IsOkAnd, IfSome}
+use Rattle.std.specs.Prelude.{⊤, ◌≡◌, ◌≢◌, ℕ, Bool, List, Option, Result, MatchResult, IsOkAnd}
 use Rattle.std.specs.Io.KnownBytes.{Keeps}
 use Rattle.explore_parts.specs.declared.asked.Asked.{Asked}
 use Rattle.explore_command.specs.Explore.{IsNoSurvey, IsExploreFaultOf}
@@ -14,8 +14,7 @@ use Rattle.pages.specs.declared.played.Played.{Played}
 use Rattle.pages.specs.Page.{page_of}
 use Rattle.scripts.specs.declared.fault.RunFault.TheVariants.{WriteFailed}
 use Rattle.scripts.specs.declared.fault.ScriptFault.{ScriptFault}
-use Rattle.scripts.specs.declared.turns.TurnOrder.TheVariants.{OfScript}
-use Rattle.scripts.specs.Scenario.{Said, said_for}
+use Rattle.scripts.specs.Scenario.{Said}
 use Rattle.scripts.specs.Writing.{tree_of, Wrote}
 
 -- The page of the survey of what a script says: its very text, and the runs by the schedules of the outcomes that are
@@ -43,10 +42,9 @@ IsExplorePageFaultOf asked said (Explore fault) = IsExploreFaultOf asked said fa
 IsExplorePageFaultOf asked said (Draw fault) = IsOkAnd said (λ s. IsNoPlay s fault)
 
 -- The page of all that is found was written, and nothing else, and the answer is whether no property fails; or it
--- failed as it should, and but for a writer that failed nothing was written. `known` is what the reader had left.
-abbrev pub IsExplorePage : Asked → Option (List ℕ) → Option (List ℕ) → Option (List ℕ) → Result Bool ExplorePageFault
-    → Type 0
-IsExplorePage asked known old new result = MatchResult result
-    (λ holds. IfSome known (λ input. Wrote (IsExplorationPage asked holds) (said_for OfScript input) old new))
-    (λ fault. IfSome known (λ input. IsExplorePageFaultOf asked (said_for OfScript input) fault)
-    × (fault ≢ Explore (Run WriteFailed) → Keeps old new))
+-- failed as it should, and but for a writer that failed nothing was written.
+abbrev pub IsExplorePage : Asked → Result Said ScriptFault → Option (List ℕ) → Option (List ℕ)
+    → Result Bool ExplorePageFault → Type 0
+IsExplorePage asked said old new result = MatchResult result
+    (λ holds. Wrote (IsExplorationPage asked holds) said old new)
+    (λ fault. IsExplorePageFaultOf asked said fault × (fault ≢ Explore (Run WriteFailed) → Keeps old new))

@@ -2,7 +2,8 @@
 ghost use Rattle.std.specs.Prelude.{◌≡◌, [], MatchResult};
 ghost use Rattle.explore_command.specs.Gauge.{SaysNoMore};
 ghost use Rattle.explore_page_command.specs.ExplorePage.{IsExplorationPage, IsNoExplorationPage, IsExplorePage, WhyPageTookTooMuch};
-ghost use Rattle.scripts.specs.Scenario.{said_by, IsPlayable};
+ghost use Rattle.scripts.specs.declared.turns.TurnOrder.TheVariants.{OfScript};
+ghost use Rattle.scripts.specs.Scenario.{said_by, said_for, IsPlayable};
 
 use crate::fault::ExplorePageFault;
 use crate::runs::runs_of;
@@ -14,9 +15,9 @@ use explore_parts::Asked;
 use outcome_text::{ExploreFault, Survey};
 use pages::runs_page;
 use path_text::NoMemory;
-use scripts::{RunFault, Scenario, TurnOrder, read_scene};
+use scripts::{RunFault, Scenario, Script, TurnOrder, read_scene};
 use std::alloc::Global;
-use std::io::{Read, Write};
+use std::io::Write;
 use step_text::Output;
 use tree_list::ListTree;
 
@@ -27,7 +28,7 @@ struct Exploration {
     holds: bool,
 }
 
-// The page of all schedules of what a script says. Errors as of `explore_page`, but for those of reading and writing.
+// The page of all schedules of what a script says. Errors as of `explore_page`, but for those of the script and of writing.
 fn explored<G: Gauge, P: Progress>(
     alloc: Global,
     scenario: Scenario,
@@ -66,7 +67,7 @@ fn explored<G: Gauge, P: Progress>(
     })
 }
 
-/// Reads a script, goes through all schedules of its world as `explore_script` does, and writes a page of HTML that
+/// Goes through all schedules of a script's world as `explore_script` does, and writes a page of HTML that
 /// needs nothing beside itself: it has the text that `explore_script` writes, and plays the first 64 outcomes of this
 /// text, each by its least schedule: of each it has the report that `replay --json` writes, and the picture that `draw`
 /// draws. The result is whether no property fails. `gauge` is looked at, and `progress` hears, as of `explore_script`.
@@ -75,20 +76,20 @@ fn explored<G: Gauge, P: Progress>(
 /// that follow it of `explore_script`; `TooManyLines` where a run that is played has more than 2,000 events, or its
 /// picture more than 2,000 lines; `NoMemory`; `WriteFailed`. Nothing is written before the page is whole.
 #[tactic(auto, using(crate::proofs::Pages::text_some))]
-pub fn explore_page<R: Read, W: Write, G: Gauge, P: Waiter>(
+pub fn explore_page<W: Write, G: Gauge, P: Waiter>(
     alloc: Global,
-    reader: &mut R,
+    script: &Script,
     writer: &mut W,
     asked: &Asked,
     gauge: &G,
     progress: &mut P,
 ) -> Result<bool, ExplorePageFault>
-    ensures run { IsExplorePage asked.now (R.remaining reader.old) (W.contents writer.old) (W.contents writer.new)
-        result }
+    ensures run { IsExplorePage asked.now (said_for OfScript script.now) (W.contents writer.old)
+        (W.contents writer.new) result }
     ensures memory { MatchResult result (λ _. SaysNoMore (G.may_say gauge.now) asked.now.memory)
         (WhyPageTookTooMuch (G.may_say gauge.now)) }
 {
-    let (scenario, tree) = read_scene(alloc, reader, &TurnOrder::OfScript)?;
+    let (scenario, tree) = read_scene(alloc, script, &TurnOrder::OfScript)?;
     let shown = explored(alloc, scenario, tree, asked, gauge, progress);
     progress.over();
     let shown = shown?;

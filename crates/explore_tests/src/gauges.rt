@@ -2,7 +2,7 @@
 use crate::parts::{all_within, asked_of};
 use explore_command::{Gauge, Silent, explore_part, explore_script, peak_in};
 use outcome_text::ExploreFault;
-use search_tests::scenes::REMOVED;
+use search_tests::scenes::{REMOVED, script_of};
 use std::alloc::Global;
 use std::test::Fail;
 
@@ -49,13 +49,13 @@ fn ends_so(alloc: Global, case: &Case, part: bool) -> Option<bool> {
     let mut asked = asked_of(alloc, &all_within(None), "")?;
     asked.memory = *memory;
     let gauge = Says { bytes: *bytes };
-    let mut reader = REMOVED.as_bytes();
+    let script = script_of(alloc, REMOVED).ok()?;
     let mut text = Vec::new(alloc);
     let (told, wait) = (&mut text, &mut Silent);
     let ended = if part {
-        explore_part(alloc, &mut reader, told, &asked, &gauge, wait)
+        explore_part(alloc, &script, told, &asked, &gauge, wait)
     } else {
-        match explore_script(alloc, &mut reader, told, &asked, &gauge, wait) {
+        match explore_script(alloc, &script, told, &asked, &gauge, wait) {
             Ok(_) => Ok(()),
             Err(fault) => Err(fault),
         }

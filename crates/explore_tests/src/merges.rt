@@ -4,7 +4,7 @@ use explore_command::{Silent, explore_part};
 use explore_parts::merge_parts;
 use outcome_text::{ExploreFault, MergeFault, Part, SearchFault, merge};
 use scripts::{RunFault, ScriptFault};
-use search_tests::scenes::{REMOVED, TWO_RESOLVE};
+use search_tests::scenes::{REMOVED, TWO_RESOLVE, script_of};
 use std::alloc::Global;
 use std::io::{self, ErrorKind, Read};
 
@@ -312,16 +312,9 @@ fn untold(alloc: Global, case: &Untold) -> Option<ExploreFault> {
     let (script, question, states, _) = case;
     let mut asked = asked_of(alloc, question, "")?;
     asked.limits.states = *states;
-    let mut reader = script.as_bytes();
+    let script = script_of(alloc, script).ok()?;
     let mut written: Vec<u8> = Vec::new(alloc);
-    let told = explore_part(
-        alloc,
-        &mut reader,
-        &mut written,
-        &asked,
-        &Silent,
-        &mut Silent,
-    );
+    let told = explore_part(alloc, &script, &mut written, &asked, &Silent, &mut Silent);
     if written.is_empty() { told.err() } else { None }
 }
 
@@ -400,47 +393,17 @@ fn merges_end_where_reads_and_writes_fail(rt: HostRuntime) {
     assert_eq!(rt; unwritten(rt.alloc()), Some(MergeFault::WriteFailed));
 }
 
-/// Why no part is told of a script whose second read fails.
-fn unread_part(alloc: Global) -> Option<ExploreFault> {
-    let asked = asked_of(alloc, &all_within(None), "0")?;
-    let mut reader = Halting {
-        text: REMOVED.as_bytes(),
-        kind: ErrorKind::ConnectionReset,
-        reads: 0,
-    };
-    let mut written: Vec<u8> = Vec::new(alloc);
-    explore_part(
-        alloc,
-        &mut reader,
-        &mut written,
-        &asked,
-        &Silent,
-        &mut Silent,
-    )
-    .err()
-}
-
 /// Why no part is written into a room of 20 bytes.
 fn unwritten_part(alloc: Global) -> Option<ExploreFault> {
     let asked = asked_of(alloc, &all_within(None), "0")?;
-    let mut reader = REMOVED.as_bytes();
+    let script = script_of(alloc, REMOVED).ok()?;
     let mut room = [0u8; 20];
     let mut writer = room.as_mut_slice();
-    explore_part(
-        alloc,
-        &mut reader,
-        &mut writer,
-        &asked,
-        &Silent,
-        &mut Silent,
-    )
-    .err()
+    explore_part(alloc, &script, &mut writer, &asked, &Silent, &mut Silent).err()
 }
 
 #[test]
-fn parts_end_where_reads_and_writes_fail(rt: HostRuntime) {
-    let read = ExploreFault::Run(RunFault::ReadFailed);
+fn parts_end_where_writes_fail(rt: HostRuntime) {
     let write = ExploreFault::Run(RunFault::WriteFailed);
-    assert_eq!(rt; unread_part(rt.alloc()), Some(read));
     assert_eq!(rt; unwritten_part(rt.alloc()), Some(write));
 }

@@ -5,7 +5,7 @@ use explore_parts::{Asked, merge_parts, read_asked};
 use outcome_text::{Options, Part, Survey, merge};
 use race_core::ACTORS_MAX;
 use search_tests::scenes::{
-    CARRIED_OUT, MOVED_OUT, REMOVED, THREE_MAKE, TWO_MAKE, TWO_RESOLVE, scene_of,
+    CARRIED_OUT, MOVED_OUT, REMOVED, THREE_MAKE, TWO_MAKE, TWO_RESOLVE, scene_of, script_of,
 };
 use std::alloc::Global;
 use std::test::Fail;
@@ -124,8 +124,8 @@ pub fn asked_of(alloc: Global, question: &Question, begin: &'static str) -> Opti
 
 /// Adds a part of what is asked of a script as a line.
 pub fn add_part(alloc: Global, lines: &mut Vec<u8>, script: &str, asked: &Asked) -> Option<()> {
-    let mut reader = script.as_bytes();
-    explore_part(alloc, &mut reader, lines, asked, &Silent, &mut Silent).ok()
+    let script = script_of(alloc, script).ok()?;
+    explore_part(alloc, &script, lines, asked, &Silent, &mut Silent).ok()
 }
 
 /// The parts of a cover as lines, in the cover's order.
@@ -151,9 +151,9 @@ pub fn merged(alloc: Global, lines: &[u8]) -> Option<(Vec<u8>, bool)> {
 fn whole(alloc: Global, case: &Case) -> Option<(Vec<u8>, bool)> {
     let (script, question, _) = case;
     let asked = asked_of(alloc, question, "")?;
-    let mut reader = script.as_bytes();
+    let script = script_of(alloc, script).ok()?;
     let mut text = Vec::new(alloc);
-    let holds = explore_script(alloc, &mut reader, &mut text, &asked, &Silent, &mut Silent).ok()?;
+    let holds = explore_script(alloc, &script, &mut text, &asked, &Silent, &mut Silent).ok()?;
     Some((text, holds))
 }
 

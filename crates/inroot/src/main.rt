@@ -8,6 +8,7 @@
 
 ghost use Rattle.std.specs.Prelude.{◌<◌, ◌≤◌};
 
+mod files;
 mod reading;
 mod taken;
 mod telling;
@@ -23,11 +24,12 @@ use drawings::Closes;
 use explore_command::{explore_part, explore_script};
 use explore_page_command::{ExplorePageFault, explore_page};
 use explore_parts::{Asked, merge_parts, read_asked};
+use files::FilesRead;
 use reading::{number_rows, script_of, searched};
 use run_command::run_jobs;
-use scripts::{RunFault, TurnOrder, read_strictly};
+use scripts::{RunFault, Script, TurnOrder, check_strictly};
 use std::alloc::Global;
-use std::io::{IsTerminal, Read};
+use std::io::IsTerminal;
 use std::process::ExitCode;
 use std::sync::Wait;
 use std::thread::Threads;
@@ -82,7 +84,7 @@ enum Task<'a> {
     Explore(Asked),
     ExplorePage(Asked),
     Part(Asked),
-    Merge,
+    Merge(&'a [&'a str]),
 }
 
 /// A variable of the environment, if it is set to a text that isn't empty.
@@ -129,7 +131,7 @@ fn task_of<'m>(rt: &HostRuntime, matches: &'m ArgMatches<'_>) -> Result<Task<'m>
         Request::Explore(options) => Task::Explore(read_asked(alloc, options)?),
         Request::ExplorePage(options) => Task::ExplorePage(read_asked(alloc, options)?),
         Request::Part(options) => Task::Part(read_asked(alloc, options)?),
-        Request::Merge => Task::Merge,
+        Request::Merge(files) => Task::Merge(files),
     })
 }
 
@@ -143,11 +145,11 @@ fn judged(holds: bool) -> Result<(), Fault> {
 }
 
 /// Does it, over a script. Only `run` starts threads.
-fn perform<R: Threads + Wait + Sync, S: Read>(
+fn perform<R: Threads + Wait + Sync>(
     rt: &HostRuntime,
     threads: &R,
     task: &Task<'_>,
-    script: &mut S,
+    script: &Script,
 ) -> Result<(), Fault> {
     let (alloc, mut output) = (rt.alloc(), rt.stdout());
     match task {
@@ -200,7 +202,11 @@ fn perform<R: Threads + Wait + Sync, S: Read>(
             let (told, wait) = (&mut output, &mut waiting);
             explore_part(alloc, script, told, asked, &taken, wait)?;
         }
-        Task::Merge => return judged(merge_parts(alloc, script, &mut output)?),
+        Task::Merge([]) => return judged(merge_parts(alloc, &mut rt.stdin(), &mut output)?),
+        Task::Merge(files) => {
+            let mut parts = FilesRead::new(rt, files);
+            return judged(merge_parts(alloc, &mut parts, &mut output)?);
+        }
     }
     Ok(())
 }
@@ -213,8 +219,8 @@ fn search_of<'t>(task: &'t mut Task<'_>) -> Option<&'t mut Asked> {
     }
 }
 
-/// Reads the command line, and does what it asks for over the script. Where it asks for strictness, the whole script is
-/// read strictly first. Parts are no script, and are read as they come.
+/// Reads the command line, and does what it asks for over the script, which is read once. Where it asks for strictness,
+/// the whole script is looked at strictly first. Parts are no script, and are read as they come.
 fn run<R: Threads + Wait + Sync>(
     rt: &HostRuntime,
     threads: &R,
@@ -227,18 +233,18 @@ fn run<R: Threads + Wait + Sync>(
         Err(error) => return told_by(rt, &error),
     };
     let mut task = task_of(rt, &matches)?;
-    if let Task::Merge = task {
-        return perform(rt, threads, &task, &mut rt.stdin());
+    if let Task::Merge(_) = task {
+        return perform(rt, threads, &task, &told.script);
     }
-    told.script = script_of(rt, script_named(&matches))?;
+    told.script = Script::of(alloc, script_of(rt, script_named(&matches))?);
     if is_strict(&matches) {
-        read_strictly(alloc, &mut told.script.as_slice())?;
+        check_strictly(&told.script)?;
     }
     if let Some(asked) = search_of(&mut task) {
         told.states = asked.limits.states;
         number_rows(alloc, asked, told)?;
     }
-    let ended = perform(rt, threads, &task, &mut told.script.as_slice());
+    let ended = perform(rt, threads, &task, &told.script);
     match (search_of(&mut task), ended) {
         (Some(asked), Err(fault)) => Err(searched(alloc, asked, fault, told)),
         (_, ended) => ended,

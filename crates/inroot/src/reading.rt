@@ -4,7 +4,7 @@ use command_line::{Fault, begun, can_be_named, row_line};
 use explore_parts::Asked;
 use outcome_text::ExploreFault;
 use path_text::Bytes;
-use scripts::{TurnOrder, read_scenario, read_script, value_of};
+use scripts::{TurnOrder, read_scenario, read_script};
 use std::alloc::Global;
 use std::fs::File;
 use std::io::IsTerminal;
@@ -36,20 +36,19 @@ pub fn number_rows(alloc: Global, asked: &mut Asked, told: &mut Told) -> Result<
     if asked.properties.is_empty() {
         return Ok(());
     }
-    let script = told.script.as_slice();
     // A script that can't be read is told where it is searched.
-    let Ok(value) = value_of(alloc, script) else {
+    let Ok(value) = told.script.value() else {
         return Ok(());
     };
     for (place, property) in asked.properties.iter_mut().enumerate() {
         let text = property.text.as_slice();
-        match row_line(alloc, &value, text)? {
-            Some(line) if can_be_named(script, text) => {
+        match row_line(alloc, value, text)? {
+            Some(line) if can_be_named(told.script.bytes(), text) => {
                 property.text = Bytes::from_slice(alloc, line.as_slice())?;
             }
             _ => {
                 told.line = Vec::from_slice(alloc, text)?;
-                read_scenario(alloc, &mut told.script.as_slice(), &TurnOrder::OfScript)?;
+                read_scenario(alloc, &told.script, &TurnOrder::OfScript)?;
                 return Err(Fault::from(ExploreFault::NoSuchLine(place)));
             }
         }
@@ -67,8 +66,8 @@ pub fn searched(alloc: Global, asked: &Asked, fault: Fault, told: &mut Told) -> 
             }
         }
     }
-    match value_of(alloc, told.script.as_slice()) {
-        Ok(value) => begun(asked.limits.scope.begin.as_slice(), &value, fault),
+    match told.script.value() {
+        Ok(value) => begun(asked.limits.scope.begin.as_slice(), value, fault),
         Err(_) => fault,
     }
 }

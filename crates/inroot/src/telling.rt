@@ -1,7 +1,7 @@
 //! What is told of a fault on standard error.
 use command_line::{Fault, add_caret, add_excerpt, add_no_json, advise, entry_text, reason_of};
 use path_text::NoMemory;
-use scripts::{JsonFault, RunFault, ScriptFault, value_of};
+use scripts::{JsonFault, RunFault, Script, ScriptFault};
 use serde_json::Value;
 use std::alloc::Global;
 use std::io::{self, Write};
@@ -14,8 +14,8 @@ pub struct Told {
     pub states: u64,
     /// The text of the property that no report can have a line for.
     pub line: Vec<u8>,
-    /// The script, once it is read.
-    pub script: Vec<u8>,
+    /// The script, once it is read, and the empty text before.
+    pub script: Script,
 }
 
 impl Told {
@@ -24,7 +24,7 @@ impl Told {
         Told {
             states: 0,
             line: Vec::new(alloc),
-            script: Vec::new(alloc),
+            script: Script::of(alloc, Vec::new(alloc)),
         }
     }
 }
@@ -86,21 +86,17 @@ fn tell_entry(rt: &HostRuntime, fault: ScriptFault, script: &Value) -> io::Resul
 }
 
 /// Tells what is wrong with a script, or else what was wanted, and what the script has there.
-fn tell_script(rt: &HostRuntime, fault: ScriptFault, script: &[u8]) -> io::Result<()> {
+fn tell_script(rt: &HostRuntime, fault: ScriptFault, script: &Script) -> io::Result<()> {
     if let ScriptFault::NotJson(fault) = fault {
-        return tell_no_json(rt, fault, script);
+        return tell_no_json(rt, fault, script.bytes());
     }
-    let value = value_of(rt.alloc(), script).ok();
-    let reason = match &value {
-        Some(value) => reason_of(value, fault),
-        None => None,
-    };
-    if let Some(reason) = reason {
+    let value = script.value().ok();
+    if let Some(reason) = value.and_then(|value| reason_of(value, fault)) {
         eprintln!(rt; "inroot: {reason}")?;
     } else if let Some(detail) = RunFault::Script(fault).detail() {
         eprintln!(rt; "inroot: {detail}")?;
     }
-    match &value {
+    match value {
         Some(value) => tell_entry(rt, fault, value),
         None => Ok(()),
     }
@@ -115,7 +111,7 @@ pub fn tell(rt: &HostRuntime, fault: Fault, told: &Told) -> io::Result<()> {
     }
     eprintln!(rt; "inroot: {fault}")?;
     if let Fault::Run(RunFault::Script(refused)) = fault {
-        return tell_script(rt, refused, told.script.as_slice());
+        return tell_script(rt, refused, &told.script);
     }
     let mut advice = Output::new(rt.alloc());
     let added = advise(&mut advice, fault, told.states, told.line.as_slice());

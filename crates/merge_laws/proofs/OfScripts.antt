@@ -1,32 +1,22 @@
 -- What a script says has a world with a seat for each of its actors.
-use Rattle.std.specs.Prelude.{◌≡◌, ℕ, suc, Bool, true, false, List, [], ◌∷◌, length, Result, Ok, Err, nat_lt, refl}
+use Rattle.std.specs.Prelude.{◌≡◌, ℕ, suc, List, [], ◌∷◌, length, Ok, refl}
 use Rattle.std.proofs.Common.{◌∙◌, sym, ap}
 use Rattle.explore.specs.Opened.{world_over}
 use Rattle.race_core.specs.Ledgers.{LedgerView}
 use Rattle.race_core.specs.Opening.{Grants, seats_of}
 use Rattle.scripts.specs.declared.calls.Purpose.TheVariants.{Turns}
-use Rattle.scripts.specs.declared.fault.ScriptFault.{ScriptFault}
-use Rattle.scripts.specs.declared.fault.ScriptFault.TheVariants.{TooLong}
 use Rattle.scripts.specs.declared.turns.TurnOrder.{TurnOrder}
-use Rattle.scripts.specs.Checks.{then_with}
 use Rattle.scripts.specs.Input.{data_of}
-use Rattle.scripts.specs.Limits.{MOST_BYTES}
 use Rattle.scripts.specs.Scenario.{Said, IsPlayable, said_for, scenario_of}
 use Rattle.scripts.specs.Writing.{tree_of}
 use Rattle.scripts.proofs.Playable.{passed_then, playable}
-use Rattle.tree_model.specs.Entries.{refuse_if}
 use Rattle.walk_replay_command.proofs.Replays.{said_roots}
 use Rattle.merge_laws.specs.Merged.{IsSeated, MergedPartsOfAScriptAreTheWhole}
 use Rattle.merge_laws.proofs.Merged.{merged_parts_are_the_whole}
 
-not_refused : (test : Bool) (onward : Result Said ScriptFault) (said : Said) → refuse_if test (Err TooLong) onward ≡ Ok said → onward ≡ Ok said
-not_refused true onward said e = cc (e)
-not_refused false onward said e = e
-
 can_be_played : (order : TurnOrder) (input : List ℕ) (said : Said) → said_for order input ≡ Ok said → IsPlayable said
 can_be_played order input said e =
-    let passed = not_refused (nat_lt MOST_BYTES (length input)) (then_with (data_of input) (scenario_of Turns order)) said e in
-    let read = passed_then (data_of input) (scenario_of Turns order) said passed in
+    let read = passed_then (data_of input) (scenario_of Turns order) said e in
     playable Turns order read.x said read.went
 
 as_many_seats : (ledgers : List LedgerView) → length ledgers ≡ length (seats_of ledgers)

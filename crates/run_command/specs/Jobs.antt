@@ -1,6 +1,6 @@
 -- What `inroot run` writes: how each job of the script ended, as workers served them, and how many events the closed
 -- service has.
-use Rattle.std.specs.Prelude.{⊤, ◌≡◌, ◌≢◌, ◌<◌, ◌⊎◌, ℕ, List, [], ◌∷◌, ◌++◌, length, map, replicate, slice_get, slice_set, codes, decimal, false, Option, Some, None, Result, Err, MatchResult, IsOkAnd, IfSome}
+use Rattle.std.specs.Prelude.{⊤, ◌≡◌, ◌≢◌, ◌<◌, ◌⊎◌, ℕ, List, [], ◌∷◌, ◌++◌, length, map, replicate, slice_get, slice_set, codes, decimal, false, Option, Some, None, Result, Err, MatchResult, IsOkAnd}
 use Rattle.std.specs.List.{filter_map}
 use Rattle.std.specs.Io.KnownBytes.{Keeps}
 use Rattle.path_text.specs.declared.errno.Errno.TheVariants.{Invalid}
@@ -259,11 +259,11 @@ IsNoService workers said (Run NoMemory) = ⊤
 IsNoService workers said (Run BookFull) = HasFewLines workers said
 IsNoService workers said (Service fault) = IsServiceFault workers said fault
 
--- a fault is the script's; or its book is too small; or the service's; or a read or a growth was refused; or a write
+-- a fault is the script's; or its book is too small; or the service's; or a growth was refused; or a write
 -- of such a text, which isn't empty
 abbrev pub IsJobsFaultOf : ℕ → Result Said ScriptFault → JobsFault → Type 0
 IsJobsFaultOf workers said (Run (Script fault)) = said ≡ Err (check_of fault)
-IsJobsFaultOf workers said (Run ReadFailed) = ⊤
+IsJobsFaultOf workers said (Run ReadFailed) = ⊥
 IsJobsFaultOf workers said (Run WriteFailed) =
     IsOkAnd said (λ s. (text : List ℕ) × IsJobsText workers s text × (text ≢ []))
 IsJobsFaultOf workers said (Run NoMemory) = ⊤
@@ -271,10 +271,9 @@ IsJobsFaultOf workers said (Run BookFull) = IsOkAnd said (HasFewLines workers)
 IsJobsFaultOf workers said (Service fault) = IsOkAnd said (λ s. IsServiceFault workers s fault)
 
 -- The text of the script's jobs, served by so many workers, was written, and nothing else; or it failed as it
--- should, and but for a writer that failed nothing was written. `known` is what the reader had left.
-abbrev pub IsJobs : {T : Type 0} → ℕ → Option (List ℕ) → Option (List ℕ) → Option (List ℕ) → Result T JobsFault
-    → Type 0
-IsJobs workers known old new result = MatchResult result
-    (λ _. IfSome known (λ input. Wrote (IsJobsText workers) (jobs_said input) old new))
-    (λ fault. IfSome known (λ input. IsJobsFaultOf workers (jobs_said input) fault)
-    × (fault ≢ Run WriteFailed → Keeps old new))
+-- should, and but for a writer that failed nothing was written.
+abbrev pub IsJobs : {T : Type 0} → ℕ → Result Said ScriptFault → Option (List ℕ) → Option (List ℕ)
+    → Result T JobsFault → Type 0
+IsJobs workers said old new result = MatchResult result
+    (λ _. Wrote (IsJobsText workers) said old new)
+    (λ fault. IsJobsFaultOf workers said fault × (fault ≢ Run WriteFailed → Keeps old new))

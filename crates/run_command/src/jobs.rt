@@ -7,7 +7,7 @@ ghost use Rattle.scripts.specs.declared.calls.Purpose.TheVariants.{Jobs as JobsP
 ghost use Rattle.scripts.specs.declared.fault.RunFault.TheVariants.{NoMemory as OutOfMemory};
 ghost use Rattle.run_command.specs.declared.jobs.JobsFault.TheVariants as jobs_fault;
 ghost use Rattle.scripts.specs.Calls.{is_job};
-ghost use Rattle.run_command.specs.Jobs.{outcome_of, opened_by, opened_in, closed_line, told_of_opening, told_of_serving, told_of_closing, CanRefuse, CanUnserve, IsUnserved, IsBegun, IsOurs, AreInPlace, IsReleased, AreReleased, Closes, RefusesToClose, IsJobsText, IsNoService, IsJobs};
+ghost use Rattle.run_command.specs.Jobs.{outcome_of, opened_by, opened_in, closed_line, told_of_opening, told_of_serving, told_of_closing, CanRefuse, CanUnserve, IsUnserved, IsBegun, IsOurs, AreInPlace, IsReleased, AreReleased, Closes, RefusesToClose, IsJobsText, IsNoService, IsJobs, jobs_said};
 ghost use Rattle.scripts.specs.Scenario.{first_root, first_calls, said_by, IsPlayable, IsFitFor};
 
 use event_log::EventLog;
@@ -15,10 +15,10 @@ use handles::Standing;
 use path_text::{Errno, Flags, Names, NoMemory};
 use race_core::{ActorPlan, Outcome, Outcomes, Planned, Plans};
 use root_ops::{Op, Reply, Request};
-use scripts::{Purpose, RunFault, Scenario, TurnOrder, read_as};
+use scripts::{Purpose, RunFault, Scenario, Script, TurnOrder, read_as};
 use sessions::{CloseCause, NoGate, OpenCause, Service, Session};
 use std::alloc::Global;
-use std::io::{Read, Write};
+use std::io::Write;
 use std::sync::Wait;
 use std::thread::Threads;
 use step_text::Output;
@@ -370,8 +370,8 @@ fn text_of<R: Threads + Wait + Sync>(
     Ok(text)
 }
 
-/// Reads a script, serves its first actor's calls as jobs by so many workers, each with a session of its own at that
-/// actor's root and on a thread of its own where one can be made, and writes a line for how each job ended, and one
+/// Serves a script's first actor's calls as jobs by so many workers, each with a session of its own at that actor's root
+/// and on a thread of its own where one can be made, and writes a line for how each job ended, and one
 /// for how many events there were. The jobs have no order: any worker takes any next one. What a job opened is
 /// released by its session once all jobs are answered, in the order of the jobs, and then the service is closed.
 ///
@@ -380,18 +380,19 @@ fn text_of<R: Threads + Wait + Sync>(
 /// fewer lines than there are workers; `NoMemory`, where room was refused; `Service`, where the workers left a job
 /// over or answered one twice, or the service wasn't closed; `WriteFailed`. Nothing is written before the text is
 /// whole.
-pub fn run_jobs<Rt: Threads + Wait + Sync, R: Read, W: Write>(
-    rt: &Rt,
+pub fn run_jobs<R: Threads + Wait + Sync, W: Write>(
+    rt: &R,
     alloc: Global,
-    reader: &mut R,
+    script: &Script,
     writer: &mut W,
     workers: usize,
 ) -> Result<(), JobsFault>
     requires some { 0 < workers }
     requires few { workers ≤ WORKERS_MAX }
-    ensures run { IsJobs workers (R.remaining reader.old) (W.contents writer.old) (W.contents writer.new) result }
+    ensures run { IsJobs workers (jobs_said script.now) (W.contents writer.old) (W.contents writer.new)
+        result }
 {
-    let scenario = read_as(alloc, Purpose::Jobs, reader, &TurnOrder::OfScript)?;
+    let scenario = read_as(alloc, Purpose::Jobs, script, &TurnOrder::OfScript)?;
     let text = text_of(rt, alloc, scenario, workers)?;
     match writer.write_all(text.as_slice()) {
         Ok(()) => Ok(()),

@@ -1,30 +1,27 @@
 -- What a whole script says, over the data that its JSON text is (RFC 8259, as serde_json reads it). The checks are
 -- made in this order, and the first that fails is told.
-use Rattle.std.specs.Prelude.{⊤, ◌≡◌, ℕ, ◌<◌, ◌≤◌, ◌&&◌, List, [], ◌∷◌, length, if◌then◌else◌, nat_le, nat_lt, Option, Some, None, option_and_then, Result, Ok, Err, All, IsOk, IsTrue, codes}
+use Rattle.std.specs.Prelude.{⊤, ℕ, ◌<◌, ◌≤◌, ◌&&◌, List, [], ◌∷◌, length, if◌then◌else◌, nat_le, Option, Some, None, option_and_then, Result, Ok, Err, All, IsOk, IsTrue, codes}
 use Rattle.serde_json.specs.Data.{Data}
 use Rattle.serde_json.specs.Find.{get, as_number, as_u64}
 use Rattle.call_plans.specs.declared.plan.ActorPlan.{ActorPlan}
 use Rattle.call_plans.specs.declared.plan.Planned.{Planned}
 use Rattle.tree_model.specs.declared.inode.Inode.{Inode}
-use Rattle.tree_model.specs.Entries.{with_some, refuse_if}
+use Rattle.tree_model.specs.Entries.{with_some}
 use Rattle.tree_model.specs.State.{State, TOP}
 use Rattle.tree_model.specs.Steps.{directory_at}
 use Rattle.scripts.specs.declared.calls.Purpose.{Purpose}
 use Rattle.scripts.specs.declared.calls.Purpose.TheVariants.{Turns, Jobs}
-use Rattle.scripts.specs.declared.fault.RunFault.{RunFault}
-use Rattle.scripts.specs.declared.fault.RunFault.TheVariants.{Script, ReadFailed, WriteFailed, NoMemory, BookFull}
 use Rattle.scripts.specs.declared.fault.ScriptFault.{ScriptFault}
-use Rattle.scripts.specs.declared.fault.ScriptFault.TheVariants.{TooLong, Lines, Tree}
+use Rattle.scripts.specs.declared.fault.ScriptFault.TheVariants.{Lines, Tree}
 use Rattle.scripts.specs.declared.scenario.Header.{Header}
 use Rattle.scripts.specs.declared.scenario.Scenario.{Scenario}
 use Rattle.scripts.specs.declared.turns.TurnOrder.{TurnOrder}
 use Rattle.scripts.specs.declared.turns.TurnOrder.TheVariants.{OfScript, Asked}
 use Rattle.scripts.specs.Calls.{is_job}
 use Rattle.scripts.specs.Checks.{then_with}
-use Rattle.scripts.specs.Fault.{check_of}
 use Rattle.scripts.specs.Fields.{list_in, perhaps}
 use Rattle.scripts.specs.Input.{data_of}
-use Rattle.scripts.specs.Limits.{MOST_ACTORS, MOST_BYTES, MOST_LINES}
+use Rattle.scripts.specs.Limits.{MOST_ACTORS, MOST_LINES}
 use Rattle.scripts.specs.Plans.{actors_of}
 use Rattle.scripts.specs.Schedule.{schedule_of}
 use Rattle.scripts.specs.Tree.{tree_of}
@@ -75,20 +72,11 @@ scenario_of purpose order d =
 
 -- what the script says that these bytes are, read for this purpose and with this order of turns
 abbrev pub said_as : Purpose → TurnOrder → List ℕ → Result Said ScriptFault
-said_as purpose order input = refuse_if (nat_lt MOST_BYTES (length input)) (Err TooLong)
-    (then_with (data_of input) (scenario_of purpose order))
+said_as purpose order input = then_with (data_of input) (scenario_of purpose order)
 
 -- the same for actors that take turns
 abbrev pub said_for : TurnOrder → List ℕ → Result Said ScriptFault
 said_for order input = said_as Turns order input
-
--- the fault of reading is the script's; or a read or a growth was refused
-abbrev pub IsReadingFaultOf : Result Said ScriptFault → RunFault → Type 0
-IsReadingFaultOf said (Script fault) = said ≡ Err (check_of fault)
-IsReadingFaultOf said ReadFailed = ⊤
-IsReadingFaultOf said WriteFailed = ⊥
-IsReadingFaultOf said NoMemory = ⊤
-IsReadingFaultOf said BookFull = ⊥
 
 -- What is said can be played: there are actors, each one's root is a directory, each turn an actor's, and a book may
 -- have the lines.

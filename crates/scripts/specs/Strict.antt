@@ -1,26 +1,22 @@
 -- What of a script nobody looks at, over the data that its JSON text is: a strict reader refuses it (inroot-script(5)).
-use Rattle.std.specs.Prelude.{⊤, ◌≡◌, ℕ, ◌+◌, ◌&&◌, ◌||◌, List, Bool, false, not, if◌then◌else◌, length, nat_lt, Option, Some, None, is_some, Result, Ok, Err, codes}
+use Rattle.std.specs.Prelude.{ℕ, ◌+◌, ◌&&◌, ◌||◌, List, Bool, false, not, if◌then◌else◌, Option, Some, None, is_some, Result, Ok, Err, codes}
 use Rattle.std.specs.Option.{option_or}
 use Rattle.serde_json.specs.Data.{Data, Items, no_items, item}
 use Rattle.serde_json.specs.Find.{get}
 use Rattle.path_text.specs.Name.{same_bytes}
-use Rattle.tree_model.specs.Entries.{with_some, refuse_if}
+use Rattle.tree_model.specs.Entries.{with_some}
 use Rattle.scripts.specs.declared.calls.Version.{Version}
 use Rattle.scripts.specs.declared.calls.Version.TheVariants.{One, Two}
 use Rattle.scripts.specs.declared.fault.Loose.{Loose}
 use Rattle.scripts.specs.declared.fault.Loose.TheVariants.{Key, ActorKey, CallKey, Restriction, Label}
-use Rattle.scripts.specs.declared.fault.RunFault.{RunFault}
-use Rattle.scripts.specs.declared.fault.RunFault.TheVariants.{Script, ReadFailed, WriteFailed, NoMemory, BookFull}
 use Rattle.scripts.specs.declared.fault.ScriptFault.{ScriptFault}
-use Rattle.scripts.specs.declared.fault.ScriptFault.TheVariants.{TooLong, Loose as TooLoose}
+use Rattle.scripts.specs.declared.fault.ScriptFault.TheVariants.{Loose as TooLoose}
 use Rattle.scripts.specs.declared.keys.Keys.TheVariants.{Script as ScriptKeys, Actor as ActorKeys}
 use Rattle.scripts.specs.Checks.{then_with}
-use Rattle.scripts.specs.Fault.{check_of}
 use Rattle.scripts.specs.Fields.{text_in, list_in}
 use Rattle.scripts.specs.Input.{data_of}
 use Rattle.scripts.specs.Keys.{has_other_key, keys_of_call}
 use Rattle.scripts.specs.Labels.{label_of}
-use Rattle.scripts.specs.Limits.{MOST_BYTES}
 use Rattle.scripts.specs.Version.{version_in}
 
 -- ---- labels
@@ -86,18 +82,9 @@ first_loose d =
 
 -- ---- reading
 
-abbrev pub unless_loose : List ℕ → Data → Result (List ℕ) ScriptFault
-unless_loose input d = with_some (first_loose d) (Ok input) (λ loose. Err (TooLoose loose))
+abbrev pub unless_loose : Data → Result Data ScriptFault
+unless_loose d = with_some (first_loose d) (Ok d) (λ loose. Err (TooLoose loose))
 
--- the script that these bytes are, unless there is something in it that nobody looks at
-abbrev pub strictly : List ℕ → Result (List ℕ) ScriptFault
-strictly input = refuse_if (nat_lt MOST_BYTES (length input)) (Err TooLong)
-    (then_with (data_of input) (unless_loose input))
-
--- the fault of reading strictly is the script's; or a read or a growth was refused
-abbrev pub IsStrictFaultOf : Result (List ℕ) ScriptFault → RunFault → Type 0
-IsStrictFaultOf said (Script fault) = said ≡ Err (check_of fault)
-IsStrictFaultOf said ReadFailed = ⊤
-IsStrictFaultOf said WriteFailed = ⊥
-IsStrictFaultOf said NoMemory = ⊤
-IsStrictFaultOf said BookFull = ⊥
+-- the data of a script's bytes, unless there is something in it that nobody looks at
+abbrev pub strictly : List ℕ → Result Data ScriptFault
+strictly input = then_with (data_of input) unless_loose

@@ -24,11 +24,11 @@ IsNoRun said (Script fault) = ⊥
 IsNoRun said ReadFailed = ⊥
 IsNoRun said WriteFailed = ⊥
 
--- a fault of writing a text of what is said is the script's; or its book is too small; or a read or a growth was
--- refused; or a write of such a text, which isn't empty
+-- a fault of writing a text of what is said is the script's; or its book is too small; or a growth was refused;
+-- or a write of such a text, which isn't empty
 abbrev pub IsWritingFaultOf : (Said → List ℕ → Type 0) → Result Said ScriptFault → RunFault → Type 0
 IsWritingFaultOf IsText said (Script fault) = said ≡ Err (check_of fault)
-IsWritingFaultOf IsText said ReadFailed = ⊤
+IsWritingFaultOf IsText said ReadFailed = ⊥
 IsWritingFaultOf IsText said WriteFailed = IsOkAnd said (λ s. (text : List ℕ) × IsText s text × (text ≢ []))
 IsWritingFaultOf IsText said NoMemory = ⊤
 IsWritingFaultOf IsText said BookFull = IsOkAnd said HasFewLines

@@ -1,6 +1,6 @@
-//! Reading a script to its end, and its JSON text.
-ghost use Rattle.std.specs.Prelude.{◌≡◌, ◌≤◌, vec_len, Ok, IfOk, IfErr, IfSome};
-ghost use Rattle.serde_json.specs.View.{view};
+//! Reading a script to its end, and its JSON text, once.
+ghost use Rattle.std.specs.Prelude.{◌≡◌, ◌≤◌, ℕ, List, vec_len, Ok, IfOk, IfErr, IfSome, MatchResult};
+ghost use Rattle.serde_json.specs.View.{view, view as data_view};
 ghost use Rattle.scripts.specs.Fault.{IsFaultOf};
 ghost use Rattle.scripts.specs.Input.{IsReadFault, data_of};
 ghost use Rattle.scripts.specs.Limits.{MOST_BYTES};
@@ -10,6 +10,7 @@ use crate::nesting::is_too_deep;
 use serde_json::Value;
 use std::alloc::Global;
 use std::io::{ErrorKind, Read};
+use std::marker::Model;
 
 /// The most bytes of a script.
 pub const SCRIPT_MAX: usize = 1_048_576;
@@ -64,6 +65,51 @@ pub fn value_of(alloc: Global, bytes: &[u8]) -> Result<Value, RunFault>
                     column: error.column(),
                 })))
             }
+        }
+    }
+}
+
+/// A script as it is read once: its bytes, and the value of their JSON text, or why they have none. Contracts see the
+/// bytes.
+#[derive(Drop)]
+pub struct Script {
+    bytes: Vec<u8>,
+    read: Result<Value, RunFault>,
+}
+
+impl Model for Script {
+    ghost Value = { List ℕ };
+
+    ghost view = { λ s. s.bytes.items };
+
+    ghost invariant = { λ s. MatchResult s.read (λ value. data_of s.bytes.items ≡ Ok (data_view value))
+        (IsFaultOf (data_of s.bytes.items)) };
+}
+
+impl Script {
+    /// The script that these bytes are.
+    pub fn of(alloc: Global, bytes: Vec<u8>) -> Script
+        ensures { result ≡ bytes.items }
+    {
+        let read = value_of(alloc, &bytes);
+        Script { bytes, read }
+    }
+
+    /// Its bytes.
+    pub fn bytes(&self) -> &[u8]
+        ensures { result.now ≡ self.now }
+    {
+        self.bytes.as_slice()
+    }
+
+    /// The value of its JSON text. Errors as of `value_of`.
+    pub fn value(&self) -> Result<&Value, RunFault>
+        ensures ok { IfOk result (λ value. data_of self.now ≡ Ok (view value.now)) }
+        ensures err { IfErr result (IsFaultOf (data_of self.now)) }
+    {
+        match &self.read {
+            Ok(value) => Ok(value),
+            Err(fault) => Err(*fault),
         }
     }
 }

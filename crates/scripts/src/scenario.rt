@@ -1,16 +1,15 @@
 //! A whole script: a tree, what each actor does in it, and in what order.
-ghost use Rattle.std.specs.Prelude.{◌≡◌, [], Ok, IfOk, IfErr, IfSome};
+ghost use Rattle.std.specs.Prelude.{◌≡◌, [], Ok, IfOk, IfErr};
 ghost use Rattle.serde_json.specs.View.{view};
 ghost use Rattle.tree_model.specs.Trees.{IsState};
-ghost use Rattle.scripts.specs.declared.calls.Purpose.TheVariants.{Turns};
 ghost use Rattle.scripts.specs.Fault.{IsFaultOf};
-ghost use Rattle.scripts.specs.Scenario.{lines_in, header_of, nodes_in, scenario_of, said_as, said_by, said_for, IsReadingFaultOf, IsPlayable, IsFitFor};
+ghost use Rattle.scripts.specs.Scenario.{lines_in, header_of, nodes_in, scenario_of, said_as, said_by, said_for, IsPlayable, IsFitFor};
 
 use crate::actors::actors_of;
 use crate::calls::{Purpose, Version};
 use crate::fault::{RunFault, ScriptFault};
 use crate::fields::list_in;
-use crate::input::{read_script, value_of};
+use crate::input::Script;
 use crate::schedule::schedule_for;
 use crate::script::version_of;
 use crate::tree::tree_of;
@@ -18,7 +17,6 @@ use crate::turns::TurnOrder;
 use call_plans::ActorPlan;
 use serde_json::Value;
 use std::alloc::Global;
-use std::io::Read;
 use tree_list::{ListTree, copy_nodes};
 use tree_slab::SlabTree;
 
@@ -98,7 +96,6 @@ fn scenario_on(
     ensures said { IfOk result (λ scenario. scenario_of purpose order.now (view script.now) ≡ Ok (said_by scenario)) }
     ensures playable { IfOk result (λ scenario. IsPlayable (said_by scenario)) }
     ensures fit { IfOk result (λ scenario. IsFitFor purpose (said_by scenario)) }
-    ensures nodes { IfOk result (λ scenario. nodes_in (view script.now) ≡ Ok scenario.tree.nodes) }
     ensures none { IfOk result (λ scenario. scenario.tree.handles ≡ []) }
     ensures tree { IfOk result (λ scenario. IsState scenario.tree) }
     ensures err { IfErr result (IsFaultOf (scenario_of purpose order.now (view script.now))) }
@@ -114,101 +111,56 @@ fn scenario_on(
     })
 }
 
-/// What a script says, read for this purpose. Errors: the first check that fails, in this order: those of its
-/// version and its lines, of its tree, and those of `scenario_on`.
-pub fn scenario_of(
+/// What a script says, read for this purpose and with this order of turns. Errors as of `read_scenario`.
+pub fn read_as(
     alloc: Global,
     purpose: Purpose,
-    script: &Value,
+    script: &Script,
     order: &TurnOrder,
 ) -> Result<Scenario, RunFault>
-    ensures said { IfOk result (λ scenario. scenario_of purpose order.now (view script.now) ≡ Ok (said_by scenario)) }
+    ensures said { IfOk result (λ scenario.
+        said_as purpose order.now script.now ≡ Ok (said_by scenario)) }
     ensures playable { IfOk result (λ scenario. IsPlayable (said_by scenario)) }
     ensures fit { IfOk result (λ scenario. IsFitFor purpose (said_by scenario)) }
-    ensures nodes { IfOk result (λ scenario. nodes_in (view script.now) ≡ Ok scenario.tree.nodes) }
     ensures none { IfOk result (λ scenario. scenario.tree.handles ≡ []) }
     ensures tree { IfOk result (λ scenario. IsState scenario.tree) }
-    ensures err { IfErr result (IsFaultOf (scenario_of purpose order.now (view script.now))) }
+    ensures err { IfErr result (IsFaultOf (said_as purpose order.now script.now)) }
 {
+    let script = script.value()?;
     let header = header_of(script)?;
     let tree = tree_in(alloc, script)?;
     scenario_on(alloc, purpose, script, order, header, tree)
 }
 
-/// The same for actors that take turns, and its tree as a list, too. Errors as of `scenario_of`.
-fn scene_of(
+/// What a script says, with this order of turns. Errors: the first check that fails, in this order: those of
+/// `Script::value`, of the script's version and its lines, of its tree, and those of `scenario_on`.
+pub fn read_scenario(
     alloc: Global,
-    script: &Value,
+    script: &Script,
+    order: &TurnOrder,
+) -> Result<Scenario, RunFault>
+    ensures said { IfOk result (λ scenario. said_for order.now script.now ≡ Ok (said_by scenario)) }
+    ensures playable { IfOk result (λ scenario. IsPlayable (said_by scenario)) }
+    ensures none { IfOk result (λ scenario. scenario.tree.handles ≡ []) }
+    ensures tree { IfOk result (λ scenario. IsState scenario.tree) }
+    ensures err { IfErr result (IsFaultOf (said_for order.now script.now)) }
+{
+    read_as(alloc, Purpose::Turns, script, order)
+}
+
+/// What a script says, as of `read_scenario`, and its tree as a list, too. Errors as of `read_scenario`.
+pub fn read_scene(
+    alloc: Global,
+    script: &Script,
     order: &TurnOrder,
 ) -> Result<(Scenario, ListTree), RunFault>
-    ensures said { IfOk result (λ read. scenario_of Turns order.now (view script.now) ≡ Ok (said_by read.0)) }
+    ensures said { IfOk result (λ read. said_for order.now script.now ≡ Ok (said_by read.0)) }
     ensures playable { IfOk result (λ read. IsPlayable (said_by read.0)) }
     ensures none { IfOk result (λ read. read.0.tree.handles ≡ []) }
     ensures same { IfOk result (λ read. read.1 ≡ read.0.tree) }
-    ensures err { IfErr result (IsFaultOf (scenario_of Turns order.now (view script.now))) }
+    ensures err { IfErr result (IsFaultOf (said_for order.now script.now)) }
 {
-    let header = header_of(script)?;
-    let tree = tree_in(alloc, script)?;
-    let list = ListTree::from_nodes(alloc, copy_nodes(alloc, tree.nodes())?);
-    let scenario = scenario_on(alloc, Purpose::Turns, script, order, header, tree)?;
+    let scenario = read_scenario(alloc, script, order)?;
+    let list = ListTree::from_nodes(alloc, copy_nodes(alloc, scenario.tree.nodes())?);
     Ok((scenario, list))
-}
-
-/// Reads a script to its end, and what it says, for this purpose and with this order of turns. Errors as of
-/// `read_scenario`.
-pub fn read_as<R: Read>(
-    alloc: Global,
-    purpose: Purpose,
-    reader: &mut R,
-    order: &TurnOrder,
-) -> Result<Scenario, RunFault>
-    ensures said { IfOk result (λ scenario.
-        IfSome (R.remaining reader.old) (λ input. said_as purpose order.now input ≡ Ok (said_by scenario))) }
-    ensures playable { IfOk result (λ scenario. IsPlayable (said_by scenario)) }
-    ensures fit { IfOk result (λ scenario. IsFitFor purpose (said_by scenario)) }
-    ensures none { IfOk result (λ scenario. scenario.tree.handles ≡ []) }
-    ensures tree { IfOk result (λ scenario. IsState scenario.tree) }
-    ensures err { IfErr result (λ fault.
-        IfSome (R.remaining reader.old) (λ input. IsReadingFaultOf (said_as purpose order.now input) fault)) }
-{
-    let bytes = read_script(alloc, reader)?;
-    let script = value_of(alloc, &bytes)?;
-    scenario_of(alloc, purpose, &script, order)
-}
-
-/// Reads a script to its end, and what it says, with this order of turns. Errors, in this order: those of
-/// `read_script`; `Script(TooDeep)`, `Script(NotJson)`; those of `scenario_of`.
-pub fn read_scenario<R: Read>(
-    alloc: Global,
-    reader: &mut R,
-    order: &TurnOrder,
-) -> Result<Scenario, RunFault>
-    ensures said { IfOk result (λ scenario.
-        IfSome (R.remaining reader.old) (λ input. said_for order.now input ≡ Ok (said_by scenario))) }
-    ensures playable { IfOk result (λ scenario. IsPlayable (said_by scenario)) }
-    ensures none { IfOk result (λ scenario. scenario.tree.handles ≡ []) }
-    ensures tree { IfOk result (λ scenario. IsState scenario.tree) }
-    ensures err { IfErr result (λ fault.
-        IfSome (R.remaining reader.old) (λ input. IsReadingFaultOf (said_for order.now input) fault)) }
-{
-    read_as(alloc, Purpose::Turns, reader, order)
-}
-
-/// Reads a script as `read_scenario` does, and gives its tree as a list, too. Errors as of `read_scenario`.
-pub fn read_scene<R: Read>(
-    alloc: Global,
-    reader: &mut R,
-    order: &TurnOrder,
-) -> Result<(Scenario, ListTree), RunFault>
-    ensures said { IfOk result (λ read.
-        IfSome (R.remaining reader.old) (λ input. said_for order.now input ≡ Ok (said_by read.0))) }
-    ensures playable { IfOk result (λ read. IsPlayable (said_by read.0)) }
-    ensures none { IfOk result (λ read. read.0.tree.handles ≡ []) }
-    ensures same { IfOk result (λ read. read.1 ≡ read.0.tree) }
-    ensures err { IfErr result (λ fault.
-        IfSome (R.remaining reader.old) (λ input. IsReadingFaultOf (said_for order.now input) fault)) }
-{
-    let bytes = read_script(alloc, reader)?;
-    let script = value_of(alloc, &bytes)?;
-    scene_of(alloc, &script, order)
 }

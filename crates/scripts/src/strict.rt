@@ -1,17 +1,16 @@
-//! Reading a script strictly: what no reader looks at is refused.
-ghost use Rattle.std.specs.Prelude.{◌≡◌, Ok, IfOk, IfErr, IfSome};
+//! Looking at a script strictly: what no reader looks at is refused.
+ghost use Rattle.std.specs.Prelude.{◌≡◌, IfOk, IfErr, IsOk};
 ghost use Rattle.serde_json.specs.View.{view, items_view};
-ghost use Rattle.scripts.specs.Strict.{takes_labels, is_label_in, uses_label, is_used, is_early, loose_key, loose_in_call, loose_in_calls, loose_in_actor, loose_in_actors, first_loose, strictly, IsStrictFaultOf};
+ghost use Rattle.scripts.specs.Fault.{IsFaultOf};
+ghost use Rattle.scripts.specs.Strict.{takes_labels, is_label_in, uses_label, is_used, is_early, loose_key, loose_in_call, loose_in_calls, loose_in_actor, loose_in_actors, first_loose, strictly};
 
 use crate::calls::{Version, version_in};
 use crate::fault::{Loose, RunFault, ScriptFault};
 use crate::fields::{list_in, text_in};
-use crate::input::{read_script, value_of};
+use crate::input::Script;
 use crate::keys::{Keys, has_other_key, keys_of_call};
 use crate::labels::label_of;
 use serde_json::Value;
-use std::alloc::Global;
-use std::io::Read;
 
 // Whether a call takes labels: a step or a release.
 fn takes_labels(call: &Value) -> bool
@@ -147,18 +146,14 @@ pub fn first_loose(script: &Value) -> Option<Loose>
     loose_in_actors(version, list_in(script, "actors")?)
 }
 
-/// Reads a script to its end, strictly, and gives its bytes to be read again. Errors, in this order: those of
-/// `read_script`; `Script(TooDeep)`, `Script(NotJson)`; `Script(Loose)` with what `first_loose` finds; `NoMemory`. So a
-/// key that is misspelled is told as that, and not as one that is missing.
-pub fn read_strictly<R: Read>(alloc: Global, reader: &mut R) -> Result<Vec<u8>, RunFault>
-    ensures ok { IfOk result (λ script. IfSome (R.remaining reader.old) (λ input. strictly input ≡ Ok script.items)) }
-    ensures err { IfErr result (λ fault.
-        IfSome (R.remaining reader.old) (λ input. IsStrictFaultOf (strictly input) fault)) }
+/// Looks at a script strictly. Errors, in this order: those of `Script::value`; `Script(Loose)` with what `first_loose`
+/// finds. So a key that is misspelled is told as that, and not as one that is missing.
+pub fn check_strictly(script: &Script) -> Result<(), RunFault>
+    ensures ok { IfOk result (λ _. IsOk (strictly script.now)) }
+    ensures err { IfErr result (IsFaultOf (strictly script.now)) }
 {
-    let bytes = read_script(alloc, reader)?;
-    let script = value_of(alloc, &bytes)?;
-    match first_loose(&script) {
+    match first_loose(script.value()?) {
         Some(loose) => Err(RunFault::Script(ScriptFault::Loose(loose))),
-        None => Ok(bytes),
+        None => Ok(()),
     }
 }

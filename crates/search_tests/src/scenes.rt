@@ -1,6 +1,6 @@
 //! Scripts that are searched.
 use explore::Scene;
-use scripts::{RunFault, TurnOrder, read_scene};
+use scripts::{RunFault, Script, TurnOrder, read_scene};
 use std::alloc::Global;
 
 /// An actor resolves `e/..` below `/c`, and another removes `e`.
@@ -40,8 +40,13 @@ pub const THREE_MAKE: &str = r#"{"version":1,"tree":[["dir","/c"]],"actors":[
 {"root":"/c","calls":[{"op":"step","step":"make_dir","on":"root","name":"n"}]},
 {"root":"/c","calls":[{"op":"step","step":"make_dir","on":"root","name":"m"}]}]}"#;
 
+pub fn script_of(alloc: Global, text: &str) -> Result<Script, RunFault> {
+    Ok(Script::of(alloc, Vec::from_slice(alloc, text.as_bytes())?))
+}
+
 pub fn scene_of(alloc: Global, script: &str) -> Result<Scene, RunFault> {
-    let (scenario, tree) = read_scene(alloc, &mut script.as_bytes(), &TurnOrder::OfScript)?;
+    let script = script_of(alloc, script)?;
+    let (scenario, tree) = read_scene(alloc, &script, &TurnOrder::OfScript)?;
     Ok(Scene {
         tree,
         plans: scenario.plans,

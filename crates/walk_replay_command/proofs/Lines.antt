@@ -1,7 +1,7 @@
 -- From what was read, opened and resolved to the line that is written.
 use Rattle.std.proofs.Common.{◌≡◌, ◌≢◌, ℕ, List, [], true, refl, sym, ap, ◌∙◌, subst, inl, inr}
-use Rattle.std.specs.Prelude.{Option, Some, None, reverse, unwrap_or, Result, Ok, Err, IfOk, IfErr, IsOkAnd, MatchOption, MatchResult}
-use Rattle.std.specs.Io.KnownBytes.{Appends, Keeps}
+use Rattle.std.specs.Prelude.{Option, Some, None, reverse, unwrap_or, Result, Ok, Err, IfOk, MatchOption}
+use Rattle.std.specs.Io.KnownBytes.{Keeps}
 use Rattle.std.proofs.lemmas.List.{reverse-reverse}
 use Rattle.serde_json.specs.Data.{Data}
 use Rattle.path_text.specs.declared.errno.Errno.{Errno}
@@ -117,31 +117,20 @@ pub fault_is_some : (error : Errno) (line : List ℕ) → line ≡ fault_line er
 fault_is_some error line e = first_byte line _ 102 e
 
 -- a run over a refused script doesn't fail by a write, and leaves what was written
-refused_run : {T : Type 0} (said : Result (List ℕ) ScriptFault) (old new : Option (List ℕ)) (result : Result T RunFault)
-    → MatchResult result (λ _. IsOkAnd said (λ text. Appends old new text)) (λ fault. IsRunFaultOf said fault × (fault ≢ WriteFailed → Keeps old new))
-    → IfErr said (λ _. Keeps old new)
-refused_run (Ok text) old new result run = tt
-refused_run (Err fault) old new (Ok x) run = absurd run
-refused_run (Err fault) old new (Err told) run = by told run.0 run.1
+pub nothing_if_refused : {T : Type 0} (said : Result (List ℕ) ScriptFault) (old new : Option (List ℕ)) (result : Result T RunFault)
+    → IsRun said old new result → WritesNothingIfRefused said old new
+nothing_if_refused (Ok text) old new result run = tt
+nothing_if_refused (Err fault) old new (Ok x) run = absurd run
+nothing_if_refused (Err fault) old new (Err told) run = by told run.0 run.1
   where
     by : (told : RunFault) → IsRunFaultOf (Err fault) told → (told ≢ WriteFailed → Keeps old new) → Keeps old new
     by (Script f) is keeps = keeps (λ e. cc (e))
-    by ReadFailed is keeps = keeps (λ e. cc (e))
     by NoMemory is keeps = keeps (λ e. cc (e))
+    by ReadFailed is keeps = absurd is
     by WriteFailed is keeps = absurd is
     by BookFull is keeps = absurd is
 
-pub nothing_if_refused : {T : Type 0} (written : List ℕ → Result (List ℕ) ScriptFault) (known old new : Option (List ℕ)) (result : Result T RunFault)
-    → IsRun written known old new result → WritesNothingIfRefused written known old new
-nothing_if_refused written None old new result run = tt
-nothing_if_refused {T = T} written (Some input) old new (Ok x) run = refused_run {T = T} (written input) old new (Ok x) run
-nothing_if_refused {T = T} written (Some input) old new (Err fault) run = refused_run {T = T} (written input) old new (Err fault) run
-
-pub nothing_yet : (written : List ℕ → Result (List ℕ) ScriptFault) (known old : Option (List ℕ)) → WritesNothingIfRefused written known old old
-nothing_yet written None old = tt
-nothing_yet written (Some input) old = by (written input) old
-  where
-    by : (said : Result (List ℕ) ScriptFault) (held : Option (List ℕ)) → IfErr said (λ _. Keeps held held)
-    by (Ok text) held = tt
-    by (Err fault) None = tt
-    by (Err fault) (Some bytes) = refl
+pub nothing_yet : (said : Result (List ℕ) ScriptFault) (old : Option (List ℕ)) → WritesNothingIfRefused said old old
+nothing_yet (Ok text) old = tt
+nothing_yet (Err fault) None = tt
+nothing_yet (Err fault) (Some bytes) = refl

@@ -1,5 +1,5 @@
 -- What `inroot replay` writes: the text of a report on a run of the world that the script says.
-use Rattle.std.specs.Prelude.{⊤, ◌≡◌, ◌≢◌, ℕ, List, length, Option, Result, Ok, MatchResult, IfSome}
+use Rattle.std.specs.Prelude.{⊤, ◌≡◌, ◌≢◌, ℕ, List, length, Option, Result, Ok, MatchResult}
 use Rattle.std.specs.Io.KnownBytes.{Keeps}
 use Rattle.handles.specs.Objects.{StandingObject}
 use Rattle.race_core.specs.declared.report.Outcome.{Outcome}
@@ -12,8 +12,8 @@ use Rattle.tree_model.specs.declared.answer.Event.{Event}
 use Rattle.tree_model.specs.State.{State}
 use Rattle.scripts.specs.declared.fault.RunFault.{RunFault}
 use Rattle.scripts.specs.declared.fault.RunFault.TheVariants.{WriteFailed, NoMemory, BookFull}
-use Rattle.scripts.specs.declared.turns.TurnOrder.{TurnOrder}
-use Rattle.scripts.specs.Scenario.{Said, said_for}
+use Rattle.scripts.specs.declared.fault.ScriptFault.{ScriptFault}
+use Rattle.scripts.specs.Scenario.{Said}
 use Rattle.scripts.specs.Writing.{tree_of, IsWritingFaultOf, Wrote}
 
 -- Of some run of what the script says, by the schedule and then each actor to its end: the tree, the events and the
@@ -43,10 +43,9 @@ told_of world.BookFull = BookFull
 told_of other = NoMemory
 
 -- The replay wrote the text of a report on a run of what the script says, and nothing else; or it failed as it
--- should, and but for a writer that failed nothing was written. `known` is what the reader had left.
-abbrev pub IsReplay : {T : Type 0} → TurnOrder → Option (List ℕ) → Option (List ℕ) → Option (List ℕ)
-    → Result T RunFault → Type 0
-IsReplay order known old new result = MatchResult result
-    (λ _. IfSome known (λ input. Wrote IsTextOf (said_for order input) old new))
-    (λ fault. IfSome known (λ input. IsWritingFaultOf IsTextOf (said_for order input) fault)
-    × (fault ≢ WriteFailed → Keeps old new))
+-- should, and but for a writer that failed nothing was written.
+abbrev pub IsReplay : {T : Type 0} → Result Said ScriptFault → Option (List ℕ) → Option (List ℕ) → Result T RunFault
+    → Type 0
+IsReplay said old new result = MatchResult result
+    (λ _. Wrote IsTextOf said old new)
+    (λ fault. IsWritingFaultOf IsTextOf said fault × (fault ≢ WriteFailed → Keeps old new))

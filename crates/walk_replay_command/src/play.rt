@@ -1,14 +1,14 @@
 //! A script replayed: its world is made, run to its end, and reported on.
 ghost use Rattle.std.specs.Prelude.{◌≡◌, ◌≢◌, [], IfOk, MatchResult};
 ghost use Rattle.walk_replay_command.specs.Replay.{CanCome, IsReplay, IsRunOf, IsTextOf, told_of};
-ghost use Rattle.scripts.specs.Scenario.{said_by, said_on, IsPlayable};
+ghost use Rattle.scripts.specs.Scenario.{said_by, said_for, said_on, IsPlayable};
 ghost use Rattle.scripts.specs.Writing.{IsNoRun};
 
 use race_core::{ActorPlan, Report, World, WorldFault};
 use report_text::report;
-use scripts::{RunFault, Scenario, TurnOrder, read_scenario};
+use scripts::{RunFault, Scenario, Script, TurnOrder, read_scenario};
 use std::alloc::Global;
-use std::io::{Read, Write};
+use std::io::Write;
 use step_text::Output;
 use tree_model::Tree;
 use tree_slab::SlabTree;
@@ -90,21 +90,22 @@ fn text_of(alloc: Global, scenario: Scenario) -> Result<Output, RunFault>
     Ok(text)
 }
 
-/// Reads a script, runs its world in this order of turns, and writes the report: a line for each event, for how each
+/// Runs a script's world in this order of turns, and writes the report: a line for each event, for how each
 /// call ended, for each entry of the tree then, and for each actor with how many handles it has open.
 ///
 /// A call that fails is no error: its line says so. Errors, in this order: those of `read_scenario`; `BookFull` where
 /// the script gives its book fewer lines than it has actors; `NoMemory`, where room for the world or the report was
 /// refused; `WriteFailed`. Nothing is written before the text is whole.
-pub fn replay<R: Read, W: Write>(
+pub fn replay<W: Write>(
     alloc: Global,
-    reader: &mut R,
+    script: &Script,
     writer: &mut W,
     order: &TurnOrder,
 ) -> Result<(), RunFault>
-    ensures run { IsReplay order.now (R.remaining reader.old) (W.contents writer.old) (W.contents writer.new) result }
+    ensures run { IsReplay (said_for order.now script.now) (W.contents writer.old) (W.contents writer.new)
+        result }
 {
-    let scenario = read_scenario(alloc, reader, order)?;
+    let scenario = read_scenario(alloc, script, order)?;
     let text = text_of(alloc, scenario)?;
     match writer.write_all(text.as_slice()) {
         Ok(()) => Ok(()),

@@ -11,10 +11,10 @@ ghost use Rattle.walk_replay_command.specs.Run.{IsRun, WritesNothingIfRefused, l
 
 use handles::{Owner, Standing};
 use path_text::{Errno, Flags, Path};
-use scripts::{ACTOR, RunFault, open_script, read_script, value_of};
+use scripts::{ACTOR, RunFault, Script, open_script};
 use serde_json::Value;
 use std::alloc::Global;
-use std::io::{Read, Write};
+use std::io::Write;
 use step_resolver::{Goal, Resolved, Root, resolve};
 use step_text::Output;
 use tree_model::{Actor, HandleNo, Tree, name_below_is_standing};
@@ -107,29 +107,26 @@ fn line_for(alloc: Global, script: &Value, text: &[u8], flags: Flags) -> Result<
     line_of(alloc, &mut opened.tree, opened.root, text, flags)
 }
 
-/// Reads a script, resolves the path text below its first actor's root, and writes one line: what was
-/// opened, or the error that the path text was refused with.
+/// Resolves the path text below a script's first actor's root, and writes one line: what was opened, or the error that
+/// the path text was refused with.
 ///
 /// The path is resolved in the root (openat2(2), RESOLVE_IN_ROOT), with these restrictions; a link at its last
-/// part is followed. Errors, in this order: those of `read_script`; `Script` with the first check that
-/// fails; `NoMemory`, where a growth was refused; `WriteFailed`, where there is a line to write. Nothing is written
-/// before the line is whole.
+/// part is followed. Errors, in this order: `Script` with the first check that fails; `NoMemory`, where a growth was
+/// refused; `WriteFailed`, where there is a line to write. Nothing is written before the line is whole.
 #[tactic(auto, using(crate::proofs::Lines::nothing_yet, crate::proofs::Lines::nothing_if_refused))]
-pub fn walk<R: Read, W: Write>(
+pub fn walk<W: Write>(
     alloc: Global,
-    reader: &mut R,
+    script: &Script,
     writer: &mut W,
     text: &[u8],
     flags: Flags,
 ) -> Result<(), RunFault>
-    ensures run { IsRun (λ input. written_for input text.now flags) (R.remaining reader.old) (W.contents writer.old)
+    ensures run { IsRun (written_for script.now text.now flags) (W.contents writer.old)
         (W.contents writer.new) result }
-    ensures refused { WritesNothingIfRefused (λ input. written_for input text.now flags) (R.remaining reader.old)
+    ensures refused { WritesNothingIfRefused (written_for script.now text.now flags)
         (W.contents writer.old) (W.contents writer.new) }
 {
-    let bytes = read_script(alloc, reader)?;
-    let script = value_of(alloc, &bytes)?;
-    let line = line_for(alloc, &script, text, flags)?;
+    let line = line_for(alloc, script.value()?, text, flags)?;
     match writer.write_all(line.as_slice()) {
         Ok(()) => Ok(()),
         Err(_) => Err(RunFault::WriteFailed),

@@ -13,12 +13,11 @@ pub returns-in-Ok-write_all : goal.returns-in-Ok-write_all
 returns-in-Ok-write_all g c =
     let scenario = c.in_ok-scenario.scenario in
     let asked = c.args.asked.now in
-    let script = c.in_ok-script.script.items in
+    let script = c.args.script.now in
     let says : said_for OfScript script ≡ Ok (said_by scenario) = search rules in
     let alone : scenario.tree ≡ tree_of (said_by scenario) = (λ i. record { nodes = scenario.tree.nodes; handles = c.in_ok-scenario.ensures.none i }) in
     let is : IsPart asked c.in_ok-scenario.tree scenario.plans.items scenario.lines c.in-Ok.part = c.in-Ok.ensures.part in
     let digest : c.as_bytes.result.now ≡ sum_of script = search rules in
     let appends : Appends (g.W.Write.contents c.args.writer.now) (g.W.Write.contents c.write_all.new.self) c.in-Ok-part_text.text = search rules in
     part_written (g.W.Write.contents c.args.writer.now) (g.W.Write.contents c.write_all.new.self) script c.as_bytes.result.now c.in-Ok-part_text.text asked
-    (said_by scenario) c.in_ok-scenario.tree c.in-Ok.part (g.R.Read.remaining c.args.reader.now)
-    c.in_ok-script.ensures.whole says (c.in_ok-scenario.ensures.same ∙ alone) is digest c.in-Ok-part_text.ensures appends
+    (said_by scenario) c.in_ok-scenario.tree c.in-Ok.part says (c.in_ok-scenario.ensures.same ∙ alone) is digest c.in-Ok-part_text.ensures appends
