@@ -11,7 +11,8 @@ use scripts::{RunFault, Script, TurnOrder, read_scene};
 use std::alloc::Global;
 use std::io::Write;
 
-/// Goes through a script's schedules that begin with the turns that are asked for, and writes what they come to as a line of JSON that `merge_parts` reads, and that ends with its digest.
+/// Goes through a script's schedules that begin with the turns that are asked for, and writes what they come to as a
+/// line of JSON that `merge_parts` reads, and that ends with its digest.
 ///
 /// Errors as of `explore_script`, but that turns which can't be taken make a part of no schedules.
 pub fn explore_part<W: Write, G: Gauge, P: Waiter>(

@@ -28,7 +28,8 @@ struct Exploration {
     holds: bool,
 }
 
-// The page of all schedules of what a script says. Errors as of `explore_page`, but for those of the script and of writing.
+// The page of all schedules of what a script says. Errors as of `explore_page`, but for those of the script and of
+// writing.
 fn explored<G: Gauge, P: Progress>(
     alloc: Global,
     scenario: Scenario,

@@ -370,10 +370,10 @@ fn text_of<R: Threads + Wait + Sync>(
     Ok(text)
 }
 
-/// Serves a script's first actor's calls as jobs by so many workers, each with a session of its own at that actor's root
-/// and on a thread of its own where one can be made, and writes a line for how each job ended, and one
-/// for how many events there were. The jobs have no order: any worker takes any next one. What a job opened is
-/// released by its session once all jobs are answered, in the order of the jobs, and then the service is closed.
+/// Serves a script's first actor's calls as jobs by so many workers, each with a session of its own at that actor's
+/// root and on a thread of its own where one can be made, and writes a line for how each job ended, and one for how
+/// many events there were. The jobs have no order: any worker takes any next one. What a job opened is released by its
+/// session once all jobs are answered, in the order of the jobs, and then the service is closed.
 ///
 /// A job that fails is no error: its line says so. Errors, in this order: those of `read_scenario`, where a step or
 /// a release of the first actor is refused as a call that can't be read; `BookFull` where the script gives its book
