@@ -9,10 +9,11 @@ use std::io::{self, Read};
 #[derive(Drop)]
 pub struct FilesRead<'a> {
     rt: &'a HostRuntime,
-    // Those behind the file that is open.
     names: &'a [&'a str],
-    // The file that is open, and its name.
-    open: Option<(File, &'a str)>,
+    // So many files were opened.
+    count: usize,
+    // The last of these, if it isn't read to its end.
+    open: Option<File>,
 }
 
 /// Tells the name of the file of an error.
@@ -42,6 +43,7 @@ impl<'a> FilesRead<'a> {
         FilesRead {
             rt,
             names,
+            count: 0,
             open: None,
         }
     }
@@ -52,16 +54,16 @@ impl Read for FilesRead<'_> {
         if block.is_empty() {
             return Ok(0);
         }
-        let (mut file, name) = match self.open.take() {
-            Some(open) => open,
+        let mut file = match self.open.take() {
+            Some(file) => file,
             None => {
-                let Some((name, rest)) = self.names.split_first() else {
+                let Some(name) = self.names.get(self.count) else {
                     return Ok(0);
                 };
                 match File::open(self.rt, name) {
                     Ok(file) => {
-                        self.names = rest;
-                        (file, *name)
+                        self.count = self.count.saturating_add(1);
+                        file
                     }
                     Err(error) => return Err(told(self.rt, name, error)),
                 }
@@ -70,13 +72,15 @@ impl Read for FilesRead<'_> {
         match file.read(block) {
             Ok(0) => newline(block),
             Ok(count) => {
-                self.open = Some((file, name));
+                self.open = Some(file);
                 Ok(count)
             }
             Err(error) => {
-                let error = told(self.rt, name, error);
-                self.open = Some((file, name));
-                Err(error)
+                self.open = Some(file);
+                match self.names.get(self.count.saturating_sub(1)) {
+                    Some(name) => Err(told(self.rt, name, error)),
+                    None => Err(error),
+                }
             }
         }
     }
