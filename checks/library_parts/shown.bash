@@ -13,7 +13,8 @@ blocks_of() {
     man/*)
         awk -v to="$2" '
             function whole(lines) {
-                return "#define _GNU_SOURCE\n" headers "#include <err.h>\n#include <fcntl.h>\n#include <string.h>\n#include <sys/mount.h>\nint main(void)\n{\n" \
+                return "#define _GNU_SOURCE\n" headers "#include <err.h>\n#include <fcntl.h>\n" \
+                    "#include <string.h>\n#include <sys/mount.h>\nint main(void)\n{\n" \
                     "int tree = -1, root = open(\"/srv/box\", O_PATH | O_DIRECTORY | O_CLOEXEC);\n" \
                     "if (root < 0)\nerr(1, \"/srv/box\");\n(void)tree;\n" \
                     lines "return 0;\n}\n"
