@@ -1,5 +1,2 @@
 pub mod BeginningLemmas
-pub mod FewLemmas
-pub mod SearchLemmas
-pub mod TrialLemmas
-pub mod Turns
+pub mod TryLemmas

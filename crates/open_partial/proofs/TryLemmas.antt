@@ -1,0 +1,2 @@
+-- What the tries of a path come to.
+use Rattle.std.proofs.Common.{◌≡◌, refl}
