@@ -1,2 +1,3 @@
 pub mod BeginningLemmas
-pub mod TryLemmas
+pub mod FewLemmas
+pub mod SearchLemmas

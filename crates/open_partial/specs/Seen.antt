@@ -52,13 +52,13 @@ after s (Close fd) a = record s { closes = suc s.closes; held = without fd s.hel
 
 -- the whole path is tried first
 pub record IsFirst (pieces : ℕ) (s : Seen) (n : ℕ) (whole : Bool) : Type 0 where
-  pub whole : whole ≡ true
+  pub is : whole ≡ true
   pub all : n ≡ pieces
   pub first : s.tries ≡ 0
 
 -- and then less
 pub record IsLess (pieces : ℕ) (s : Seen) (n : ℕ) (whole : Bool) : Type 0 where
-  pub part : whole ≡ false
+  pub is : whole ≡ false
   pub less : n < pieces
   pub later : 0 < s.tries
 
