@@ -39,12 +39,8 @@ fn laws_are_at_hand() {
     find_proc::the_kept_one_is_looked_at();
     find_proc::a_proc_is_handed_in();
     find_proc::a_proc_is_made();
-    ask_place::calls_are_few();
+    ask_place::calls_hold();
     ask_place::questions_are_few();
-    ask_place::the_copy_is_closed_once();
-    ask_place::what_is_there_is_told();
-    ask_place::what_is_told_was_found();
-    ask_place::why_it_fails();
     place_protocol::places_are_witnessed();
     place_protocol::places_stood();
     place_protocol::places_were_passed();
