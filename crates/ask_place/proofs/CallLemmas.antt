@@ -1,12 +1,12 @@
 -- What the demands of a question for a place come to.
-use Rattle.std.proofs.Common.{◌≡◌, ◌≢◌, ◌≤◌, ◌+◌, ℕ, Bool, true, false, not, ◌||◌, if◌then◌else◌, refl, sym, subst, ◌∙◌, arith}
+use Rattle.std.proofs.Common.{◌≡◌, ◌≢◌, ℕ, Bool, true, false, not, ◌||◌, if◌then◌else◌, refl}
 use Rattle.std.specs.Prelude.{◌==◌}
 use Rattle.std.proofs.lemmas.Bool.{eqb-true, eqb-false}
-use Rattle.system_calls.specs.Errors.{EAGAIN, ENOENT}
+use Rattle.system_calls.specs.Errors.{EAGAIN}
 use Rattle.dialogue.specs.Dialogue.{and_then, asking, ends}
 use Rattle.dialogue.proofs.HoldLemmas.{Goes, asks_then, both, over}
-use Rattle.ask_place.specs.Asking.{ask_place, behind_find, closing, copied, demands, looked, lost}
-use Rattle.ask_place.specs.Promises.{CallsHold, Ends, Seen, after, at_first, find_error, latest, watch}
+use Rattle.ask_place.specs.Asking.{ask_place, behind_find, closing, copied, demands, lost}
+use Rattle.ask_place.specs.Promises.{CallsHold, Ends, Seen, after, at_first, latest, watch}
 use Rattle.ask_place.specs.declared.asking.Answer.{Answer}
 use Rattle.ask_place.specs.declared.asking.Demand.TheVariants.{Look, Copy, Find, Dead, Close}
 
