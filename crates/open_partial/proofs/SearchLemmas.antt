@@ -227,7 +227,8 @@ halves_mid n s t next more =
       below = omega (arith, more);
       above = λ _. omega (arith, more);
       on = λ _. record {
-        room = halved n t.tries (gap s) (s.missing - middle s) next.room (omega (arith, more, fits)) (omega (arith, more))
+        room = halved n t.tries (gap s) (s.missing - middle s) next.room
+            (omega (arith, more, fits)) (omega (arith, more))
             (omega (arith, more));
         fits = fits;
         less = omega (arith, more);
