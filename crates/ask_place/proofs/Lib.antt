@@ -1,1 +1,1 @@
-pub mod HistoryLemmas
+pub mod CallLemmas

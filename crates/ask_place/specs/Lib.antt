@@ -1,4 +1,3 @@
 pub mod Asking
-pub mod History
 pub mod Promises
 pub mod Questions

@@ -1,56 +1,56 @@
--- What holds of every history.
-use Rattle.std.specs.Prelude.{ℕ, List, [], ◌∷◌, ◌==◌, Bool, false, ◌||◌, if◌then◌else◌}
-use Rattle.system_calls.specs.Errors.{ENOENT, EAGAIN}
-use Rattle.ask_place.specs.History.{is_directory_after, is_nameless_after, Exchange}
-use Rattle.ask_place.specs.declared.asking.TheConstants.{LOOK, COPY, FIND, DEAD, CLOSE, ENDS, FAILS}
+-- What holds of whole conversations.
+use Rattle.std.specs.Prelude.{◌≡◌, ℕ, ◌==◌, Bool, true, false, ◌||◌, if◌then◌else◌}
+use Rattle.system_calls.specs.Errors.{EAGAIN}
+use Rattle.dialogue.specs.Holds.{EachHolds, WatchOf}
+use Rattle.ask_place.specs.Asking.{ask_place, demands, lost}
+use Rattle.ask_place.specs.declared.asking.Answer.{Answer}
+use Rattle.ask_place.specs.declared.asking.Demand.{Demand}
+use Rattle.ask_place.specs.declared.asking.Demand.TheVariants.{Look, Copy, Find, Dead, Close}
 
--- ---- descriptors
+pub record Seen : Type 0 where
+  -- it is a directory, and it had no name left as it was looked at (inode(7))
+  pub directory : Bool
+  pub nameless : Bool
+  -- the copy is open
+  pub is_open : Bool
+  -- names were found
+  pub found : Bool
+  -- the last error that was met, or 0
+  pub why : ℕ
 
--- whether the copy is open
-abbrev pub open_by : Exchange → Bool → Bool
-open_by e was = if e.asked == COPY then e.gave.error == 0 else (if e.asked == CLOSE then false else was)
-
-abbrev pub is_open_after : List Exchange → Bool
-is_open_after [] = false
-is_open_after (e ∷ older) = open_by e (is_open_after older)
-
-abbrev pub needs_open : ℕ → Bool
-needs_open next = (next == FIND) || ((next == DEAD) || (next == CLOSE))
-
-abbrev pub is_over : ℕ → Bool
-is_over next = (next == ENDS) || (next == FAILS)
-
--- ---- what was found
-
--- names were found
-abbrev pub found_by : Exchange → Bool → Bool
-found_by e was = if e.asked == FIND then e.gave.error == 0 else was
-
-abbrev pub is_found_after : List Exchange → Bool
-is_found_after [] = false
-is_found_after (e ∷ older) = found_by e (is_found_after older)
-
--- ---- errors
-
-abbrev pub gone_error : Bool → ℕ
-gone_error gone = if gone then ENOENT else EAGAIN
+abbrev pub at_first : Seen
+at_first = record { directory = false; nameless = false; is_open = false; found = false; why = 0 }
 
 -- of what has no place, unless it is a directory: then it is asked about that
 abbrev pub find_error : ℕ → Bool → Bool → ℕ
 find_error error directory nameless =
-    if error == EAGAIN then (if directory then 0 else gone_error nameless) else error
-
-abbrev pub error_of : Exchange → Bool → Bool → ℕ
-error_of e directory nameless =
-    if (e.asked == LOOK) || (e.asked == COPY) then e.gave.error
-    else (if e.asked == FIND then find_error e.gave.error directory nameless
-    else (if e.asked == DEAD then gone_error (e.gave.yes || nameless) else 0))
+    if error == EAGAIN then (if directory then 0 else lost nameless) else error
 
 abbrev pub latest : ℕ → ℕ → ℕ
 latest error before = if error == 0 then before else error
 
--- the last one
-abbrev pub why_after : List Exchange → ℕ
-why_after [] = 0
-why_after (e ∷ older) =
-    latest (error_of e (is_directory_after older) (is_nameless_after older)) (why_after older)
+abbrev pub after : Seen → Demand → Answer → Seen
+after s Look a = record s { directory = a.yes; nameless = a.links == 0; why = latest a.error s.why }
+after s Copy a = record s { is_open = a.error == 0; why = latest a.error s.why }
+after s Find a =
+    record s { found = a.error == 0; why = latest (find_error a.error s.directory s.nameless) s.why }
+after s Dead a = record s { why = latest (lost (a.yes || s.nameless)) s.why }
+after s Close a = record s { is_open = false }
+
+-- the copy is looked at and closed only while it is open
+abbrev pub needs_open : Demand → Bool
+needs_open Look = false
+needs_open Copy = false
+needs_open q = true
+
+abbrev pub watch : WatchOf demands Seen
+watch = record { by = λ s x. after s x.asked x.answer; May = λ s q. s.is_open ≡ needs_open q }
+
+-- It comes to the last error, and where there is none, the names were found. The copy is closed.
+pub record Ends (s : Seen) (error : ℕ) : Type 0 where
+  pub closed : s.is_open ≡ false
+  pub why : error ≡ s.why
+  pub found : error ≡ 0 → s.found ≡ true
+
+abbrev pub CallsHold : Type 0
+CallsHold = EachHolds watch 5 at_first ask_place Ends

@@ -9,9 +9,6 @@ mod asking;
 mod laws;
 mod questions;
 
-pub use asking::{Answer, Asking, CLOSE, COPY, DEAD, ENDS, FAILS, FIND, LOOK, begin, next};
-pub use laws::{
-    calls_are_few, questions_are_few, the_copy_is_closed_once, what_is_there_is_told,
-    what_is_told_was_found, why_it_fails,
-};
+pub use asking::{Answer, Asked, Demand, ask_place};
+pub use laws::{calls_hold, questions_are_few};
 pub use questions::{Question, next_question};

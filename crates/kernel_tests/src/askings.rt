@@ -1,27 +1,40 @@
 //! Which system call comes next as a place is asked for, by answers that the kernel gives; and how often it is.
-use crate::rows::{Room, all_go, name_of, number, word_of};
-use ask_place::{Answer, Asking, ENDS, begin, next, next_question};
+use crate::rows::{Room, all_go, name_of, number};
+use ask_place::{Answer, Demand, next_question};
 use std::alloc::{AllocError, Global};
 
-const GAVE: Answer = Answer {
-    links: 0,
-    error: 0,
-    yes: false,
-};
+// What a conversation's demands gave.
+#[derive(Drop)]
+struct Asking {
+    answers: [Answer; 5],
+    count: usize,
+}
 
 impl Room for Asking {
     fn begun(_: Global, _: &'static str) -> Asking {
-        begin()
+        Asking {
+            answers: [Answer::default(); 5],
+            count: 0,
+        }
     }
 
     fn due(&self, alloc: Global) -> Result<String, AllocError> {
-        let word = word_of(self.next, "look copy find dead close ends fails");
-        format!(in alloc; "{word} {}", name_of(self.error))
+        let mut left = &self.answers[..self.count.min(5)];
+        let word = match ask_place::ask_place(&mut left) {
+            Ok(0) => "ends",
+            Ok(error) => return format!(in alloc; "fails {}", name_of(error)),
+            Err(Demand::Look) => "look",
+            Err(Demand::Copy) => "copy",
+            Err(Demand::Find) => "find",
+            Err(Demand::Dead) => "dead",
+            Err(Demand::Close) => "close",
+        };
+        format!(in alloc; "{word}")
     }
 
     // An error's name; so many links of a `file` or a `directory`; or whether it is `dead` or `alive`.
     fn take(&mut self, gave: &'static str) -> Option<()> {
-        let mut answer = GAVE;
+        let mut answer = Answer::default();
         match gave.split_once(' ') {
             Some((kind, links)) => {
                 answer.links = links.parse().ok()?;
@@ -30,29 +43,25 @@ impl Room for Asking {
             None if gave == "dead" || gave == "alive" => answer.yes = gave == "dead",
             None => answer.error = number(gave)?,
         }
-        *self = next(*self, &answer);
+        *self.answers.get_mut(self.count)? = answer;
+        self.count += 1;
         Some(())
-    }
-
-    // Where nothing comes any more, nothing changes.
-    fn is_right(&mut self) -> bool {
-        self.next < ENDS || next(*self, &GAVE) == *self
     }
 }
 
 const ASKINGS: &str = "\
 # a place that is found is told
-look ok = file 1; copy ok = ok; find ok = ok; close ok = EIO; ends ok
+look = file 1; copy = ok; find = ok; close = EIO; ends
 # what has no place was removed or moved
-look ok = file 1; copy ok = ok; find ok = EAGAIN; close EAGAIN = ok; fails EAGAIN
-look ok = file 0; copy ok = ok; find ok = EAGAIN; close ENOENT
-look ok = directory 2; copy ok = ok; find ok = EAGAIN; dead ok = dead; close ENOENT
-look ok = directory 2; copy ok = ok; find ok = EAGAIN; dead ok = alive; close EAGAIN
-look ok = directory 0; copy ok = ok; find ok = EAGAIN; dead ok = alive; close ENOENT
+look = file 1; copy = ok; find = EAGAIN; close = ok; fails EAGAIN
+look = file 0; copy = ok; find = EAGAIN; close = ok; fails ENOENT
+look = directory 2; copy = ok; find = EAGAIN; dead = dead; close = ok; fails ENOENT
+look = directory 2; copy = ok; find = EAGAIN; dead = alive; close = ok; fails EAGAIN
+look = directory 0; copy = ok; find = EAGAIN; dead = alive; close = ok; fails ENOENT
 # each other error is told as it is
-look ok = EBADF; fails EBADF
-look ok = file 1; copy ok = EMFILE; fails EMFILE
-look ok = directory 0; copy ok = ok; find ok = EIO; close EIO = ok; fails EIO";
+look = EBADF; fails EBADF
+look = file 1; copy = EMFILE; fails EMFILE
+look = directory 0; copy = ok; find = EIO; close = ok; fails EIO";
 
 #[test]
 fn a_place_is_asked_for(rt: HostRuntime) -> Result<(), AllocError> {

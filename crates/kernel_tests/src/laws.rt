@@ -12,12 +12,7 @@ fn laws_are_at_hand() {
     open_or_make::calls_are_few();
     make_through_links::calls_hold();
     make_through_links::links_are_followed_in_turn();
-    open_partial::what_is_given_is_there();
-    open_partial::the_whole_path_is_tried_first();
-    open_partial::parts_are_opened_as_directories();
-    open_partial::each_descriptor_is_closed_once_or_given();
-    open_partial::why_it_fails();
-    open_partial::tries_are_few();
+    open_partial::tries_hold();
     remove_by_calls::places_are_kept_and_closed();
     remove_by_calls::the_end_is_at_the_root();
     remove_by_calls::why_it_fails();
@@ -44,12 +39,8 @@ fn laws_are_at_hand() {
     find_proc::the_kept_one_is_looked_at();
     find_proc::a_proc_is_handed_in();
     find_proc::a_proc_is_made();
-    ask_place::calls_are_few();
+    ask_place::calls_hold();
     ask_place::questions_are_few();
-    ask_place::the_copy_is_closed_once();
-    ask_place::what_is_there_is_told();
-    ask_place::what_is_told_was_found();
-    ask_place::why_it_fails();
     place_protocol::places_are_witnessed();
     place_protocol::places_stood();
     place_protocol::places_were_passed();

@@ -1,6 +1,6 @@
 //! How much of a path is tried next, by what tries before gave.
-use crate::rows::{Room, all_go, name_of, number, word_of};
-use open_partial::{ENDS, Search, TRY, begin, beginning, next, trial_of};
+use crate::rows::{Room, all_go, name_of, number};
+use open_partial::{Asked, Came, Outcome, Question, Search, a_try, begin, beginning, trial_of};
 use std::alloc::{AllocError, Global};
 
 const ENOENT: u32 = 2;
@@ -9,7 +9,28 @@ const ENOENT: u32 = 2;
 struct Path {
     text: &'static str,
     search: Search,
+    // What this try's questions gave.
+    outcomes: [Outcome; 2],
+    heard: usize,
     follows: bool,
+}
+
+impl Path {
+    fn now(&self) -> Asked<Came> {
+        let mut left = &self.outcomes[..self.heard.min(2)];
+        a_try(&mut left, &self.search)
+    }
+
+    // Takes an answer, and begins the next try behind this one's end.
+    fn hear(&mut self, error: u32, descriptor: u32) -> Option<()> {
+        *self.outcomes.get_mut(self.heard)? = Outcome { error, descriptor };
+        self.heard += 1;
+        if let Ok(Came::Again(next)) = self.now() {
+            self.search = next;
+            self.heard = 0;
+        }
+        Some(())
+    }
 }
 
 impl Room for Path {
@@ -20,41 +41,34 @@ impl Room for Path {
         Path {
             text,
             search,
+            outcomes: [Outcome::default(); 2],
+            heard: 0,
             follows,
         }
     }
 
     // Of a try so many pieces and bytes, the operation, and whether it must be a directory, maybe `.`.
     fn due(&self, alloc: Global) -> Result<String, AllocError> {
-        match word_of(self.search.next, "try close ends fails") {
-            "close" => format!(in alloc; "close {}", self.search.about),
-            "ends" => format!(in alloc; "ends {} {}", self.search.there, self.search.descriptor),
-            "fails" => format!(in alloc; "fails {}", name_of(self.search.error)),
-            word => {
-                let trial = trial_of(&self.search, self.text.as_bytes(), self.follows);
-                let (tried, length, op) = (self.search.tried, trial.length, trial.op);
+        match self.now() {
+            Err(Question::Close(fd)) => format!(in alloc; "close {fd}"),
+            Ok(Came::Found(there, fd)) => format!(in alloc; "ends {there} {fd}"),
+            Ok(Came::Failed(error)) => format!(in alloc; "fails {}", name_of(error)),
+            Ok(Came::Again(_)) => format!(in alloc; "again"),
+            Err(Question::Try(tried, whole)) => {
+                let trial = trial_of(tried, whole, self.text.as_bytes(), self.follows);
                 let directory = if trial.directory { " directory" } else { "" };
                 let dot = if trial.dot { " dot" } else { "" };
-                format!(in alloc;
-                    "{word} {tried} {} {}{directory}{dot}",
-                    trial.length, trial.op
-                )
+                format!(in alloc; "try {tried} {} {}{directory}{dot}", trial.length, trial.op)
             }
         }
     }
 
     // A descriptor, or an error's name.
     fn take(&mut self, gave: &'static str) -> Option<()> {
-        self.search = match gave.split_once(' ') {
-            Some((_, descriptor)) => next(self.search, 0, number(descriptor)?),
-            None => next(self.search, number(gave)?, 0),
-        };
-        Some(())
-    }
-
-    // Where nothing comes any more, nothing changes.
-    fn is_right(&mut self) -> bool {
-        self.search.next < ENDS || next(self.search, 13, 8) == self.search
+        match gave.split_once(' ') {
+            Some((_, descriptor)) => self.hear(0, number(descriptor)?),
+            None => self.hear(number(gave)?, 0),
+        }
     }
 }
 
@@ -108,15 +122,22 @@ fn a_beginning_has_the_slashes_behind_it(rt: HostRuntime) -> Result<(), AllocErr
 #[test]
 fn thirteen_tries_are_the_most(rt: HostRuntime) -> Result<(), AllocError> {
     let text = [[b'a', b'/']; 2048];
-    let mut search = begin(text.as_flattened());
+    let search = begin(text.as_flattened());
+    let mut path = Path {
+        text: "",
+        search,
+        outcomes: [Outcome::default(); 2],
+        heard: 0,
+        follows: false,
+    };
     let mut count: u32 = 0;
     for _ in 0..20 {
-        if search.next == TRY {
-            let error = if search.tried == 0 { 0 } else { ENOENT };
+        if let Err(Question::Try(tried, _)) = path.now() {
+            let error = if tried == 0 { 0 } else { ENOENT };
             count = count.wrapping_add(1);
-            search = next(search, error, 7);
+            assert!(rt; path.hear(error, 7).is_some());
         }
     }
-    assert!(rt; count == 13 && search.next == ENDS && search.there == 0 && search.descriptor == 7);
+    assert!(rt; count == 13 && path.now() == Ok(Came::Found(0, 7)));
     Ok(())
 }

@@ -6,9 +6,9 @@ use crate::request::*;
 use dialogue::Asked;
 use kernel_walks::split;
 use make_through_links::{Came, Outcome, Question};
-use open_partial::{CLOSE, ENDS, Search, TRY, beginning, trial_of};
+use open_partial::{Came as Part, Outcome as Tried, Question as Due, a_try, beginning, trial_of};
 
-// More than the tries and closes of one path.
+// More than the tries and closes of one path, and their ends.
 const SEARCHES: u32 = 64;
 
 /// What a part of a call of several came to.
@@ -45,17 +45,33 @@ fn on_part(request: &Request, what: u8, mode: u32) -> Request {
     }
 }
 
+// What a try gave, in the words of `open_partial`.
+fn tried_of(reply: &Reply) -> Tried {
+    let (found, error, _) = reply.outcome();
+    let descriptor = (found % 0x1_0000_0000) as u32;
+    Tried { error, descriptor }
+}
+
+fn front_of(outcomes: &[Tried], count: usize) -> &[Tried] {
+    if count <= outcomes.len() {
+        &outcomes[..count]
+    } else {
+        outcomes
+    }
+}
+
 impl Progress<'_> {
     // ---- as much of a part as is there
 
     fn open_pieces<'n>(
         &mut self,
         request: &Request,
-        search: &Search,
+        pieces: usize,
+        whole: bool,
         texts: Texts<'n>,
     ) -> Said<'n> {
         let path = texts.first;
-        let now = trial_of(search, path.text(), true);
+        let now = trial_of(pieces, whole, path.text(), true);
         let asked = Request {
             directory: now.directory,
             ..on_part(request, now.op, 0)
@@ -73,28 +89,35 @@ impl Progress<'_> {
         let text = texts.first.text();
         let mut search = open_partial::begin(text);
         let mut reply = value(0);
+        let mut outcomes = [Tried::default(); 2];
+        let mut heard = 0;
         for _ in 0..SEARCHES {
-            match search.next {
-                TRY => {
-                    let tried = self.open_pieces(request, &search, texts)?;
-                    let (found, error, _) = tried.outcome();
-                    if error != 0 {
-                        reply = tried;
-                    }
-                    let fd = (found % 0x1_0000_0000) as u32;
-                    search = open_partial::next(search, error, fd);
+            let mut left = front_of(&outcomes, heard);
+            let tried = match a_try(&mut left, &search) {
+                Err(Due::Try(pieces, whole)) => {
+                    reply = self.open_pieces(request, pieces, whole, texts)?;
+                    tried_of(&reply)
                 }
-                CLOSE => {
-                    self.close(search.about)?;
-                    search = open_partial::next(search, 0, 0);
+                Err(Due::Close(fd)) => {
+                    self.close(fd)?;
+                    Tried::default()
                 }
-                _ => break,
+                Ok(Part::Again(next)) => {
+                    search = next;
+                    heard = 0;
+                    continue;
+                }
+                Ok(Part::Found(there, fd)) => {
+                    return Ok(Gave::Outcome(value(fd), beginning(text, there), false));
+                }
+                Ok(Part::Failed(_)) => break,
+            };
+            if heard < outcomes.len() {
+                outcomes[heard] = tried;
+                heard += 1;
             }
         }
-        if search.next == ENDS {
-            reply = value(search.descriptor);
-        }
-        Ok(Gave::Outcome(reply, beginning(text, search.there), false))
+        Ok(Gave::Outcome(reply, 0, false))
     }
 
     // ---- the calls

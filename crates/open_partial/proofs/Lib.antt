@@ -1,5 +1,3 @@
 pub mod BeginningLemmas
 pub mod FewLemmas
 pub mod SearchLemmas
-pub mod TrialLemmas
-pub mod Turns

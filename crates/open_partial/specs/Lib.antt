@@ -1,4 +1,5 @@
 pub mod Beginnings
-pub mod History
 pub mod Promises
+pub mod Search
+pub mod Seen
 pub mod Trials

@@ -1,6 +1,5 @@
 -- What a try opens of a path, and how (path_resolution(7)).
-use Rattle.std.specs.Prelude.{ℕ, ◌==◌, Bool, not, ◌&&◌, if◌then◌else◌}
-use Rattle.open_partial.specs.declared.search.Search.{Search}
+use Rattle.std.specs.Prelude.{ℕ, ◌==◌, Bool, true, false, if◌then◌else◌}
 use Rattle.open_partial.specs.declared.trials.Trial.{Trial}
 
 -- the operations, as linux_call numbers them
@@ -10,16 +9,15 @@ RESOLVE = 1
 abbrev pub RESOLVE_NOFOLLOW : ℕ
 RESOLVE_NOFOLLOW = 2
 
-abbrev pub is_whole : Search → Bool
-is_whole s = s.tried == s.pieces
-
--- So many bytes. What comes before another piece is a directory, to which a link may lead, too. An empty path means
--- nothing; `.` means the directory where a path begins.
-abbrev pub trial_of : Search → Bool → ℕ → Trial
-trial_of s follows bytes =
+-- So many bytes. The whole path is opened as what it means, with its link at the end or without. What comes before
+-- another piece is a directory, to which a link may lead, too. An empty path means nothing; `.` means the directory
+-- where a path begins.
+abbrev pub trial_of : Bool → Bool → ℕ → Trial
+trial_of true follows bytes =
     record {
       length = bytes;
-      op = if is_whole s && not follows then RESOLVE_NOFOLLOW else RESOLVE;
-      directory = not (is_whole s);
-      dot = not (is_whole s) && (bytes == 0);
+      op = if follows then RESOLVE else RESOLVE_NOFOLLOW;
+      directory = false;
+      dot = false;
     }
+trial_of false follows bytes = record { length = bytes; op = RESOLVE; directory = true; dot = bytes == 0 }

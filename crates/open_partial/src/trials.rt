@@ -4,7 +4,6 @@ ghost use Rattle.open_partial.specs.Beginnings.{IsBeginning};
 ghost use Rattle.open_partial.specs.Trials.{trial_of};
 
 use crate::beginnings::beginning;
-use crate::search::Search;
 
 // The operations of a call have these numbers.
 const RESOLVE: u8 = 1;
@@ -25,16 +24,15 @@ pub struct Trial {
     pub dot: bool,
 }
 
-/// What a try opens of this path: so many of its first pieces as the search says. The whole path is opened as what it
-/// means; its link at the end is followed if it `follows`. Less is a directory on the way to what comes behind, and
-/// links are followed there; no piece and no slash is the directory where the path begins. Takes no memory.
-pub fn trial_of(search: &Search, text: &[u8], follows: bool) -> Trial
-    ensures beginning { IsBeginning text.now search.now.tried result.length }
+/// What a try opens of this path: so many of its first pieces. The whole path is opened as what it means; its link at
+/// the end is followed if it `follows`. Less is a directory on the way to what comes behind, and links are followed
+/// there; no piece and no slash is the directory where the path begins. Takes no memory.
+pub fn trial_of(pieces: usize, whole: bool, text: &[u8], follows: bool) -> Trial
+    ensures beginning { IsBeginning text.now pieces result.length }
     ensures within { result.length ≤ length text.now }
-    ensures exact { result ≡ trial_of search.now follows result.length }
+    ensures exact { result ≡ trial_of whole follows result.length }
 {
-    let whole = search.tried == search.pieces;
-    let length = beginning(text, search.tried);
+    let length = beginning(text, pieces);
     Trial {
         length,
         op: if whole && !follows {

@@ -3,7 +3,7 @@ use crate::by_steps::search::{Found, look_first};
 use crate::by_steps::slots::{ROOT, Slot};
 use crate::by_steps::state::{Ended, Part, Stage, Steps};
 use crate::by_steps::there::is_dead;
-use ask_place::{Answer, CLOSE, COPY, DEAD, ENDS, FAILS, FIND, LOOK};
+use ask_place::{Answer, Demand};
 use dialogue::{Answer as Gave, Asked, Question, ask};
 use find_proc::Known;
 use linux_steps::look_error;
@@ -16,11 +16,45 @@ const DIRECTORY: u8 = 1;
 // In place of a descriptor.
 const NO_DESCRIPTOR: u32 = 0xffff_ffff;
 
+// What a question for a place asks at most.
+const DEMANDS: usize = 5;
+
+/// What was answered of the place that a program asks for.
+#[derive(Clone, Copy)]
+pub(crate) struct Asking {
+    answers: [Answer; DEMANDS],
+    count: usize,
+}
+
+impl Asking {
+    pub(crate) fn begin() -> Asking {
+        Asking {
+            answers: [Answer::default(); DEMANDS],
+            count: 0,
+        }
+    }
+
+    // What the answers come to, or the demand that is due.
+    fn now(&self) -> ask_place::Asked<u32> {
+        let mut left: &[Answer] = &self.answers;
+        if self.count <= DEMANDS {
+            left = &self.answers[..self.count];
+        }
+        ask_place::ask_place(&mut left)
+    }
+
+    fn hear(&mut self, answer: Answer) {
+        if self.count < DEMANDS {
+            self.answers[self.count] = answer;
+            self.count += 1;
+        }
+    }
+}
+
 fn plain(error: u32) -> Answer {
     Answer {
-        links: 0,
         error,
-        yes: false,
+        ..Answer::default()
     }
 }
 
@@ -93,7 +127,7 @@ impl Steps {
         if self.course.next == call_course::Thing::Place {
             self.object = self.search.held();
             self.stage = Stage::Asking;
-            self.asking = ask_place::next(self.asking, &plain(self.search.error().unwrap_or(0)));
+            self.asking.hear(plain(self.search.error().unwrap_or(0)));
         } else {
             self.place_found(alloc);
         }
@@ -135,17 +169,17 @@ impl Steps {
         answers: &mut &[Gave],
     ) -> Asked<'s, Part> {
         let copy = self.object.fd.unwrap_or(NO_DESCRIPTOR);
-        match self.asking.next {
-            LOOK => self.look_at_object(answers),
-            COPY => {
+        match self.asking.now() {
+            Err(Demand::Look) => self.look_at_object(answers),
+            Err(Demand::Copy) => {
                 let copied = ask(answers, Question::CopyAbove(self.request.fd))?;
                 Ok(Part::Object(plain(copied.error), copied.value))
             }
-            DEAD => {
+            Err(Demand::Dead) => {
                 let yes = is_dead(answers, copy)?;
                 Ok(Part::Object(Answer { yes, ..plain(0) }, 0))
             }
-            CLOSE => {
+            Err(Demand::Close) => {
                 let closed = ask(answers, Question::Close(copy))?;
                 Ok(Part::Object(plain(closed.error), 0))
             }
@@ -160,28 +194,30 @@ impl Steps {
         number: u32,
         read: &mut [u8],
     ) -> Option<Ended> {
-        match self.asking.next {
-            LOOK => self.object.kind = (number & 0xff) as u8,
-            COPY => self.object.fd = Some(number),
-            FIND => {
+        match self.asking.now() {
+            Err(Demand::Look) => self.object.kind = (number & 0xff) as u8,
+            Err(Demand::Copy) => self.object.fd = Some(number),
+            Err(Demand::Find) => {
                 self.search.begin(self.root, self.object);
                 self.stage = Stage::Place;
                 return None;
             }
             _ => (),
         }
-        self.asking = ask_place::next(self.asking, &answer);
-        let (length, error) = (self.search.names().len() as u64, self.asking.error);
-        match self.asking.next {
-            ENDS => self.placed(0, length, read),
-            FAILS => self.placed(error, 0, read),
-            _ => None,
+        self.asking.hear(answer);
+        match self.asking.now() {
+            Ok(0) => {
+                let length = self.search.names().len() as u64;
+                self.placed(0, length, read)
+            }
+            Ok(error) => self.placed(error, 0, read),
+            Err(_) => None,
         }
     }
 
     /// The copy of an object isn't open yet.
     pub(crate) fn begin_to_ask(&mut self) {
-        self.asking = ask_place::begin();
+        self.asking = Asking::begin();
         self.object = Slot::new(None, 0, place_protocol::BY_NAME);
         self.stage = Stage::Asking;
     }

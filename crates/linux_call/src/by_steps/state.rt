@@ -2,6 +2,7 @@
 use crate::by_steps::attempt::Attempt;
 use crate::by_steps::listing::Names;
 use crate::by_steps::name::Name;
+use crate::by_steps::place::Asking;
 use crate::by_steps::removal::Removing;
 use crate::by_steps::search::{Found, Search};
 use crate::by_steps::slots::Slot;
@@ -9,7 +10,6 @@ use crate::by_steps::talk::Talk;
 use crate::by_steps::tries::Course;
 use crate::request::{FAILED, MKDIR_ALL, PLACE, REMOVE_ALL, Request};
 use crate::walk::{NO_RETRY, has};
-use ask_place::Asking;
 use call_course::Facts;
 use dialogue::{Answer, Asked};
 use find_proc::{Known, Proc, has_floor};
@@ -184,7 +184,7 @@ impl Steps {
             attempt: Attempt::new(alloc),
             talk: Talk::failed(alloc, Errno::NoMemory),
             search: Search::new(alloc),
-            asking: ask_place::begin(),
+            asking: Asking::begin(),
             object: Slot::new(None, 0, BY_NAME),
             listing: Names::new(alloc),
             removing,
