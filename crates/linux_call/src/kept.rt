@@ -8,8 +8,8 @@ mod parts;
 use crate::by_steps::Steps;
 use crate::request::{Closes, NO_CLOSES};
 use find_proc::{File, Kept as Proc, Known};
-use make_through_links::{Making, Outcome};
-use open_or_make::Course;
+use make_through_links::Making;
+use open_or_make::{Course, Outcome};
 use parts::Parts;
 use std::alloc::Global;
 use std::marker::Model;
@@ -126,13 +126,11 @@ const NO_OPENING: Opening = Opening {
 
 const NO_COURSE: Course = Course {
     length: 0,
-    pause: 0,
     links: 0,
     between: 0,
-    next: 0,
     error: 0,
-    step: 0,
-    once: false,
+    finds: false,
+    makes: false,
     follows: false,
     may_retry: false,
     again: false,

@@ -1,4 +1,5 @@
-pub mod CourseLemmas
-pub mod HistoryLemmas
+pub mod CallLemmas
+pub mod DirectoryLemmas
+pub mod LeadLemmas
+pub mod PassLemmas
 pub mod PathLemmas
-pub mod PromiseLemmas

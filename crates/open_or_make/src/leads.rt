@@ -1,5 +1,5 @@
 //! Where a link's text leads.
-ghost use Rattle.std.specs.Prelude.{◌≡◌, ◌+◌, ◌≤◌, ◌++◌, length, take, drop};
+ghost use Rattle.std.specs.Prelude.{◌≡◌, ◌≤◌, length};
 ghost use Rattle.path_text.specs.Text.{begins_with_slash};
 ghost use Rattle.open_or_make.specs.Leads.{directory_length, kept_length};
 
@@ -27,12 +27,4 @@ pub(crate) fn kept_length(path: &[u8], text: &[u8]) -> usize
     } else {
         directory_length(path)
     }
-}
-
-// Lays a text there.
-pub(crate) fn lay(text: &[u8], at: usize, room: &mut [u8])
-    requires { at + length text.now ≤ length room.old }
-    ensures { room.new ≡ take at room.old ++ (text.now ++ drop (at + length text.now) room.old) }
-{
-    room[at..at + text.len()].copy_from_slice(text);
 }
