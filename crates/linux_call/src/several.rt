@@ -105,15 +105,6 @@ fn text_read<'r>(state: &State, read: &'r [u8]) -> &'r [u8] {
     }
 }
 
-/// How many bytes the path of this pass has.
-pub(crate) fn path_length(request: &Request, state: &State) -> usize {
-    match request.what {
-        OPEN_AT => state.course.length,
-        MAKE_DIRECTORIES | MAKE_FILE => state.making.length,
-        _ => request.length as usize,
-    }
-}
-
 // Another pass over the path begins, into which the text is laid of the link that was read.
 fn next_pass(
     state: &mut State,

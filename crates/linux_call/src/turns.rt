@@ -11,7 +11,7 @@ use crate::kept::{Kept, State};
 use crate::path::{PathOf, Texts};
 use crate::progress::Progress;
 use crate::request::*;
-use crate::several::{Part, Then, begin, keep_gave, next_call, path_length};
+use crate::several::{Part, Then, begin, keep_gave, next_call};
 use crate::walk::{Below, EXACT, NOFOLLOW, O_PATH, has};
 use crate::{open_at, steps};
 use dialogue::{Answer, Question};
@@ -162,9 +162,14 @@ fn texts_of<'n>(
     read: &'n [u8],
     number: &'n [u8],
 ) -> Texts<'n> {
+    let length = match request.what {
+        OPEN_AT => state.course.length,
+        MAKE_DIRECTORIES | MAKE_FILE => state.making.length,
+        _ => request.length as usize,
+    };
     let second = PathOf::new(second);
     Texts {
-        first: PathOf::new(first).front(path_length(request, state)),
+        first: PathOf::new(first).front(length),
         second,
         target: if is_of_proc(request) {
             number
