@@ -124,18 +124,6 @@ const NO_OPENING: Opening = Opening {
     made_flags: 0,
 };
 
-const NO_COURSE: Course = Course {
-    length: 0,
-    links: 0,
-    between: 0,
-    error: 0,
-    finds: false,
-    makes: false,
-    follows: false,
-    may_retry: false,
-    again: false,
-};
-
 const NO_MAKING: Making = Making {
     length: 0,
     above: 0,
@@ -185,7 +173,7 @@ impl State {
             steps: Kept::empty(alloc),
             given: 0,
             opening: NO_OPENING,
-            course: NO_COURSE,
+            course: open_or_make::begin(0, &NO_OPENING, true, false),
             making: NO_MAKING,
             outcomes: [NO_OUTCOME; 7],
             heard: 0,

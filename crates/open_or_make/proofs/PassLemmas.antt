@@ -1,6 +1,7 @@
 -- What one pass over the path asks, and what it comes to.
 use Rattle.std.proofs.Common.{◌≡◌, ◌≢◌, ◌≤◌, ◌<◌, ℕ, ◌+◌, ◌-◌, ◌*◌, ◌^◌, List, [], ◌∷◌, Bool, true, false, ◌||◌, if◌then◌else◌, refl, sym, ap, subst, ◌∙◌, arith, nat_lt, min, length}
 use Rattle.std.specs.Prelude.{◌==◌, not, ◌&&◌, suc, Some, None}
+use Rattle.std.proofs.Math.Nat.{min-eq_left}
 use Rattle.std.proofs.lemmas.Bool.{eqb-true, false≢true, ltb-true, ltb-false}
 use Rattle.path_text.specs.Text.{is_empty}
 use Rattle.path_text.specs.declared.path.TheConstants.{TEXT_MAX}
@@ -74,7 +75,7 @@ few_calls w s h left most =
     omega (arith, before, links, calls, left, most)
 
 once_more : (n : ℕ) → n < TRIES → min (n + 1) (2 ^ 32 - 1) ≡ n + 1
-once_more n few = omega (arith, few)
+once_more n few = min-eq_left (omega (arith, few))
 
 -- what is missing is made
 abbrev Twice : Seen → Type 0
@@ -200,6 +201,10 @@ reads_goes w s h left step leave twice =
     (λ a. over (says_so w s ReadLink (link_read s.course s.path (text_for w s.course) a)
     (link_fits w s a h left (omega (arith, step)) leave twice)))
 
+few_steps : (b : Bool) (n : ℕ) → n ≡ (if b then 1 else 0) → n ≤ 2
+few_steps true n is = omega (arith, is)
+few_steps false n is = omega (arith, is)
+
 creates_goes : (w : Wish) (s : Seen) → GoesOn w s → s.course.between < TRIES
     → s.step ≡ (if s.course.finds then 1 else 0) → (s.course.finds ≡ true → s.course.makes ≡ true)
     → Goes (watch w) 2 s (create s.course s.path (text_for w s.course)) (Comes w s)
@@ -209,11 +214,7 @@ creates_goes w s h left step makes =
     (λ a. by_case a (not (a.error == EEXIST)) s.course.finds s.course.follows refl refl)
   where
     few : s.step ≤ 2
-    few = by (s.course.finds) step
-      where
-        by : (b : Bool) → s.step ≡ (if b then 1 else 0) → s.step ≤ 2
-        by true is = omega (arith, is)
-        by false is = omega (arith, is)
+    few = few_steps s.course.finds s.step step
 
     twice : s.course.finds ≡ true → Twice s
     twice is = ap (λ b. b && s.course.makes) is ∙ makes is

@@ -1,6 +1,6 @@
 -- One pass over the path as a file is opened, or made, also only where it is missing (open(2), O_CREAT and O_EXCL):
 -- which call comes next, by what the calls before gave, and how the pass ends.
-use Rattle.std.specs.Prelude.{ℕ, ◌+◌, ◌-◌, ◌^◌, List, ◌==◌, Bool, false, not, ◌&&◌, ◌||◌, if◌then◌else◌, nat_lt, min, length}
+use Rattle.std.specs.Prelude.{ℕ, ◌+◌, ◌-◌, ◌^◌, List, ◌==◌, Bool, true, false, not, ◌&&◌, ◌||◌, if◌then◌else◌, nat_lt, min, length}
 use Rattle.path_text.specs.Text.{is_empty}
 use Rattle.path_text.specs.declared.path.TheConstants.{TEXT_MAX}
 use Rattle.system_calls.specs.Errors.{ENOENT, EAGAIN, EEXIST, EINVAL, ENAMETOOLONG, ELOOP}
