@@ -88,7 +88,7 @@ refused w bad =
         subst (λ x. Goes (watch w) 0 t (go_on w (passes w 72) (begun w) w.path x) (Ends w)) (sym is.1)
         (over (record {
           is = tt;
-          said = inr (none, (λ zero. false≢true (sym bad ∙ ap (λ n. n == 0) zero)), refl);
+          said = inr (none, (λ good. false≢true (sym bad ∙ ap (λ n. n == 0) good)), refl);
           few = omega (arith, none);
         }))
 
@@ -103,7 +103,7 @@ calls-hold w = by_case (w.opening.error == 0) refl
 -- ---- where one call is all
 
 both_true : (a b : Bool) → a ≡ true → (a && b) ≡ false → b ≡ false
-both_true a b is no = sym (ap (λ x. x && b) is) ∙ no
+both_true a b is isnt = sym (ap (λ x. x && b) is) ∙ isnt
 
 no_calls : (w : Wish) (s : Seen) → GoesOn w s → (s.course.finds && s.course.makes) ≡ false → s.step ≡ 0 → s.calls ≡ 0
 no_calls w s h once step =
@@ -118,29 +118,29 @@ one-call w s q a once may = by_call q may
     alone : GoesOn w s → (s.course.finds && s.course.makes) ≡ false
     alone h = ap (λ b. b && s.course.makes) h.way.finds ∙ ap (λ b. w.opening.finds && b) h.way.makes ∙ once
 
-    found : (other makes zero : Bool) → makes ≡ false
-        → (told w s Find (if other || not makes then Some (if zero then Given a.descriptor else Failed a.error)
+    found : (other makes good : Bool) → makes ≡ false
+        → (told w s Find (if other || not makes then Some (if good then Given a.descriptor else Failed a.error)
         else (if is_last s.course then Some (Fails EAGAIN STEP_MAKE_FILE) else None))).came
-        ≡ Some (if zero then Given a.descriptor else Failed a.error)
+        ≡ Some (if good then Given a.descriptor else Failed a.error)
     found true makes true is = refl
     found true makes false is = refl
     found false false true is = refl
     found false false false is = refl
-    found false true zero is = absurd (false≢true (sym is))
+    found false true good is = absurd (false≢true (sym is))
 
-    made : (other finds zero : Bool) → finds ≡ false
-        → (told w s Create (if other || not finds then Some (if zero then Given a.descriptor else Failed a.error)
+    made : (other finds good : Bool) → finds ≡ false
+        → (told w s Create (if other || not finds then Some (if good then Given a.descriptor else Failed a.error)
         else (if not s.course.follows then Some (between s.course) else None))).came
-        ≡ Some (if zero then Given a.descriptor else Failed a.error)
+        ≡ Some (if good then Given a.descriptor else Failed a.error)
     made true finds true is = refl
     made true finds false is = refl
     made false false true is = refl
     made false false false is = refl
-    made false true zero is = absurd (false≢true (sym is))
+    made false true good is = absurd (false≢true (sym is))
 
     isnt_found : (finds makes : Bool) → (finds ≡ true → makes ≡ true) → (finds && makes) ≡ false → finds ≡ false
-    isnt_found false makes may no = refl
-    isnt_found true makes may no = absurd (false≢true (sym no ∙ may refl))
+    isnt_found false makes may isnt = refl
+    isnt_found true makes may isnt = absurd (false≢true (sym isnt ∙ may refl))
 
     by_call : (q : Question) → May w s q → (s.calls ≡ 0) × ((after w s q a).came ≡ Some (ended a))
     by_call Find may = (
@@ -149,10 +149,10 @@ one-call w s q a once may = by_call q may
       (both_true s.course.finds s.course.makes may.1.1 (alone may.0)),
     )
     by_call Create may =
-        let no = isnt_found s.course.finds s.course.makes may.1.1 (alone may.0) in
+        let isnt = isnt_found s.course.finds s.course.makes may.1.1 (alone may.0) in
         (
-          no_calls w s may.0 (alone may.0) (may.1.0 ∙ ap (λ b. if b then 1 else 0) no),
-          made (not (a.error == EEXIST)) s.course.finds (a.error == 0) no,
+          no_calls w s may.0 (alone may.0) (may.1.0 ∙ ap (λ b. if b then 1 else 0) isnt),
+          made (not (a.error == EEXIST)) s.course.finds (a.error == 0) isnt,
         )
     by_call ReadLink may = absurd (false≢true (sym (alone may.0) ∙ may.1.2))
     by_call (Wait pause) may = absurd (false≢true (sym (alone may.0) ∙ may.1.2))

@@ -254,8 +254,8 @@ unfolding make_missing
 missing_goes w s h step finds makes =
     by_case s.course.again (is_due s.course.between s.course.may_retry EAGAIN false) refl refl
   where
-    first : (if s.course.finds then 1 else 0) ≡ 1
-    first = ap (λ b. if b then 1 else 0) finds
+    first : (n : ℕ) → n ≡ 1 → n ≡ (if s.course.finds then 1 else 0)
+    first n is = is ∙ sym (ap (λ b. if b then 1 else 0) finds)
 
     on : GoesOn w (gone w s)
     on = onwards w s Find h
@@ -265,7 +265,7 @@ missing_goes w s h step finds makes =
 
     creates : s.course.between < TRIES → Goes (watch w) 2 (gone w s) (create s.course s.path (text_for w s.course))
         (Comes w s)
-    creates left = creates_goes w (gone w s) on left (at_one ∙ sym first) (λ _. makes)
+    creates left = creates_goes w (gone w s) on left (first (s.step + 1) at_one) (λ _. makes)
 
     tries : s.course.again ≡ true → s.course.between < TRIES
         → Goes (watch w) 3 (gone w s) (tries_again s.course s.path (text_for w s.course)) (Comes w s)
@@ -273,7 +273,7 @@ missing_goes w s h step finds makes =
         choose (nat_lt 0 (pause_after s.course.between))
         (λ _. asks_then 2 (Wait (pause_after s.course.between)) (on, (at_one, again, ap (λ b. b && s.course.makes) finds ∙ makes, refl))
         (λ a. creates_goes w (told w (gone w s) (Wait (pause_after s.course.between)) None)
-        (onwards w (gone w s) (Wait (pause_after s.course.between)) on) left (at_one ∙ sym first) (λ _. makes)))
+        (onwards w (gone w s) (Wait (pause_after s.course.between)) on) left (first (s.step + 1) at_one) (λ _. makes)))
         (λ _. weak 2 (omega arith) (creates left) (λ t c done. done))
 
     last : s.calls + 1 ≤ CALLS_MAX
@@ -333,7 +333,7 @@ pass_goes w s h step =
     (λ is. absurd (false≢true (sym no ∙ is)))) (λ t c done. done)))
   where
     new : s.course.finds ≡ false → s.course.between < TRIES
-    new no = let none = h.way.once (ap (λ b. b && s.course.makes) no) in omega (arith, none)
+    new isnt = let none = h.way.once (ap (λ b. b && s.course.makes) isnt) in omega (arith, none)
 
 -- refused flags make no call
 pub refused_goes : (w : Wish) (s : Seen) → (s.course.error == 0) ≡ false
