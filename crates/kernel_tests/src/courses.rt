@@ -173,8 +173,7 @@ fn gives_up_after_32_tries(rt: HostRuntime) -> Result<(), AllocError> {
             assert!(rt; file.passes() == Err(Question::Wait(pause)) && file.take("ok").is_some());
         }
     }
-    let talk =
-        "create a = EEXIST; read a = ENOENT; find a = ENOENT; fails EAGAIN at 9 of a";
+    let talk = "create a = EEXIST; read a = ENOENT; find a = ENOENT; fails EAGAIN at 9 of a";
     goes(&rt, rt.alloc(), &mut file, talk)
 }
 
@@ -187,7 +186,12 @@ const REQUESTS: [(u32, Question, (u32, u32, u8), &str); 7] = [
     (0o100, Question::ReadLink, (0, 0, 3), "walks"),
     // O_CREAT, O_EXCL, O_NOCTTY, O_NOFOLLOW, O_CLOEXEC; and O_PATH
     (0o100, Question::Create, (0o640, 0o2400700, 4), "opens"),
-    (0o10000100, Question::Create, (0o100640, 0o12400700, 4), "gives"),
+    (
+        0o10000100,
+        Question::Create,
+        (0o100640, 0o12400700, 4),
+        "gives",
+    ),
 ];
 
 #[test]

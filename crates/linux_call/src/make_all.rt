@@ -18,8 +18,8 @@ pub(crate) enum Gave<'n> {
     /// A call gave this, with how much of the path comes before its last name, or before what is missing; and whether a
     /// file was looked for.
     Outcome(Reply<'n>, usize, bool),
-    /// A pass over the path has ended, and another one begins: so far the call has come then. A text that was read stands
-    /// then behind so many bytes of the path, before what comes from so many on.
+    /// A pass over the path has ended, and another one begins: so far the call has come. A text that was read stands
+    /// behind so many bytes of the path, before what comes from so many on.
     Pass(Begun, Option<(usize, usize)>),
 }
 

@@ -42,12 +42,7 @@ impl Progress<'_> {
         let came = match open_or_make::pass(&mut heard, &state.course, path, read) {
             Ok(came) => came,
             Err(question) => {
-                return Ok(Err(self.open_next(
-                    request,
-                    question,
-                    &state.opening,
-                    texts,
-                )?));
+                return Ok(Err(self.open_next(request, question, &state.opening, texts)?));
             }
         };
         Ok(match came {
@@ -70,7 +65,12 @@ impl Progress<'_> {
     ) -> Part<'n> {
         let mut heard = heard(state);
         let read = text_read(state, texts.read);
-        let came = match make_through_links::pass(&mut heard, &state.making, texts.first.text(), read) {
+        let came = match make_through_links::pass(
+            &mut heard,
+            &state.making,
+            texts.first.text(),
+            read,
+        ) {
             Ok(came) => came,
             Err(question) => return Ok(Err(self.make_next(request, &question, texts)?)),
         };

@@ -9,7 +9,6 @@ use Rattle.open_or_make.specs.Pass.{between, ended, NO_STEP, STEP_MAKE_FILE}
 use Rattle.open_or_make.specs.Paths.{way}
 use Rattle.open_or_make.specs.Promises.{CallsHold, Ends, OneCallIsAll, go_on, open_all, passes, PASSES}
 use Rattle.open_or_make.specs.Seen.{GoesOn, IsOnItsWay, May, Seen, Wish, after, at, at_first, begun, is_last, text_for, told, watch}
-use Rattle.open_or_make.specs.declared.asking.Outcome.{Outcome}
 use Rattle.open_or_make.specs.declared.asking.Question.{Question}
 use Rattle.open_or_make.specs.declared.asking.Question.TheVariants.{Find, Create, ReadLink, Wait}
 use Rattle.open_or_make.specs.declared.course.Came.{Came}
@@ -32,7 +31,7 @@ one_more w n good rest c path calls h all =
     both 4 (exchanges n) (pass_goes w (at c path calls) begins refl) by_end
   where
     begins : GoesOn w (at c path calls)
-    begins = record { before = calls; way = h; calls = omega arith; good = h.error ∙ good; unsaid = refl }
+    begins = record { before = calls; way = h; calls = omega arith; good = h.wished.0 ∙ good; unsaid = refl }
 
     next : (t : Seen) (now : Course) (to : List ℕ) → t ≡ at now to t.calls → Next w (c.links + c.between) now to t.calls
         → Goes (watch w) (exchanges n) t (passes w n now to) (Ends w)
@@ -60,11 +59,7 @@ first_way : (w : Wish) → IsOnItsWay w (begun w) w.path 0
 first_way w =
     record {
       size = refl;
-      error = refl;
-      finds = refl;
-      makes = refl;
-      follows = refl;
-      may_retry = refl;
+      wished = (refl, refl, refl, refl, refl);
       links = omega arith;
       tries = omega arith;
       left = λ no. omega arith;
@@ -116,7 +111,7 @@ pub one-call : OneCallIsAll
 one-call w s q a once may = by_call q may
   where
     alone : GoesOn w s → (s.course.finds && s.course.makes) ≡ false
-    alone h = ap (λ b. b && s.course.makes) h.way.finds ∙ ap (λ b. w.opening.finds && b) h.way.makes ∙ once
+    alone h = ap (λ b. b && s.course.makes) h.way.wished.1 ∙ ap (λ b. w.opening.finds && b) h.way.wished.2 ∙ once
 
     found : (other makes good : Bool) → makes ≡ false
         → (told w s Find (if other || not makes then Some (if good then Given a.descriptor else Failed a.error)
@@ -146,11 +141,10 @@ one-call w s q a once may = by_call q may
     by_call Find may = (
       no_calls w s may.0 (alone may.0) may.1.0,
       found (not (a.error == ENOENT)) s.course.makes (a.error == 0)
-      (both_true s.course.finds s.course.makes may.1.1 (alone may.0)),
+          (both_true s.course.finds s.course.makes may.1.1 (alone may.0)),
     )
     by_call Create may =
-        let isnt = isnt_found s.course.finds s.course.makes may.1.1 (alone may.0) in
-        (
+        let isnt = isnt_found s.course.finds s.course.makes may.1.1 (alone may.0) in (
           no_calls w s may.0 (alone may.0) (may.1.0 ∙ ap (λ b. if b then 1 else 0) isnt),
           made (not (a.error == EEXIST)) s.course.finds (a.error == 0) isnt,
         )

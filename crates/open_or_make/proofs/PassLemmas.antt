@@ -1,19 +1,19 @@
 -- What one pass over the path asks, and what it comes to.
-use Rattle.std.proofs.Common.{◌≡◌, ◌≢◌, ◌≤◌, ◌<◌, ℕ, ◌+◌, ◌-◌, ◌*◌, ◌^◌, List, [], ◌∷◌, Bool, true, false, ◌||◌, if◌then◌else◌, refl, sym, ap, subst, ◌∙◌, arith, nat_lt, min, length}
+use Rattle.std.proofs.Common.{◌≡◌, ◌≢◌, ◌≤◌, ◌<◌, ℕ, ◌+◌, ◌-◌, ◌^◌, List, Bool, true, false, ◌||◌, if◌then◌else◌, refl, sym, ap, ◌∙◌, arith, nat_lt, min, length}
 use Rattle.std.specs.Prelude.{◌==◌, not, ◌&&◌, suc, Some, None}
 use Rattle.std.proofs.Math.Nat.{min-eq_left}
-use Rattle.std.proofs.lemmas.Bool.{eqb-true, false≢true, ltb-true, ltb-false}
+use Rattle.std.proofs.lemmas.Bool.{false≢true, ltb-true, ltb-false}
 use Rattle.path_text.specs.Text.{is_empty}
 use Rattle.path_text.specs.declared.path.TheConstants.{TEXT_MAX}
 use Rattle.system_calls.specs.Errors.{EAGAIN, EEXIST, EINVAL, ENAMETOOLONG, ENOENT, ELOOP}
 use Rattle.system_calls.specs.Tries.{is_due, pause_after, TRIES}
-use Rattle.dialogue.specs.Dialogue.{and_then, asking, ends}
+use Rattle.dialogue.specs.Dialogue.{ends}
 use Rattle.dialogue.proofs.HoldLemmas.{Goes, asks_then, choose, over, weak}
 use Rattle.open_or_make.specs.Leads.{kept_length, led_to}
-use Rattle.open_or_make.specs.Pass.{Talk, between, create, ended, find, led, link_read, make_missing, openings, pass, read_link, tries_again, LINKS, NO_STEP, STEP_MAKE_FILE, STEP_READ_LINK}
+use Rattle.open_or_make.specs.Pass.{between, create, ended, find, led, link_read, make_missing, pass, read_link, tries_again, LINKS, NO_STEP, STEP_MAKE_FILE, STEP_READ_LINK}
 use Rattle.open_or_make.specs.Paths.{way}
-use Rattle.open_or_make.specs.Promises.{CALLS_MAX, LinksLead}
-use Rattle.open_or_make.specs.Seen.{GoesOn, IsOnItsWay, Seen, Wish, after, at, one_on, text_for, told, watch}
+use Rattle.open_or_make.specs.Promises.{CALLS_MAX}
+use Rattle.open_or_make.specs.Seen.{GoesOn, IsOnItsWay, Seen, Wish, at, one_on, text_for, told, watch}
 use Rattle.open_or_make.specs.declared.asking.Outcome.{Outcome}
 use Rattle.open_or_make.specs.declared.asking.Question.{Question}
 use Rattle.open_or_make.specs.declared.asking.Question.TheVariants.{Find, Create, ReadLink, Wait}
@@ -74,6 +74,14 @@ few_calls w s h left most =
     let calls = h.calls in
     omega (arith, before, links, calls, left, most)
 
+first_few : (w : Wish) (s : Seen) → GoesOn w s → s.step ≡ 0 → s.calls + 1 ≤ CALLS_MAX
+first_few w s h step =
+    let before = h.way.few in
+    let links = h.way.links in
+    let tries = h.way.tries in
+    let calls = h.calls in
+    omega (arith, before, links, tries, calls, step)
+
 once_more : (n : ℕ) → n < TRIES → min (n + 1) (2 ^ 32 - 1) ≡ n + 1
 once_more n few = min-eq_left (omega (arith, few))
 
@@ -90,11 +98,7 @@ between_fits w s h left most twice =
     record {
       way = record {
         size = h.way.size;
-        error = h.way.error;
-        finds = h.way.finds;
-        makes = h.way.makes;
-        follows = h.way.follows;
-        may_retry = h.way.may_retry;
+        wished = h.way.wished;
         links = h.way.links;
         tries = omega (arith, one, left);
         left = λ no. absurd (false≢true (sym no));
@@ -135,11 +139,7 @@ led_fits w s h left most leave twice =
         record {
           way = record {
             size = sym same;
-            error = h.way.error;
-            finds = h.way.finds;
-            makes = h.way.makes;
-            follows = h.way.follows;
-            may_retry = h.way.may_retry;
+            wished = h.way.wished;
             links = omega (arith, few);
             tries = h.way.tries;
             left = λ no. left;
@@ -168,30 +168,22 @@ link_fits w s a h left most leave twice =
 
 -- ---- from one call to the next
 
+counted : (q : Question) (calls before step : ℕ) → calls ≡ before + step → one_on calls q ≡ before + one_on step q
+counted Find calls before step is = omega (arith, is)
+counted Create calls before step is = omega (arith, is)
+counted ReadLink calls before step is = omega (arith, is)
+counted (Wait pause) calls before step is = is
+
 -- behind an answer that ends nothing
 onwards : (w : Wish) (s : Seen) (q : Question) → GoesOn w s → GoesOn w (told w s q None)
-onwards w s Find h = record {
-  before = h.before;
-  way = h.way;
-  calls = let calls = h.calls in omega (arith, calls);
-  good = h.good;
-  unsaid = refl;
-}
-onwards w s Create h = record {
-  before = h.before;
-  way = h.way;
-  calls = let calls = h.calls in omega (arith, calls);
-  good = h.good;
-  unsaid = refl;
-}
-onwards w s ReadLink h = record {
-  before = h.before;
-  way = h.way;
-  calls = let calls = h.calls in omega (arith, calls);
-  good = h.good;
-  unsaid = refl;
-}
-onwards w s (Wait pause) h = record { before = h.before; way = h.way; calls = h.calls; good = h.good; unsaid = refl }
+onwards w s q h =
+    record {
+      before = h.before;
+      way = h.way;
+      calls = counted q s.calls h.before s.step h.calls;
+      good = h.good;
+      unsaid = refl;
+    }
 
 reads_goes : (w : Wish) (s : Seen) → GoesOn w s → s.course.between < TRIES → s.step ≡ 2 → s.course.follows ≡ true
     → Twice s → Goes (watch w) 1 s (read_link s.course s.path (text_for w s.course)) (Comes w s)
@@ -230,7 +222,7 @@ creates_goes w s h left step makes =
         over (says_so w s Create (ended a) (ended_fits w s a (s.calls + 1) (few_calls w s h left few)))
     by_case a false false follows is leave =
         over (says_so w s Create (ended a) (ended_fits w s a (s.calls + 1) (few_calls w s h left few)))
-    by_case a false true false is leave = 
+    by_case a false true false is leave =
         over (says_so w s Create (between s.course) (between_fits w s h left few (twice is)))
     by_case a false true true is leave =
         reads_goes w (told w s Create None) (onwards w s Create h) left
@@ -276,14 +268,6 @@ missing_goes w s h step finds makes =
         (onwards w (gone w s) (Wait (pause_after s.course.between)) on) left (first (s.step + 1) at_one) (λ _. makes)))
         (λ _. weak 2 (omega arith) (creates left) (λ t c done. done))
 
-    last : s.calls + 1 ≤ CALLS_MAX
-    last =
-        let before = h.way.few in
-        let links = h.way.links in
-        let tries = h.way.tries in
-        let calls = h.calls in
-        omega (arith, before, links, tries, calls, step)
-
     by_case : (again due : Bool) → s.course.again ≡ again
         → is_due s.course.between s.course.may_retry EAGAIN false ≡ due
         → Goes (watch w) 3 (told w s Find (if again && not due then Some (Fails EAGAIN STEP_MAKE_FILE) else None))
@@ -292,7 +276,7 @@ missing_goes w s h step finds makes =
         (Comes w s)
     by_case false due is more = weak 2 (omega arith) (creates (h.way.left is)) (λ t c done. done)
     by_case true true is more = tries is (few_tries s.course.between s.course.may_retry more)
-    by_case true false is more = over (says_so w s Find (Fails EAGAIN STEP_MAKE_FILE) last)
+    by_case true false is more = over (says_so w s Find (Fails EAGAIN STEP_MAKE_FILE) (first_few w s h step))
 
 finds_goes : (w : Wish) (s : Seen) → GoesOn w s → s.step ≡ 0 → s.course.finds ≡ true
     → Goes (watch w) 4 s (find s.course s.path (text_for w s.course)) (Comes w s)
@@ -300,22 +284,14 @@ unfolding find
 finds_goes w s h step finds =
     asks_then 3 Find (h, (step, finds)) (λ a. by_case a (not (a.error == ENOENT)) s.course.makes refl)
   where
-    last : s.calls + 1 ≤ CALLS_MAX
-    last =
-        let before = h.way.few in
-        let links = h.way.links in
-        let tries = h.way.tries in
-        let calls = h.calls in
-        omega (arith, before, links, tries, calls, step)
-
     by_case : (a : Outcome) (other makes : Bool) → s.course.makes ≡ makes
         → Goes (watch w) 3
         (told w s Find (if other || not makes then Some (ended a)
         else (if s.course.again && not (is_due s.course.between s.course.may_retry EAGAIN false)
         then Some (Fails EAGAIN STEP_MAKE_FILE) else None)))
         (if other || not makes then ends (ended a) else make_missing s.course s.path (text_for w s.course)) (Comes w s)
-    by_case a true makes is = over (says_so w s Find (ended a) (ended_fits w s a (s.calls + 1) last))
-    by_case a false false is = over (says_so w s Find (ended a) (ended_fits w s a (s.calls + 1) last))
+    by_case a true makes is = over (says_so w s Find (ended a) (ended_fits w s a (s.calls + 1) (first_few w s h step)))
+    by_case a false false is = over (says_so w s Find (ended a) (ended_fits w s a (s.calls + 1) (first_few w s h step)))
     by_case a false true is = missing_goes w s h step finds is
 
 -- ---- a whole pass

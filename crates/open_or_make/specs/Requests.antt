@@ -1,5 +1,5 @@
 -- What each call is asked for, by the flags of open(2).
-use Rattle.std.specs.Prelude.{ℕ, ◌^◌, ◌==◌, true, false, not, if◌then◌else◌, bit_or}
+use Rattle.std.specs.Prelude.{ℕ, ◌^◌, true, false, not, if◌then◌else◌, bit_or}
 use Rattle.system_calls.specs.declared.opening.Opening.{Opening}
 use Rattle.open_or_make.specs.declared.asking.Question.{Question}
 use Rattle.open_or_make.specs.declared.asking.Question.TheVariants.{Find, Create}

@@ -14,8 +14,8 @@ use Rattle.open_or_make.specs.declared.course.Came.{Came}
 use Rattle.open_or_make.specs.declared.course.Came.TheVariants.{Fails, Again, Led}
 use Rattle.open_or_make.specs.declared.course.Course.{Course}
 
--- The path; what is done by the flags of open(2); whether links are refused; and whether it may be tried again. The texts
--- are what is read in each pass, of which the first one is 0.
+-- The path; what is done by the flags of open(2); whether links are refused; and whether it may be tried again. The
+-- texts are what is read in each pass, of which the first one is 0.
 pub record Wish : Type 0 where
   pub path : List ℕ
   pub opening : Opening
@@ -85,16 +85,18 @@ after w s q a = told w s q (says w s q a)
 
 -- ---- where each call may come
 
+-- what is done, by the flags
+abbrev pub IsOf : Wish → Course → Type 0
+IsOf w c =
+    (c.error ≡ w.opening.error) × (c.finds ≡ w.opening.finds) × (c.makes ≡ w.opening.makes)
+    × (c.follows ≡ (w.opening.follows && not w.no_links)) × (c.may_retry ≡ w.may_retry)
+
 -- The path is the program's own as long as no link was followed, and has 4,095 bytes at most then. 40 links are
 -- followed at most, none without leave; there are 32 tries at most, and three calls in each pass. There is no second
 -- pass but where what is missing is made.
 pub record IsOnItsWay (w : Wish) (c : Course) (path : List ℕ) (calls : ℕ) : Type 0 where
   pub size : c.length ≡ length path
-  pub error : c.error ≡ w.opening.error
-  pub finds : c.finds ≡ w.opening.finds
-  pub makes : c.makes ≡ w.opening.makes
-  pub follows : c.follows ≡ (w.opening.follows && not w.no_links)
-  pub may_retry : c.may_retry ≡ w.may_retry
+  pub wished : IsOf w c
   pub links : c.links ≤ LINKS
   pub tries : c.between ≤ TRIES
   pub left : c.again ≡ false → c.between < TRIES

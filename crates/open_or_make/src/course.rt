@@ -157,12 +157,7 @@ fn create(outcomes: &mut &[Outcome], course: &Course, path: &[u8], read: &[u8]) 
 
 // Nothing is there. If somebody has just come in between, to make it takes another try.
 #[tactic(auto, using(dialogue::proofs::TalkLemmas::ran_then, dialogue::proofs::TalkLemmas::ran_ends), unfolding(crate::specs::Pass::make_missing))]
-fn make_missing(
-    outcomes: &mut &[Outcome],
-    course: &Course,
-    path: &[u8],
-    read: &[u8],
-) -> Asked<Came>
+fn make_missing(outcomes: &mut &[Outcome], course: &Course, path: &[u8], read: &[u8]) -> Asked<Came>
     ensures { ran_by_of openings (λ x. x) (λ q. q) result outcomes.new.now
         ≡ ran (make_missing course.now path.now read.now) outcomes.old.now }
 {

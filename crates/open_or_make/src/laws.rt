@@ -1,10 +1,10 @@
 //! What holds of every conversation: laws, each the contract of a function without a body.
 ghost use Rattle.open_or_make.specs.Promises.{CallsHold, LinksLead, OneCallIsAll};
 
-/// Of each whole conversation, whatever the answers and the texts of links are: each call comes where it may. Flags that
-/// are refused make none. The path is the program's own as long as no link was read, and has 4,095 bytes at most then.
-/// At most 40 links are followed, and none is read without leave. The reply is what the last call's answer says: there
-/// is no other end. There are 217 calls at most.
+/// Of each whole conversation, whatever the answers and the texts of links are: each call comes where it may. Flags
+/// that are refused make none. The path is the program's own as long as no link was read, and has 4,095 bytes at most
+/// then. At most 40 links are followed, and none is read without leave. The reply is what the last call's answer says:
+/// there is no other end. There are 217 calls at most.
 pub fn calls_hold()
     ensures { CallsHold }
 {}
