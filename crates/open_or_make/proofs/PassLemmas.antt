@@ -234,10 +234,6 @@ few_tries n false is = absurd (false≢true is)
 
 -- ---- nothing was found
 
--- the state behind that
-abbrev gone : Wish → Seen → Seen
-gone w s = told w s Find None
-
 missing_goes : (w : Wish) (s : Seen) → GoesOn w s → s.step ≡ 0 → s.course.finds ≡ true → s.course.makes ≡ true
     → Goes (watch w) 3
     (told w s Find (if s.course.again && not (is_due s.course.between s.course.may_retry EAGAIN false)
@@ -249,23 +245,27 @@ missing_goes w s h step finds makes =
     first : (n : ℕ) → n ≡ 1 → n ≡ (if s.course.finds then 1 else 0)
     first n is = is ∙ sym (ap (λ b. if b then 1 else 0) finds)
 
-    on : GoesOn w (gone w s)
+    behind : Seen
+    behind = told w s Find None
+
+    on : GoesOn w behind
     on = onwards w s Find h
 
     at_one : s.step + 1 ≡ 1
     at_one = omega (arith, step)
 
-    creates : s.course.between < TRIES → Goes (watch w) 2 (gone w s) (create s.course s.path (text_for w s.course))
+    creates : s.course.between < TRIES → Goes (watch w) 2 behind (create s.course s.path (text_for w s.course))
         (Comes w s)
-    creates left = creates_goes w (gone w s) on left (first (s.step + 1) at_one) (λ _. makes)
+    creates left = creates_goes w behind on left (first (s.step + 1) at_one) (λ _. makes)
 
     tries : s.course.again ≡ true → s.course.between < TRIES
-        → Goes (watch w) 3 (gone w s) (tries_again s.course s.path (text_for w s.course)) (Comes w s)
+        → Goes (watch w) 3 behind (tries_again s.course s.path (text_for w s.course)) (Comes w s)
     tries again left =
         choose (nat_lt 0 (pause_after s.course.between))
-        (λ _. asks_then 2 (Wait (pause_after s.course.between)) (on, (at_one, again, ap (λ b. b && s.course.makes) finds ∙ makes, refl))
-        (λ a. creates_goes w (told w (gone w s) (Wait (pause_after s.course.between)) None)
-        (onwards w (gone w s) (Wait (pause_after s.course.between)) on) left (first (s.step + 1) at_one) (λ _. makes)))
+        (λ _. asks_then 2 (Wait (pause_after s.course.between))
+        (on, (at_one, again, ap (λ b. b && s.course.makes) finds ∙ makes, refl))
+        (λ a. creates_goes w (told w behind (Wait (pause_after s.course.between)) None)
+        (onwards w behind (Wait (pause_after s.course.between)) on) left (first (s.step + 1) at_one) (λ _. makes)))
         (λ _. weak 2 (omega arith) (creates left) (λ t c done. done))
 
     by_case : (again due : Bool) → s.course.again ≡ again
