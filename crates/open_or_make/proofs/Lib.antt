@@ -1,5 +1,3 @@
 pub mod CallLemmas
-pub mod DirectoryLemmas
-pub mod LeadLemmas
 pub mod PassLemmas
 pub mod PathLemmas

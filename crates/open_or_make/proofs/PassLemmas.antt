@@ -9,9 +9,8 @@ use Rattle.system_calls.specs.Errors.{EAGAIN, EEXIST, EINVAL, ENAMETOOLONG, ENOE
 use Rattle.system_calls.specs.Tries.{is_due, pause_after, TRIES}
 use Rattle.dialogue.specs.Dialogue.{ends}
 use Rattle.dialogue.proofs.HoldLemmas.{Goes, asks_then, choose, over, weak}
-use Rattle.open_or_make.specs.Leads.{kept_length, led_to}
+use Rattle.open_or_make.specs.Paths.{kept_length, led_to, way}
 use Rattle.open_or_make.specs.Pass.{between, create, ended, find, led, link_read, make_missing, pass, read_link, tries_again, LINKS, NO_STEP, STEP_MAKE_FILE, STEP_READ_LINK}
-use Rattle.open_or_make.specs.Paths.{way}
 use Rattle.open_or_make.specs.Promises.{CALLS_MAX}
 use Rattle.open_or_make.specs.Seen.{GoesOn, IsOnItsWay, Seen, Wish, at, one_on, text_for, told, watch}
 use Rattle.open_or_make.specs.declared.asking.Outcome.{Outcome}
@@ -20,7 +19,7 @@ use Rattle.open_or_make.specs.declared.asking.Question.TheVariants.{Find, Create
 use Rattle.open_or_make.specs.declared.course.Came.{Came}
 use Rattle.open_or_make.specs.declared.course.Came.TheVariants.{Given, Failed, Fails, Again, Led}
 use Rattle.open_or_make.specs.declared.course.Course.{Course}
-use Rattle.open_or_make.proofs.LeadLemmas.{links-lead}
+use Rattle.open_or_make.proofs.PathLemmas.{links-lead}
 
 -- ---- how a pass ends
 

@@ -1,13 +1,15 @@
 -- Where a text goes on behind a name, and a text that is laid before it.
-use Rattle.std.proofs.Common.{◌≡◌, ℕ, ◌≤◌, ◌<◌, ◌+◌, ◌-◌, suc, Bool, true, false, cond, if◌then◌else◌, List, [], ◌∷◌, ◌++◌, length, take, drop, set, ap, sym, refl, subst, ◌∙◌, arith, take-take, take-append-drop, length-drop, length-append, length-take, length-take-le, take_at, drop_at, eq-eqb}
+use Rattle.std.proofs.Common.{◌≡◌, ℕ, ◌≤◌, ◌<◌, ◌+◌, ◌-◌, suc, Bool, true, false, cond, if◌then◌else◌, List, [], ◌∷◌, ◌++◌, length, take, drop, set, ap, sym, refl, subst, ◌∙◌, arith, take-take, take-append-drop, length-drop, length-append, length-take, length-take-le, take_at, drop_at, eq-eqb, get_or, ◌⊎◌}
 use Rattle.std.specs.Prelude.{not, ◌==◌, ◌&&◌}
-use Rattle.std.specs.List.{list_all}
+use Rattle.std.specs.List.{list_all, list_any}
 use Rattle.std.proofs.Math.Seq.{paste}
 use Rattle.std.proofs.lemmas.Bool.{cond-false, cond-true, ne_eqb}
 use Rattle.std.proofs.lemmas.List.{drop_all, drop-drop, drop-set, drop-take, take_all, take-append-le}
 use Rattle.std.proofs.lemmas.List.Edits.{length-paste, take-paste}
 use Rattle.path_text.specs.declared.name.TheConstants.{SLASH}
-use Rattle.open_or_make.specs.Paths.{before_rest, slashes_size, way}
+use Rattle.kernel_text.proofs.PlaceLemmas.{last_drop}
+use Rattle.open_or_make.specs.Paths.{before_rest, directory_length, kept_length, slashes_size, way}
+use Rattle.open_or_make.specs.Promises.{LinksLead}
 
 -- ---- a text before what comes behind
 
@@ -167,3 +169,15 @@ only_in false x xs is rest = refl
 pub only_slashes : (xs : List ℕ) → list_all (λ y. y == SLASH) (take (slashes_size xs) xs) ≡ true
 only_slashes [] = refl
 only_slashes (x ∷ xs) = only_in (x == SLASH) x xs refl (only_slashes xs)
+
+-- ---- a link at the path's end
+
+pub directory_at : (path : List ℕ) (at : ℕ) → at ≤ length path → list_any (λ b. b == SLASH) (drop at path) ≡ false
+    → (at ≡ 0) ⊎ ((get_or path (at - 1) 0 == SLASH) ≡ true) → at ≡ directory_length path
+directory_at path at within none first =
+    omega (arith, within, ap length (last_drop path at within none first), length-drop at path)
+
+pub links-lead : LinksLead
+links-lead path text =
+    ap (λ (rest : List ℕ). take (kept_length path text) path ++ before_rest text rest)
+    (drop_all (length path) path (omega arith))

@@ -1,4 +1,3 @@
-pub mod Leads
 pub mod Pass
 pub mod Paths
 pub mod Promises

@@ -7,7 +7,7 @@ use Rattle.system_calls.specs.Errors.{ENOENT, EAGAIN, EEXIST, EINVAL, ENAMETOOLO
 use Rattle.system_calls.specs.Tries.{is_due, pause_after}
 use Rattle.system_calls.specs.declared.opening.Opening.{Opening}
 use Rattle.dialogue.specs.Dialogue.{DialogueOf, Protocol, and_then, asking, ends, protocol}
-use Rattle.open_or_make.specs.Leads.{kept_length, led_to}
+use Rattle.open_or_make.specs.Paths.{kept_length, led_to}
 use Rattle.open_or_make.specs.declared.asking.Outcome.{Outcome}
 use Rattle.open_or_make.specs.declared.asking.Question.{Question}
 use Rattle.open_or_make.specs.declared.asking.Question.TheVariants.{Find, Create, ReadLink, Wait}

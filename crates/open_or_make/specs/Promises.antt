@@ -2,9 +2,8 @@
 use Rattle.std.specs.Prelude.{◌≡◌, ◌≢◌, ◌≤◌, ℕ, zero, suc, List, ◌⊎◌, ◌&&◌, false, Some, length}
 use Rattle.dialogue.specs.Dialogue.{and_then, ends}
 use Rattle.dialogue.specs.Holds.{EachHolds}
-use Rattle.open_or_make.specs.Leads.{kept_length, led_to}
+use Rattle.open_or_make.specs.Paths.{kept_length, led_to, way}
 use Rattle.open_or_make.specs.Pass.{Talk, ended, pass, NO_STEP}
-use Rattle.open_or_make.specs.Paths.{way}
 use Rattle.open_or_make.specs.Seen.{Seen, Wish, May, after, at_first, begun, text_for, watch}
 use Rattle.open_or_make.specs.declared.asking.Outcome.{Outcome}
 use Rattle.open_or_make.specs.declared.asking.Question.{Question}

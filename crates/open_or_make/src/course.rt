@@ -4,7 +4,7 @@ ghost use Rattle.dialogue.specs.Dialogue.{ran, ran_by_of};
 ghost use Rattle.open_or_make.specs.Pass.{begin, between, create, ended, find, led, make_missing, openings, pass, read_link};
 
 use crate::asking::{Asked, Outcome, Question, ask};
-use crate::leads::kept_length;
+use crate::paths::kept_length;
 use path_text::TEXT_MAX;
 use system_calls::errors::{EAGAIN, EEXIST, EINVAL, ELOOP, ENAMETOOLONG, ENOENT};
 use system_calls::{Opening, next_try};

@@ -8,7 +8,6 @@
 mod asking;
 mod course;
 mod laws;
-mod leads;
 mod paths;
 mod requests;
 

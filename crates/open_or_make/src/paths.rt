@@ -2,7 +2,7 @@
 ghost use Rattle.std.specs.Prelude.{◌≡◌, ◌+◌, ◌-◌, ◌≤◌, ◌<◌, ◌^◌, ◌∷◌, ◌++◌, ◌==◌, if◌then◌else◌, length, take, drop};
 ghost use Rattle.path_text.specs.Text.{begins_with_slash};
 ghost use Rattle.path_text.specs.declared.name.TheConstants.{SLASH};
-ghost use Rattle.open_or_make.specs.Paths.{before_rest, rest_at, slashes_size, way};
+ghost use Rattle.open_or_make.specs.Paths.{before_rest, directory_length, kept_length, rest_at, slashes_size, way};
 
 use path_text::{SLASH, begins_with_slash, name_length};
 
@@ -54,6 +54,26 @@ pub fn front_length(text: &[u8], dir: usize) -> usize
     ensures within { result ≤ dir }
 {
     if begins_with_slash(text) { 0 } else { dir }
+}
+
+// How many bytes come before a path's last name.
+fn directory_length(path: &[u8]) -> usize
+    ensures exact { result ≡ directory_length path.now }
+    ensures within { result ≤ length path.now }
+{
+    let mut at = path.len();
+    while at > 0 && path[at - 1] != SLASH {
+        at -= 1;
+    }
+    at
+}
+
+// So many bytes of a path stay before the text of the link at its end.
+pub(crate) fn kept_length(path: &[u8], text: &[u8]) -> usize
+    ensures exact { result ≡ kept_length path.now text.now }
+    ensures within { result ≤ length path.now }
+{
+    front_length(text, directory_length(path))
 }
 
 /// How long a path is of a link's text, what comes before it, and what comes behind the link.

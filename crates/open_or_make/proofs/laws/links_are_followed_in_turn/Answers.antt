@@ -1,4 +1,4 @@
-use Rattle.open_or_make.proofs.LeadLemmas.{links-lead}
+use Rattle.open_or_make.proofs.PathLemmas.{links-lead}
 use Rattle.open_or_make.proofs.laws.links_are_followed_in_turn.Goals as goal
 
 pub returns : goal.returns

@@ -1,7 +1,7 @@
 use Rattle.std.proofs.Common.{inl, inr, arith, eq-eqb}
 use Rattle.path_text.specs.declared.name.TheConstants.{SLASH}
-use Rattle.open_or_make.proofs.DirectoryLemmas.{directory_at}
-use Rattle.open_or_make.proofs.leads.directory_length.Goals as goal
+use Rattle.open_or_make.proofs.PathLemmas.{directory_at}
+use Rattle.open_or_make.proofs.paths.directory_length.Goals as goal
 
 pub returns-else-path-at-ne-SLASH-clause-exact : goal.returns-else-path-at-ne-SLASH-clause-exact
 returns-else-path-at-ne-SLASH-clause-exact c =
