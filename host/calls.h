@@ -62,7 +62,7 @@ struct inroot_demand {
 
 /* What is kept of a call: zero before its first turn, left alone between two, and never copied. */
 struct inroot_state {
-    uint64_t kept[39];
+    uint64_t kept[38];
 };
 
 /* What a system call gave: 0 or an error, a descriptor or a length; of statx(2) and fstatfs(2) what these say, and else 0. */

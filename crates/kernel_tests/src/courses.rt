@@ -1,16 +1,38 @@
 //! Which call comes next as a file is opened, or made where it is missing, by answers that a kernel gives.
 use crate::openings::X86_64;
-use crate::rows::{
-    EAGAIN, ROOM, Room, all_go, goes, laid, letters, name_of, number, shown, word_of,
+use crate::rows::{EAGAIN, ROOM, Room, all_go, goes, laid, letters, name_of, number, shown};
+use open_or_make::{
+    Asked, Came, Course, Outcome, Question, Request, begin, lay_link, pass, request_of,
 };
-use open_or_make::{CREATE, Course, FIND, READ_LINK, Request, begin, next, request_of};
 use std::alloc::{AllocError, Global};
 use system_calls::{next_try, opening_of};
 
-#[derive(Clone, Copy)]
+// The outcomes of a pass, with the text that was read last.
+#[derive(Drop)]
 struct File {
     course: Course,
     room: [u8; ROOM],
+    outcomes: [Outcome; 4],
+    heard: usize,
+    text: &'static [u8],
+}
+
+fn outcome(error: u32) -> Outcome {
+    Outcome {
+        rest: 0,
+        error,
+        descriptor: 0,
+        directory: false,
+    }
+}
+
+impl File {
+    // How the pass goes on.
+    fn passes(&self) -> Asked<Came> {
+        let mut left = self.outcomes.get(..self.heard).unwrap_or(&[]);
+        let path = self.room.get(..self.course.length).unwrap_or(&[]);
+        pass(&mut left, &self.course, path, self.text)
+    }
 }
 
 impl Room for File {
@@ -29,35 +51,54 @@ impl Room for File {
         File {
             course: begin(path.len(), &opening, wanted == "no_links", wanted != "once"),
             room: laid(path),
+            outcomes: [outcome(0); 4],
+            heard: 0,
+            text: b"",
         }
     }
 
     fn due(&self, alloc: Global) -> Result<String, AllocError> {
-        let (step, links, pause) = (self.course.step, self.course.links, self.course.pause);
         let path = shown(alloc, &self.room, self.course.length)?;
-        match word_of(self.course.next, "find create read ends fails") {
-            "fails" => format!(in alloc;
-                "fails {} at {step} of {path}",
-                name_of(self.course.error.into())
-            ),
-            word if self.course.once => format!(in alloc; "only {word} {path}"),
-            word if pause > 0 => format!(in alloc; "{word} {path} after {pause}"),
-            word if links > 0 => format!(in alloc; "{word} {path} by {links}"),
-            word => format!(in alloc; "{word} {path}"),
+        let word = match self.passes() {
+            Ok(Came::Fails(error, step)) => {
+                return format!(in alloc; "fails {} at {step} of {path}", name_of(error));
+            }
+            Err(Question::Wait(pause)) => return format!(in alloc; "wait {pause}"),
+            Ok(_) => "ends",
+            Err(Question::Find) => "find",
+            Err(Question::Create) => "create",
+            Err(Question::ReadLink) => "read",
+        };
+        match self.course.links {
+            0 => format!(in alloc; "{word} {path}"),
+            links => format!(in alloc; "{word} {path} by {links}"),
         }
     }
 
-    // An error's name; a link's text, or so many letters.
+    // An error's name; a link's text, or so many letters. The next pass begins where one has ended.
     fn take(&mut self, gave: &'static str) -> Option<()> {
-        if self.course.length > ROOM {
-            return None;
-        }
         let (what, rest) = gave.split_once(' ').unwrap_or((gave, ""));
-        self.course = match what {
-            "is" => next(self.course, 0, rest.as_bytes(), &mut self.room),
-            "letters" => next(self.course, 0, letters(rest)?, &mut self.room),
-            error => next(self.course, number(error)?, b"", &mut self.room),
+        let (error, text) = match what {
+            "is" => (0, rest.as_bytes()),
+            "letters" => (0, letters(rest)?),
+            error => (number(error)?, &b""[..]),
         };
+        *self.outcomes.get_mut(self.heard)? = outcome(error);
+        self.heard += 1;
+        self.text = text;
+        match self.passes() {
+            Ok(Came::Led(course, front)) => {
+                let length = self.course.length;
+                lay_link(text, front, length, length, &mut self.room);
+                self.course = course;
+                self.heard = 0;
+            }
+            Ok(Came::Again(course)) => {
+                self.course = course;
+                self.heard = 0;
+            }
+            _ => {}
+        }
         Some(())
     }
 }
@@ -92,10 +133,10 @@ a: find a = ENOENT; create a = EEXIST; read a = EACCES; ends a
 a once: find a = ENOENT; create a = EEXIST; read a = ENOENT; find a = ok; ends a
 a once: find a = ENOENT; create a = EEXIST; read a = ENOENT; find a = ENOENT; fails EAGAIN at 9 of a
 # one call finds or makes
-a found: only find a = ENOENT; only ends a
-a found: only find a = ok; only ends a
-a new: only create a = EEXIST; only ends a
-a new: only create a = ok; only ends a
+a found: find a = ENOENT; ends a
+a found: find a = ok; ends a
+a new: create a = EEXIST; ends a
+a new: create a = ok; ends a
 # refused flags make no call
 a excl: fails EINVAL at 0 of a
 a mode: fails EINVAL at 0 of a";
@@ -121,30 +162,36 @@ fn follows_forty_links(rt: HostRuntime) -> Result<(), AllocError> {
 #[test]
 fn gives_up_after_32_tries(rt: HostRuntime) -> Result<(), AllocError> {
     let mut file = File::begun(rt.alloc(), "a");
+    assert!(rt; file.take("ENOENT").is_some());
     for times in 1..32 {
-        for gave in ["ENOENT", "EEXIST", "ENOENT"] {
+        for gave in ["EEXIST", "ENOENT", "ENOENT"] {
             assert!(rt; file.take(gave).is_some());
         }
-        let mut again = file;
         let pause = next_try(times, true, EAGAIN, false).pause;
-        assert!(rt; file.course.between == times && again.take("ENOENT").is_some());
-        assert!(rt; again.course.next == CREATE && again.course.pause == pause);
+        assert!(rt; file.course.between == times);
+        if pause > 0 {
+            assert!(rt; file.passes() == Err(Question::Wait(pause)) && file.take("ok").is_some());
+        }
     }
-    let talk =
-        "find a = ENOENT; create a after 1000000 = EEXIST; read a = ENOENT; find a = ENOENT; fails EAGAIN at 9 of a";
+    let talk = "create a = EEXIST; read a = ENOENT; find a = ENOENT; fails EAGAIN at 9 of a";
     goes(&rt, rt.alloc(), &mut file, talk)
 }
 
 // Flags, and a call; of what is asked for the mode's bits, the flags, the operation, and what else is so.
-const REQUESTS: [(u32, u8, (u32, u32, u8), &str); 7] = [
-    (0, FIND, (0, 0, 1), ""),
-    (0o400000, FIND, (0, 0, 2), ""),
-    (0o200000, FIND, (0, 0, 1), "directory asks_kind"),
-    (0o100, FIND, (0, 0, 1), "asks_kind"),
-    (0o100, READ_LINK, (0, 0, 3), "walks"),
+const REQUESTS: [(u32, Question, (u32, u32, u8), &str); 7] = [
+    (0, Question::Find, (0, 0, 1), ""),
+    (0o400000, Question::Find, (0, 0, 2), ""),
+    (0o200000, Question::Find, (0, 0, 1), "directory asks_kind"),
+    (0o100, Question::Find, (0, 0, 1), "asks_kind"),
+    (0o100, Question::ReadLink, (0, 0, 3), "walks"),
     // O_CREAT, O_EXCL, O_NOCTTY, O_NOFOLLOW, O_CLOEXEC; and O_PATH
-    (0o100, CREATE, (0o640, 0o2400700, 4), "opens"),
-    (0o10000100, CREATE, (0o100640, 0o12400700, 4), "gives"),
+    (0o100, Question::Create, (0o640, 0o2400700, 4), "opens"),
+    (
+        0o10000100,
+        Question::Create,
+        (0o100640, 0o12400700, 4),
+        "gives",
+    ),
 ];
 
 #[test]

@@ -2,14 +2,9 @@
 
 #[test]
 fn laws_are_at_hand() {
-    open_or_make::what_is_given_was_found_or_made();
-    open_or_make::what_is_there_is_given();
-    open_or_make::what_is_missing_is_made();
-    open_or_make::flags_decide();
+    open_or_make::calls_hold();
+    open_or_make::one_call_is_all();
     open_or_make::links_are_followed_in_turn();
-    open_or_make::no_link_is_read_without_leave();
-    open_or_make::why_it_fails();
-    open_or_make::calls_are_few();
     make_through_links::calls_hold();
     make_through_links::links_are_followed_in_turn();
     open_partial::tries_hold();

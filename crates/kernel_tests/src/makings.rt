@@ -1,5 +1,6 @@
 //! Which call comes next as all missing parts of a path are made, by answers that a kernel gives.
-use make_through_links::{Came, Making, Outcome, Question, begin, lay_link, pass};
+use make_through_links::{Came, Making, Question, begin, pass};
+use open_or_make::{Outcome, lay_link};
 use std::test::Fail;
 use system_calls::next_try;
 

@@ -8,8 +8,8 @@ mod parts;
 use crate::by_steps::Steps;
 use crate::request::{Closes, NO_CLOSES};
 use find_proc::{File, Kept as Proc, Known};
-use make_through_links::{Making, Outcome};
-use open_or_make::Course;
+use make_through_links::Making;
+use open_or_make::{Course, Outcome};
 use parts::Parts;
 use std::alloc::Global;
 use std::marker::Model;
@@ -124,20 +124,6 @@ const NO_OPENING: Opening = Opening {
     made_flags: 0,
 };
 
-const NO_COURSE: Course = Course {
-    length: 0,
-    pause: 0,
-    links: 0,
-    between: 0,
-    next: 0,
-    error: 0,
-    step: 0,
-    once: false,
-    follows: false,
-    may_retry: false,
-    again: false,
-};
-
 const NO_MAKING: Making = Making {
     length: 0,
     above: 0,
@@ -187,7 +173,7 @@ impl State {
             steps: Kept::empty(alloc),
             given: 0,
             opening: NO_OPENING,
-            course: NO_COURSE,
+            course: open_or_make::begin(0, &NO_OPENING, true, false),
             making: NO_MAKING,
             outcomes: [NO_OUTCOME; 7],
             heard: 0,

@@ -5,7 +5,8 @@ use crate::progress::{Progress, Said};
 use crate::request::*;
 use dialogue::Asked;
 use kernel_walks::split;
-use make_through_links::{Came, Outcome, Question};
+use make_through_links::{Making, Question};
+use open_or_make::{Course, Outcome};
 use open_partial::{Came as Part, Outcome as Tried, Question as Due, a_try, beginning, trial_of};
 
 // More than the tries and closes of one path, and their ends.
@@ -14,13 +15,19 @@ const SEARCHES: u32 = 64;
 /// What a part of a call of several came to.
 #[derive(Clone, Copy)]
 pub(crate) enum Gave<'n> {
-    /// A call gave this.
-    Reply(Reply<'n>),
-    /// A call on a part of the path did, with how much of the path comes before its last name, or before what is
-    /// missing; and whether it was looked for what is there.
+    /// A call gave this, with how much of the path comes before its last name, or before what is missing; and whether a
+    /// file was looked for.
     Outcome(Reply<'n>, usize, bool),
-    /// A pass over the path has ended, and another one begins.
-    Pass(Came),
+    /// A pass over the path has ended, and another one begins: so far the call has come. A text that was read stands
+    /// behind so many bytes of the path, before what comes from so many on.
+    Pass(Begun, Option<(usize, usize)>),
+}
+
+/// How far a call of several has come before a pass.
+#[derive(Clone, Copy)]
+pub(crate) enum Begun {
+    Opens(Course),
+    Makes(Making),
 }
 
 /// What a call on so much of the path gave, in the words of `make_through_links`.

@@ -1,14 +1,15 @@
 //! A path opened for use, by flags of open(2): what is there is found, or a file is made. Which call comes next, and
 //! what that is asked for, `open_or_make` says.
 use crate::inner::fault_of;
+use crate::make_all::Gave;
 use crate::path::Texts;
 use crate::progress::{Progress, Said};
 use crate::request::*;
 use crate::steps;
 use crate::walk::{EXACT, NO_LINKS, NO_RETRY, O_PATH, bit, has, path_below};
-use dialogue::Question;
+use dialogue::{Asked, Question};
 use linux_steps::look_error;
-use open_or_make::{Course, FIND, begin, request_of};
+use open_or_make::{Course, Question as Opens, begin, request_of};
 use system_calls::{
     MachineFlags, Opening, USE_FAILS, USE_GIVES, USE_MAKES, USE_REOPENS, kind_of, opening_of,
     use_of,
@@ -54,7 +55,7 @@ pub(crate) fn mode_of(request: &Request, opening: &Opening) -> u32 {
     bit(now.what == USE_MAKES, request.mode)
 }
 
-fn asked_by(request: &Request, opening: &Opening, call: u8) -> Request {
+fn asked_by(request: &Request, opening: &Opening, call: Opens) -> Request {
     let now = request_of(opening, request.mode, call);
     Request {
         what: now.op,
@@ -124,7 +125,7 @@ impl Progress<'_> {
         &mut self,
         request: &Request,
         opening: &Opening,
-        call: u8,
+        call: Opens,
         texts: Texts<'n>,
     ) -> Said<'n> {
         self.carry_out(&asked_by(request, opening, call), texts)
@@ -138,7 +139,7 @@ impl Progress<'_> {
         opening: &Opening,
         texts: Texts<'n>,
     ) -> Said<'n> {
-        match self.call_of(request, opening, FIND, texts)? {
+        match self.call_of(request, opening, Opens::Find, texts)? {
             Reply::Value(found, _) => self.use_found(request, opening, found),
             failed => Ok(failed),
         }
@@ -165,16 +166,18 @@ impl Progress<'_> {
     pub(crate) fn open_next<'n>(
         &mut self,
         request: &Request,
-        course: &Course,
+        question: Opens,
         opening: &Opening,
         texts: Texts<'n>,
-    ) -> Said<'n> {
-        if course.pause > 0 {
-            self.ask(Question::Wait(course.pause))?;
-        }
-        match course.next {
-            FIND => self.found(request, opening, texts),
-            next => self.call_of(request, opening, next, texts),
-        }
+    ) -> Asked<'n, Gave<'n>> {
+        let reply = match question {
+            Opens::Wait(pause) => {
+                self.ask(Question::Wait(pause))?;
+                value(0)
+            }
+            Opens::Find => self.found(request, opening, texts)?,
+            call => self.call_of(request, opening, call, texts)?,
+        };
+        Ok(Gave::Outcome(reply, 0, false))
     }
 }

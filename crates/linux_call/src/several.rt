@@ -2,21 +2,23 @@
 use crate::due::{NAME, lay};
 use crate::inner::fault_of;
 use crate::kept::State;
-use crate::make_all::{Gave, outcome_of};
+use crate::make_all::{Begun, Gave, outcome_of};
 use crate::path::{Texts, front};
 use crate::progress::Progress;
 use crate::request::*;
 use crate::walk::{FOLLOW, NO_RETRY, has};
 use dialogue::Asked;
-use make_through_links::{Came, Outcome, lay_link, pass};
+use make_through_links::Came;
+use open_or_make::{Came as CameOpen, Outcome, lay_link};
 use path_text::TEXT_MAX;
+use std::mem;
 use system_calls::errors::EINVAL;
 
 /// The reply; or what a call of several gave.
 pub(crate) type Part<'n> = Asked<'n, Result<Reply<'n>, Gave<'n>>>;
 
 // What a call of several gave is kept, with the name that an error was about.
-pub(crate) fn keep(state: &mut State, reply: &Reply<'_>, room: &mut [u8]) {
+fn keep(state: &mut State, reply: &Reply<'_>, room: &mut [u8]) {
     if let Reply::Fails(_, _, name) = *reply {
         lay(room, NAME, name);
     }
@@ -26,27 +28,31 @@ pub(crate) fn keep(state: &mut State, reply: &Reply<'_>, room: &mut [u8]) {
     state.step = step;
 }
 
-pub(crate) fn last_reply<'n>(state: &State) -> Reply<'n> {
-    if state.error == 0 {
-        Reply::Value(state.given, b"")
-    } else {
-        Reply::Failed(state.error, state.step)
-    }
-}
-
 impl Progress<'_> {
-    // The end of a course, or what its next call gives.
+    // The end of a pass, or what its next call gives.
     pub(crate) fn open_at_part<'n>(
         &mut self,
         request: &Request,
         state: &State,
         texts: Texts<'n>,
     ) -> Part<'n> {
-        let course = &state.course;
-        Ok(match course.next {
-            open_or_make::ENDS => Ok(last_reply(state)),
-            open_or_make::FAILS => Ok(Reply::Fails(course.error as u32, course.step, b"")),
-            _ => Err(Gave::Reply(self.open_next(request, course, &state.opening, texts)?)),
+        let mut heard = heard(state);
+        let path = texts.first.text();
+        let read = text_read(state, texts.read);
+        let came = match open_or_make::pass(&mut heard, &state.course, path, read) {
+            Ok(came) => came,
+            Err(question) => {
+                return Ok(Err(self.open_next(request, question, &state.opening, texts)?));
+            }
+        };
+        Ok(match came {
+            CameOpen::Given(fd) => Ok(value(fd)),
+            CameOpen::Failed(_) => Ok(Reply::Failed(state.error, state.step)),
+            CameOpen::Fails(error, step) => Ok(Reply::Fails(error, step, b"")),
+            CameOpen::Again(course) => Err(Gave::Pass(Begun::Opens(course), None)),
+            CameOpen::Led(course, front) => {
+                Err(Gave::Pass(Begun::Opens(course), Some((front, path.len()))))
+            }
         })
     }
 
@@ -58,8 +64,13 @@ impl Progress<'_> {
         texts: Texts<'n>,
     ) -> Part<'n> {
         let mut heard = heard(state);
-        let read = text_read(state, true, texts.read);
-        let came = match pass(&mut heard, &state.making, texts.first.text(), read) {
+        let read = text_read(state, texts.read);
+        let came = match make_through_links::pass(
+            &mut heard,
+            &state.making,
+            texts.first.text(),
+            read,
+        ) {
             Ok(came) => came,
             Err(question) => return Ok(Err(self.make_next(request, &question, texts)?)),
         };
@@ -67,7 +78,10 @@ impl Progress<'_> {
             Came::Given(fd) => Ok(value(fd)),
             Came::Failed(_) => Ok(Reply::Failed(state.error, state.step)),
             Came::Fails(error, step) => Ok(Reply::Fails(error, step, b"")),
-            _ => Err(Gave::Pass(came)),
+            Came::Again(making) => Err(Gave::Pass(Begun::Makes(making), None)),
+            Came::Led(making, front, at) => {
+                Err(Gave::Pass(Begun::Makes(making), Some((front, at))))
+            }
         })
     }
 }
@@ -82,36 +96,29 @@ fn heard(state: &State) -> &[Outcome] {
     }
 }
 
-// The text that a call has read.
-pub(crate) fn text_read<'r>(state: &State, reads: bool, read: &'r [u8]) -> &'r [u8] {
-    if reads && state.error == 0 {
+// The text that the last call has read.
+fn text_read<'r>(state: &State, read: &'r [u8]) -> &'r [u8] {
+    if state.error == 0 {
         front(read, state.given as usize)
     } else {
         &read[..0]
     }
 }
 
-// Goes on to the next call of a path's opening: whether it could.
-fn next_course(state: &mut State, path: &mut [u8], read: &[u8]) -> bool {
-    let course = state.course;
-    if path.len() < TEXT_MAX || course.length > path.len() {
-        return false;
-    }
-    let text = text_read(state, course.next == open_or_make::READ_LINK, read);
-    state.course = open_or_make::next(course, state.error, text, path);
-    true
-}
-
 // Another pass over the path begins, into which the text is laid of the link that was read.
-fn next_pass(state: &mut State, came: Came, path: &mut [u8], read: &[u8]) {
-    match came {
-        Came::Led(making, front, at) => {
-            let text = text_read(state, true, read);
-            lay_link(text, front, at, state.making.length, path);
-            state.making = making;
-        }
-        Came::Again(making) => state.making = making,
-        _ => {}
+fn next_pass(
+    state: &mut State,
+    begun: Begun,
+    led: Option<(usize, usize)>,
+    path: &mut [u8],
+    read: &[u8],
+) {
+    let length = match begun {
+        Begun::Opens(course) => mem::replace(&mut state.course, course).length,
+        Begun::Makes(making) => mem::replace(&mut state.making, making).length,
+    };
+    if let Some((front, at)) = led {
+        lay_link(text_read(state, read), front, at, length, path);
     }
     state.heard = 0;
 }
@@ -135,10 +142,9 @@ pub(crate) fn next_call(state: &mut State, then: Then, first: &mut [u8], read: &
     }
     let (_, path) = first.split_at_mut(1);
     match then {
-        Then::Course => next_course(state, path, read),
         Then::Call(rest, finds) => hear(state, rest, finds),
-        Then::Pass(came) => {
-            next_pass(state, came, path, read);
+        Then::Pass(begun, led) => {
+            next_pass(state, begun, led, path, read);
             true
         }
     }
@@ -147,23 +153,18 @@ pub(crate) fn next_call(state: &mut State, then: Then, first: &mut [u8], read: &
 /// What comes behind what a part of a call of several gave.
 #[derive(Clone, Copy)]
 pub(crate) enum Then {
-    Course,
     Call(usize, bool),
-    Pass(Came),
+    Pass(Begun, Option<(usize, usize)>),
 }
 
 /// Keeps what a part of a call of several gave.
 pub(crate) fn keep_gave(state: &mut State, gave: &Gave<'_>, room: &mut [u8]) -> Then {
     match gave {
-        Gave::Reply(reply) => {
-            keep(state, reply, room);
-            Then::Course
-        }
         Gave::Outcome(reply, rest, finds) => {
             keep(state, reply, room);
             Then::Call(*rest, *finds)
         }
-        Gave::Pass(came) => Then::Pass(*came),
+        Gave::Pass(begun, led) => Then::Pass(*begun, *led),
     }
 }
 

@@ -15,7 +15,6 @@ use crate::several::{Part, Then, begin, keep_gave, next_call};
 use crate::walk::{Below, EXACT, NOFOLLOW, O_PATH, has};
 use crate::{open_at, steps};
 use dialogue::{Answer, Question};
-use open_or_make::{Course, FIND};
 use std::alloc::Global;
 use std::mem;
 use system_calls::Opening;
@@ -387,7 +386,6 @@ fn is_changed(state: &State, answers: &[Answer]) -> bool {
 fn look_up_first(
     request: &Request,
     opening: &Opening,
-    course: &Course,
     first: &[u8],
     room: &mut [u8],
 ) -> Option<Due> {
@@ -397,7 +395,7 @@ fn look_up_first(
             (request.flags & !NOFOLLOW, O_PATH | machine.nofollow, 0)
         }
         RESOLVE => (request.flags, O_PATH, 0),
-        OPEN_AT if course.next == FIND => {
+        OPEN_AT if opening.error == 0 && opening.finds => {
             let how = open_at::how_of(machine, opening);
             (request.flags, how, open_at::mode_of(request, opening))
         }
@@ -449,8 +447,7 @@ pub fn turn(
             state.opening = open_at::opening(request);
             state.course = open_at::first(request, &state.opening);
         }
-        let (opening, course) = (&state.opening, &state.course);
-        if let Some(first_due) = look_up_first(request, opening, course, first, room) {
+        if let Some(first_due) = look_up_first(request, &state.opening, first, room) {
             state.begun = true;
             state.looked = true;
             state.opens = is_reply(request, state);

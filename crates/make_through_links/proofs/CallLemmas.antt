@@ -2,7 +2,7 @@
 use Rattle.std.proofs.Common.{◌≡◌, ◌≤◌, ℕ, ◌+◌, ◌*◌, List, refl, sym, subst, arith}
 use Rattle.std.specs.Prelude.{zero, suc}
 use Rattle.dialogue.proofs.HoldLemmas.{Goes, both, over}
-use Rattle.make_through_links.specs.Paths.{way}
+use Rattle.open_or_make.specs.Paths.{way}
 use Rattle.make_through_links.specs.Promises.{CallsHold, Ends, go_on, passes, CALLS_MAX, PASSES}
 use Rattle.make_through_links.specs.Seen.{GoesOn, IsOnItsWay, Seen, Wish, at, begun, text_for, watch}
 use Rattle.make_through_links.specs.declared.making.Came.{Came}

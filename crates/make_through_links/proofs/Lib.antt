@@ -1,4 +1,3 @@
 pub mod CallLemmas
 pub mod LinkLemmas
 pub mod PassLemmas
-pub mod PathLemmas

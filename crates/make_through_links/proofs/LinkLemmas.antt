@@ -8,17 +8,17 @@ use Rattle.std.proofs.lemmas.List.{drop-append-le, drop-drop, drop_all, take_min
 use Rattle.path_text.specs.Text.{begins_with_slash, is_empty, name_size}
 use Rattle.system_calls.specs.Errors.{EAGAIN, EINVAL, ENOENT}
 use Rattle.system_calls.specs.Tries.{is_due, pause_after}
-use Rattle.open_or_make.specs.History.{STEP_MAKE_FILE, STEP_READ_LINK}
+use Rattle.open_or_make.specs.Pass.{STEP_MAKE_FILE, STEP_READ_LINK}
 use Rattle.make_through_links.specs.Asking.{reads_end, reads_link}
 use Rattle.make_through_links.specs.Ends.{again, followed, followed_at_end, front_for, led, led_by, link_error, unparted, STEP_MAKE_DIR}
 use Rattle.make_through_links.specs.Pass.{end_read, link_read}
-use Rattle.make_through_links.specs.Paths.{before_rest, rest_at, slashes_size, way}
+use Rattle.open_or_make.specs.Paths.{before_rest, rest_at, slashes_size, way}
 use Rattle.make_through_links.specs.Promises.{IsLed, Leads, LinksLead}
 use Rattle.make_through_links.specs.Seen.{May, Seen, Wish, missing, text_for}
-use Rattle.make_through_links.specs.declared.asking.Outcome.{Outcome}
+use Rattle.open_or_make.specs.declared.asking.Outcome.{Outcome}
 use Rattle.make_through_links.specs.declared.making.Came.TheVariants.{Failed, Fails, Again, Led}
 use Rattle.make_through_links.specs.declared.making.Making.{Making}
-use Rattle.make_through_links.proofs.PathLemmas.{only_slashes, take_both}
+use Rattle.open_or_make.proofs.PathLemmas.{only_slashes, take_both}
 
 again_stays : (w : Wish) (s : Seen) (dir link : List ℕ) (m : Making) → Leads w s dir link (again m)
 again_stays w s dir link m = by_case (is_due m.tries m.may_retry EAGAIN false)

@@ -6,16 +6,16 @@ use Rattle.path_text.specs.Text.{is_empty, name_size}
 use Rattle.path_text.specs.declared.path.TheConstants.{TEXT_MAX}
 use Rattle.system_calls.specs.Errors.{EAGAIN, EEXIST, EINVAL, EISDIR, ENAMETOOLONG, ENOENT, ELOOP}
 use Rattle.system_calls.specs.Tries.{is_due, pause_after, TRIES}
-use Rattle.open_or_make.specs.History.{LINKS, STEP_MAKE_FILE, STEP_READ_LINK}
+use Rattle.open_or_make.specs.Pass.{LINKS, NO_STEP, STEP_MAKE_FILE, STEP_READ_LINK}
 use Rattle.dialogue.specs.Dialogue.{and_then, asking, ends}
 use Rattle.dialogue.proofs.HoldLemmas.{Goes, asks_then, choose, over, weak}
 use Rattle.make_through_links.specs.Asking.{Call, Talk, closes, creates, finds, makes, makes_above, makings, opens_partly, reads_end, reads_link, splits, waits}
-use Rattle.make_through_links.specs.Ends.{again, ended, followed, followed_at_end, front_for, led, led_by, unparted, NO_STEP, STEP_MAKE_DIR}
+use Rattle.make_through_links.specs.Ends.{again, ended, followed, followed_at_end, front_for, led, led_by, unparted, STEP_MAKE_DIR}
 use Rattle.make_through_links.specs.Pass.{behind_there, create, end_read, find, link_read, look, make, make_question, parted, pass, read_end, read_link, walk}
-use Rattle.make_through_links.specs.Paths.{rest_at, way}
+use Rattle.open_or_make.specs.Paths.{rest_at, way}
 use Rattle.make_through_links.specs.Promises.{given}
 use Rattle.make_through_links.specs.Seen.{GoesOn, IsOnItsWay, Seen, Wish, after, at, calls_by, held_by, making_by, missing, opened, text_for, told, watch}
-use Rattle.make_through_links.specs.declared.asking.Outcome.{Outcome}
+use Rattle.open_or_make.specs.declared.asking.Outcome.{Outcome}
 use Rattle.make_through_links.specs.declared.making.Came.{Came}
 use Rattle.make_through_links.specs.declared.making.Came.TheVariants.{Given, Failed, Fails, Again, Led}
 use Rattle.make_through_links.specs.declared.making.Making.{Making}

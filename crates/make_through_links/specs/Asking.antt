@@ -1,7 +1,7 @@
 -- What is asked for as all missing parts of a path are made: whole calls, each on a part of the path.
 use Rattle.std.specs.Prelude.{ℕ, List, Bool, false}
 use Rattle.dialogue.specs.Dialogue.{DialogueOf, ExchangeOf, Protocol, protocol}
-use Rattle.make_through_links.specs.declared.asking.Outcome.{Outcome}
+use Rattle.open_or_make.specs.declared.asking.Outcome.{Outcome}
 use Rattle.make_through_links.specs.declared.asking.Question.{Question}
 use Rattle.make_through_links.specs.declared.asking.Question.TheVariants.{Find, Split, MakeAbove, Make, Partial, ReadLink, Create, ReadEnd, Close, Wait}
 

@@ -4,9 +4,9 @@ use Rattle.path_text.specs.Text.{begins_with_slash}
 use Rattle.path_text.specs.declared.path.TheConstants.{TEXT_MAX}
 use Rattle.system_calls.specs.Errors.{EAGAIN, ENAMETOOLONG, ELOOP}
 use Rattle.system_calls.specs.Tries.{is_due, pause_after}
-use Rattle.open_or_make.specs.History.{LINKS, STEP_READ_LINK}
-use Rattle.make_through_links.specs.Paths.{rest_at, way}
-use Rattle.make_through_links.specs.declared.asking.Outcome.{Outcome}
+use Rattle.open_or_make.specs.Pass.{LINKS, STEP_READ_LINK}
+use Rattle.open_or_make.specs.Paths.{rest_at, way}
+use Rattle.open_or_make.specs.declared.asking.Outcome.{Outcome}
 use Rattle.make_through_links.specs.declared.making.Came.{Came}
 use Rattle.make_through_links.specs.declared.making.Came.TheVariants.{Given, Failed, Fails, Again, Led}
 use Rattle.make_through_links.specs.declared.making.Making.{Making}
@@ -14,10 +14,6 @@ use Rattle.make_through_links.specs.declared.making.Making.{Making}
 -- the step that makes a directory, as linux_call numbers it; the others are those of open_or_make
 abbrev pub STEP_MAKE_DIR : ℕ
 STEP_MAKE_DIR = 8
-
--- no step
-abbrev pub NO_STEP : ℕ
-NO_STEP = 0
 
 abbrev pub begin : ℕ → Bool → Bool → Bool → Making
 begin length file follows may_retry =

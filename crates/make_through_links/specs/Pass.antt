@@ -2,11 +2,11 @@
 use Rattle.std.specs.Prelude.{ℕ, ◌+◌, List, ◌==◌, Bool, true, not, ◌&&◌, ◌||◌, if◌then◌else◌, nat_lt, take, drop}
 use Rattle.path_text.specs.Text.{is_empty, name_size}
 use Rattle.system_calls.specs.Errors.{ENOENT, EEXIST, EISDIR, EINVAL}
-use Rattle.open_or_make.specs.History.{STEP_MAKE_FILE, STEP_READ_LINK}
+use Rattle.open_or_make.specs.Pass.{NO_STEP, STEP_MAKE_FILE, STEP_READ_LINK}
 use Rattle.dialogue.specs.Dialogue.{and_then, asking, ends}
 use Rattle.make_through_links.specs.Asking.{Call, Talk, closes, creates, finds, makes, makes_above, makings, opens_partly, reads_end, reads_link, splits, waits}
-use Rattle.make_through_links.specs.Ends.{again, ended, followed, followed_at_end, unparted, NO_STEP}
-use Rattle.make_through_links.specs.declared.asking.Outcome.{Outcome}
+use Rattle.make_through_links.specs.Ends.{again, ended, followed, followed_at_end, unparted}
+use Rattle.open_or_make.specs.declared.asking.Outcome.{Outcome}
 use Rattle.make_through_links.specs.declared.making.Came.{Came}
 use Rattle.make_through_links.specs.declared.making.Came.TheVariants.{Failed, Fails}
 use Rattle.make_through_links.specs.declared.making.Making.{Making}

@@ -7,9 +7,9 @@ use Rattle.dialogue.specs.Dialogue.{and_then, ends}
 use Rattle.dialogue.specs.Holds.{EachHolds}
 use Rattle.make_through_links.specs.Asking.{Talk, reads_end, reads_link}
 use Rattle.make_through_links.specs.Pass.{end_read, link_read, pass}
-use Rattle.make_through_links.specs.Paths.{before_rest, way}
+use Rattle.open_or_make.specs.Paths.{before_rest, way}
 use Rattle.make_through_links.specs.Seen.{Seen, Wish, May, at_first, begun, text_for, watch}
-use Rattle.make_through_links.specs.declared.asking.Outcome.{Outcome}
+use Rattle.open_or_make.specs.declared.asking.Outcome.{Outcome}
 use Rattle.make_through_links.specs.declared.making.Came.{Came}
 use Rattle.make_through_links.specs.declared.making.Came.TheVariants.{Given, Again, Led}
 use Rattle.make_through_links.specs.declared.making.Making.{Making}

@@ -4,13 +4,13 @@ use Rattle.path_text.specs.Text.{is_empty, name_size}
 use Rattle.path_text.specs.declared.path.TheConstants.{TEXT_MAX}
 use Rattle.system_calls.specs.Errors.{ENOENT, EEXIST, EISDIR}
 use Rattle.system_calls.specs.Tries.{TRIES}
-use Rattle.open_or_make.specs.History.{LINKS}
+use Rattle.open_or_make.specs.Pass.{LINKS, NO_STEP}
 use Rattle.dialogue.specs.Holds.{WatchOf}
 use Rattle.make_through_links.specs.Asking.{Call, closes, creates, finds, makes, makes_above, makings, opens_partly, reads_end, reads_link, splits, waits}
-use Rattle.make_through_links.specs.Ends.{again, begin, ended, NO_STEP}
+use Rattle.make_through_links.specs.Ends.{again, begin, ended}
 use Rattle.make_through_links.specs.Pass.{end_read, link_read}
-use Rattle.make_through_links.specs.Paths.{way}
-use Rattle.make_through_links.specs.declared.asking.Outcome.{Outcome}
+use Rattle.open_or_make.specs.Paths.{way}
+use Rattle.open_or_make.specs.declared.asking.Outcome.{Outcome}
 use Rattle.make_through_links.specs.declared.making.Came.{Came}
 use Rattle.make_through_links.specs.declared.making.Came.TheVariants.{Failed, Fails, Again, Led}
 use Rattle.make_through_links.specs.declared.making.Making.{Making}

@@ -3,6 +3,8 @@ ghost use Rattle.std.specs.Prelude.{◌≡◌};
 ghost use Rattle.dialogue.specs.Dialogue.{asking, ran, ran_by_of};
 ghost use Rattle.make_through_links.specs.Asking.{asked_of, makings};
 
+use open_or_make::Outcome;
+
 /// What is asked for: a call on these bytes of the path; or something beside the path.
 #[derive(Clone, Copy, Debug)]
 pub enum Question<'n> {
@@ -26,20 +28,6 @@ pub enum Question<'n> {
     Close(u32),
     /// So many nanoseconds pass.
     Wait(u32),
-}
-
-/// What a call gave.
-#[repr(C)]
-#[derive(Clone, Copy, Debug, PartialEq, Eq)]
-pub struct Outcome {
-    /// Of `Split`, so many bytes of the path come before its last name; of `Partial`, before what is missing.
-    pub rest: u32,
-    /// The number of its error (errno(3)), or 0.
-    pub error: u32,
-    /// If that is 0, the descriptor that it opened.
-    pub descriptor: u32,
-    /// `Find` found a directory.
-    pub directory: bool,
 }
 
 /// What came of the outcomes; or the call that is due.

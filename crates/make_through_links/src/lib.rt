@@ -10,10 +10,8 @@ mod asking;
 mod laws;
 mod making;
 mod passes;
-mod paths;
 
-pub use asking::{Asked, Outcome, Question};
+pub use asking::{Asked, Question};
 pub use laws::{calls_hold, links_are_followed_in_turn};
 pub use making::{Came, Making, begin};
 pub use passes::pass;
-pub use paths::lay_link;

@@ -1,10 +1,9 @@
 //! How far a call has come, and how one pass over its path ends.
 ghost use Rattle.std.specs.Prelude.{◌≡◌, ◌≤◌, ◌<◌, length};
-ghost use Rattle.open_or_make.specs.History.{LINKS};
+ghost use Rattle.open_or_make.specs.Pass.{LINKS};
 ghost use Rattle.make_through_links.specs.Ends.{again, begin, ended, followed, followed_at_end, led, link_error, unparted};
 
-use crate::asking::Outcome;
-use crate::paths::{behind, front, front_length, joined_length, rest_at};
+use open_or_make::{Outcome, behind, front, front_length, joined_length, rest_at};
 use path_text::TEXT_MAX;
 use system_calls::errors::{EAGAIN, ELOOP, ENAMETOOLONG};
 use system_calls::next_try;

@@ -4,12 +4,12 @@ ghost use Rattle.dialogue.specs.Dialogue.{ran, ran_by_of};
 ghost use Rattle.make_through_links.specs.Asking.{asked_of, makings};
 ghost use Rattle.make_through_links.specs.Pass.{create, find, look, make, make_question, pass, read_end, read_link};
 
-use crate::asking::{Asked, Outcome, Question, ask};
+use crate::asking::{Asked, Question, ask};
 use crate::making::{
     Came, Making, NO_STEP, STEP_MAKE_FILE, STEP_READ_LINK, again, ended, followed, followed_at_end,
     unparted,
 };
-use crate::paths::{behind, front};
+use open_or_make::{Outcome, behind, front};
 use path_text::name_length;
 use system_calls::errors::{EEXIST, EINVAL, EISDIR, ENOENT};
 

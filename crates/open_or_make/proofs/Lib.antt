@@ -1,4 +1,3 @@
-pub mod CourseLemmas
-pub mod HistoryLemmas
+pub mod CallLemmas
+pub mod PassLemmas
 pub mod PathLemmas
-pub mod PromiseLemmas

@@ -1,5 +1,5 @@
-pub mod Course
-pub mod History
-pub mod Leads
+pub mod Pass
+pub mod Paths
 pub mod Promises
 pub mod Requests
+pub mod Seen

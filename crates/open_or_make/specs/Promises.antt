@@ -1,64 +1,64 @@
--- What holds of every history.
-use Rattle.std.specs.Prelude.{◌≡◌, ◌<◌, ◌≤◌, ℕ, List, ◌∷◌, ◌++◌, ◌⊎◌, false, true, length}
-use Rattle.std.specs.List.{AllByRecursion}
-use Rattle.path_text.specs.declared.path.TheConstants.{TEXT_MAX}
-use Rattle.system_calls.specs.Errors.{EAGAIN, ENAMETOOLONG, ELOOP}
-use Rattle.system_calls.specs.Tries.{TRIES}
-use Rattle.open_or_make.specs.Leads.{led_to}
-use Rattle.open_or_make.specs.declared.course.TheConstants.{FIND, CREATE, READ_LINK}
-use Rattle.open_or_make.specs.declared.course.Met.TheVariants.{Missing, Link}
-use Rattle.open_or_make.specs.History.{fails, links_read, met_of, path_after, times_between, was_between, Asked, Due, Exchange, LINKS, STEP_MAKE_FILE, STEP_READ_LINK}
+-- What holds of whole conversations.
+use Rattle.std.specs.Prelude.{◌≡◌, ◌≢◌, ◌≤◌, ℕ, zero, suc, List, ◌⊎◌, ◌&&◌, false, Some, length}
+use Rattle.dialogue.specs.Dialogue.{and_then, ends}
+use Rattle.dialogue.specs.Holds.{EachHolds}
+use Rattle.open_or_make.specs.Paths.{kept_length, led_to, way}
+use Rattle.open_or_make.specs.Pass.{Talk, ended, pass, NO_STEP}
+use Rattle.open_or_make.specs.Seen.{Seen, Wish, May, after, at_first, begun, text_for, watch}
+use Rattle.open_or_make.specs.declared.asking.Outcome.{Outcome}
+use Rattle.open_or_make.specs.declared.asking.Question.{Question}
+use Rattle.open_or_make.specs.declared.course.Came.{Came}
+use Rattle.open_or_make.specs.declared.course.Came.TheVariants.{Fails, Again, Led}
+use Rattle.open_or_make.specs.declared.course.Course.{Course}
 
--- a call gave no descriptor: it gave an error, or a link's text
-abbrev pub GaveNone : Exchange → Type 0
-GaveNone e = e.error ≡ 0 → e.call ≡ READ_LINK
+-- ---- a whole call: one pass after another
 
--- The descriptor is of what the last call found at the path of that moment, or made there. No call before gave one.
-pub record IsGiven (asked : Asked) (older : List Exchange) (e : Exchange) : Type 0 where
-  pub by : (e.call ≡ FIND) ⊎ (e.call ≡ CREATE)
-  pub path : e.path ≡ path_after asked older
-  pub others : AllByRecursion GaveNone older
+abbrev pub go_on : Wish → (Course → List ℕ → Talk) → Course → List ℕ → Came → Talk
+go_on w next c path (Again now) = next now path
+go_on w next c path (Led now front) = next now (way path (text_for w c) front (length path))
+go_on w next c path other = ends other
 
--- the path is the one to which the link leads that was read last
-pub record IsOfLastLink (asked : Asked) (older : List Exchange) (path : List ℕ) : Type 0 where
-  pub newer : List Exchange
-  pub link : Exchange
-  pub before : List Exchange
-  pub order : older ≡ newer ++ (link ∷ before)
-  pub none : links_read asked newer ≡ 0
-  pub read : met_of asked link ≡ Link
-  pub leads : path ≡ led_to link.path link.text
-  pub fits : length path ≤ TEXT_MAX
+-- so many passes at most
+abbrev pub passes : Wish → ℕ → Course → List ℕ → Talk
+passes w zero c path = ends (Again c)
+passes w (suc n) c path = and_then (pass c path (text_for w c)) (go_on w (passes w n) c path)
 
--- a call's path is the call's own, as long as no link was read
-abbrev pub IsPathOf : Asked → List Exchange → List ℕ → Type 0
-IsPathOf asked older path =
-    ((path ≡ asked.path) × (links_read asked older ≡ 0)) ⊎ IsOfLastLink asked older path
+-- one for each of 40 links and 32 times somebody in between, and one more
+abbrev pub PASSES : ℕ
+PASSES = 73
 
--- the path to which the link leads that was just read is too long
-abbrev pub IsTooLong : Asked → List Exchange → Exchange → Type 0
-IsTooLong asked older e = (met_of asked e ≡ Link) × (TEXT_MAX < length (led_to (path_after asked older) e.text))
+abbrev pub open_all : Wish → Talk
+open_all w = passes w PASSES (begun w) w.path
 
--- the link that was just read is one too many
-abbrev pub IsOneTooMany : Asked → List Exchange → Exchange → Type 0
-IsOneTooMany asked older e =
-    (met_of asked e ≡ Link) × (length (led_to (path_after asked older) e.text) ≤ TEXT_MAX)
-    × (links_read asked older ≡ LINKS)
+-- ---- how it ends
 
--- nothing is there again after somebody came in between, as at each try before, or at the only one
-abbrev pub IsLastTry : Asked → List Exchange → Exchange → Type 0
-IsLastTry asked older e =
-    (met_of asked e ≡ Missing) × (was_between asked older ≡ true)
-    × ((asked.may_retry ≡ false) ⊎ (times_between asked older ≡ TRIES))
-
--- why it fails by an error that isn't the last call's
-abbrev pub IsWhy : Asked → List Exchange → Exchange → Due → Type 0
-IsWhy asked older e due =
-    ((due ≡ fails ENAMETOOLONG STEP_READ_LINK) × IsTooLong asked older e)
-    ⊎ (((due ≡ fails ELOOP STEP_READ_LINK) × IsOneTooMany asked older e)
-    ⊎ ((due ≡ fails EAGAIN STEP_MAKE_FILE) × IsLastTry asked older e))
-
--- So many calls are the most: 40 links and 32 times somebody in between take three calls each, and one more finds
--- nothing again.
+-- So many calls are the most: three in each pass, but in the last one, which finds nothing again.
 abbrev pub CALLS_MAX : ℕ
 CALLS_MAX = 217
+
+abbrev pub IsReply : Came → Type 0
+IsReply (Again c) = ⊥
+IsReply (Led c front) = ⊥
+IsReply other = Unit {0}
+
+-- The reply is what the last call's answer says. Or the flags are refused: then no call was made.
+pub record Ends (w : Wish) (s : Seen) (c : Came) : Type 0 where
+  pub is : IsReply c
+  pub said : (s.came ≡ Some c)
+      ⊎ ((s.calls ≡ 0) × (w.opening.error ≢ 0) × (c ≡ Fails w.opening.error NO_STEP))
+  pub few : s.calls ≤ CALLS_MAX
+
+abbrev pub CallsHold : Type 0
+CallsHold = (w : Wish) → EachHolds (watch w) 292 (at_first w) (open_all w) (Ends w)
+
+-- Where what is there is only looked for, or what is made must be missing, whichever call comes ends it.
+abbrev pub OneCallIsAll : Type 0
+OneCallIsAll =
+    (w : Wish) (s : Seen) (q : Question) (a : Outcome) → (w.opening.finds && w.opening.makes) ≡ false → May w s q
+    → (s.calls ≡ 0) × ((after w s q a).came ≡ Some (ended a))
+
+-- ---- links
+
+-- where a link leads that is read at the path's end
+abbrev pub LinksLead : Type 0
+LinksLead = (path text : List ℕ) → way path text (kept_length path text) (length path) ≡ led_to path text

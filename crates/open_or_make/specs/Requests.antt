@@ -1,7 +1,8 @@
 -- What each call is asked for, by the flags of open(2).
-use Rattle.std.specs.Prelude.{ℕ, ◌^◌, ◌==◌, true, false, not, if◌then◌else◌, bit_or}
+use Rattle.std.specs.Prelude.{ℕ, ◌^◌, true, false, not, if◌then◌else◌, bit_or}
 use Rattle.system_calls.specs.declared.opening.Opening.{Opening}
-use Rattle.open_or_make.specs.declared.course.TheConstants.{FIND, CREATE}
+use Rattle.open_or_make.specs.declared.asking.Question.{Question}
+use Rattle.open_or_make.specs.declared.asking.Question.TheVariants.{Find, Create}
 use Rattle.open_or_make.specs.declared.requests.Request.{Request}
 
 -- the operations, as linux_call numbers them
@@ -62,6 +63,8 @@ reading =
       walks = true;
     }
 
-abbrev pub request_of : Opening → ℕ → ℕ → Request
-request_of opening mode call =
-    if call == FIND then finding opening else (if call == CREATE then creating opening mode else reading)
+-- by the call
+abbrev pub request_of : Opening → ℕ → Question → Request
+request_of opening mode Find = finding opening
+request_of opening mode Create = creating opening mode
+request_of opening mode other = reading

@@ -1,58 +1,41 @@
-//! How far a call has come, and which call comes next.
-ghost use Rattle.std.specs.Prelude.{◌≡◌, ◌≤◌, ◌+◌, ℕ, List, [], ◌∷◌, true, false, length, take};
-ghost use Rattle.path_text.specs.declared.path.TheConstants.{TEXT_MAX};
-ghost use Rattle.open_or_make.specs.Course.{exchange, Goes, IsAt, Keeps};
-ghost use Rattle.open_or_make.specs.History.{asked_of, first_call, is_call, meets, met_by, met_of, Asked, Exchange};
+//! How far a call has come, and one pass over its path, as a dialogue.
+ghost use Rattle.std.specs.Prelude.{◌≡◌};
+ghost use Rattle.dialogue.specs.Dialogue.{ran, ran_by_of};
+ghost use Rattle.open_or_make.specs.Pass.{begin, between, create, ended, find, led, make_missing, openings, pass, read_link};
 
-use crate::leads::{kept_length, lay};
+use crate::asking::{Asked, Outcome, Question, ask};
+use crate::paths::kept_length;
 use path_text::TEXT_MAX;
 use system_calls::errors::{EAGAIN, EEXIST, EINVAL, ELOOP, ENAMETOOLONG, ENOENT};
 use system_calls::{Opening, next_try};
-
-/// What is at the path's end is looked for, through links, and opened.
-pub const FIND: u8 = 1;
-
-/// A new file is made at the path's end, and opened.
-pub const CREATE: u8 = 2;
-
-/// The text of the link at the path's end is read.
-pub const READ_LINK: u8 = 3;
-
-/// No call comes: the reply is what the last one gave, its descriptor or its error.
-pub const ENDS: u8 = 4;
-
-/// No call comes: the reply is an error of its own.
-pub const FAILS: u8 = 5;
 
 // So many links are followed.
 const LINKS: u32 = 40;
 
 // The steps of a call have these numbers.
+const NO_STEP: u8 = 0;
+
 const STEP_READ_LINK: u8 = 4;
 
 const STEP_MAKE_FILE: u8 = 9;
 
-/// How far a call has come. The driver keeps it, beside a room of bytes that has the path at its beginning.
+/// How far a call has come before a pass. The driver keeps it, beside a room of bytes that has the path at its
+/// beginning.
 #[repr(C)]
 #[derive(Clone, Copy, Debug, PartialEq, Eq)]
 pub struct Course {
-    /// So many bytes of the room are the path of the next call.
+    /// So many bytes of the room are the path.
     pub length: usize,
-    /// So many nanoseconds are waited before it.
-    pub pause: u32,
     /// So many links were followed.
     pub links: u32,
     /// So many times somebody came in between, if they are fewer than 4,294,967,295.
     pub between: u32,
-    /// What comes next: FIND, CREATE or READ_LINK; ENDS or FAILS.
-    pub next: u8,
-    /// If it is FAILS, the number of the error (errno(3)): ELOOP (40), ENAMETOOLONG (36) or EAGAIN (11); or before any
-    /// call that of the flags, EINVAL (22). Else 0.
+    /// The error of the flags (errno(3)), by which no call is made; or 0.
     pub error: u8,
-    /// If it is FAILS, the number of the step: 4 to read a link, 9 to make a file, 0 before any call. Else 0.
-    pub step: u8,
-    /// One call is all: what is there is only looked for, or what is made must be missing.
-    pub once: bool,
+    /// What is there is looked for.
+    pub finds: bool,
+    /// What is missing is made.
+    pub makes: bool,
     /// A link at the path's end may be followed.
     pub follows: bool,
     /// Where somebody comes in between, another try may be made.
@@ -61,192 +44,167 @@ pub struct Course {
     pub again: bool,
 }
 
-// What a call's answer says of the path's end.
-enum Met {
-    Missing,
-    Stands,
-    Link,
-    Between,
-    Other,
+/// How a pass ends.
+#[derive(Clone, Copy, Debug, PartialEq, Eq)]
+pub enum Came {
+    /// The reply is this descriptor.
+    Given(u32),
+    /// The reply is the last call's error.
+    Failed(u32),
+    /// The reply is an error of its own, at a step: 4 to read a link, 9 to make a file; or 0, before any call.
+    Fails(u32, u8),
+    /// The path is looked at once more.
+    Again(Course),
+    /// A link's text stands behind so many bytes of the path, in the place of what comes there (`lay_link`).
+    Led(Course, usize),
 }
 
-fn meets(follows: bool, call: u8, error: u32, nothing: bool) -> Met
-    ensures { result ≡ meets follows call error nothing }
-{
-    if call == FIND {
-        if error == ENOENT {
-            Met::Missing
-        } else {
-            Met::Other
-        }
-    } else if call == CREATE {
-        if error != EEXIST {
-            Met::Other
-        } else if follows {
-            Met::Stands
-        } else {
-            Met::Between
-        }
-    } else if error == 0 {
-        if nothing { Met::Between } else { Met::Link }
-    } else if error == EINVAL || error == ENOENT {
-        Met::Between
-    } else {
-        Met::Other
-    }
-}
-
-fn met_by(course: Course, error: u32, nothing: bool) -> Met
-    ensures { result ≡ met_by course.once course.follows course.next error nothing }
-{
-    if course.once {
-        Met::Other
-    } else {
-        meets(course.follows, course.next, error, nothing)
-    }
-}
-
-fn calls(course: Course, call: u8, pause: u32) -> Course
-    ensures { result ≡ record course { next = call; pause = pause; error = 0; step = 0; again = false } }
+/// Begins a call on a path of so many bytes: what it does by the flags of open(2), in which no link is read if links
+/// are refused; and whether it may be tried again if somebody comes in between. Takes no memory.
+pub fn begin(length: usize, opening: &Opening, no_links: bool, may_retry: bool) -> Course
+    ensures { result ≡ begin length opening.now no_links may_retry }
 {
     Course {
-        next: call,
-        pause,
-        error: 0,
-        step: 0,
-        again: false,
-        ..course
-    }
-}
-
-fn fails(course: Course, error: u8, step: u8) -> Course
-    ensures { result ≡ record course { next = FAILS; pause = 0; error = error; step = step; again = false } }
-{
-    Course {
-        next: FAILS,
-        pause: 0,
-        error,
-        step,
-        again: false,
-        ..course
-    }
-}
-
-// Nothing is there: it is made. If somebody has just come in between, that takes another try.
-fn make_missing(course: Course) -> Course
-    ensures goes { (asked : Asked) (history : List Exchange) (e : Exchange) (room : List ℕ)
-        → Keeps asked history course room → met_of asked e ≡ Met.Missing → Goes asked (e ∷ history) result room }
-    ensures same { result.length ≡ course.length }
-{
-    if !course.again {
-        return calls(course, CREATE, 0);
-    }
-    let again = next_try(course.between, course.may_retry, EAGAIN, false);
-    if again.due {
-        calls(course, CREATE, again.pause)
-    } else {
-        fails(course, EAGAIN as u8, STEP_MAKE_FILE)
-    }
-}
-
-// Somebody came in between: the path is looked at once more.
-fn look_again(course: Course) -> Course
-    ensures goes { (asked : Asked) (history : List Exchange) (e : Exchange) (room : List ℕ)
-        → Keeps asked history course room → met_of asked e ≡ Met.Between → Goes asked (e ∷ history) result room }
-    ensures same { result.length ≡ course.length }
-{
-    Course {
-        between: course.between.saturating_add(1),
-        again: true,
-        ..calls(course, FIND, 0)
-    }
-}
-
-// A link is there, which has this text: the path to which it leads takes the place of the path.
-fn lead_on(course: Course, text: &[u8], room: &mut [u8]) -> Course
-    requires path { course.length ≤ length room.old }
-    requires room { TEXT_MAX ≤ length room.old }
-    ensures goes { (asked : Asked) (history : List Exchange) (e : Exchange) → Keeps asked history course room.old
-        → met_of asked e ≡ Met.Link → e.text ≡ text.now → Goes asked (e ∷ history) result room.new }
-    ensures within { result.length ≤ length room.new }
-    ensures ends { is_call result.next ≡ false → (room.new ≡ room.old) × (result.length ≡ course.length) }
-{
-    let kept = kept_length(&room[..course.length], text);
-    if kept + text.len() > TEXT_MAX {
-        return fails(course, ENAMETOOLONG as u8, STEP_READ_LINK);
-    }
-    if course.links >= LINKS {
-        return fails(course, ELOOP as u8, STEP_READ_LINK);
-    }
-    lay(text, kept, room);
-    Course {
-        length: kept + text.len(),
-        links: course.links + 1,
-        ..calls(course, FIND, 0)
-    }
-}
-
-fn first_call(opening: &Opening) -> u8
-    ensures { result ≡ first_call opening.now.error opening.now.finds }
-{
-    if opening.error != 0 {
-        FAILS
-    } else if opening.finds {
-        FIND
-    } else {
-        CREATE
-    }
-}
-
-/// Begins a call on the path that lies at the beginning of a room, of so many bytes: what it does by the flags of
-/// open(2), in which no link is read if links are refused; and whether it may be tried again if somebody comes in
-/// between. Takes no memory. Errors: that of the flags.
-///
-/// If what is there is only looked for, one call finds it. If what is made must be missing, one call makes it.
-pub fn begin(path_length: usize, opening: &Opening, no_links: bool, may_retry: bool) -> Course
-    ensures begins { (room : List ℕ) → IsAt (asked_of (take path_length room) opening.now no_links may_retry) [] result
-        room }
-    ensures same { result.length ≡ path_length }
-{
-    Course {
-        length: path_length,
-        pause: 0,
+        length,
         links: 0,
         between: 0,
-        next: first_call(opening),
         error: opening.error,
-        step: 0,
-        once: !(opening.finds && opening.makes),
+        finds: opening.finds,
+        makes: opening.makes,
         follows: opening.follows && !no_links,
         may_retry,
         again: false,
     }
 }
 
-/// Takes what the last call gave, and says what comes next. The error is 0 where the call gave a descriptor, or a
-/// link's text, which is then handed over; or else it is the call's (errno(3)). The room has the next call's path at
-/// its beginning. It stays as it was where no call comes next. Takes no memory.
-///
-/// If one call is all, its reply is the reply. Else, if the last call found nothing, a file is made. If an entry is
-/// there by then, and a link may be followed, the link there is read, and the path to which it leads takes the path's
-/// place, at most 40 times. If somebody came in between, so that what stood there is no link or is gone, the path is
-/// looked at once more: there are 32 tries at most.
-///
-/// Errors of its own, in this order: ENAMETOOLONG (36) of a path over 4,095 bytes to which a link leads, ELOOP (40) of
-/// the forty-first link, EAGAIN (11) after so many tries. Any other error is the last call's, and ends it.
-pub fn next(course: Course, error: u32, text: &[u8], room: &mut [u8]) -> Course
-    requires path { course.length ≤ length room.old }
-    requires room { TEXT_MAX ≤ length room.old }
-    ensures goes { (asked : Asked) (history : List Exchange) → IsAt asked history course room.old
-        → is_call course.next ≡ true → IsAt asked (exchange course room.old error text.now ∷ history) result room.new }
-    ensures within { result.length ≤ length room.new }
-    ensures ends { is_call result.next ≡ false → (room.new ≡ room.old) × (result.length ≡ course.length) }
+// The reply is what the last call gave.
+fn ended(outcome: &Outcome) -> Came
+    ensures { result ≡ ended outcome.now }
 {
-    match met_by(course, error, text.is_empty()) {
-        Met::Missing => make_missing(course),
-        Met::Stands => calls(course, READ_LINK, 0),
-        Met::Link => lead_on(course, text, room),
-        Met::Between => look_again(course),
-        Met::Other => calls(course, ENDS, 0),
+    if outcome.error == 0 {
+        Came::Given(outcome.descriptor)
+    } else {
+        Came::Failed(outcome.error)
+    }
+}
+
+// Somebody came in between: the path is looked at once more.
+fn between(course: &Course) -> Came
+    ensures { result ≡ between course.now }
+{
+    Came::Again(Course {
+        between: course.between.saturating_add(1),
+        again: true,
+        ..*course
+    })
+}
+
+// A link is there, which has this text: the path to which it leads takes the place of the path.
+fn led(course: &Course, path: &[u8], text: &[u8]) -> Came
+    ensures { result ≡ led course.now path.now text.now }
+{
+    let kept = kept_length(path, text);
+    let length = kept + text.len();
+    if length > TEXT_MAX {
+        return Came::Fails(ENAMETOOLONG, STEP_READ_LINK);
+    }
+    if course.links >= LINKS {
+        return Came::Fails(ELOOP, STEP_READ_LINK);
+    }
+    let now = Course {
+        length,
+        links: course.links + 1,
+        again: false,
+        ..*course
+    };
+    Came::Led(now, kept)
+}
+
+// An entry stands there, which may be a link.
+#[tactic(auto, using(dialogue::proofs::TalkLemmas::ran_then, dialogue::proofs::TalkLemmas::ran_ends), unfolding(crate::specs::Pass::read_link))]
+fn read_link(outcomes: &mut &[Outcome], course: &Course, path: &[u8], read: &[u8]) -> Asked<Came>
+    ensures { ran_by_of openings (λ x. x) (λ q. q) result outcomes.new.now
+        ≡ ran (read_link course.now path.now read.now) outcomes.old.now }
+{
+    let link = ask(outcomes, Question::ReadLink)?;
+    if link.error == EINVAL || link.error == ENOENT {
+        return Ok(between(course));
+    }
+    if link.error != 0 {
+        return Ok(Came::Failed(link.error));
+    }
+    if read.is_empty() {
+        return Ok(between(course));
+    }
+    Ok(led(course, path, read))
+}
+
+// What is missing is made.
+#[tactic(auto, using(dialogue::proofs::TalkLemmas::ran_then, dialogue::proofs::TalkLemmas::ran_ends), unfolding(crate::specs::Pass::create))]
+fn create(outcomes: &mut &[Outcome], course: &Course, path: &[u8], read: &[u8]) -> Asked<Came>
+    ensures { ran_by_of openings (λ x. x) (λ q. q) result outcomes.new.now
+        ≡ ran (create course.now path.now read.now) outcomes.old.now }
+{
+    let made = ask(outcomes, Question::Create)?;
+    if made.error != EEXIST || !course.finds {
+        return Ok(ended(&made));
+    }
+    if !course.follows {
+        return Ok(between(course));
+    }
+    read_link(outcomes, course, path, read)
+}
+
+// Nothing is there. If somebody has just come in between, to make it takes another try.
+#[tactic(auto, using(dialogue::proofs::TalkLemmas::ran_then, dialogue::proofs::TalkLemmas::ran_ends), unfolding(crate::specs::Pass::make_missing))]
+fn make_missing(outcomes: &mut &[Outcome], course: &Course, path: &[u8], read: &[u8]) -> Asked<Came>
+    ensures { ran_by_of openings (λ x. x) (λ q. q) result outcomes.new.now
+        ≡ ran (make_missing course.now path.now read.now) outcomes.old.now }
+{
+    if course.again {
+        let again = next_try(course.between, course.may_retry, EAGAIN, false);
+        if !again.due {
+            return Ok(Came::Fails(EAGAIN, STEP_MAKE_FILE));
+        }
+        if again.pause > 0 {
+            ask(outcomes, Question::Wait(again.pause))?;
+        }
+    }
+    create(outcomes, course, path, read)
+}
+
+#[tactic(auto, using(dialogue::proofs::TalkLemmas::ran_then, dialogue::proofs::TalkLemmas::ran_ends), unfolding(crate::specs::Pass::find))]
+fn find(outcomes: &mut &[Outcome], course: &Course, path: &[u8], read: &[u8]) -> Asked<Came>
+    ensures { ran_by_of openings (λ x. x) (λ q. q) result outcomes.new.now
+        ≡ ran (find course.now path.now read.now) outcomes.old.now }
+{
+    let found = ask(outcomes, Question::Find)?;
+    if found.error != ENOENT || !course.makes {
+        return Ok(ended(&found));
+    }
+    make_missing(outcomes, course, path, read)
+}
+
+/// One pass over the path. READ: the text that was read last. Takes no memory.
+///
+/// If what is there is only looked for, one call finds it. If what is made must be missing, one call makes it. Else, if
+/// nothing is found, a file is made. If an entry is there by then, and a link may be followed, the link there is read,
+/// and the next pass is over the path to which it leads, at most 40 times. If somebody came in between, so that what
+/// stood there is no link or is gone, the path is looked at once more: there are 32 tries at most.
+///
+/// Errors of its own: that of the flags; ENAMETOOLONG (36) of a path over 4,095 bytes to which a link leads, and then
+/// ELOOP (40) of the forty-first link; EAGAIN (11) after so many tries.
+#[tactic(auto, using(dialogue::proofs::TalkLemmas::ran_then, dialogue::proofs::TalkLemmas::ran_ends), unfolding(crate::specs::Pass::pass))]
+pub fn pass(outcomes: &mut &[Outcome], course: &Course, path: &[u8], read: &[u8]) -> Asked<Came>
+    ensures { ran_by_of openings (λ x. x) (λ q. q) result outcomes.new.now
+        ≡ ran (pass course.now path.now read.now) outcomes.old.now }
+{
+    if course.error != 0 {
+        return Ok(Came::Fails(u32::from(course.error), NO_STEP));
+    }
+    if course.finds {
+        find(outcomes, course, path, read)
+    } else {
+        create(outcomes, course, path, read)
     }
 }

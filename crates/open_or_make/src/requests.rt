@@ -2,7 +2,7 @@
 ghost use Rattle.std.specs.Prelude.{◌≡◌};
 ghost use Rattle.open_or_make.specs.Requests.{creating, finding, reading, request_of};
 
-use crate::course::{CREATE, FIND};
+use crate::asking::Question;
 use system_calls::Opening;
 
 // The operations of a call have these numbers.
@@ -90,18 +90,17 @@ fn reading() -> Request
     }
 }
 
-/// What a call is asked for, by the opening, the mode of a new file, and which call comes next: `FIND`, `CREATE` or
-/// `READ_LINK`. Takes no memory.
+/// What a call is asked for, by the opening, the mode of a new file, and which call it is. Takes no memory.
 ///
 /// What is there is resolved, with its link at the end or without, as the flags say. A new file is opened as it is
 /// made, by the flags of the opening; or, if it is only named by its descriptor, made as a regular file, whose name is
 /// opened then.
-pub fn request_of(opening: &Opening, mode: u32, call: u8) -> Request
-    ensures { result ≡ request_of opening.now mode call }
+pub fn request_of(opening: &Opening, mode: u32, question: Question) -> Request
+    ensures { result ≡ request_of opening.now mode question }
 {
-    match call {
-        FIND => finding(opening),
-        CREATE => creating(opening, mode),
+    match question {
+        Question::Find => finding(opening),
+        Question::Create => creating(opening, mode),
         _ => reading(),
     }
 }

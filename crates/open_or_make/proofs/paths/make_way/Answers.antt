@@ -1,7 +1,7 @@
 use Rattle.std.proofs.Common.{◌-◌, ℕ, List, ap, arith, drop, set, take, ◌+◌, ◌∙◌}
 use Rattle.path_text.specs.declared.name.TheConstants.{SLASH}
-use Rattle.make_through_links.proofs.PathLemmas.{way_made}
-use Rattle.make_through_links.proofs.paths.make_way.Goals as goal
+use Rattle.open_or_make.proofs.PathLemmas.{way_made}
+use Rattle.open_or_make.proofs.paths.make_way.Goals as goal
 
 pub returns-clause-exact : goal.returns-clause-exact
 returns-clause-exact c =

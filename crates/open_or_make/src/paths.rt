@@ -2,11 +2,12 @@
 ghost use Rattle.std.specs.Prelude.{◌≡◌, ◌+◌, ◌-◌, ◌≤◌, ◌<◌, ◌^◌, ◌∷◌, ◌++◌, ◌==◌, if◌then◌else◌, length, take, drop};
 ghost use Rattle.path_text.specs.Text.{begins_with_slash};
 ghost use Rattle.path_text.specs.declared.name.TheConstants.{SLASH};
-ghost use Rattle.make_through_links.specs.Paths.{before_rest, rest_at, slashes_size, way};
+ghost use Rattle.open_or_make.specs.Paths.{before_rest, directory_length, kept_length, rest_at, slashes_size, way};
 
 use path_text::{SLASH, begins_with_slash, name_length};
 
-pub(crate) fn front(text: &[u8], length: usize) -> &[u8]
+/// A text's first bytes, so many at most.
+pub fn front(text: &[u8], length: usize) -> &[u8]
     ensures { result.now ≡ take length text.now }
 {
     if length < text.len() {
@@ -16,7 +17,8 @@ pub(crate) fn front(text: &[u8], length: usize) -> &[u8]
     }
 }
 
-pub(crate) fn behind(text: &[u8], at: usize) -> &[u8]
+/// What comes behind so many bytes of a text.
+pub fn behind(text: &[u8], at: usize) -> &[u8]
     ensures { result.now ≡ drop at text.now }
 {
     if at < text.len() {
@@ -37,8 +39,8 @@ fn slashes_length(text: &[u8]) -> usize
     }
 }
 
-// Where a text goes on behind its first name and the slashes there.
-pub(crate) fn rest_at(text: &[u8]) -> usize
+/// Where a text goes on behind its first name and the slashes there.
+pub fn rest_at(text: &[u8]) -> usize
     ensures exact { result ≡ rest_at text.now }
     ensures within { result ≤ length text.now }
 {
@@ -46,16 +48,36 @@ pub(crate) fn rest_at(text: &[u8]) -> usize
     name + slashes_length(&text[name..])
 }
 
-// How long the path of a link's directory is, of so many bytes, before this text.
-pub(crate) fn front_length(text: &[u8], dir: usize) -> usize
+/// How long the path of a link's directory is, of so many bytes, before this text.
+pub fn front_length(text: &[u8], dir: usize) -> usize
     ensures exact { result ≡ (if begins_with_slash text.now then 0 else dir) }
     ensures within { result ≤ dir }
 {
     if begins_with_slash(text) { 0 } else { dir }
 }
 
-// How long a path is of a link's text, what comes before it, and what comes behind the link.
-pub(crate) fn joined_length(front: &[u8], text: &[u8], rest: &[u8]) -> usize
+// How many bytes come before a path's last name.
+fn directory_length(path: &[u8]) -> usize
+    ensures exact { result ≡ directory_length path.now }
+    ensures within { result ≤ length path.now }
+{
+    let mut at = path.len();
+    while at > 0 && path[at - 1] != SLASH {
+        at -= 1;
+    }
+    at
+}
+
+// So many bytes of a path stay before the text of the link at its end.
+pub(crate) fn kept_length(path: &[u8], text: &[u8]) -> usize
+    ensures exact { result ≡ kept_length path.now text.now }
+    ensures within { result ≤ length path.now }
+{
+    front_length(text, directory_length(path))
+}
+
+/// How long a path is of a link's text, what comes before it, and what comes behind the link.
+pub fn joined_length(front: &[u8], text: &[u8], rest: &[u8]) -> usize
     requires { length front.now + length rest.now < 2 ^ 63 }
     ensures { result ≡ length (front.now ++ before_rest text.now rest.now) }
 {

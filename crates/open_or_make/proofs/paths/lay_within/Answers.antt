@@ -1,5 +1,5 @@
-use Rattle.make_through_links.proofs.PathLemmas.{lay_way, way_fits}
-use Rattle.make_through_links.proofs.paths.lay_within.Goals as goal
+use Rattle.open_or_make.proofs.PathLemmas.{lay_way, way_fits}
+use Rattle.open_or_make.proofs.paths.lay_within.Goals as goal
 
 pub lay_before-requires-clause-room : goal.lay_before-requires-clause-room
 lay_before-requires-clause-room c =

@@ -2,7 +2,7 @@ use Rattle.std.proofs.Common.{◌≡◌, ◌≤◌, false, length, drop}
 use Rattle.std.specs.Prelude.{◌==◌}
 use Rattle.std.specs.List.{list_any}
 use Rattle.path_text.specs.declared.name.TheConstants.{SLASH}
-use Rattle.open_or_make.proofs.leads.directory_length.Given as goal
+use Rattle.open_or_make.proofs.paths.directory_length.Given as goal
 
 -- no slash stands from there on
 abbrev pub invariant-loop-at : goal.invariant-loop-at

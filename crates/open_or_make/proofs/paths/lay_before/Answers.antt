@@ -1,7 +1,7 @@
 use Rattle.std.proofs.Common.{◌≡◌, ◌-◌, ◌+◌, ℕ, List, sym, subst, arith, drop, take, length}
-use Rattle.make_through_links.proofs.PathLemmas.{laid_none, laid_way}
-use Rattle.make_through_links.proofs.paths.lay_before.Goals.{then-at-path_length, else-at-path_length}
-use Rattle.make_through_links.proofs.paths.lay_before.Goals as goal
+use Rattle.open_or_make.proofs.PathLemmas.{laid_none, laid_way}
+use Rattle.open_or_make.proofs.paths.lay_before.Goals.{then-at-path_length, else-at-path_length}
+use Rattle.open_or_make.proofs.paths.lay_before.Goals as goal
 
 pub returns-clause-exact : goal.returns-clause-exact
 returns-clause-exact c =

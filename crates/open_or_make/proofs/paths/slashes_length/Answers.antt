@@ -6,7 +6,7 @@ use Rattle.std.proofs.lemmas.Iterator.Search.{position_from_yields_List}
 use borrow.Author.Tests.{tests}
 use Rattle.path_text.specs.declared.name.TheConstants.{SLASH}
 use Rattle.path_text.proofs.TextLemmas.{none_at, some_at}
-use Rattle.make_through_links.proofs.paths.slashes_length.Goals as goal
+use Rattle.open_or_make.proofs.paths.slashes_length.Goals as goal
 
 pub returns-in-Some-clause-exact : goal.returns-in-Some-clause-exact
 returns-in-Some-clause-exact c =
