@@ -24,6 +24,9 @@ static void allow(int count)
 static void each_call(void)
 {
     int ran_short = 0;
+    /* The library opens its /proc now: a rename anywhere on the machine may have any call below need it. */
+    const int top = sure(inroot_reopen(root, O_RDONLY | O_DIRECTORY), "inroot_reopen");
+    sure(close(top), "close");
     const int none = take_gaps(root), enough = none + 64;
     for (int number = 0; number < CALLS; number++) {
         allow(enough);
