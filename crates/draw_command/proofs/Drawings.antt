@@ -7,7 +7,7 @@ use Rattle.drawings.specs.declared.picture.PictureFault.{PictureFault}
 use Rattle.drawings.specs.declared.picture.PictureFault.TheVariants as picture_fault
 use Rattle.drawings.specs.Calls.{calls_of}
 use Rattle.drawings.specs.Picture.{Drawn, drawn_of, IsLong, IsPictureFault}
-use Rattle.call_plans.specs.declared.plan.ActorPlan.{ActorPlan}
+use Rattle.race_core.specs.declared.plan.ActorPlan.{ActorPlan}
 use Rattle.race_core.specs.declared.report.Outcome.{Outcome}
 use Rattle.race_core.specs.Opening.{granted}
 use Rattle.tree_model.specs.declared.answer.Event.{Event}

@@ -1,10 +1,10 @@
 -- What an actor calls for, in the words that a script has for it.
 use Rattle.std.specs.Prelude.{ℕ, List, [], ◌++◌, Bool, map, if◌then◌else◌, codes, decimal}
-use Rattle.call_plans.specs.declared.plan.ActorPlan.{ActorPlan}
-use Rattle.call_plans.specs.declared.plan.Planned.{Planned}
-use Rattle.call_plans.specs.declared.plan.Planned.TheVariants.{Call as CallPlan, Single as SinglePlan, Release as ReleasePlan}
-use Rattle.call_plans.specs.declared.plan.Ref.{Ref}
-use Rattle.call_plans.specs.declared.plan.Ref.TheVariants.{Root, Call}
+use Rattle.race_core.specs.declared.plan.ActorPlan.{ActorPlan}
+use Rattle.race_core.specs.declared.plan.Planned.{Planned}
+use Rattle.race_core.specs.declared.plan.Planned.TheVariants.{Call as CallPlan, Single as SinglePlan, Release as ReleasePlan}
+use Rattle.race_core.specs.declared.plan.Ref.{Ref}
+use Rattle.race_core.specs.declared.plan.Ref.TheVariants.{Root, Call}
 use Rattle.root_ops.specs.declared.op.Op.{Op}
 use Rattle.root_ops.specs.declared.op.Op.TheVariants as op
 use Rattle.tree_model.specs.StepWith.{StepWith}

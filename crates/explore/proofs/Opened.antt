@@ -5,7 +5,7 @@ use Rattle.std.proofs.lemmas.Option.{none-some, same_Some}
 use Rattle.path_text.specs.declared.errno.Errno.{Errno}
 use Rattle.tree_model.specs.State.{State}
 use Rattle.tree_model.specs.Steps.{grants}
-use Rattle.call_plans.specs.declared.plan.ActorPlan.{ActorPlan}
+use Rattle.race_core.specs.declared.plan.ActorPlan.{ActorPlan}
 use Rattle.race_core.specs.declared.seat.Seat.{Seat}
 use Rattle.race_core.specs.Ledgers.{LedgerView}
 use Rattle.race_core.specs.Opening.{Grants, root_in, before, onward_from, granted}

@@ -1,7 +1,7 @@
 -- The world that is made of a tree and of plans.
 use Rattle.std.specs.Prelude.{ℕ, List, [], false, Ok, Err}
 use Rattle.tree_model.specs.State.{State}
-use Rattle.call_plans.specs.declared.plan.ActorPlan.{ActorPlan}
+use Rattle.race_core.specs.declared.plan.ActorPlan.{ActorPlan}
 use Rattle.race_core.specs.Book.{opened_book}
 use Rattle.race_core.specs.Opening.{Grants, granted, seats_of}
 use Rattle.race_core.specs.Worlds.{WorldView}

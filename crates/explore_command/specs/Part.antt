@@ -5,7 +5,7 @@ use Rattle.local_states.specs.declared.limits.Limits.{Limits}
 use Rattle.explore.specs.Explored.{ClassView, IsIdle, IsWithin, cuts}
 use Rattle.explore.specs.Opened.{opened_world}
 use Rattle.explore.specs.Promise.{IsMerged}
-use Rattle.call_plans.specs.declared.plan.ActorPlan.{ActorPlan}
+use Rattle.race_core.specs.declared.plan.ActorPlan.{ActorPlan}
 use Rattle.race_core.specs.Worlds.{WorldView}
 use Rattle.schedule_graph.specs.Counted.{IsAmong}
 use Rattle.tree_model.specs.State.{State}

@@ -3,7 +3,7 @@ use Rattle.std.specs.Prelude.{⊤, ◌≡◌, ◌≤◌, ℕ, Bool, List, length
 use Rattle.explore.specs.Promise.{IsMerged}
 use Rattle.explore.specs.Explored.{ClassView, AreStates, WhyNot}
 use Rattle.explore.specs.Opened.{opened_world}
-use Rattle.call_plans.specs.declared.plan.ActorPlan.{ActorPlan}
+use Rattle.race_core.specs.declared.plan.ActorPlan.{ActorPlan}
 use Rattle.tree_model.specs.State.{State}
 use Rattle.explore_parts.specs.declared.asked.Asked.{Asked}
 use Rattle.outcome_text.specs.declared.fault.ExploreFault.{ExploreFault}

@@ -11,7 +11,7 @@ use Rattle.outcome_text.specs.declared.property.Property.{Property}
 use Rattle.outcome_text.specs.declared.survey.Told.{Told}
 use Rattle.outcome_text.specs.Property.{rule_word}
 use Rattle.explore_parts.specs.declared.asked.Asked.{Asked}
-use Rattle.json_text.specs.Json.{text_words, comma_words}
+use Rattle.report_text.specs.Json.{text_words, comma_words}
 use Rattle.explore_parts.specs.Lists.{numbers_words, lists_words}
 use Rattle.explore_parts.specs.PartText.{cuts_words, flag_words, subject_words, scope_words, wanted_words, question_words, count_words, texts_words, told_words, outcomes_words, turns_words, found_words, part_words}
 use Rattle.explore_parts.specs.Seal.{with_sum}

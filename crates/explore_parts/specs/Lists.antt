@@ -1,7 +1,7 @@
 -- Lists of numbers as JSON.
 use Rattle.std.specs.Prelude.{ℕ, List, ◌++◌, codes, decimal}
 use Rattle.std.specs.Global.{Vec}
-use Rattle.json_text.specs.Json.{comma_words}
+use Rattle.report_text.specs.Json.{comma_words}
 use Rattle.report_text.specs.Report.{numbered}
 
 abbrev pub number_words : ℕ → ℕ → List ℕ

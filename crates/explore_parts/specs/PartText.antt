@@ -5,7 +5,7 @@ use Rattle.outcome_text.specs.declared.part.Part.{Part}
 use Rattle.outcome_text.specs.declared.property.Property.{Property}
 use Rattle.outcome_text.specs.declared.survey.Told.{Told}
 use Rattle.explore_parts.specs.declared.asked.Asked.{Asked}
-use Rattle.json_text.specs.Json.{text_words, comma_words}
+use Rattle.report_text.specs.Json.{text_words, comma_words}
 use Rattle.explore_parts.specs.Lists.{numbers_words, lists_words}
 use Rattle.explore_parts.specs.Seal.{sealed}
 use Rattle.outcome_text.specs.Property.{rule_word}

@@ -3,7 +3,7 @@ ghost use Rattle.report_text.specs.Report.{numbered};
 ghost use Rattle.step_text.specs.Output.{Gains};
 ghost use Rattle.explore_parts.specs.Lists.{number_words, numbers_words, list_words, lists_words};
 
-use json_text::comma;
+use report_text::json_words::comma;
 use path_text::NoMemory;
 use step_text::Output;
 

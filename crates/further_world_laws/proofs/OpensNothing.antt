@@ -21,7 +21,7 @@ use Rattle.root_ops.specs.Order as call
 use Rattle.root_ops.specs.TurnView.{below_of}
 use Rattle.root_ops.specs.View.{CallView}
 use Rattle.root_ops.proofs.Rooms.{FindsNone, closed, not_opened, not_risen}
-use Rattle.call_plans.specs.declared.plan.Planned.{Planned}
+use Rattle.race_core.specs.declared.plan.Planned.{Planned}
 use Rattle.race_core.specs.declared.seat.Seat.{Seat}
 use Rattle.race_core.specs.Book.{BookedHistory, is_close}
 use Rattle.race_core.specs.JoinedRuns.{TakesTurns}

@@ -1,5 +1,5 @@
 //! Where an object stands, by texts as proc(5) has them, and by others.
-use kernel_text::{ends_as_gone, is_named, place_told};
+use system_calls::{ends_as_gone, is_named, place_told};
 use std::test::Fail;
 
 /// The root's path, the object's, and the place, or no bytes where none is told.

@@ -1,6 +1,6 @@
 //! Records as getdents64(2) writes them, and others; and names in order.
 use crate::rows::{letters, name_of, shown};
-use kernel_text::{Coming, next_entry, sort_names, take_names};
+use system_calls::{Coming, next_entry, sort_names, take_names};
 use std::alloc::{AllocError, Global};
 use std::test::Fail;
 

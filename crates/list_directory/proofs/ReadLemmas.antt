@@ -12,8 +12,8 @@ use Rattle.path_text.specs.Text.{is_empty}
 use Rattle.path_text.specs.declared.errno.Errno.TheVariants.{Invalid, TooLong}
 use Rattle.path_text.specs.declared.name.TheConstants.{NAME_MAX}
 use Rattle.path_text.proofs.Lists.{slashes-append}
-use Rattle.kernel_text.specs.Listing.{entries_text, is_entry, IsTaken, Stops}
-use Rattle.kernel_text.specs.declared.records.Taken.{Taken}
+use Rattle.system_calls.specs.Listing.{entries_text, is_entry, IsTaken, Stops}
+use Rattle.system_calls.specs.declared.records.Taken.{Taken}
 use Rattle.list_directory.specs.Parts.{part_size}
 use Rattle.list_directory.specs.History.{after_exchange, after_read, after_records, asks, gave_records, is_question, names_after, next_after, used_after, Exchange, IsHistory, Next, ReadNone, ReadSome, Took}
 use Rattle.list_directory.specs.Listing.{due_of, AnsweredBy, IsAt, Reads, Same}

@@ -3,7 +3,7 @@
 use Rattle.std.specs.Prelude.{◌≡◌, ◌≤◌, ℕ, ◌-◌, List, [], ◌∷◌, ◌++◌, ◌==◌, Bool, true, false, ◌&&◌, ◌||◌, if◌then◌else◌, length, MatchBool}
 use Rattle.path_text.specs.Text.{is_empty}
 use Rattle.system_calls.specs.Errors.{ENOENT, EINTR}
-use Rattle.kernel_text.specs.Listing.{entries_text, ReadsTo, Stops}
+use Rattle.system_calls.specs.Listing.{entries_text, ReadsTo, Stops}
 use Rattle.list_directory.specs.Parts.{part_size}
 use Rattle.list_directory.specs.declared.listing.TheConstants.{OPEN, READ, CLOSE, SORT, ENDS, FAILS}
 

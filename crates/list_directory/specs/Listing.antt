@@ -1,7 +1,7 @@
 -- What C keeps of a listing says where it stands after the exchanges that there were.
 use Rattle.std.specs.Prelude.{◌≡◌, ◌≤◌, ◌+◌, ◌-◌, ℕ, List, ◌++◌, length, take}
 use Rattle.path_text.specs.Text.{is_empty}
-use Rattle.kernel_text.specs.Listing.{entries_text}
+use Rattle.system_calls.specs.Listing.{entries_text}
 use Rattle.list_directory.specs.Parts.{part_size, records_size}
 use Rattle.list_directory.specs.History.{after_read, names_after, next_after, used_after, Exchange, IsHistory, Next, Took}
 use Rattle.list_directory.specs.declared.listing.Listing.{Listing}

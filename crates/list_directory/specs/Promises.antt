@@ -2,7 +2,7 @@
 use Rattle.std.specs.Prelude.{◌≡◌, ℕ, ◌+◌, List, [], ◌∷◌, ◌==◌, ◌⊎◌, Bool, true, false, ◌&&◌, ◌||◌, not, if◌then◌else◌}
 use Rattle.path_text.specs.Text.{is_empty}
 use Rattle.system_calls.specs.Errors.{ENOENT, EINTR}
-use Rattle.kernel_text.specs.Listing.{entries_text}
+use Rattle.system_calls.specs.Listing.{entries_text}
 use Rattle.list_directory.specs.History.{Exchange}
 use Rattle.list_directory.specs.declared.listing.TheConstants.{OPEN, READ, CLOSE, SORT}
 

@@ -5,7 +5,7 @@ ghost use Rattle.list_directory.specs.History.{after_close, after_open, after_so
 ghost use Rattle.list_directory.specs.Listing.{due_of, AnsweredBy, IsAt, Reads, Same};
 
 use crate::parts::{part_size, records_size};
-use kernel_text::take_names;
+use system_calls::take_names;
 use system_calls::errors::{EINTR, ENOENT};
 
 /// The directory is opened: openat(2) of `.` with O_RDONLY, O_DIRECTORY and O_CLOEXEC.
@@ -152,7 +152,7 @@ pub fn begin(held: usize) -> Listing
 /// directory is gone: it has no more names.
 ///
 /// Errors: any other one of openat(2) or getdents64(2); EIO (5) or ENAMETOOLONG (36) of the records, as
-/// `kernel_text::take_names` has them; and that of the sort.
+/// `system_calls::take_names` has them; and that of the sort.
 pub fn next(listing: Listing, error: u32, records: &[u8], room: &mut [u8]) -> Listing
     requires size { length room.old ≡ listing.size }
     requires used { listing.used ≤ listing.size }

@@ -12,7 +12,7 @@ use Rattle.local_states.proofs.Lists.Runs.{actors_stay}
 use Rattle.local_states.proofs.Worlds.System.{busy_within}
 use Rattle.explore_parts.specs.declared.asked.Asked.{Asked}
 use Rattle.explore_command.specs.Part.{IsBarred, HasLists}
-use Rattle.call_plans.specs.declared.plan.ActorPlan.{ActorPlan}
+use Rattle.race_core.specs.declared.plan.ActorPlan.{ActorPlan}
 use Rattle.race_core.specs.Worlds.{WorldView}
 use Rattle.schedule_graph.specs.Counted.{IsAmong}
 use Rattle.outcome_text.specs.declared.part.Part.{Part}

@@ -22,7 +22,7 @@ use Rattle.explore_parts.specs.Seal.{sum_of, sealed}
 use Rattle.explore_parts.proofs.OneLine.{first_line}
 use Rattle.explore_parts.proofs.OnePart.{values_say_one_part, values_say_one_question, zip_length}
 use Rattle.explore_parts.proofs.PartSaid.{line_read, line_says, line_asks, line_is_one}
-use Rattle.call_plans.specs.declared.plan.ActorPlan.{ActorPlan}
+use Rattle.race_core.specs.declared.plan.ActorPlan.{ActorPlan}
 use Rattle.outcome_text.specs.declared.part.Part.{Part}
 use Rattle.outcome_text.specs.declared.property.Property.{Property}
 use Rattle.outcome_text.specs.declared.survey.Told.{Told}

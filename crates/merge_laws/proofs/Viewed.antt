@@ -9,7 +9,7 @@ use Rattle.explore.specs.Opened.{opened_world}
 use Rattle.explore_parts.specs.declared.asked.Asked.{Asked}
 use Rattle.explore_command.specs.Classes.{AreTold}
 use Rattle.explore_command.specs.Part as of_scene
-use Rattle.call_plans.specs.declared.plan.ActorPlan.{ActorPlan}
+use Rattle.race_core.specs.declared.plan.ActorPlan.{ActorPlan}
 use Rattle.race_core.specs.Worlds.{WorldView}
 use Rattle.schedule_graph.specs.Counted.{IsAmong}
 use Rattle.outcome_text.specs.declared.part.Part.{Part}

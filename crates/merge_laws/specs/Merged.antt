@@ -10,7 +10,7 @@ use Rattle.explore_command.specs.Classes.{IsTold}
 use Rattle.explore_command.specs.Explore.{IsSurveyOf}
 use Rattle.explore_command.specs.Part.{IsPart}
 use Rattle.explore_command.specs.Surveyed.{IsSurvey}
-use Rattle.call_plans.specs.declared.plan.ActorPlan.{ActorPlan}
+use Rattle.race_core.specs.declared.plan.ActorPlan.{ActorPlan}
 use Rattle.race_core.specs.declared.report.Outcome.{Outcome}
 use Rattle.race_core.specs.Worlds.{WorldView, ledgers_in, replies_in}
 use Rattle.schedule_graph.specs.Counted.{IsAmong, EachOnce}

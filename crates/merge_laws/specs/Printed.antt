@@ -8,7 +8,7 @@ use Rattle.explore_command.specs.Part.{IsPart}
 use Rattle.explore_parts.specs.PartText.{part_line}
 use Rattle.explore_parts.specs.Printed.{AskedFits, PartFits}
 use Rattle.explore_parts.specs.Seal.{sum_of}
-use Rattle.call_plans.specs.declared.plan.ActorPlan.{ActorPlan}
+use Rattle.race_core.specs.declared.plan.ActorPlan.{ActorPlan}
 use Rattle.outcome_text.specs.declared.part.Part.{Part}
 use Rattle.scripts.specs.declared.turns.TurnOrder.{TurnOrder}
 use Rattle.scripts.specs.Scenario.{Said, said_for}

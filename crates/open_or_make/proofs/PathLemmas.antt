@@ -7,7 +7,7 @@ use Rattle.std.proofs.lemmas.Bool.{cond-false, cond-true, ne_eqb}
 use Rattle.std.proofs.lemmas.List.{drop_all, drop-drop, drop-set, drop-take, take_all, take-append-le}
 use Rattle.std.proofs.lemmas.List.Edits.{length-paste, take-paste}
 use Rattle.path_text.specs.declared.name.TheConstants.{SLASH}
-use Rattle.kernel_text.proofs.PlaceLemmas.{last_drop}
+use Rattle.system_calls.proofs.PlaceLemmas.{last_drop}
 use Rattle.open_or_make.specs.Paths.{before_rest, directory_length, kept_length, slashes_size, way}
 use Rattle.open_or_make.specs.Promises.{LinksLead}
 

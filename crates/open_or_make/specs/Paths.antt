@@ -3,7 +3,7 @@
 use Rattle.std.specs.Prelude.{ℕ, List, ◌∷◌, ◌++◌, ◌+◌, ◌-◌, ◌==◌, not, if◌then◌else◌, length, take, drop}
 use Rattle.std.specs.List.{position_or_len}
 use Rattle.path_text.specs.Text.{begins_with_slash, is_empty, name_size}
-use Rattle.kernel_text.specs.Place.{last_part}
+use Rattle.system_calls.specs.Place.{last_part}
 use Rattle.path_text.specs.declared.name.TheConstants.{SLASH}
 
 -- how many slashes a text begins with

@@ -4,8 +4,8 @@ use Rattle.std.specs.Prelude.{◌≡◌, ℕ, suc, List, [], ◌∷◌, ◌++◌
 use Rattle.std.specs.List.{list_any, position_from}
 use Rattle.path_text.specs.declared.errno.Errno.{Errno}
 use Rattle.path_text.specs.declared.errno.Errno.TheVariants.{NotFound, BadHandle, Raced, NoMemory, Busy, Exists, CrossRoot, NotDir, IsDir, Invalid, TooMany, BookFull, TooLong, NotEmpty, Loop}
-use Rattle.call_plans.specs.declared.plan.ActorPlan.{ActorPlan}
-use Rattle.call_plans.specs.declared.plan.Planned.{Planned}
+use Rattle.race_core.specs.declared.plan.ActorPlan.{ActorPlan}
+use Rattle.race_core.specs.declared.plan.Planned.{Planned}
 use Rattle.race_core.specs.declared.report.Outcome.{Outcome}
 use Rattle.report_text.specs.Report.{reply_words}
 use Rattle.step_text.specs.Output.{fault_words}

@@ -9,7 +9,7 @@ use Rattle.tree_model.specs.declared.inode.Place.{Place}
 use Rattle.tree_model.specs.Entries.{with_some}
 use Rattle.tree_model.specs.State.{State}
 use Rattle.tree_model.specs.Steps.{kind_of}
-use Rattle.json_text.specs.Json.{text_words, comma_words}
+use Rattle.report_text.specs.Json.{text_words, comma_words}
 
 -- ---- nodes
 

@@ -5,7 +5,7 @@ use Rattle.tree_model.specs.declared.answer.Event.{Event}
 use Rattle.tree_model.specs.History.{after_event}
 use Rattle.tree_model.specs.State.{State}
 use Rattle.pages.specs.Changes.{changes_words}
-use Rattle.json_text.specs.Json.{text_words, comma_words}
+use Rattle.report_text.specs.Json.{text_words, comma_words}
 
 -- the step and its answer in the words of a report's line
 unfoldable pub step_part : Event → List ℕ

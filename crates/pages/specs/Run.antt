@@ -6,7 +6,7 @@ use Rattle.tree_model.specs.declared.answer.Event.{Event}
 use Rattle.tree_model.specs.State.{State}
 use Rattle.pages.specs.Changes.{changes_words}
 use Rattle.pages.specs.History.{events_from}
-use Rattle.json_text.specs.Json.{text_words, comma_words}
+use Rattle.report_text.specs.Json.{text_words, comma_words}
 
 -- how a call ended, by its place
 abbrev pub reply_at : ℕ → Outcome → List ℕ

@@ -6,7 +6,7 @@ use Rattle.drawings.specs.declared.picture.Tone.{Tone}
 use Rattle.drawings.specs.declared.picture.Tone.TheVariants.{Plain, Good, Failed, Bad}
 use Rattle.drawings.specs.Picture.{Drawn}
 use Rattle.report_text.specs.Report.{numbered}
-use Rattle.json_text.specs.Json.{text_words, comma_words}
+use Rattle.report_text.specs.Json.{text_words, comma_words}
 
 abbrev pub tone_word : Tone → List ℕ
 tone_word Plain = codes "plain"

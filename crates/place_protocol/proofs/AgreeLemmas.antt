@@ -4,7 +4,7 @@ use Rattle.std.specs.Cmp.Derive.{both_true}
 use Rattle.std.proofs.lemmas.Bool.{cond-true, cond-false, eq-eqb, le-ltb, or_from, or_left, or_right}
 use Rattle.path_text.specs.declared.path.TheConstants.{TEXT_MAX}
 use Rattle.system_calls.specs.Errors.{EAGAIN, ENAMETOOLONG}
-use Rattle.kernel_text.specs.Place.{ends_as_gone, is_named}
+use Rattle.system_calls.specs.Place.{ends_as_gone, is_named}
 use Rattle.place_protocol.specs.Conversation.{Conversation, Exchange, Goes, IsAsked, StandsAt, keep}
 use Rattle.place_protocol.specs.Texts.{Texts, is_top, place_of, texts_of}
 use Rattle.place_protocol.specs.Turns.{after_found, are_same, ask_there, confirm, follows, link_error, look_up_error, with_place, Due, asks, looks, stands, unmade}

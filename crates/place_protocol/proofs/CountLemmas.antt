@@ -4,7 +4,7 @@ use Rattle.std.proofs.lemmas.Bool.{cond_both}
 use Rattle.path_text.specs.declared.name.TheConstants.{SLASH}
 use Rattle.std.specs.Prelude.{codes}
 use Rattle.system_calls.specs.Errors.{EAGAIN}
-use Rattle.kernel_text.specs.Place.{ends_as_gone, is_named}
+use Rattle.system_calls.specs.Place.{ends_as_gone, is_named}
 use Rattle.system_calls.specs.declared.objects.Object.{Object}
 use Rattle.place_protocol.specs.Conversation.{Conversation, Exchange, Goes, IsAsked, keep}
 use Rattle.place_protocol.specs.Texts.{Texts, is_top, place_of, texts_of}

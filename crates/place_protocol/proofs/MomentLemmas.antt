@@ -1,7 +1,7 @@
 -- What answers say of the file system.
 use Rattle.std.proofs.Common.{◌≡◌, ◌+◌, ◌<◌, ℕ, true, false, List, [], ◌∷◌, length, sym, ap, subst, ◌∙◌, ◌⊎◌, inl, inr, lit<}
 use Rattle.std.proofs.lemmas.Bool.{both_ways, false_from_ne_true}
-use Rattle.kernel_text.specs.Place.{place_told}
+use Rattle.system_calls.specs.Place.{place_told}
 use Rattle.place_protocol.specs.Conversation.{Exchange}
 use Rattle.place_protocol.specs.Moments.{AreAnswers, IsAnswer, PlacesStood, PlacesWerePassed, StaysGone, TextsTell, World}
 use Rattle.place_protocol.specs.Texts.{is_top}

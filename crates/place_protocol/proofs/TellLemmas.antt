@@ -2,7 +2,7 @@
 use Rattle.std.proofs.Common.{◌≡◌, ◌==◌, ◌||◌, ℕ, Bool, true, false, not, cond, List, Option, Some, None, refl, sym, ap, subst, ◌⊎◌, inl, inr}
 use Rattle.std.proofs.lemmas.Bool.{cond_both}
 use Rattle.system_calls.specs.Errors.{EAGAIN}
-use Rattle.kernel_text.specs.Place.{ends_as_gone, is_named}
+use Rattle.system_calls.specs.Place.{ends_as_gone, is_named}
 use Rattle.place_protocol.specs.Texts.{Texts, is_top, place_of}
 use Rattle.place_protocol.specs.Told.{NamesLieInTheText}
 use Rattle.place_protocol.specs.Turns.{after_found, are_same, ask_there, confirm, follows, link_error, look_up_error, with_place, Due, asks, looks, stands, unmade}

@@ -9,7 +9,7 @@ use Rattle.path_text.specs.Name.{same_bytes}
 use Rattle.path_text.specs.Text.{begins_with_slash}
 use Rattle.path_text.specs.declared.name.TheConstants.{SLASH}
 use Rattle.path_text.specs.declared.path.TheConstants.{TEXT_MAX}
-use Rattle.kernel_text.specs.Place.{behind, ends_as_gone, is_named, last_part, place_below, place_told}
+use Rattle.system_calls.specs.Place.{behind, ends_as_gone, is_named, last_part, place_below, place_told}
 use Rattle.place_protocol.specs.Texts.{is_top}
 use Rattle.place_protocol.specs.Told.{start_of, IsPart}
 

@@ -3,7 +3,7 @@ use Rattle.std.proofs.Common.{◌≡◌, ◌==◌, ◌||◌, ℕ, Bool, true, fa
 use Rattle.std.proofs.lemmas.Bool.{and_parts, both_ways, eqb-true, not-false, not-true, or_parts}
 use Rattle.system_calls.specs.Errors.{EAGAIN}
 use Rattle.system_calls.specs.Objects.{is_same_object}
-use Rattle.kernel_text.specs.Place.{ends_as_gone, is_named, place_told}
+use Rattle.system_calls.specs.Place.{ends_as_gone, is_named, place_told}
 use Rattle.place_protocol.specs.Conversation.{Exchange, StandsAt, keep}
 use Rattle.place_protocol.specs.Texts.{Texts, is_top, place_of, texts_of}
 use Rattle.place_protocol.specs.Turns.{after_found, are_same, ask_there, confirm, link_error, look_up_error, with_place, asks, looks, stands, unmade}

@@ -2,7 +2,7 @@
 -- By these a place that is told is one at which the object stood.
 use Rattle.std.specs.Prelude.{◌≡◌, ◌⊎◌, ◌+◌, ◌<◌, ℕ, List, [], ◌∷◌, Bool, true, false, length, Some}
 use Rattle.path_text.specs.declared.name.TheConstants.{SLASH}
-use Rattle.kernel_text.specs.Place.{ends_as_gone, place_told}
+use Rattle.system_calls.specs.Place.{ends_as_gone, place_told}
 use Rattle.place_protocol.specs.Conversation.{Conversation, Exchange, StandsAt}
 use Rattle.place_protocol.specs.Texts.{is_top}
 use Rattle.place_protocol.specs.Witness.{FindsObject, Worked}

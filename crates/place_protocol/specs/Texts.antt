@@ -1,6 +1,6 @@
 -- The texts of links that a driver has read (proc(5), /proc/pid/fd).
 use Rattle.std.specs.Prelude.{ℕ, List, ◌==◌, Bool, length, Option}
-use Rattle.kernel_text.specs.Place.{place_told}
+use Rattle.system_calls.specs.Place.{place_told}
 
 -- the last ones that were read: of the root, of the object, and of the object once more
 pub record Texts : Type 0 where

@@ -4,7 +4,7 @@ use Rattle.std.specs.Prelude.{ℕ, List, ◌==◌, Bool, not, ◌&&◌, ◌||◌
 use Rattle.path_text.specs.declared.path.TheConstants.{TEXT_MAX}
 use Rattle.system_calls.specs.Errors.{ENOENT, EAGAIN, ENAMETOOLONG, ENOSYS}
 use Rattle.system_calls.specs.Objects.{is_elsewhere, is_same_object}
-use Rattle.kernel_text.specs.Place.{ends_as_gone, is_named}
+use Rattle.system_calls.specs.Place.{ends_as_gone, is_named}
 use Rattle.place_protocol.specs.Texts.{Texts, is_top, place_of}
 use Rattle.place_protocol.specs.declared.questions.Answer.{Answer}
 use Rattle.place_protocol.specs.declared.questions.Facts.{Facts}

@@ -1,7 +1,7 @@
 -- What the kernel has answered wherever a place is told: the argument of docs/HOST-WHY.md, "NameBelow is the crux".
 use Rattle.std.specs.Prelude.{◌≡◌, ◌⊎◌, ◌≤◌, ℕ, List, [], ◌∷◌, true, false, length, Some}
 use Rattle.path_text.specs.declared.path.TheConstants.{TEXT_MAX}
-use Rattle.kernel_text.specs.Place.{ends_as_gone, is_named, place_told}
+use Rattle.system_calls.specs.Place.{ends_as_gone, is_named, place_told}
 use Rattle.system_calls.specs.Objects.{is_same_object}
 use Rattle.place_protocol.specs.Conversation.{Conversation, Exchange, StandsAt}
 use Rattle.place_protocol.specs.Texts.{is_top}

@@ -23,7 +23,7 @@ use Rattle.root_ops.specs.declared.op.Request.{Request}
 use Rattle.root_ops.specs.Order.{CallTurn, more, ends, starts, take, due}
 use Rattle.root_ops.specs.TurnView.{below_of}
 use Rattle.root_ops.specs.View.{CallView}
-use Rattle.call_plans.specs.declared.plan.Planned.{Planned}
+use Rattle.race_core.specs.declared.plan.Planned.{Planned}
 use Rattle.race_core.specs.Book.{BookedHistory, tree_now, free_lines, lines_needed, is_close, closes_nothing, refusal, answer_now, booked}
 use Rattle.race_core.specs.Ledgers.{LedgerView}
 use Rattle.race_core.specs.Turns.{Luck, Stepped, unless_refused, stepped_by, request_of, comes, begins, begins_next, begun, goes_on, turned}

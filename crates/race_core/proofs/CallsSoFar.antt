@@ -28,8 +28,8 @@ use Rattle.root_ops.specs.View.{CallView}
 use Rattle.step_resolver.proofs.DrivenWalks.{joined_events}
 use Rattle.root_ops.proofs.Refusals.{refusal_needs_no_room, unmade}
 use Rattle.step_machine.proofs.Runs.{leads_on}
-use Rattle.call_plans.specs.declared.plan.Planned.{Planned}
-use Rattle.call_plans.specs.declared.plan.Planned.TheVariants as plans
+use Rattle.race_core.specs.declared.plan.Planned.{Planned}
+use Rattle.race_core.specs.declared.plan.Planned.TheVariants as plans
 use Rattle.race_core.specs.declared.seat.Seat.{Seat}
 use Rattle.race_core.specs.Book.{BookedHistory, tree_now, is_close, closes_nothing, answer_now, booked}
 use Rattle.race_core.specs.Ledgers.{LedgerView}

@@ -4,7 +4,7 @@ use Rattle.path_text.specs.declared.errno.Errno.{Errno}
 use Rattle.std.proofs.lemmas.List.{length_push}
 use Rattle.tree_model.specs.State.{State}
 use Rattle.tree_model.specs.Steps.{grants}
-use Rattle.call_plans.specs.declared.plan.ActorPlan.{ActorPlan}
+use Rattle.race_core.specs.declared.plan.ActorPlan.{ActorPlan}
 use Rattle.race_core.specs.Ledgers.{LedgerView}
 use Rattle.race_core.specs.Turns.{opened_ledger}
 use Rattle.race_core.specs.Opening.{Grants, before, onward_from, granted, after_these, root_in}

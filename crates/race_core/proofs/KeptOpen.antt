@@ -18,8 +18,8 @@ use Rattle.root_ops.specs.declared.below.Below.{Below}
 use Rattle.root_ops.specs.declared.op.Op.TheVariants.{Single, Release}
 use Rattle.root_ops.specs.declared.op.Request.{Request}
 use Rattle.root_ops.specs.Order.{Reply, opened, link_text, done, count, stepped, kept, fault, more, ends, releasing, same_owner, starts}
-use Rattle.call_plans.specs.declared.plan.Planned.{Planned}
-use Rattle.call_plans.specs.declared.plan.Planned.TheVariants as plan
+use Rattle.race_core.specs.declared.plan.Planned.{Planned}
+use Rattle.race_core.specs.declared.plan.Planned.TheVariants as plan
 use Rattle.race_core.specs.Book.{is_close}
 use Rattle.race_core.specs.Turns.{standing_under, handle_at, step_at, plain, request_of, left_by, opened_by}
 use Rattle.race_core.specs.WorldCalls.{CallMade, kept_after, kept_after_all, ReleasesOwn, IsDoneIfKept, KeptAreReleased}

@@ -37,9 +37,9 @@ use Rattle.root_ops.specs.View.{reply_view}
 use Rattle.step_resolver.proofs.DrivenWalks.{joined_events}
 use Rattle.root_ops.proofs.Handles.WalkParts.{HasRoot, IsEnded, walk_ends}
 use Rattle.root_ops.proofs.Replies.{at_its_end, no_lines}
-use Rattle.call_plans.specs.declared.plan.ActorPlan.{ActorPlan}
-use Rattle.call_plans.specs.declared.plan.Planned.{Planned}
-use Rattle.call_plans.specs.declared.plan.Planned.TheVariants as planned
+use Rattle.race_core.specs.declared.plan.ActorPlan.{ActorPlan}
+use Rattle.race_core.specs.declared.plan.Planned.{Planned}
+use Rattle.race_core.specs.declared.plan.Planned.TheVariants as planned
 use Rattle.race_core.specs.OwnHistory.{NoneCloses, IsHistory}
 use Rattle.race_core.specs.Turns.{request_of, outcome_of}
 use Rattle.race_core.specs.WorldCalls.{WholeRun, opening_of, root_of, CallMade, IsMadeAs, kept_after, kept_after_all, AreMade, planned_of, outcomes_of, events_of_calls, ReleasesOwn, KeptAreReleased, ActorsCalls}

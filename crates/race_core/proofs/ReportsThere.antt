@@ -14,7 +14,7 @@ use Rattle.root_ops.specs.TurnView.{STEPS_MAX, below_of}
 use Rattle.root_ops.specs.View.{CallView}
 use Rattle.root_ops.proofs.Steps.{IsFewer, take_fewer}
 use Rattle.root_ops.proofs.FirstSteps.{started_few}
-use Rattle.call_plans.specs.declared.plan.Planned.{Planned}
+use Rattle.race_core.specs.declared.plan.Planned.{Planned}
 use Rattle.race_core.specs.declared.seat.Seat.{Seat}
 use Rattle.race_core.specs.Book.{BookedHistory, tree_now, answer_now}
 use Rattle.race_core.specs.Ledgers.{LedgerView}

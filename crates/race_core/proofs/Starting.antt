@@ -13,7 +13,7 @@ use Rattle.handles.specs.declared.owner.Owner.{Owner}
 use Rattle.std.proofs.lemmas.List.{reverse-reverse}
 use Rattle.root_ops.specs.Order.{starts, steps_left}
 use Rattle.root_ops.specs.TurnView.{below_of, turn_view, Keeps, StartsTo, steps_to_come, STEPS_MAX}
-use Rattle.call_plans.specs.declared.plan.Planned.{Planned}
+use Rattle.race_core.specs.declared.plan.Planned.{Planned}
 use Rattle.race_core.specs.Advance.{Advances}
 use Rattle.race_core.specs.Book.{BookedHistory}
 use Rattle.race_core.specs.Ledgers.{LedgerView}

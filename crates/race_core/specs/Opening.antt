@@ -10,7 +10,7 @@ use Rattle.step_resolver.specs.declared.walk.Root.{Root}
 use Rattle.race_core.specs.declared.book.TheConstants.{LINES_MAX}
 use Rattle.race_core.specs.declared.opening.RootRefusal.{RootRefusal}
 use Rattle.race_core.specs.declared.opening.TheConstants.{ACTORS_MAX}
-use Rattle.call_plans.specs.declared.plan.ActorPlan.{ActorPlan}
+use Rattle.race_core.specs.declared.plan.ActorPlan.{ActorPlan}
 use Rattle.race_core.specs.declared.report.WorldFault.{WorldFault}
 use Rattle.race_core.specs.declared.report.WorldFault.TheVariants as fault
 use Rattle.race_core.specs.declared.seat.Seat.{Seat}

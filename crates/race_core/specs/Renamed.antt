@@ -4,8 +4,8 @@ use Rattle.std.specs.Option.{option_map}
 use Rattle.handles.specs.Objects.{StandingObject}
 pub use Rattle.root_ops.specs.Renamed.{numbers_by, root_by, way_by, handle_by, position_by, walk_after_by, walking_by, walk_after_handles, walking_handles, making_by, level_by, levels_by, stage_by, removing_by, making_handles, stage_handles, levels_handles, removing_handles, step_by, answer_by, standing_by, reply_by, after_by, aim_by, doing_by, call_turn_by, below_by, op_by, request_by, call_by, step_handles, answer_handles, reply_handles, after_handles, aim_handles, doing_handles, call_handles, op_handles}
 use Rattle.root_ops.specs.View.{CallView}
-use Rattle.call_plans.specs.declared.plan.Planned.{Planned}
-use Rattle.call_plans.specs.declared.plan.Planned.TheVariants as plans
+use Rattle.race_core.specs.declared.plan.Planned.{Planned}
+use Rattle.race_core.specs.declared.plan.Planned.TheVariants as plans
 use Rattle.race_core.specs.declared.report.Outcome.{Outcome}
 use Rattle.race_core.specs.declared.report.Outcome.TheVariants as outcomes
 use Rattle.race_core.specs.declared.seat.Seat.{Seat}

@@ -10,7 +10,7 @@ use Rattle.root_ops.specs.Order.{steps_left}
 use Rattle.root_ops.specs.TurnView.{STEPS_MAX, steps_to_come}
 use Rattle.root_ops.specs.View.{CallView, reply_view}
 use Rattle.step_resolver.specs.declared.walk.Root.{Root}
-use Rattle.call_plans.specs.declared.plan.Planned.{Planned}
+use Rattle.race_core.specs.declared.plan.Planned.{Planned}
 use Rattle.race_core.specs.Book.{BookedHistory}
 use Rattle.race_core.specs.Ledgers.{LedgerView}
 use Rattle.race_core.specs.declared.seat.Seat.{Seat}

@@ -17,10 +17,10 @@ use Rattle.root_ops.specs.declared.op.Request.{Request}
 use Rattle.root_ops.specs.Order.{Reply, opened, link_text, done, count, stepped, kept, fault, CallTurn, more, ends, starts, take, due}
 use Rattle.root_ops.specs.TurnView.{below_of}
 use Rattle.root_ops.specs.View.{CallView}
-use Rattle.call_plans.specs.declared.plan.Planned.{Planned}
-use Rattle.call_plans.specs.declared.plan.Planned.TheVariants as planned
-use Rattle.call_plans.specs.declared.plan.Ref.{Ref}
-use Rattle.call_plans.specs.declared.plan.Ref.TheVariants as ref
+use Rattle.race_core.specs.declared.plan.Planned.{Planned}
+use Rattle.race_core.specs.declared.plan.Planned.TheVariants as planned
+use Rattle.race_core.specs.declared.plan.Ref.{Ref}
+use Rattle.race_core.specs.declared.plan.Ref.TheVariants as ref
 use Rattle.race_core.specs.declared.report.Outcome.{Outcome}
 use Rattle.race_core.specs.declared.report.Outcome.TheVariants as outcome
 use Rattle.race_core.specs.declared.seat.Seat.{Seat}

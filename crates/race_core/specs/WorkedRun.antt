@@ -12,10 +12,10 @@ use Rattle.step_resolver.specs.Footprint.{is_want}
 use Rattle.step_resolver.specs.WalkHistory.{WalkInHistory, own_events}
 use Rattle.root_ops.specs.declared.op.Op.TheVariants.{Resolve}
 use Rattle.root_ops.specs.declared.op.Request.{Request}
-use Rattle.call_plans.specs.declared.plan.ActorPlan.{ActorPlan}
-use Rattle.call_plans.specs.declared.plan.Planned.{Planned}
-use Rattle.call_plans.specs.declared.plan.Planned.TheVariants as planned
-use Rattle.call_plans.specs.declared.plan.Ref.TheVariants as ref
+use Rattle.race_core.specs.declared.plan.ActorPlan.{ActorPlan}
+use Rattle.race_core.specs.declared.plan.Planned.{Planned}
+use Rattle.race_core.specs.declared.plan.Planned.TheVariants as planned
+use Rattle.race_core.specs.declared.plan.Ref.TheVariants as ref
 use Rattle.race_core.specs.declared.report.Outcome.{Outcome}
 use Rattle.race_core.specs.declared.report.Outcome.TheVariants as outcome
 use Rattle.race_core.specs.Book.{opened_book, tree_now}

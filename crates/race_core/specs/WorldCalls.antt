@@ -14,9 +14,9 @@ use Rattle.root_ops.specs.declared.op.Op.TheVariants.{Release}
 use Rattle.root_ops.specs.declared.op.Request.{Request}
 use Rattle.root_ops.specs.Order.{Reply, done, fault, ends, starts, LeadsTo}
 use Rattle.root_ops.specs.TurnView.{below_of}
-use Rattle.call_plans.specs.declared.plan.ActorPlan.{ActorPlan}
-use Rattle.call_plans.specs.declared.plan.Planned.{Planned}
-use Rattle.call_plans.specs.declared.plan.Planned.TheVariants as planned
+use Rattle.race_core.specs.declared.plan.ActorPlan.{ActorPlan}
+use Rattle.race_core.specs.declared.plan.Planned.{Planned}
+use Rattle.race_core.specs.declared.plan.Planned.TheVariants as planned
 use Rattle.race_core.specs.declared.report.Outcome.{Outcome}
 use Rattle.race_core.specs.Opening.{Opens}
 use Rattle.race_core.specs.OwnHistory.{NoneCloses, IsHistory}

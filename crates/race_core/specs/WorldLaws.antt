@@ -25,8 +25,8 @@ use Rattle.root_ops.specs.FreeHandles.{holds_few, FourAreFree, NumbersAreUsedUp}
 use Rattle.root_ops.specs.Quiet.{ClosesWhatIsOpen}
 use Rattle.root_ops.specs.TurnView.{below_of}
 use Rattle.root_ops.specs.View.{reply_view}
-use Rattle.call_plans.specs.declared.plan.ActorPlan.{ActorPlan}
-use Rattle.call_plans.specs.declared.plan.Planned.TheVariants as planned
+use Rattle.race_core.specs.declared.plan.ActorPlan.{ActorPlan}
+use Rattle.race_core.specs.declared.plan.Planned.TheVariants as planned
 use Rattle.race_core.specs.declared.report.Outcome.{Outcome}
 use Rattle.race_core.specs.declared.report.Outcome.TheVariants as outcome
 use Rattle.race_core.specs.OwnHistory.{FirstIsOwn}

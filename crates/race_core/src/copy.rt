@@ -5,7 +5,7 @@ ghost use Rattle.race_core.specs.WithoutOutcomes.{without_outcomes};
 use crate::ledger::Ledger;
 use crate::report::Outcomes;
 use crate::seat::Seat;
-use call_plans::Planned;
+use crate::Planned;
 use handles::Standing;
 use path_text::NoMemory;
 use root_ops::Call;

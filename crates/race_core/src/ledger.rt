@@ -5,7 +5,7 @@ ghost use Rattle.race_core.specs.Turns.{handle_at, step_at, request_of, standing
 ghost use Rattle.race_core.specs.TurnView.{Begins, IsStarted, are_some, taken_down};
 
 use crate::report::{Outcome, Outcomes};
-use call_plans::{Planned, Ref};
+use crate::{Planned, Ref};
 use handles::Standing;
 use path_text::{Errno, Flags, NoMemory};
 use root_ops::{Call, CallTurn, Op, Reply, Request};

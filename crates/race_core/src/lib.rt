@@ -6,6 +6,10 @@
 //! handle has a line kept for its Close, which takes no memory, so that whoever opened it can close it. The layers
 //! above use `Book::step`, which tells exactly which refusal comes first, and else makes the step and books it.
 //!
+//! An `ActorPlan` is what an actor is to do before there is a world: a root, by names from the top, and the planned
+//! calls below the root, in order. A planned call is an operation, a single step, or the release of what an earlier
+//! call opened. `Plans::push` adds exactly one call, or changes nothing.
+//!
 //! A `World` has actors with planned calls below their roots, and takes one due step of an actor's call a turn,
 //! through its book. What a turn is, with memory as luck has it, is computed in `specs/Turns.antt`; `World::run`
 //! gives the report on a run of such turns (`specs/Worlds.antt`): those of the schedule, and then each actor's to
@@ -25,6 +29,7 @@ mod ledger;
 mod like;
 mod like_laws;
 mod opening;
+mod plan;
 mod report;
 mod run_laws;
 mod seat;
@@ -32,12 +37,12 @@ mod world;
 mod world_laws;
 
 pub use book::{Book, LINES_MAX, OpenRefusal};
-pub use call_plans::{ActorPlan, Planned, Plans, Ref};
 pub use copy_tree::CopyTree;
 pub use laws::{free_lines_never_rise, world_limits_are_numbers};
 pub use like::{is_like_outcome, like_outcomes};
 pub use like_laws::like_seats_agree;
 pub use opening::ACTORS_MAX;
+pub use plan::{ActorPlan, Planned, Plans, Ref};
 pub use report::{Outcome, Outcomes, Report, WorldFault};
 pub use run_laws::{reports_with_memory_are_one, turns_join_runs};
 pub use seat::Seat;

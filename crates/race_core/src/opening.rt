@@ -7,7 +7,7 @@ use crate::ledger::Ledger;
 use crate::report::WorldFault;
 use crate::seat::Seat;
 use crate::world::World;
-use call_plans::ActorPlan;
+use crate::ActorPlan;
 use handles::Owner;
 use path_text::{Errno, NoMemory};
 use std::alloc::Global;

@@ -3,9 +3,12 @@
 //!
 //! Every call adds to an `Output` exactly the text that `specs/Report.antt` states, or answers NoMemory, and then
 //! nothing is said of what was added. The layers above use `report`.
+//!
+//! `json_words` adds texts and commas as JSON has them.
 #![tactic(auto)]
 
 mod history;
+pub mod json_words;
 mod laws;
 mod outcomes;
 mod state;

@@ -1,6 +1,6 @@
 //! A script's jobs: the calls of its first actor, served by workers on threads of their own.
 ghost use Rattle.std.specs.Prelude.{◌≡◌, ◌≢◌, ◌<◌, ◌≤◌, ◌++◌, [], ◌∷◌, length, map, replicate, vec_len, All, IfOk, IsTrue, MatchResult};
-ghost use Rattle.call_plans.specs.declared.plan.Planned.TheVariants.{Call as CallOf};
+ghost use Rattle.race_core.specs.declared.plan.Planned.TheVariants.{Call as CallOf};
 ghost use Rattle.report_text.specs.Report.{reply_lines};
 ghost use Rattle.workers.specs.Serve.{IsServed};
 ghost use Rattle.scripts.specs.declared.calls.Purpose.TheVariants.{Jobs as JobsPurpose};

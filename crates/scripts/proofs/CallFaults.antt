@@ -8,8 +8,8 @@ use Rattle.path_text.specs.Name.{same_bytes, is_name}
 use Rattle.root_ops.specs.declared.op.Op.{Op}
 use Rattle.root_ops.specs.declared.op.Op.TheVariants as op
 use Rattle.root_ops.specs.declared.op.Request.{Request}
-use Rattle.call_plans.specs.declared.plan.Planned.TheVariants as planned
-use Rattle.call_plans.specs.declared.plan.Ref.{Ref}
+use Rattle.race_core.specs.declared.plan.Planned.TheVariants as planned
+use Rattle.race_core.specs.declared.plan.Ref.{Ref}
 use Rattle.tree_model.specs.Entries.{with_some, refuse_if}
 use Rattle.tree_model.specs.declared.step.Mode.{Mode}
 use Rattle.tree_model.specs.StepWith.{StepWith}

@@ -6,8 +6,8 @@ use Rattle.std.specs.Prelude.{not, Option, Some, None, Result, Ok, Err, All, IsO
 use Rattle.serde_json.specs.Data.{Data, Items, no_items, item}
 use Rattle.serde_json.specs.Find.{get, as_number, as_u64, as_array}
 use Rattle.path_text.specs.declared.errno.Errno.{Errno}
-use Rattle.call_plans.specs.declared.plan.ActorPlan.{ActorPlan}
-use Rattle.call_plans.specs.declared.plan.Planned.{Planned}
+use Rattle.race_core.specs.declared.plan.ActorPlan.{ActorPlan}
+use Rattle.race_core.specs.declared.plan.Planned.{Planned}
 use Rattle.tree_model.specs.declared.inode.Inode.{Inode}
 use Rattle.tree_model.specs.Entries.{with_some, refuse_if}
 use Rattle.tree_model.specs.State.{TOP}

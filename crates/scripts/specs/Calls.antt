@@ -13,8 +13,8 @@ use Rattle.scripts.specs.declared.calls.Version.{Version}
 use Rattle.scripts.specs.declared.calls.Version.TheVariants.{One, Two}
 use Rattle.scripts.specs.declared.fault.ScriptFault.{ScriptFault}
 use Rattle.scripts.specs.declared.labels.Label.{Label}
-use Rattle.call_plans.specs.declared.plan.Planned.{Planned}
-use Rattle.call_plans.specs.declared.plan.Planned.TheVariants as planned
+use Rattle.race_core.specs.declared.plan.Planned.{Planned}
+use Rattle.race_core.specs.declared.plan.Planned.TheVariants as planned
 use Rattle.scripts.specs.declared.words.OpName.{OpName}
 use Rattle.scripts.specs.declared.words.OpName.TheVariants.{Resolve, ResolveNoFollow, MkdirAll, ReadLink, CreateFile, CreateDir, CreateLink, RemoveFile, RemoveDir, RemoveAll, Rename}
 use Rattle.scripts.specs.declared.fault.ScriptFault.TheVariants.{Call, NoJob}

@@ -5,8 +5,8 @@ use Rattle.serde_json.specs.Find.{get, as_str}
 use Rattle.path_text.specs.Name.{same_bytes}
 use Rattle.tree_model.specs.Entries.{with_some}
 use Rattle.scripts.specs.declared.labels.Label.{Label}
-use Rattle.call_plans.specs.declared.plan.Ref.{Ref}
-use Rattle.call_plans.specs.declared.plan.Ref.TheVariants.{Root, Call}
+use Rattle.race_core.specs.declared.plan.Ref.{Ref}
+use Rattle.race_core.specs.declared.plan.Ref.TheVariants.{Root, Call}
 use Rattle.scripts.specs.declared.words.OpName.{OpName}
 use Rattle.scripts.specs.declared.words.OpName.TheVariants as op_name
 use Rattle.scripts.specs.Fields.{text_in}

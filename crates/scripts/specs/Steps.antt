@@ -5,8 +5,8 @@ use Rattle.tree_model.specs.Entries.{with_some}
 use Rattle.tree_model.specs.StepWith.{StepWith}
 use Rattle.tree_model.specs.declared.step.StepOf.TheVariants as steps
 use Rattle.scripts.specs.declared.labels.Label.{Label}
-use Rattle.call_plans.specs.declared.plan.Ref.{Ref}
-use Rattle.call_plans.specs.declared.plan.Ref.TheVariants.{Root, Call}
+use Rattle.race_core.specs.declared.plan.Ref.{Ref}
+use Rattle.race_core.specs.declared.plan.Ref.TheVariants.{Root, Call}
 use Rattle.scripts.specs.declared.words.StepName.{StepName}
 use Rattle.scripts.specs.declared.words.StepName.TheVariants.{ReadLink, List as ListNames, Below, MakeDir, MakeFile, MakeLink, RemoveFile, RemoveDir, Rename}
 use Rattle.scripts.specs.Fields.{text_in, name_in, mode_in}

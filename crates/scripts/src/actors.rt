@@ -12,7 +12,7 @@ ghost use Rattle.scripts.specs.Fault.{IsFaultOf};
 use crate::calls::{CALLS_MAX, Purpose, Version, calls_of};
 use crate::fault::{Cause, RunFault, ScriptFault};
 use crate::fields::{are_over, has_none, list_in};
-use call_plans::ActorPlan;
+use race_core::ActorPlan;
 use path_text::{Errno, Names, NoMemory};
 use serde_json::Value;
 use std::alloc::Global;

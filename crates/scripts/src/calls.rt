@@ -13,7 +13,7 @@ use crate::fields::{FieldFault, bytes_in, flag_in, mode_in, text_in};
 use crate::labels::{Label, has_good_label, labels_of, takes_label};
 use crate::steps::{ref_in, step_of};
 use crate::words::{OpName, op_name_of};
-use call_plans::{Planned, Plans, Ref};
+use race_core::{Planned, Plans, Ref};
 use path_text::Flags;
 use root_ops::{Op, Request};
 use serde_json::Value;

@@ -5,7 +5,7 @@ ghost use Rattle.scripts.specs.Labels.{takes_label, label_of, labels_from, giver
 
 use crate::fields::text_in;
 use crate::words::{OpName, op_name_of};
-use call_plans::Ref;
+use race_core::Ref;
 use path_text::{Bytes, NoMemory};
 use serde_json::Value;
 use std::alloc::Global;

@@ -14,7 +14,7 @@ use crate::schedule::schedule_for;
 use crate::script::version_of;
 use crate::tree::tree_of;
 use crate::turns::TurnOrder;
-use call_plans::ActorPlan;
+use race_core::ActorPlan;
 use serde_json::Value;
 use std::alloc::Global;
 use tree_list::{ListTree, copy_nodes};

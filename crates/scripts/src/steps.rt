@@ -8,7 +8,7 @@ ghost use Rattle.scripts.specs.Steps.{step_name_in, ref_in, step_on, step_of};
 use crate::fields::{FieldFault, bytes_in, mode_in, name_in, text_in};
 use crate::labels::{Label, ref_of};
 use crate::words::{StepName, step_name_of};
-use call_plans::Ref;
+use race_core::Ref;
 use serde_json::Value;
 use std::alloc::Global;
 use tree_model::StepOf;

@@ -1,3 +1,6 @@
+pub mod EntryLemmas
 pub mod HeldLemmas
+pub mod ListingLemmas
 pub mod OpeningLemmas
 pub mod Pauses
+pub mod PlaceLemmas

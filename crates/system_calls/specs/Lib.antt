@@ -1,7 +1,11 @@
+pub mod Entries
 pub mod Errors
 pub mod Held
+pub mod Listing
 pub mod Objects
 pub mod OpenFlags
 pub mod Opening
+pub mod Place
+pub mod Records
 pub mod Tries
 pub mod Uses

@@ -7,7 +7,7 @@ use Rattle.std.proofs.lemmas.List.Sums.{sum_by_push}
 use Rattle.std.specs.Prelude.{Option, Some, None, Result, Ok, Err, All, IsOk, is_some, if◌then◌else◌}
 use Rattle.path_text.specs.declared.errno.Errno.{Errno}
 use Rattle.path_text.specs.declared.errno.Errno.TheVariants.{TooMany}
-use Rattle.call_plans.specs.declared.plan.ActorPlan.{ActorPlan}
+use Rattle.race_core.specs.declared.plan.ActorPlan.{ActorPlan}
 use Rattle.race_core.specs.declared.report.WorldFault.{WorldFault}
 use Rattle.race_core.specs.declared.report.WorldFault.TheVariants as refusal
 use Rattle.race_core.specs.Ledgers.{LedgerView}

@@ -1,5 +1,5 @@
 //! Texts and commas of JSON, by RFC 8259.
-use json_text::{comma, text};
+use report_text::json_words::{comma, text};
 use path_text::NoMemory;
 use std::alloc::Global;
 use std::test::Fail;

@@ -3,7 +3,7 @@
 use crate::path::piece;
 use crate::walk::O_CLOEXEC;
 use dialogue::{Answer, Asked, Question, ask};
-use kernel_text::sort_names;
+use system_calls::sort_names;
 use list_directory::{CLOSE, ENDS, FAILS, Listing, OPEN, READ, SORT, begin, next};
 use std::alloc::Global;
 use system_calls::errors::{EIO, ENOMEM};

@@ -6,7 +6,7 @@ use Rattle.handles.specs.Objects.{StandingObject}
 use Rattle.root_ops.specs.View.{CallView}
 use Rattle.root_ops.proofs.HandlesRenamed.{join, doing_numbers}
 use Rattle.race_core.proofs.LikeSeats.{planned_keeps, outcome_keeps}
-use Rattle.call_plans.specs.declared.plan.Planned.{Planned}
+use Rattle.race_core.specs.declared.plan.Planned.{Planned}
 use Rattle.race_core.specs.declared.report.Outcome.{Outcome}
 use Rattle.race_core.specs.declared.seat.Seat.{Seat}
 use Rattle.race_core.specs.Ledgers.{LedgerView}

@@ -18,10 +18,10 @@ use Rattle.root_ops.specs.Renumbered.{for_handles}
 use Rattle.root_ops.specs.TurnView.{below_of}
 use Rattle.root_ops.specs.View.{CallView}
 use Rattle.root_ops.proofs.Blind.Calls.{calls_begin_blindly, steps_are_due_blindly, answers_are_taken_blindly}
-use Rattle.call_plans.specs.declared.plan.Planned.{Planned}
-use Rattle.call_plans.specs.declared.plan.Planned.TheVariants as planned
-use Rattle.call_plans.specs.declared.plan.Ref.{Ref}
-use Rattle.call_plans.specs.declared.plan.Ref.TheVariants as ref
+use Rattle.race_core.specs.declared.plan.Planned.{Planned}
+use Rattle.race_core.specs.declared.plan.Planned.TheVariants as planned
+use Rattle.race_core.specs.declared.plan.Ref.{Ref}
+use Rattle.race_core.specs.declared.plan.Ref.TheVariants as ref
 use Rattle.race_core.specs.declared.report.Outcome.{Outcome}
 use Rattle.race_core.specs.declared.seat.Seat.{Seat}
 use Rattle.race_core.specs.Ledgers.{LedgerView}

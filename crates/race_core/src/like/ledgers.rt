@@ -6,7 +6,7 @@ ghost use Rattle.race_core.specs.Renamed.{planned_by, planned_handles, outcome_b
 use super::{Like, like_all, like_queues, push_all, push_queue};
 use crate::ledger::Ledger;
 use crate::report::Outcome;
-use call_plans::{Planned, Ref};
+use crate::{Planned, Ref};
 use handles::Standing;
 use path_text::NoMemory;
 use root_ops::{like_answers, like_roots, like_standings, push_answer_handles};

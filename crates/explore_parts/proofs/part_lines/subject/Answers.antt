@@ -1,7 +1,7 @@
 use Rattle.std.proofs.Common.{ℕ, List, subst}
 use Rattle.std.specs.Prelude.{codes}
 use Rattle.step_text.specs.Output.{Gains}
-use Rattle.json_text.specs.Json.{text_words}
+use Rattle.report_text.specs.Json.{text_words}
 use Rattle.explore_parts.specs.Lists.{numbers_words}
 use Rattle.explore_parts.specs.PartText.{subject_words}
 use Rattle.outcome_text.proofs.Pieces.{four_added}

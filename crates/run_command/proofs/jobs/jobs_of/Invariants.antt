@@ -1,5 +1,5 @@
 use Rattle.std.proofs.Common.{◌≡◌, map, take}
-use Rattle.call_plans.specs.declared.plan.Planned.TheVariants.{Call}
+use Rattle.race_core.specs.declared.plan.Planned.TheVariants.{Call}
 use Rattle.run_command.proofs.jobs.jobs_of.Given as goal
 
 abbrev pub invariant-loop-call : goal.invariant-loop-call

@@ -1,7 +1,0 @@
-use Rattle.std.proofs.Common.{◌≡◌, ◌++◌, drop}
-use Rattle.json.specs.Print.{escape}
-use Rattle.json_text.proofs.written.bytes.Given as goal
-
--- what is written and what is left to write make the whole
-abbrev pub invariant-loop-one : goal.invariant-loop-one
-invariant-loop-one l = l.out ++ escape (drop l.one-index l.text) ≡ l.fn.out ++ escape l.text

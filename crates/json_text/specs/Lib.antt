@@ -1,2 +1,0 @@
-pub use Rattle.step_text.specs.Output
-pub mod Json

@@ -1,4 +1,0 @@
-pub mod Entries
-pub mod Listing
-pub mod Place
-pub mod Records
