@@ -10,8 +10,6 @@ mod kernel_calls;
 #[cfg(test)]
 mod laws;
 #[cfg(test)]
-mod machine_calls;
-#[cfg(test)]
 mod single_steps;
 #[cfg(test)]
 mod step_dialogues;

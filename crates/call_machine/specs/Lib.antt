@@ -1,4 +1,0 @@
-pub mod Machine
-pub mod Runs
-pub mod Steps
-pub mod Whole
