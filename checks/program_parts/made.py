@@ -67,13 +67,13 @@ def as_long_as_may_be():
     for count, element, front, back, at, wanted in rows("lists"):
         script = f'{{"version":1,"tree":[],"actors":[{front}{int(count) * element}{back}'
         if at:
-            comes_to(f"{count} times {element}", 3, "", told(f"script: {at}", wanted), "replay", given=script)
+            comes_to(f"{count} times {element}", 3, "", told(f"script: {at}", wanted, "..."), "replay", given=script)
         else:
             refuses(f"{count} times {element}", "", "replay", given=script)
     comes_to("as many entries as there may be", 0, "opened dir 10000 /9999\n", "", "walk", "9999", given=entries(10000))
     refuses("as many entries as there may be, in a replay", "", "replay", given=entries(10000))
     for command in ("walk 9999", "replay", "run --workers 1"):
-        too_many = told("script: tree", "a tree has at most 10000 entries")
+        too_many = told("script: tree", "a tree has at most 10000 entries", "...")
         comes_to(f"an entry more: {command}", 3, "", too_many, *command.split(), given=entries(10001))
 
 
@@ -104,7 +104,7 @@ def cut():
 
 def changed():
     for old, new, at, wanted, *entry in rows("changes"):
-        lines = told(f"script: {at}", wanted, *(f"{at}: {it}" for it in entry))
+        lines = told(f"script: {at}", wanted, *(f"{at} at {it}" for it in entry), "...")
         comes_to(f"changed to {new}", 3, "", lines, "replay", given=ATTACK.replace(old, new, 1))
     few = told("book full", '"lines" is too small: each actor, or each worker of run, has one')
     comes_to("a line for two actors", 4, "", few, "replay", given=ATTACK.replace('"version":1', '"version":1,"lines":1', 1))

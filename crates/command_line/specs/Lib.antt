@@ -4,6 +4,7 @@ pub mod Cut
 pub mod Ending
 pub mod Entry
 pub mod NoJson
+pub mod Position
 pub mod Reason
 pub mod Rows
 pub mod Style

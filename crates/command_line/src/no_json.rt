@@ -20,7 +20,7 @@ pub const BEHIND_MAX: usize = 40;
 const ORDER_MARK: [u8; 3] = [0xef, 0xbb, 0xbf];
 
 // Whether a byte is one of the four blanks of JSON.
-fn is_white(byte: u8) -> bool
+pub(crate) fn is_white(byte: u8) -> bool
     ensures { result ≡ is_white byte }
 {
     byte == b' ' || byte == b'\t' || byte == b'\n' || byte == b'\r'

@@ -1,11 +1,11 @@
 //! What is told of a fault beside its own words.
 use command_line::{
-    Fault, add_caret, add_excerpt, add_no_json, advise, begun, can_be_named, entry_text, reason_of,
-    row_line,
+    Fault, add_caret, add_excerpt, add_no_json, advise, begun, can_be_named, entry_text,
+    position_of, reason_of, row_line,
 };
 use outcome_text::{ExploreFault, SearchFault};
 use path_text::Errno;
-use scripts::{CallFault, Cause, Field, JsonFault, ScriptFault};
+use scripts::{CallFault, Cause, Field, JsonFault, Loose, ScriptFault};
 use serde_json::Value;
 use std::alloc::Global;
 use step_text::Output;
@@ -260,6 +260,48 @@ fn points_to_what_is_no_json(rt: HostRuntime) {
         ),
     ] {
         assert!(rt; is_pointed(rt.alloc(), script, place, want), "{want:?}");
+    }
+}
+
+const LINES: &str = r#"
+{ "version": 7, "tree": [], "tree":[ ["dir","/a]\\"],["dir","/b"] ],
+  "actors": [{"root":"/","calls":[]}, {
+    "root": "/c", "calls": [ {"op":"resolve", "path":"a"},
+      {"op":"open","path":"a"} ]}], "schedule":[0, 9] }"#;
+
+#[test]
+fn points_to_what_is_refused(rt: HostRuntime) {
+    let unknown = CallFault::Unknown(Field::Op);
+    for (script, fault, want) in [
+        (LINES, ScriptFault::Version, Some((2, 14))),
+        (LINES, ScriptFault::TreeEntry(0, Cause::Shape), Some((2, 38))),
+        (LINES, ScriptFault::TreeEntry(1, Cause::Shape), Some((2, 54))),
+        (LINES, ScriptFault::TreeEntry(2, Cause::Shape), None),
+        (LINES, ScriptFault::Actor(1, Cause::Shape), Some((3, 39))),
+        (
+            LINES,
+            ScriptFault::Actor(1, Cause::Refused(Errno::NotFound)),
+            Some((4, 13)),
+        ),
+        (LINES, ScriptFault::Call(1, 1, Some(unknown)), Some((5, 13))),
+        (
+            LINES,
+            ScriptFault::Call(1, 1, Some(CallFault::Missing(Field::Text))),
+            Some((5, 7)),
+        ),
+        (LINES, ScriptFault::NoJob(0), None),
+        (LINES, ScriptFault::Turn(1), Some((5, 52))),
+        (
+            LINES,
+            ScriptFault::Loose(Loose::Label(1, 0)),
+            None,
+        ),
+        ("[]", ScriptFault::NotObject, Some((1, 1))),
+        (r#"{"\u0074ree":[7]}"#, ScriptFault::TreeEntry(0, Cause::Shape), None),
+    ] {
+        let place = position_of(script.as_bytes(), fault);
+        let place = place.map(|place| (place.line, place.column));
+        assert!(rt; place == want, "{place:?} {want:?}");
     }
 }
 

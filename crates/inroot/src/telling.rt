@@ -1,5 +1,7 @@
 //! What is told of a fault on standard error.
-use command_line::{Fault, add_caret, add_excerpt, add_no_json, advise, entry_text, reason_of};
+use command_line::{
+    Fault, add_caret, add_excerpt, add_no_json, advise, entry_text, position_of, reason_of,
+};
 use path_text::NoMemory;
 use scripts::{JsonFault, RunFault, Script, ScriptFault};
 use serde_json::Value;
@@ -57,32 +59,47 @@ fn tell_line(rt: &HostRuntime, added: Result<(), NoMemory>, text: &Output) -> io
     write_line(rt, "inroot: ", text.as_slice())
 }
 
-/// Tells why a script is no JSON text, and points to where. Leaves out what follows a line that had no memory.
-fn tell_no_json(rt: &HostRuntime, fault: JsonFault, script: &[u8]) -> io::Result<()> {
-    let mut reason = Output::new(rt.alloc());
-    let added = add_no_json(&mut reason, script, fault);
-    let mut whole = tell_line(rt, added, &reason)?;
-    if whole {
-        let mut excerpt = Output::new(rt.alloc());
-        let added = add_excerpt(&mut excerpt, script, fault);
-        whole = tell_line(rt, added, &excerpt)?;
-    }
-    if whole {
+/// Shows the line of a place, and points to the place. Leaves out the caret where the line had no memory.
+fn point(rt: &HostRuntime, place: JsonFault, script: &[u8]) -> io::Result<()> {
+    let mut excerpt = Output::new(rt.alloc());
+    let added = add_excerpt(&mut excerpt, script, place);
+    if tell_line(rt, added, &excerpt)? {
         let mut caret = Output::new(rt.alloc());
-        let added = add_caret(&mut caret, script, fault);
+        let added = add_caret(&mut caret, script, place);
         let _ = tell_line(rt, added, &caret)?;
     }
     Ok(())
 }
 
-/// Tells what a script has where it is refused, if that is one of its entries.
-fn tell_entry(rt: &HostRuntime, fault: ScriptFault, script: &Value) -> io::Result<()> {
-    if let Ok(Some(text)) = entry_text(rt.alloc(), script, fault) {
-        if let Ok(start) = format!(in rt.alloc(); "inroot: {fault}: ") {
-            let _ = write_line(rt, start.as_str(), text.as_slice())?;
-        }
+/// Tells why a script is no JSON text, and points to where. Leaves out what follows a line that had no memory.
+fn tell_no_json(rt: &HostRuntime, fault: JsonFault, script: &[u8]) -> io::Result<()> {
+    let mut reason = Output::new(rt.alloc());
+    let added = add_no_json(&mut reason, script, fault);
+    if tell_line(rt, added, &reason)? {
+        point(rt, fault, script)?;
     }
     Ok(())
+}
+
+/// Tells where a script is refused, and what it has there if that is one of its entries. Returns whether memory
+/// sufficed.
+fn tell_entry(
+    rt: &HostRuntime,
+    fault: ScriptFault,
+    place: Option<JsonFault>,
+    script: &Value,
+) -> io::Result<bool> {
+    let alloc = rt.alloc();
+    let start = match place {
+        Some(JsonFault { line, column, .. }) => {
+            format!(in alloc; "inroot: {fault} at line {line}, column {column}: ")
+        }
+        None => format!(in alloc; "inroot: {fault}: "),
+    };
+    match (start, entry_text(alloc, script, fault)) {
+        (Ok(start), Ok(Some(entry))) => write_line(rt, start.as_str(), entry.as_slice()),
+        (start, entry) => Ok(start.is_ok() && entry.is_ok()),
+    }
 }
 
 /// Tells what is wrong with a script, or else what was wanted, and what the script has there.
@@ -96,9 +113,13 @@ fn tell_script(rt: &HostRuntime, fault: ScriptFault, script: &Script) -> io::Res
     } else if let Some(detail) = RunFault::Script(fault).detail() {
         eprintln!(rt; "inroot: {detail}")?;
     }
-    match value {
-        Some(value) => tell_entry(rt, fault, value),
-        None => Ok(()),
+    let Some(value) = value else {
+        return Ok(());
+    };
+    let place = position_of(script.bytes(), fault);
+    match (tell_entry(rt, fault, place, value)?, place) {
+        (true, Some(place)) => point(rt, place, script.bytes()),
+        _ => Ok(()),
     }
 }
 
