@@ -1,6 +1,8 @@
 use Rattle.std.proofs.Common.{◌≡◌, ◌+◌, ◌++◌, ◌∷◌, [], List, sym, ap, ◌∙◌, subst, take}
 use Rattle.std.proofs.lemmas.List.{take_more}
-use Rattle.explore.specs.Explored.{ClassView}
+use Rattle.layered_search.specs.declared.found.Class.{Class}
+use Rattle.local_states.specs.Worlds.{EndView}
+use Rattle.explore.specs.Explored.{ClassView, class_of, classes_in}
 use Rattle.outcome_text.specs.declared.survey.Told.{Told}
 use Rattle.explore_command.specs.Classes.{AreTold}
 use Rattle.explore_command.proofs.ToldOnes.{one_told}
