@@ -1,17 +1,19 @@
 -- Classes whose least lists are gone through once more are what all lists come to.
-use Rattle.std.specs.Prelude.{◌≡◌, ◌<◌, ℕ, Bool, List, true, length, Option, Some, slice_get, map}
+use Rattle.std.specs.Prelude.{◌≡◌, ◌<◌, ◌≤◌, ◌+◌, ℕ, Bool, List, true, length, Option, Some, slice_get, slice_set, map}
 use Rattle.std.specs.Global.{Vec}
 use Rattle.std.specs.Option.{option_map}
-use Rattle.std.proofs.Common.{sym, ap, ◌∙◌, subst}
+use Rattle.std.proofs.Common.{sym, ap, ◌∙◌, subst, ⊎_elim, arith}
 use Rattle.std.proofs.lemmas.List.{length-map}
 use Rattle.std.proofs.lemmas.Option.{same_Some, slice_get-map, slice_get_within}
 use Rattle.layered_search.specs.declared.found.Class.{Class}
 use Rattle.layered_search.specs.Found.{view_of, views_of, TellsOutcome, TellOutcomes}
 use Rattle.layered_search.specs.Promise as search
 use Rattle.layered_search.proofs.Places.{within_some}
+use Rattle.path_text.proofs.Lists.{length-slice_set}
+use Rattle.schedule_graph.proofs.Spreading.{get_set}
 use Rattle.race_core.specs.Worlds.{WorldView}
 use Rattle.local_states.specs.Worlds.{EndView, worlds, world_outcomes, after_turns, IsEndOf}
-use Rattle.explore.specs.Explored.{Scope, lists_in, IsAsked, AgreeIn, ClassView, class_of, classes_in, HasClass, cuts, changes, rank, is_at_most}
+use Rattle.explore.specs.Explored.{Scope, IsAsked, AgreeIn, ClassView, class_of, classes_in, HasClass, cuts, changes, rank, is_at_most}
 use Rattle.explore.specs.Promise.{IsMerged, IsMergedClass}
 use Rattle.explore.specs.Told.{IsToldBy, AreToldBy}
 use Rattle.schedule_graph.specs.Counted.{AreSoMany}
@@ -22,7 +24,7 @@ mapped_at : {A B : Type 0} (f : A → B) (xs : List A) (k : ℕ) (x : A) → sli
 mapped_at {A} f xs k x there = slice_get-map f xs k ∙ ap (λ (o : Option A). option_map f o) there
 
 module _ (w : WorldView) (scope : Scope) (counted classes : List (Class EndView)) (lists turns : ℕ)
-    (merged : search.IsMerged (worlds scope.outside w) (lists_in scope) (views_of counted) lists turns)
+    (merged : search.IsMerged (worlds scope.outside w) (record { cuts = scope.cuts; begin = scope.begin }) (views_of counted) lists turns)
     (tell : TellOutcomes (worlds scope.outside w) (world_outcomes scope.outside) counted)
     (told : AreToldBy w scope.outside counted classes) where
   -- what is known of a class: what was counted of it, and what it is told as
@@ -112,3 +114,31 @@ module _ (w : WorldView) (scope : Scope) (counted classes : List (Class EndView)
         (subst (λ js. AgreeIn w scope c.least.turns js) (turns_at l d other) agree));
     each = λ k class there. merged_class k class (at k class there);
   }
+
+-- ---- one class after another
+
+-- the first so many are told, and the others are as they were
+pub record AreToldTo (w : WorldView) (outside : Bool) (at : ℕ) (begun now : List (Class EndView)) : Type 0 where
+  pub many : length now ≡ length begun
+  pub told : (k : ℕ) (one class : Class EndView) → k < at → slice_get begun k ≡ Some one
+      → slice_get now k ≡ Some class → IsToldBy w outside one class
+  pub rest : (k : ℕ) (one : Class EndView) → at ≤ k → slice_get now k ≡ Some one → slice_get begun k ≡ Some one
+
+-- so it is at the next place, once that class is told
+pub told_next : (w : WorldView) (outside : Bool) (at : ℕ) (begun now : List (Class EndView)) (one class : Class EndView)
+    → AreToldTo w outside at begun now → slice_get now at ≡ Some one → IsToldBy w outside one class
+    → AreToldTo w outside (at + 1) begun (slice_set now at class)
+told_next w outside at begun now one class before there is = record {
+  many = length-slice_set now at class ∙ before.many;
+  told = λ k old new lt here put.
+      ⊎_elim
+      (λ same.
+      let of : one ≡ old =
+      same_Some one old (sym (subst (λ n. slice_get begun n ≡ Some one) (sym same.0) (before.rest at one (omega arith) there)) ∙ here) in
+      subst (λ c. IsToldBy w outside old c) (sym same.1) (subst (λ c. IsToldBy w outside c class) of is))
+      (λ other. let ne = other.0 in before.told k old new (omega (arith, lt, ne)) here other.1)
+      (get_set now at k class new put);
+  rest = λ k old le put.
+      ⊎_elim (λ same. absurd (omega (arith, same.0, le))) (λ other. before.rest k old (omega (arith, le)) other.1)
+      (get_set now at k class old put);
+}

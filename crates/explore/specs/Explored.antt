@@ -11,7 +11,7 @@ use Rattle.layered_search.specs.Asked as asked
 pub use Rattle.layered_search.specs.Asked.{IsWithin, GoAlong}
 pub use Rattle.layered_search.specs.Lists.{plus, is_less_or, is_not_after, Rank, is_at_most, changes}
 use Rattle.layered_search.specs.Moves as moves
-use Rattle.layered_search.specs.Limits.{ScopeView, limits_of}
+use Rattle.layered_search.specs.Limits.{limits_of}
 use Rattle.layered_search.specs.declared.found.Class.{Class}
 use Rattle.layered_search.specs.declared.limits.Limits.{Limits}
 use Rattle.local_states.specs.Local.{SameParts}
@@ -124,10 +124,6 @@ abbrev pub AreStates : WorldView → Scope → ℕ → Type 0
 AreStates w scope = asked.AreStatesOf world_moves w SameParts scope.cuts scope.begin
 
 -- ---- why nothing is told
-
--- which lists are gone through
-abbrev pub lists_in : Scope → ScopeView
-lists_in scope = record { cuts = scope.cuts; begin = scope.begin }
 
 -- the turn at that place of the beginning is of an actor who has nothing left to do then
 abbrev pub IsIdle : WorldView → Scope → List ℕ → ℕ → Type 0
