@@ -1,6 +1,6 @@
 -- What is asked of a search of all schedules of a world, and what it tells. Which lists are asked for, which are on the
 -- way, and which have one state is said as it is of all moves (`Asked` of `layered_search`).
-use Rattle.std.specs.Prelude.{◌≡◌, ℕ, List, Bool, Option, None, Some, slice_get}
+use Rattle.std.specs.Prelude.{◌≡◌, ℕ, List, Bool, Option, None, Some, slice_get, map}
 use Rattle.tree_model.specs.declared.answer.Event.{Event}
 use Rattle.tree_model.specs.State.{State}
 use Rattle.handles.specs.Objects.{StandingObject}
@@ -11,18 +11,30 @@ use Rattle.layered_search.specs.Asked as asked
 pub use Rattle.layered_search.specs.Asked.{IsWithin, GoAlong}
 pub use Rattle.layered_search.specs.Lists.{plus, is_less_or, is_not_after, Rank, is_at_most, changes}
 use Rattle.layered_search.specs.Moves as moves
-use Rattle.layered_search.specs.Limits.{ScopeView, LimitsView}
-use Rattle.local_states.specs.declared.limits.Scope.{Scope}
-use Rattle.local_states.specs.declared.limits.Limits.{Limits}
+use Rattle.layered_search.specs.Limits.{limits_of}
+use Rattle.layered_search.specs.declared.found.Class.{Class}
+use Rattle.layered_search.specs.declared.limits.Limits.{Limits}
 use Rattle.local_states.specs.Local.{SameParts}
 pub use Rattle.local_states.specs.Local.{TellAlike}
 use Rattle.local_states.specs.Outside.{outside_of}
-use Rattle.local_states.specs.Worlds.{after_turns, world_moves, worlds}
+use Rattle.local_states.specs.Worlds.{after_turns, world_moves, worlds, EndView}
 
 -- ---- which lists are asked for, and what they tell
 
+-- only the lists with at most so many cuts, if there is a bound, and that begin with these turns; and whether what an
+-- actor changes outside of its root is told
+pub record Scope : Type 0 where
+  pub cuts : Option ℕ
+  pub outside : Bool
+  pub begin : List ℕ
+
+-- a search's limits, with that told or not
+abbrev pub scope_with : Limits → Bool → Scope
+scope_with limits outside =
+    record { cuts = limits.scope.cuts; outside = outside; begin = limits.scope.begin.items }
+
 abbrev pub IsAsked : WorldView → Scope → List ℕ → Type 0
-IsAsked w scope = asked.IsAskedOf world_moves w scope.cuts scope.begin.items
+IsAsked w scope = asked.IsAskedOf world_moves w scope.cuts scope.begin
 
 -- each turn is of an actor who has something left to do then
 abbrev pub AreBusy : WorldView → List ℕ → Type 0
@@ -68,6 +80,25 @@ pub record ClassView : Type 0 where
   pub least : EndingView
   pub lists : ℕ
 
+-- a class of a search, whose outcome is the end of its least list
+abbrev pub class_of : Class EndView → ClassView
+class_of class = record {
+  least = record {
+    turns = class.least.items;
+    cuts = class.cuts;
+    changes = class.changes;
+    tree = class.outcome.tree;
+    events = class.outcome.events;
+    replies = class.outcome.replies;
+    kept = class.outcome.kept;
+    outside = class.outcome.outside;
+  };
+  lists = class.lists;
+}
+
+abbrev pub classes_in : List (Class EndView) → List ClassView
+classes_in classes = map (λ class. class_of class) classes
+
 -- that list is asked for, and this is its report
 pub record IsEnding (w : WorldView) (scope : Scope) (ending : EndingView) : Type 0 where
   pub asked : IsAsked w scope ending.turns
@@ -84,28 +115,20 @@ pub record HasClass (w : WorldView) (scope : Scope) (classes : List ClassView) (
   pub agrees : AgreeIn w scope is class.least.turns
 
 abbrev pub IsLongest : WorldView → Scope → ℕ → Type 0
-IsLongest w scope = asked.IsLongestOf world_moves w scope.cuts scope.begin.items
+IsLongest w scope = asked.IsLongestOf world_moves w scope.cuts scope.begin
 
 -- ---- states
 
 -- worlds in which each actor has the same part count as one state
 abbrev pub AreStates : WorldView → Scope → ℕ → Type 0
-AreStates w scope = asked.AreStatesOf world_moves w SameParts scope.cuts scope.begin.items
+AreStates w scope = asked.AreStatesOf world_moves w SameParts scope.cuts scope.begin
 
 -- ---- why nothing is told
-
--- which lists are gone through
-abbrev pub lists_in : Scope → ScopeView
-lists_in scope = record { cuts = scope.cuts; begin = scope.begin.items }
-
--- what is gone through at most
-abbrev pub limits_in : Limits → LimitsView
-limits_in limits = record { states = limits.states; turns = limits.turns; scope = lists_in limits.scope }
 
 -- the turn at that place of the beginning is of an actor who has nothing left to do then
 abbrev pub IsIdle : WorldView → Scope → List ℕ → ℕ → Type 0
 IsIdle w scope = asked.IsIdle (worlds scope.outside w)
 
 -- the reason, as it is for a world as a system
-abbrev pub WhyNot : WorldView → Limits → SearchFault → Type 0
-WhyNot w limits = asked.WhyNot (worlds limits.scope.outside w) (limits_in limits)
+abbrev pub WhyNot : WorldView → Limits → Bool → SearchFault → Type 0
+WhyNot w limits outside = asked.WhyNot (worlds outside w) (limits_of limits)

@@ -28,8 +28,7 @@
 use Rattle.std.specs.Prelude.{◌≡◌, ℕ, List, true, slice_get, Some}
 use Rattle.race_core.specs.Worlds.{WorldView}
 use Rattle.schedule_graph.specs.Counted.{AreSoMany}
-use Rattle.local_states.specs.declared.limits.Scope.{Scope}
-use Rattle.explore.specs.Explored.{IsAsked, AgreeIn, rank, is_at_most, ClassView, IsEnding, HasClass, IsLongest}
+use Rattle.explore.specs.Explored.{Scope, IsAsked, AgreeIn, rank, is_at_most, ClassView, IsEnding, HasClass, IsLongest}
 
 -- The list is the least of those that are asked for and lead to its outcome, and so many do.
 pub record IsMergedClass (w : WorldView) (scope : Scope) (class : ClassView) : Type 0 where

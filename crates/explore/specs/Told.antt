@@ -2,27 +2,19 @@
 use Rattle.std.specs.Prelude.{◌≡◌, ℕ, List, length, Some, slice_get}
 use Rattle.race_core.specs.Worlds.{WorldView}
 use Rattle.layered_search.specs.declared.found.Class.{Class}
-use Rattle.local_states.specs.declared.limits.Scope.{Scope}
-use Rattle.explore.specs.Explored.{ClassView, IsAsked}
+use Rattle.explore.specs.Search.{IsFull}
 use Rattle.local_states.specs.Worlds.{after_turns, EndView, IsEndOf}
 
--- its end is that of the world after the least list; what was counted is as it was
-pub record IsToldBy (w : WorldView) (scope : Scope) (counted : Class EndView) (class : ClassView) : Type 0 where
-  pub end : IsEndOf scope.outside (after_turns w class.least.turns) (record {
-    tree = class.least.tree;
-    events = class.least.events;
-    replies = class.least.replies;
-    kept = class.least.kept;
-    outside = class.least.outside;
-  })
-  pub turns : class.least.turns ≡ counted.least.items
-  pub cuts : class.least.cuts ≡ counted.cuts
-  pub changes : class.least.changes ≡ counted.changes
+-- its outcome is the end of the world after the least list, if that is a full one; what was counted is as it was
+pub record IsToldBy (w : WorldView) (outside : Bool) (counted class : Class EndView) : Type 0 where
+  pub end : IsFull w counted.least.items → IsEndOf outside (after_turns w counted.least.items) class.outcome
+  pub turns : class.least ≡ counted.least
+  pub cuts : class.cuts ≡ counted.cuts
+  pub changes : class.changes ≡ counted.changes
   pub lists : class.lists ≡ counted.lists
 
--- so it is with each whose least list is asked for, in order
-pub record AreToldBy (w : WorldView) (scope : Scope) (counted : List (Class EndView))
-    (classes : List ClassView) : Type 0 where
+-- so it is with each, in order
+pub record AreToldBy (w : WorldView) (outside : Bool) (counted classes : List (Class EndView)) : Type 0 where
   pub many : length classes ≡ length counted
-  pub each : (k : ℕ) (one : Class EndView) (class : ClassView) → slice_get counted k ≡ Some one
-      → slice_get classes k ≡ Some class → IsAsked w scope one.least.items → IsToldBy w scope one class
+  pub each : (k : ℕ) (one class : Class EndView) → slice_get counted k ≡ Some one → slice_get classes k ≡ Some class
+      → IsToldBy w outside one class

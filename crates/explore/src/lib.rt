@@ -16,14 +16,13 @@
 //!   it doesn't know by a run from the beginning, and the turns after it that aren't known by the same run
 //!   (`known_turns.rt`).
 //! - `outcomes`: what is found, and which worlds come to the same.
-//! - `search.rt` puts these together; `limits.rt` has what is asked for.
+//! - `search.rt` puts these together. What is asked for, and what is found, is as of any system (`Limits`, `Findings`).
 //!
 //! Where it is asked for, what an actor changes outside of its root is a part of an outcome: worlds are taken for one
 //! then only where each actor has made as many such changes.
 #![tactic(auto)]
 
 mod laws;
-mod limits;
 mod outcomes;
 mod search;
 mod system;
@@ -31,9 +30,8 @@ mod turns;
 mod worlds;
 
 pub use laws::chosen_lists_stand_for_all;
-pub use layered_search::{Progress, Silent};
-pub use limits::{Limits, Scope, SearchFault};
-pub use outcomes::found::{Class, Ending, Findings};
+pub use layered_search::{Class, Findings, Limits, Progress, Scope, SearchFault, Silent};
+pub use outcomes::end::End;
 pub use search::explore;
 pub use worlds::beginnings::Beginnings;
 pub use worlds::scene::Scene;

@@ -8,12 +8,11 @@ ghost use Rattle.local_states.specs.Keys.{IsKey, AreFew};
 ghost use Rattle.local_states.specs.Local.{AreNumbered};
 ghost use Rattle.local_states.specs.Worlds.{worlds};
 
-use crate::limits::SearchFault;
 use crate::outcomes::end::End;
 use crate::turns::known_turns::KnownTurns;
 use crate::worlds::beginnings::Beginnings;
 use crate::worlds::replayed::{ended, replay, turns_of};
-use layered_search::TransitionSystem;
+use layered_search::{SearchFault, TransitionSystem};
 use local_states::Key;
 use path_text::NoMemory;
 use race_core::{ACTORS_MAX, CopyTree, World};

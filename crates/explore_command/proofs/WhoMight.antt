@@ -3,20 +3,19 @@ use Rattle.std.specs.Prelude.{◌≡◌, ◌⊎◌, ◌+◌, ◌++◌, ℕ, zero
 use Rattle.std.specs.Global.{Vec}
 use Rattle.std.proofs.Common.{inl, inr, sym, ap, subst, ⊎_elim, below_more}
 use Rattle.std.proofs.lemmas.Option.{same_Some, none-some}
-use Rattle.local_states.specs.declared.limits.Limits.{Limits}
 use Rattle.local_states.specs.Worlds.{after_turns}
-use Rattle.explore.specs.Explored.{IsWithin, cuts}
+use Rattle.explore.specs.Explored.{Scope, IsWithin, cuts}
 use Rattle.race_core.specs.Worlds.{WorldView, is_busy_at}
 use Rattle.schedule_graph.specs.Counted.{IsAmong}
 use Rattle.explore_command.specs.Part.{IsBarredAt, IsBarred, AreWhoMight, AreEachWhoMight}
 
 -- ---- one actor more
 
-pub one_more : (w : WorldView) (limits : Limits) (actor : ℕ) (turns might more : List ℕ) → AreWhoMight w limits actor turns might
-    → ((other : ℕ) → IsAmong other might → IsAmong other more) → IsAmong actor more ⊎ IsBarred w limits (turns ++ actor ∷ [])
-    → AreWhoMight w limits (actor + 1) turns more
-one_more w limits actor turns might more each stay last =
-    below_more (λ (other : ℕ). IsAmong other more ⊎ IsBarred w limits (turns ++ other ∷ [])) actor
+pub one_more : (w : WorldView) (scope : Scope) (actor : ℕ) (turns might more : List ℕ) → AreWhoMight w scope actor turns might
+    → ((other : ℕ) → IsAmong other might → IsAmong other more) → IsAmong actor more ⊎ IsBarred w scope (turns ++ actor ∷ [])
+    → AreWhoMight w scope (actor + 1) turns more
+one_more w scope actor turns might more each stay last =
+    below_more (λ (other : ℕ). IsAmong other more ⊎ IsBarred w scope (turns ++ other ∷ [])) actor
     (λ other lt. ⊎_elim (λ among. inl (stay other among)) (λ barred. inr barred) (each other lt)) last
 
 -- ---- one turn more
@@ -30,11 +29,11 @@ at_each P [] last each holds (suc at) one there = absurd (none-some one there)
 at_each P (x ∷ xs) last each holds zero one there = each zero one there
 at_each P (x ∷ xs) last each holds (suc at) one there = at_each (λ n. P (suc n)) xs last (λ n v h. each (suc n) v h) holds at one there
 
-pub one_turn_more : (w : WorldView) (limits : Limits) (actors : ℕ) (begin : List ℕ) (all : List (Vec ℕ)) (last : Vec ℕ)
-    → AreEachWhoMight w limits actors begin all → AreWhoMight w limits actors (take (length all) begin) last.items
-    → AreEachWhoMight w limits actors begin (all ++ last ∷ [])
-one_turn_more w limits actors begin all last each holds =
-    at_each (λ (at : ℕ) (might : List ℕ). AreWhoMight w limits actors (take at begin) might) all last each holds
+pub one_turn_more : (w : WorldView) (scope : Scope) (actors : ℕ) (begin : List ℕ) (all : List (Vec ℕ)) (last : Vec ℕ)
+    → AreEachWhoMight w scope actors begin all → AreWhoMight w scope actors (take (length all) begin) last.items
+    → AreEachWhoMight w scope actors begin (all ++ last ∷ [])
+one_turn_more w scope actors begin all last each holds =
+    at_each (λ (at : ℕ) (might : List ℕ). AreWhoMight w scope actors (take at begin) might) all last each holds
 
 -- ---- up to a turn that can't be taken
 
@@ -54,9 +53,9 @@ first_again begin zero = refl
 first_again [] (suc n) = refl
 first_again (i ∷ is) (suc n) = ap (λ (js : List ℕ). i ∷ js) (first_again is n)
 
-pub barred_first : (w : WorldView) (limits : Limits) (begin : List ℕ) (at : ℕ) → IsBarredAt w limits begin at
-    → IsBarred w limits (take (suc at) begin)
-barred_first w limits begin at (inl idle) = (
+pub barred_first : (w : WorldView) (scope : Scope) (begin : List ℕ) (at : ℕ) → IsBarredAt w scope begin at
+    → IsBarred w scope (take (suc at) begin)
+barred_first w scope begin at (inl idle) = (
   at,
   inl (record {
     actor = idle.actor;
@@ -64,5 +63,5 @@ barred_first w limits begin at (inl idle) = (
     idle = subst (λ (js : List ℕ). is_busy_at (after_turns w js).seats idle.actor ≡ false) (sym (before_first begin at)) idle.idle;
   }),
 )
-barred_first w limits begin at (inr many) =
-    (at, inr (λ few. many (subst (λ (js : List ℕ). IsWithin limits.scope.cuts (cuts w js)) (first_again begin (suc at)) few)))
+barred_first w scope begin at (inr many) =
+    (at, inr (λ few. many (subst (λ (js : List ℕ). IsWithin scope.cuts (cuts w js)) (first_again begin (suc at)) few)))

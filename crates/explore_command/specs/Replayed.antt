@@ -1,8 +1,7 @@
 -- What the schedule that is written with an outcome is worth.
 use Rattle.std.specs.Prelude.{◌≡◌, false}
 use Rattle.race_core.specs.Worlds.{WorldView, RunsTo}
-use Rattle.local_states.specs.declared.limits.Scope.{Scope}
-use Rattle.explore.specs.Explored.{EndingView, IsEnding}
+use Rattle.explore.specs.Explored.{Scope, EndingView, IsEnding}
 use Rattle.outcome_text.specs.Schedule.{without_tail}
 
 -- A run of the world by the schedule that is written with an outcome comes to that outcome's report: the same tree,

@@ -1,7 +1,7 @@
 -- The text of what a search of all schedules finds.
 use Rattle.std.specs.Prelude.{⊤, ◌≡◌, ◌≤◌, ℕ, Bool, List, length, find, nat_le, Option, Some, None}
 use Rattle.explore.specs.Promise.{IsMerged}
-use Rattle.explore.specs.Explored.{ClassView, AreStates, WhyNot}
+use Rattle.explore.specs.Explored.{Scope, scope_with, ClassView, AreStates, WhyNot}
 use Rattle.explore.specs.Opened.{opened_world}
 use Rattle.race_core.specs.declared.plan.ActorPlan.{ActorPlan}
 use Rattle.tree_model.specs.State.{State}
@@ -17,6 +17,10 @@ use Rattle.outcome_text.specs.Tellable.{first_untold}
 use Rattle.schedule_graph.specs.declared.fault.SearchFault.TheVariants as search
 use Rattle.scripts.specs.declared.fault.RunFault.TheVariants.{NoMemory}
 
+-- which lists are asked for
+abbrev pub scope_asked : Asked → Scope
+scope_asked asked = scope_with asked.limits asked.outside
+
 -- the first of those that are named who isn't there
 abbrev pub first_foreign : Asked → List ActorPlan → Option ℕ
 first_foreign asked plans = find (λ i. nat_le (length plans) i) asked.named.items
@@ -24,7 +28,7 @@ first_foreign asked plans = find (λ i. nat_le (length plans) i) asked.named.ite
 -- all who are named are there, and each property names a line that a report can have
 pub record IsOfThese (asked : Asked) (plans : List ActorPlan) : Type 0 where
   pub actors : first_foreign asked plans ≡ None
-  pub properties : first_untold asked.limits.scope.outside plans asked.properties.items ≡ None
+  pub properties : first_untold asked.outside plans asked.properties.items ≡ None
 
 -- What is said of each outcome makes the text, in the order of their least lists, and shows whether no property fails.
 -- Where conditions are asked for, only the lists that come to a report with the line of each one count (`Conditions`).
@@ -45,9 +49,9 @@ pub record IsSurvey (asked : Asked) (tree : State) (plans : List ActorPlan) (lin
   pub lists : ℕ
   pub states : ℕ
   pub turns : ℕ
-  pub explored : IsMerged (opened_world tree plans lines) asked.limits.scope classes lists turns
+  pub explored : IsMerged (opened_world tree plans lines) (scope_asked asked) classes lists turns
   pub few : states ≤ asked.limits.states
-  pub counted : AreStates (opened_world tree plans lines) asked.limits.scope states
+  pub counted : AreStates (opened_world tree plans lines) (scope_asked asked) states
   pub telling : IsTelling asked tree plans classes lists states turns holds text
 
 -- its outcomes that count, in the order of their least lists: those that the text tells of
@@ -69,9 +73,9 @@ WhyNoSurvey asked tree plans lines (Run other) = ⊥
 WhyNoSurvey asked tree plans lines (NoSuchActor actor) = first_foreign asked plans ≡ Some actor
 WhyNoSurvey asked tree plans lines (NoSuchLine place) =
     (first_foreign asked plans ≡ None)
-    × (first_untold asked.limits.scope.outside plans asked.properties.items ≡ Some place)
+    × (first_untold asked.outside plans asked.properties.items ≡ Some place)
 WhyNoSurvey asked tree plans lines (Search search.NoMemory) = ⊥
 WhyNoSurvey asked tree plans lines (Search fault) =
-    IsOfThese asked plans × WhyNot (opened_world tree plans lines) asked.limits fault
+    IsOfThese asked plans × WhyNot (opened_world tree plans lines) asked.limits asked.outside fault
 WhyNoSurvey asked tree plans lines (TooMuchMemory most) = asked.memory ≡ Some most
 WhyNoSurvey asked tree plans lines NoGauge = (most : ℕ) × (asked.memory ≡ Some most)

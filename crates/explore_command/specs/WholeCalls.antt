@@ -1,9 +1,8 @@
 -- What an outcome without a cut is.
 use Rattle.std.specs.Prelude.{◌≡◌, ◌≢◌, ℕ, List, [], ◌∷◌, false}
 use Rattle.race_core.specs.Worlds.{WorldView, turn, is_within_at}
-use Rattle.local_states.specs.declared.limits.Scope.{Scope}
 use Rattle.local_states.specs.Worlds.{full}
-use Rattle.explore.specs.Explored.{EndingView, IsEnding}
+use Rattle.explore.specs.Explored.{Scope, EndingView, IsEnding}
 
 -- nobody has a call under way
 abbrev pub NobodyIsWithin : WorldView → Type 0

@@ -1,8 +1,9 @@
 //! What the text says of the outcomes that a search finds.
 ghost use Rattle.std.specs.Prelude.{IfOk};
+ghost use Rattle.explore.specs.Explored.{class_of, classes_in};
 ghost use Rattle.explore_command.specs.Classes.{IsTold, AreTold};
 
-use explore::Class;
+use explore::{Class, End};
 use outcome_text::{Found, Told, told_of};
 use path_text::NoMemory;
 use std::alloc::Global;
@@ -14,17 +15,17 @@ fn tell<T: Tree>(
     named: &[u32],
     opening: &Snapshot,
     actors: u32,
-    class: &Class<T>,
+    class: &Class<End<T>>,
 ) -> Result<Told, NoMemory>
-    ensures { IfOk result (IsTold named.now opening.now actors class.now) }
+    ensures { IfOk result (IsTold named.now opening.now actors (class_of class.now)) }
 {
     let found = Found {
         lists: class.lists,
-        cuts: class.least.cuts,
-        changes: class.least.changes,
-        turns: &class.least.turns,
-        report: &class.least.report,
-        outside: &class.least.outside,
+        cuts: class.cuts,
+        changes: class.changes,
+        turns: &class.least,
+        report: &class.outcome.report,
+        outside: &class.outcome.outside,
     };
     told_of(alloc, named, opening, actors, &found)
 }
@@ -36,9 +37,9 @@ pub(crate) fn tell_all<T: Tree>(
     named: &[u32],
     opening: &Snapshot,
     actors: u32,
-    classes: &[Class<T>],
+    classes: &[Class<End<T>>],
 ) -> Result<Vec<Told>, NoMemory>
-    ensures { IfOk result (λ all. AreTold named.now opening.now actors classes.now all.items) }
+    ensures { IfOk result (λ all. AreTold named.now opening.now actors (classes_in classes.now) all.items) }
 {
     let mut all = Vec::with_capacity(alloc, classes.len())?;
     for class in classes {

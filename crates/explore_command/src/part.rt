@@ -3,7 +3,7 @@ ghost use Rattle.std.specs.Prelude.{◌≡◌, ◌≤◌, false, length, IfOk, M
 ghost use Rattle.race_core.specs.declared.opening.TheConstants.{ACTORS_MAX as MOST_ACTORS};
 ghost use Rattle.explore_command.specs.Part.{IsBarredAt, IsBarred, AreWhoMight, AreEachWhoMight, AreFarEnough, HasNone, IsPart};
 ghost use Rattle.explore_command.specs.Gauge.{SaysNoMore, WhyTooMuch};
-ghost use Rattle.explore_command.specs.Surveyed.{IsOfThese, WhyNoSurvey};
+ghost use Rattle.explore_command.specs.Surveyed.{IsOfThese, WhyNoSurvey, scope_asked};
 ghost use Rattle.outcome_text.specs.Unfound.{unfound_by};
 ghost use Rattle.explore.specs.Opened.{opened_world};
 
@@ -28,23 +28,22 @@ fn copy_of(alloc: Global, turns: &[u32]) -> Result<Vec<u32>, NoMemory>
 fn may_begin(
     alloc: Global,
     scene: &Scene,
-    limits: &Limits,
+    asked: &Asked,
     begin: Vec<u32>,
 ) -> Result<bool, NoMemory>
     ensures { IfOk result (λ may. may ≡ false
-        → IsBarred (opened_world scene.now.tree scene.now.plans.items scene.now.lines) limits.now begin.items) }
+        → IsBarred (opened_world scene.now.tree scene.now.plans.items scene.now.lines)
+        (scope_asked asked.now) begin.items) }
 {
-    let scope = Scope {
-        cuts: limits.scope.cuts,
-        outside: limits.scope.outside,
-        begin,
-    };
     let none = Limits {
         states: 0,
-        turns: limits.turns,
-        scope,
+        turns: asked.limits.turns,
+        scope: Scope {
+            cuts: asked.limits.scope.cuts,
+            begin,
+        },
     };
-    match explore(alloc, scene, &none, &mut Silent) {
+    match explore(alloc, scene, &none, asked.outside, &mut Silent) {
         Ok(_) | Err(SearchFault::TooManyStates | SearchFault::TooManyTurns) => Ok(true),
         Err(SearchFault::NotBusy(_) | SearchFault::TooManyCuts(_)) => Ok(false),
         Err(SearchFault::TooManyActors | SearchFault::NoMemory) => Err(NoMemory),
@@ -55,19 +54,19 @@ fn may_begin(
 fn who_might(
     alloc: Global,
     scene: &Scene,
-    limits: &Limits,
+    asked: &Asked,
     turns: &[u32],
 ) -> Result<Vec<u32>, NoMemory>
     requires { length scene.now.plans.items ≤ MOST_ACTORS }
     ensures { IfOk result (λ might. AreWhoMight
-        (opened_world scene.now.tree scene.now.plans.items scene.now.lines) limits.now (length scene.now.plans.items)
-        turns.now might.items) }
+        (opened_world scene.now.tree scene.now.plans.items scene.now.lines) (scope_asked asked.now)
+        (length scene.now.plans.items) turns.now might.items) }
 {
     let mut might = Vec::new(alloc);
     for actor in 0..scene.plans.len() as u32 {
         let mut begin = copy_of(alloc, turns)?;
         begin.push(actor)?;
-        if may_begin(alloc, scene, limits, begin)? {
+        if may_begin(alloc, scene, asked, begin)? {
             might.push(actor)?;
         }
     }
@@ -78,40 +77,40 @@ fn who_might(
 fn all_might(
     alloc: Global,
     scene: &Scene,
-    limits: &Limits,
+    asked: &Asked,
     turns: usize,
 ) -> Result<Vec<Vec<u32>>, NoMemory>
     requires actors { length scene.now.plans.items ≤ MOST_ACTORS }
-    requires turns { turns ≤ length limits.now.scope.begin.items }
+    requires turns { turns ≤ length asked.now.limits.scope.begin.items }
     ensures each { IfOk result (λ all. AreEachWhoMight
-        (opened_world scene.now.tree scene.now.plans.items scene.now.lines) limits.now (length scene.now.plans.items)
-        limits.now.scope.begin.items all.items) }
+        (opened_world scene.now.tree scene.now.plans.items scene.now.lines) (scope_asked asked.now)
+        (length scene.now.plans.items) asked.now.limits.scope.begin.items all.items) }
     ensures many { IfOk result (λ all. length all.items ≡ turns) }
 {
-    let begin = limits.scope.begin.as_slice();
+    let begin = asked.limits.scope.begin.as_slice();
     let mut all = Vec::new(alloc);
     for at in 0..turns {
-        let might = who_might(alloc, scene, limits, &begin[..at])?;
+        let might = who_might(alloc, scene, asked, &begin[..at])?;
         all.push(might)?;
     }
     Ok(all)
 }
 
 // The part of no lists, whose turn at that place can't be taken.
-fn no_lists(alloc: Global, scene: &Scene, limits: &Limits, at: usize) -> Result<Part, NoMemory>
+fn no_lists(alloc: Global, scene: &Scene, asked: &Asked, at: usize) -> Result<Part, NoMemory>
     requires actors { length scene.now.plans.items ≤ MOST_ACTORS }
-    requires barred { IsBarredAt (opened_world scene.now.tree scene.now.plans.items scene.now.lines) limits.now
-        limits.now.scope.begin.items at }
-    ensures begin { IfOk result (λ part. part.begin.items ≡ limits.now.scope.begin.items) }
+    requires barred { IsBarredAt (opened_world scene.now.tree scene.now.plans.items scene.now.lines)
+        (scope_asked asked.now) asked.now.limits.scope.begin.items at }
+    ensures begin { IfOk result (λ part. part.begin.items ≡ asked.now.limits.scope.begin.items) }
     ensures none { IfOk result HasNone }
     ensures might { IfOk result (λ part. AreEachWhoMight
-        (opened_world scene.now.tree scene.now.plans.items scene.now.lines) limits.now (length scene.now.plans.items)
-        limits.now.scope.begin.items part.might.items) }
+        (opened_world scene.now.tree scene.now.plans.items scene.now.lines) (scope_asked asked.now)
+        (length scene.now.plans.items) asked.now.limits.scope.begin.items part.might.items) }
     ensures far { IfOk result (λ part. AreFarEnough
-        (opened_world scene.now.tree scene.now.plans.items scene.now.lines) limits.now limits.now.scope.begin.items
-        (length part.might.items)) }
+        (opened_world scene.now.tree scene.now.plans.items scene.now.lines) (scope_asked asked.now)
+        asked.now.limits.scope.begin.items (length part.might.items)) }
 {
-    let begin = copy_of(alloc, limits.scope.begin.as_slice())?;
+    let begin = copy_of(alloc, asked.limits.scope.begin.as_slice())?;
     let turns = if at < begin.len() {
         at + 1
     } else {
@@ -119,7 +118,7 @@ fn no_lists(alloc: Global, scene: &Scene, limits: &Limits, at: usize) -> Result<
     };
     Ok(Part {
         begin,
-        might: all_might(alloc, scene, limits, turns)?,
+        might: all_might(alloc, scene, asked, turns)?,
         lists: 0,
         turns: 0,
         all: Vec::new(alloc),
@@ -140,24 +139,23 @@ fn searched<G: Gauge, P: Progress>(
     ensures { MatchResult result (IsPart asked.now scene.now.tree scene.now.plans.items scene.now.lines)
         (λ fault. WhyNoSurvey asked.now scene.now.tree scene.now.plans.items scene.now.lines (unfound_by fault)) }
 {
-    let limits = &asked.limits;
     let bounded = Bounded {
         scene,
         gauge,
         memory: asked.memory,
     };
-    let found = match explore(alloc, &bounded, limits, progress) {
+    let found = match explore(alloc, &bounded, &asked.limits, asked.outside, progress) {
         Ok(found) => found,
         Err(SearchFault::NotBusy(at)) => {
-            return Ok(no_lists(alloc, scene, limits, at)?);
+            return Ok(no_lists(alloc, scene, asked, at)?);
         }
         Err(SearchFault::TooManyCuts(at)) => {
-            return Ok(no_lists(alloc, scene, limits, at)?);
+            return Ok(no_lists(alloc, scene, asked, at)?);
         }
         Err(fault) => return Err(fault),
     };
-    let begin = copy_of(alloc, limits.scope.begin.as_slice())?;
-    let might = all_might(alloc, scene, limits, begin.len())?;
+    let begin = copy_of(alloc, asked.limits.scope.begin.as_slice())?;
+    let might = all_might(alloc, scene, asked, begin.len())?;
     Ok(Part {
         begin,
         might,

@@ -1,6 +1,7 @@
 //! All schedules of a world gone through, and the text of their outcomes.
 ghost use Rattle.std.specs.Prelude.{◌≡◌, ◌≤◌, length, find, nat_le, IfErr, IfOk, MatchResult};
 ghost use Rattle.race_core.specs.declared.opening.TheConstants.{ACTORS_MAX as MOST_ACTORS};
+ghost use Rattle.explore.specs.Explored.{classes_in};
 ghost use Rattle.explore_command.specs.Surveyed.{IsOfThese, IsTelling, IsSurveyWith, WhyNoSurvey};
 ghost use Rattle.outcome_text.specs.Conditions.{counted};
 ghost use Rattle.outcome_text.specs.Order.{in_order};
@@ -10,7 +11,7 @@ ghost use Rattle.explore_command.specs.Gauge.{IsOfNoGauge, SaysNoMore, WhyTooMuc
 
 use crate::classes::tell_all;
 use crate::gauge::{Bounded, Gauge, look, told_over};
-use explore::{Class, Findings, Progress, Scene, SearchFault, explore};
+use explore::{Class, End, Findings, Progress, Scene, SearchFault, explore};
 use explore_parts::Asked;
 use outcome_text::{ExploreFault, Property, Survey, Told, first_untold, told_in_order};
 use path_text::NoMemory;
@@ -35,11 +36,11 @@ pub(crate) fn told_in(
     alloc: Global,
     scene: &Scene,
     asked: &Asked,
-    classes: &[Class<ListTree>],
+    classes: &[Class<End<ListTree>>],
 ) -> Result<Vec<Told>, NoMemory>
     requires { length scene.now.plans.items ≤ MOST_ACTORS }
     ensures { IfOk result (λ all. AreTold asked.now.named.items scene.now.tree (length scene.now.plans.items)
-        classes.now all.items) }
+        (classes_in classes.now) all.items) }
 {
     let opening = scene.tree.snapshot(alloc)?;
     let actors = scene.plans.len() as u32;
@@ -51,12 +52,12 @@ fn survey_of(
     alloc: Global,
     scene: &Scene,
     asked: &Asked,
-    found: Findings<ListTree>,
+    found: Findings<End<ListTree>>,
 ) -> Result<Survey, NoMemory>
     requires { length scene.now.plans.items ≤ MOST_ACTORS }
     ensures { IfOk result (λ survey.
-        (is : IsTelling asked.now scene.now.tree scene.now.plans.items found.classes.items found.lists found.states
-        found.turns survey.holds survey.text)
+        (is : IsTelling asked.now scene.now.tree scene.now.plans.items (classes_in found.classes.items) found.lists
+        found.states found.turns survey.holds survey.text)
         × (survey.outcomes.items ≡ counted asked.now.properties.items (in_order is.all))) }
 {
     let (lists, states, turns) = (found.lists, found.states, found.turns as u64);
@@ -74,8 +75,7 @@ pub(crate) fn check(alloc: Global, scene: &Scene, asked: &Asked) -> Result<(), E
     if let Some(actor) = first_foreign(&asked.named, scene.plans.len()) {
         return Err(ExploreFault::NoSuchActor(actor));
     }
-    let outside = asked.limits.scope.outside;
-    if let Some(place) = first_untold(alloc, outside, &scene.plans, &asked.properties)? {
+    if let Some(place) = first_untold(alloc, asked.outside, &scene.plans, &asked.properties)? {
         return Err(ExploreFault::NoSuchLine(place));
     }
     Ok(())
@@ -101,7 +101,7 @@ fn searched<G: Gauge, P: Progress>(
         gauge,
         memory: asked.memory,
     };
-    match explore(alloc, &bounded, &asked.limits, progress) {
+    match explore(alloc, &bounded, &asked.limits, asked.outside, progress) {
         Ok(found) => Ok(survey_of(alloc, scene, asked, found)?),
         Err(fault) => Err(fault),
     }

@@ -8,7 +8,7 @@ use Rattle.explore.specs.Explored.{ClassView}
 use Rattle.explore.specs.Opened.{opened_world}
 use Rattle.explore_parts.specs.declared.asked.Asked.{Asked}
 use Rattle.explore_command.specs.Classes.{AreTold}
-use Rattle.explore_command.specs.Surveyed.{IsSurvey, outcomes_of}
+use Rattle.explore_command.specs.Surveyed.{scope_asked, IsSurvey, outcomes_of}
 use Rattle.explore_command.proofs.Replayed.{written_lead_there}
 use Rattle.explore_page_command.specs.Played.{AreTaken, chosen}
 use Rattle.explore_page_command.specs.declared.chosen.TheConstants.{PLAYED_MAX}
@@ -109,7 +109,7 @@ outcomes_taken asked said holds text survey playable enough =
     each : (k : ℕ) (c : ClassView) → slice_get survey.classes k ≡ Some c → All (λ i. i < n) (without_tail c.least.turns)
     each k c there =
         let made = seated said playable enough in
-        let ran = written_lead_there w asked.limits.scope c.least made.memory (survey.explored.each k c there).ending in
+        let ran = written_lead_there w (scope_asked asked) c.least made.memory (survey.explored.each k c there).ending in
         subst (λ (m : ℕ). All (λ i. i < m) (without_tail c.least.turns)) made.seats (below (length w.seats) (without_tail c.least.turns) ran.within)
 
 -- ---- one of those that are lent

@@ -44,7 +44,7 @@ question_data script asked =
     object (member (codes "script") (text_data script)
     (member (codes "actors") (numbers_data asked.named.items)
     (member (codes "cuts") (cuts_data asked.limits.scope.cuts)
-    (member (codes "outside") (boolean asked.limits.scope.outside)
+    (member (codes "outside") (boolean asked.outside)
     (member (codes "properties") (list_data property_data asked.properties.items) no_members)))))
 
 abbrev pub told_data : Told → Data
@@ -109,7 +109,7 @@ question_same : (script : List ℕ) (asked : Asked) → compact_text (question_d
 unfolding escape_byte subject_words scope_words wanted_words question_words
 question_same script asked =
     (λ i. codes "{\"script\":" ++ (text_words script ++ (codes ",\"actors\":" ++ (numbers_same asked.named.items i ++ (codes ",\"cuts\":" ++ (cuts_same asked.limits.scope.cuts i
-    ++ (codes ",\"outside\":" ++ (flag_same asked.limits.scope.outside i ++ (codes ",\"properties\":"
+    ++ (codes ",\"outside\":" ++ (flag_same asked.outside i ++ (codes ",\"properties\":"
     ++ (list_same property_data (λ property. text_words (rule_word property.rule ++ property.text)) (λ property. refl) asked.properties.items i ++ codes "}"))))))))))
     ∙ simp append_assoc
 

@@ -89,7 +89,7 @@ pub record AreAsked (options : Options) (asked : Asked) : Type 0 where
   pub states : SaysMost options.states asked.limits.states
   pub turns : asked.limits.turns ≡ TURNS_MAX
   pub memory : SaysMemory options.memory asked.memory
-  pub outside : asked.limits.scope.outside ≡ options.outside
+  pub outside : asked.outside ≡ options.outside
   pub properties : asked.properties.items ≡ properties_asked options
   pub texts : are_properties options.outside (property_texts options) ≡ true
 

@@ -33,7 +33,7 @@ subject_words script asked =
 unfoldable pub scope_words : Asked → List ℕ
 scope_words asked =
     codes ",\"cuts\":" ++ (cuts_words asked.limits.scope.cuts
-    ++ (codes ",\"outside\":" ++ flag_words asked.limits.scope.outside))
+    ++ (codes ",\"outside\":" ++ flag_words asked.outside))
 
 unfoldable pub wanted_words : Asked → List ℕ
 wanted_words asked = codes ",\"properties\":" ++ (properties_words asked.properties.items ++ codes "}")

@@ -1,5 +1,5 @@
 //! What is asked of a search.
-use local_states::Limits;
+use layered_search::Limits;
 use outcome_text::Property;
 
 /// The most turns of a list that is gone through.
@@ -16,9 +16,10 @@ pub const MEMORY_MAX: u32 = 1_000_000;
 pub struct Asked {
     /// The actors whose replies alone make an outcome; with none the replies of all, the tree and the open handles do.
     pub named: Vec<u32>,
-    /// Which lists are gone through, whether it is told how many steps of each actor acted outside of its root, and how
-    /// many worlds are gone through at most.
+    /// Which lists are gone through, and how many worlds are gone through at most.
     pub limits: Limits,
+    /// Whether it is told how many steps of each actor acted outside of its root.
+    pub outside: bool,
     /// How many megabytes may be taken at most; with none any number.
     pub memory: Option<u32>,
     /// Which reports count, and properties of each of these, whatever actors are named.

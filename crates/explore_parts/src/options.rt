@@ -6,7 +6,7 @@ ghost use Rattle.explore_parts.specs.Options.{AllSay, SaysCuts, SaysBegin, IsNoB
 ghost use Rattle.outcome_text.specs.Asked.{texts_in};
 
 use crate::asked::{Asked, MEMORY_MAX, TURNS_MAX};
-use local_states::{Limits, Scope};
+use layered_search::{Limits, Scope};
 use outcome_text::{OptionFault, Options, Property, Rule, read_property};
 use path_text::NoMemory;
 use scripts::{Turns, number_of, read_turns};
@@ -200,19 +200,15 @@ pub fn read_asked(alloc: Global, options: Options) -> Result<Asked, OptionFault>
     let states = states_in(options.states)?;
     let memory = memory_in(options.memory)?;
     let properties = properties_in(alloc, &options)?;
-    let scope = Scope {
-        cuts,
-        outside: options.outside,
-        begin,
-    };
     let limits = Limits {
         states,
         turns: TURNS_MAX,
-        scope,
+        scope: Scope { cuts, begin },
     };
     Ok(Asked {
         named,
         limits,
+        outside: options.outside,
         memory,
         properties,
     })

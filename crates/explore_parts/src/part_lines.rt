@@ -80,7 +80,7 @@ fn scope(out: &mut Output, asked: &Asked) -> Result<(), NoMemory>
     out.text(",\"cuts\":")?;
     cuts(out, asked.limits.scope.cuts)?;
     out.text(",\"outside\":")?;
-    flag(out, asked.limits.scope.outside)
+    flag(out, asked.outside)
 }
 
 // Adds the properties that are asked for.

@@ -40,7 +40,7 @@ fn reads_all(alloc: Global) -> Result<bool, OptionFault> {
             && asked.limits.scope.begin.as_slice() == [1, 0, 0].as_slice()
             && asked.limits.states == 1
             && asked.memory == Some(1_000_000)
-            && asked.limits.scope.outside
+            && asked.outside
             && rules == [Rule::When, Rule::Never, Rule::Always, Rule::Always],
     )
 }

@@ -324,8 +324,7 @@ fn comes_to(alloc: Global, head: &Head, cover: Cover) -> Option<bool> {
     let (script, begins) = head;
     let scene = scene_of(alloc, script).ok()?;
     let asked = asked_of(alloc, &all_within(None), "")?;
-    let limits = &asked.limits;
-    let found = explore(alloc, &scene, limits, &mut Silent).ok()?;
+    let found = explore(alloc, &scene, &asked.limits, asked.outside, &mut Silent).ok()?;
     let survey = survey_of(alloc, &scene, &asked)?;
     let parts = parts_of(alloc, &scene, cover)?;
     let lists = all_lists(&parts);

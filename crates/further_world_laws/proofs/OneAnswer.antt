@@ -5,9 +5,8 @@ use Rattle.std.proofs.Math.Nat.{le_antisymm}
 use Rattle.race_core.specs.Book.{tree_now}
 use Rattle.race_core.specs.Worlds.{WorldView, ledgers_in, replies_in, kept_in}
 use Rattle.schedule_graph.specs.Counted.{IsAmong, EachOnce}
-use Rattle.local_states.specs.declared.limits.Scope.{Scope}
 use Rattle.local_states.specs.Worlds.{after_turns}
-use Rattle.explore.specs.Explored.{cuts, changes, Rank, rank, IsAsked, AgreeIn, EndingView, ClassView, IsEnding, HasClass, IsLongest}
+use Rattle.explore.specs.Explored.{Scope, cuts, changes, Rank, rank, IsAsked, AgreeIn, EndingView, ClassView, IsEnding, HasClass, IsLongest}
 use Rattle.local_states.specs.Outside.{outside_of}
 use Rattle.explore.specs.Promise.{IsMergedClass, IsMerged}
 use Rattle.explore.proofs.Lists.Told.{agree_same, agree_turned, agree_on}

@@ -6,8 +6,7 @@ use Rattle.race_core.specs.Worlds.{WorldView}
 use Rattle.schedule_graph.specs.declared.count.TheConstants.{COUNT_CAP}
 use Rattle.schedule_graph.specs.Counted.{IsAmong, EachOnce, AreSoMany, IsLongest}
 use Rattle.schedule_graph.proofs.Summing.{so_many_as}
-use Rattle.local_states.specs.declared.limits.Scope.{Scope}
-use Rattle.explore.specs.Explored.{IsAsked, AgreeIn, ClassView, IsEnding, HasClass, rank, is_at_most}
+use Rattle.explore.specs.Explored.{Scope, IsAsked, AgreeIn, ClassView, IsEnding, HasClass, rank, is_at_most}
 use Rattle.explore.proofs.Lists.Told.{agree_same, agree_turned, agree_on}
 use Rattle.further_world_laws.specs.Parts.{Begins, IsAskedFrom, IsPartClass, PartView, BeginsWithOne, begins_of, AreParts, classes_of, greatest_by, AreAgreeing}
 use Rattle.further_world_laws.proofs.OnceEach.{among_at, place_of, once_by_places}

@@ -9,8 +9,7 @@ use Rattle.schedule_graph.specs.declared.count.TheConstants.{COUNT_CAP}
 use Rattle.schedule_graph.specs.Counted.{IsAmong, AreSoMany}
 use Rattle.schedule_graph.specs.Counted as counted
 use Rattle.schedule_graph.proofs.Ranks.{ranks_chain}
-use Rattle.local_states.specs.declared.limits.Scope.{Scope}
-use Rattle.explore.specs.Explored.{rank, IsAsked, AgreeIn, EndingView, ClassView, IsEnding, HasClass}
+use Rattle.explore.specs.Explored.{Scope, rank, IsAsked, AgreeIn, EndingView, ClassView, IsEnding, HasClass}
 use Rattle.explore.specs.Promise.{IsMergedClass, IsMerged}
 use Rattle.explore.proofs.Lists.Told.{agree_same, agree_turned, agree_on}
 use Rattle.further_world_laws.specs.Parts.{PartView, AreParts, classes_of, greatest_by, AreAgreeing, IsJoinedClass, HasOneClass, IsJoined, PartsMakeTheWhole}

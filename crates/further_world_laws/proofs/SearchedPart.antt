@@ -2,9 +2,8 @@
 use Rattle.std.specs.Prelude.{ℕ, List, Bool, Option, refl}
 use Rattle.std.proofs.Common.{◌∙◌, inr, sym, ap, subst}
 use Rattle.race_core.specs.Worlds.{WorldView}
-use Rattle.local_states.specs.declared.limits.Scope.{Scope}
 use Rattle.local_states.specs.Worlds.{after_turns}
-use Rattle.explore.specs.Explored.{cuts, IsWithin, IsAsked, TellAlike, AgreeIn, ClassView, HasClass}
+use Rattle.explore.specs.Explored.{Scope, cuts, IsWithin, IsAsked, TellAlike, AgreeIn, ClassView, HasClass}
 use Rattle.local_states.specs.Outside.{outside_of}
 use Rattle.explore.specs.Promise.{IsMergedClass, IsMerged}
 use Rattle.further_world_laws.specs.Parts.{Begins, IsAskedFrom, IsPartClass, part_with, IsPart, IsWholeOf, SearchesTellParts}
@@ -12,7 +11,7 @@ use Rattle.schedule_graph.proofs.Summing.{so_many_as}
 
 module _ (w : WorldView) (part whole : Scope) (of : IsWholeOf part whole) where
   abbrev begin : List ℕ
-  begin = part.begin.items
+  begin = part.begin
 
   asked_to : (is : List ℕ) → IsAsked w part is → IsAskedFrom w whole begin is
   asked_to is asked = (

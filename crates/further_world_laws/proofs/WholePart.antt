@@ -3,8 +3,7 @@ use Rattle.std.specs.Prelude.{ℕ, List, [], refl}
 use Rattle.std.proofs.Common.{inl, inr, sym, subst, ⊎_elim}
 use Rattle.race_core.specs.Worlds.{WorldView}
 use Rattle.schedule_graph.proofs.Summing.{so_many_as}
-use Rattle.local_states.specs.declared.limits.Scope.{Scope}
-use Rattle.explore.specs.Explored.{ClassView}
+use Rattle.explore.specs.Explored.{Scope, ClassView}
 use Rattle.explore.specs.Promise.{IsMergedClass, IsMerged}
 use Rattle.further_world_laws.specs.Parts.{IsPartClass, PartView, part_with, IsPart, WholeIsAPart}
 

@@ -1,8 +1,7 @@
 -- What all schedules of a world come to has one answer: a statement of a law.
 use Rattle.std.specs.Prelude.{◌≡◌, ℕ, List, IsPermutation}
 use Rattle.race_core.specs.Worlds.{WorldView}
-use Rattle.local_states.specs.declared.limits.Scope.{Scope}
-use Rattle.explore.specs.Explored.{ClassView}
+use Rattle.explore.specs.Explored.{Scope, ClassView}
 use Rattle.explore.specs.Promise.{IsMerged}
 
 -- The two answers have as many lists, as many turns in the longest, and the same classes in some order: each

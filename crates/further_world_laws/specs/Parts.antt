@@ -3,8 +3,7 @@ use Rattle.std.specs.Prelude.{◌≡◌, ◌<◌, ◌⊎◌, ◌↔◌, ◌++◌
 use Rattle.race_core.specs.Worlds.{WorldView}
 use Rattle.schedule_graph.specs.declared.count.TheConstants.{COUNT_CAP}
 use Rattle.schedule_graph.specs.Counted.{IsAmong, EachOnce, AreSoMany, IsLongest}
-use Rattle.local_states.specs.declared.limits.Scope.{Scope}
-use Rattle.explore.specs.Explored.{cuts, rank, is_at_most, IsWithin, IsAsked, AreBusy, AgreeIn, ClassView, IsEnding, HasClass}
+use Rattle.explore.specs.Explored.{Scope, cuts, rank, is_at_most, IsWithin, IsAsked, AreBusy, AgreeIn, ClassView, IsEnding, HasClass}
 use Rattle.explore.specs.Search.{IsFull}
 use Rattle.explore.specs.Promise.{IsMerged}
 
@@ -39,7 +38,7 @@ part_with begin classes lists turns = record { begin = begin; classes = classes;
 pub record IsWholeOf (part whole : Scope) : Type 0 where
   pub cuts : whole.cuts ≡ part.cuts
   pub outside : whole.outside ≡ part.outside
-  pub begin : whole.begin.items ≡ []
+  pub begin : whole.begin ≡ []
 
 -- All lists of the part are counted, with 0 turns in the longest where there are none; each has its outcome among the
 -- classes, and no two classes have the same one.
@@ -134,7 +133,7 @@ WholeIsAPart = (w : WorldView) (scope : Scope) (classes : List ClassView) (lists
 abbrev pub SearchesTellParts : Type 0
 SearchesTellParts = (w : WorldView) (part whole : Scope) (classes : List ClassView) (lists turns : ℕ)
     → IsWholeOf part whole → IsMerged w part classes lists turns
-    → IsPart w whole (part_with part.begin.items classes lists turns)
+    → IsPart w whole (part_with part.begin classes lists turns)
 
 -- so many turns, or a full list of fewer: each turn is of an actor who has something left to do then, and there are
 -- few cuts

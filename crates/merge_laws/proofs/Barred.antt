@@ -3,10 +3,8 @@ use Rattle.std.specs.Prelude.{◌≡◌, ◌≤◌, ◌++◌, ℕ, zero, suc, Li
 use Rattle.std.proofs.Common.{◌∙◌, inl, sym, subst, ⊎_elim}
 use Rattle.std.proofs.lemmas.Bool.{true≢false}
 use Rattle.std.proofs.lemmas.Option.{same_Some, none-some}
-use Rattle.local_states.specs.declared.limits.Limits.{Limits}
-use Rattle.local_states.specs.declared.limits.Scope.{Scope}
 use Rattle.local_states.specs.Worlds.{full, after_turns}
-use Rattle.explore.specs.Explored.{IsWithin, is_cut, cuts, cuts_after}
+use Rattle.explore.specs.Explored.{Scope, IsWithin, is_cut, cuts, cuts_after}
 use Rattle.explore.specs.Search.{IsFull}
 use Rattle.explore_command.specs.Part.{IsBarred}
 use Rattle.race_core.specs.Worlds.{WorldView, turn, is_busy_at}
@@ -30,15 +28,15 @@ cuts_more w last (i ∷ is) rest (suc n) =
     plus_more (is_cut w last i) (cuts_after (turn full w i) (Some i) (take n is)) (cuts_after (turn full w i) (Some i) (is ++ rest))
     (cuts_more (turn full w i) (Some i) is rest n)
 
-module _ (w : WorldView) (scope : Scope) (limits : Limits) (begin : List ℕ) (bound : scope.cuts ≡ limits.scope.cuts) (barred : IsBarred w limits begin) where
+module _ (w : WorldView) (scope own : Scope) (begin : List ℕ) (bound : scope.cuts ≡ own.cuts) (barred : IsBarred w own begin) where
   pub none_begins : (is : List ℕ) → IsAskedFrom w scope begin is → ⊥
   none_begins is from =
       let whole : IsFull w (begin ++ from.1.0) = subst (λ (js : List ℕ). IsFull w js) from.1.1 from.0.whole in
-      let few : IsWithin limits.scope.cuts (cuts w (begin ++ from.1.0)) =
-      subst (λ (js : List ℕ). IsWithin limits.scope.cuts (cuts w js)) from.1.1 (subst (λ (most : Option ℕ). IsWithin most (cuts w is)) bound from.0.few_cuts) in
+      let few : IsWithin own.cuts (cuts w (begin ++ from.1.0)) =
+      subst (λ (js : List ℕ). IsWithin own.cuts (cuts w js)) from.1.1 (subst (λ (most : Option ℕ). IsWithin most (cuts w is)) bound from.0.few_cuts) in
       ⊎_elim
       (λ idle. true≢false (sym (busy_there w begin from.1.0 barred.0 idle.actor whole idle.there) ∙ idle.idle))
-      (λ many. many (within_fewer limits.scope.cuts (cuts w (take (suc barred.0) begin)) (cuts w (begin ++ from.1.0)) (cuts_more w None begin from.1.0 (suc barred.0)) few))
+      (λ many. many (within_fewer own.cuts (cuts w (take (suc barred.0) begin)) (cuts w (begin ++ from.1.0)) (cuts_more w None begin from.1.0 (suc barred.0)) few))
       barred.1
 
   pub barred_part : IsPart w scope (part_with begin [] 0 0)

@@ -3,14 +3,14 @@ use Rattle.std.specs.Prelude.{◌≡◌, ◌<◌, ◌++◌, ℕ, true, List, [],
 use Rattle.std.proofs.Common.{◌∙◌, sym, ap, subst, ⊎_elim, arith, drop}
 use Rattle.std.proofs.lemmas.Bool.{true≢false}
 use Rattle.std.proofs.lemmas.List.{append-nil, append_assoc, take-append-drop}
-use Rattle.local_states.specs.declared.limits.Limits.{Limits}
 use Rattle.local_states.specs.Worlds.{after_turns}
-use Rattle.explore.specs.Explored.{IsAsked}
+use Rattle.explore.specs.Explored.{Scope, IsAsked}
 use Rattle.explore.specs.Search.{IsFull}
 use Rattle.explore.specs.Opened.{opened_world}
 use Rattle.local_states.proofs.Lists.Runs.{actors_stay}
 use Rattle.local_states.proofs.Worlds.System.{busy_within}
 use Rattle.explore_parts.specs.declared.asked.Asked.{Asked}
+use Rattle.explore_command.specs.Surveyed.{scope_asked}
 use Rattle.explore_command.specs.Part.{IsBarred, HasLists}
 use Rattle.race_core.specs.declared.plan.ActorPlan.{ActorPlan}
 use Rattle.race_core.specs.Worlds.{WorldView}
@@ -47,17 +47,17 @@ module _ (asked : Asked) (tree : State) (plans : List ActorPlan) (lines : ℕ) (
   -- he is one of the actors, and nothing says that the turn after these can't be his
   abbrev Can : List ℕ → ℕ → Type 0
   Can before actor = (actor < length plans)
-      × ((limits : Limits) → asked.limits.scope.cuts ≡ limits.scope.cuts → IsBarred world limits (before ++ actor ∷ [])
+      × ((scope : Scope) → asked.limits.scope.cuts ≡ scope.cuts → IsBarred world scope (before ++ actor ∷ [])
       → ⊥)
 
-  each_can : (is : List ℕ) → IsAsked world asked.limits.scope is → (before rest : List ℕ) (actor : ℕ)
+  each_can : (is : List ℕ) → IsAsked world (scope_asked asked) is → (before rest : List ℕ) (actor : ℕ)
       → is ≡ before ++ actor ∷ rest → Can before actor
   each_can is whole before rest actor e = (
     subst (λ (n : ℕ). actor < n) (actors_stay world (take (length before) (before ++ actor ∷ [])) ∙ sym seats)
         (busy_within (after_turns world (take (length before) (before ++ actor ∷ []))).seats actor
         (busy_there world (before ++ actor ∷ []) rest (length before) actor
         (subst (λ (js : List ℕ). IsFull world js) joined whole.whole) (slice_get-last before actor))),
-    (λ limits bound barred. none_begins world asked.limits.scope limits (before ++ actor ∷ []) bound barred is
+    (λ scope bound barred. none_begins world (scope_asked asked) scope (before ++ actor ∷ []) bound barred is
         (whole, (rest, joined))),
   )
     where
@@ -74,7 +74,7 @@ module _ (asked : Asked) (tree : State) (plans : List ActorPlan) (lines : ℕ) (
     has = ⊎_elim (λ h. h) (λ none. absurd (no_list part.lists some none.1.lists)) is.1.1.told
 
     -- one of them
-    one : (js : List ℕ) × (IsAsked world own.limits.scope js × Begins part.begin.items js)
+    one : (js : List ℕ) × (IsAsked world (scope_asked own) js × Begins part.begin.items js)
     one =
         let at = has.explored.longest.reached in
         (at.0, (at.1.0, subst (λ (begin : List ℕ). Begins begin at.0) (sym is.1.1.begin) at.1.0.begins))
@@ -87,7 +87,7 @@ module _ (asked : Asked) (tree : State) (plans : List ActorPlan) (lines : ℕ) (
         ⊎_elim (λ e. e ∙ ap length (sym is.1.1.begin))
         (λ barred.
         absurd
-        (none_begins world own.limits.scope own.limits (take turns begin) refl barred one.0
+        (none_begins world (scope_asked own) (scope_asked own) (take turns begin) refl barred one.0
         (one.1.0, (drop turns begin ++ one.1.1.0, first))))
         is.1.1.far
       where
@@ -110,8 +110,8 @@ module _ (asked : Asked) (tree : State) (plans : List ActorPlan) (lines : ℕ) (
         ⊎_elim (λ among. (there.0, (there.1, among)))
         (λ barred.
         absurd
-        (can.1 own.limits is.1.0.scope.cuts
-        (subst (λ (begin : List ℕ). IsBarred world own.limits (take at begin ++ actor ∷ []))
+        (can.1 (scope_asked own) is.1.0.scope.cuts
+        (subst (λ (begin : List ℕ). IsBarred world (scope_asked own) (take at begin ++ actor ∷ []))
         (sym is.1.1.begin) barred)))
         (is.1.1.might at there.0 there.1 actor can.0)
 
@@ -130,7 +130,7 @@ module _ (asked : Asked) (tree : State) (plans : List ActorPlan) (lines : ℕ) (
 
   module _ (parts : List Part) (each : AreOfOneQuestion asked tree plans lines parts) (apart : are_apart parts ≡ true)
       (all : AreAll parts) where
-    covers : (is : List ℕ) → IsAsked world asked.limits.scope is
+    covers : (is : List ℕ) → IsAsked world (scope_asked asked) is
         → BeginsWithOne (λ begin. IsAmong begin (begins_in parts)) is
     covers is whole =
         begins_with_one parts Can apart all (λ part h some. tells part (each part h) some) is (each_can is whole)

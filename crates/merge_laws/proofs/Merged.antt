@@ -2,10 +2,10 @@
 use Rattle.std.specs.Prelude.{◌≡◌, ℕ, Bool, min, List, [], ◌∷◌, map, length, None, refl}
 use Rattle.std.proofs.Common.{◌∙◌, inl, sym, ap, subst, ⊎_elim}
 use Rattle.std.proofs.lemmas.List.{append-nil}
-use Rattle.local_states.specs.declared.limits.Scope.{Scope}
+use Rattle.explore.specs.Explored.{Scope}
 use Rattle.explore.specs.Opened.{opened_world}
 use Rattle.explore_parts.specs.declared.asked.Asked.{Asked}
-use Rattle.explore_command.specs.Surveyed.{IsSurvey}
+use Rattle.explore_command.specs.Surveyed.{scope_asked, IsSurvey}
 use Rattle.race_core.specs.declared.plan.ActorPlan.{ActorPlan}
 use Rattle.race_core.specs.Worlds.{WorldView}
 use Rattle.schedule_graph.specs.declared.count.TheConstants.{COUNT_CAP}
@@ -33,12 +33,12 @@ numbers_same : (properties : List Property) (all : List Told) {a b c d : ℕ} �
 numbers_same properties all p q = λ i. told_text (p i) None (q i) all properties
 
 module _ (asked : Asked) (tree : State) (plans : List ActorPlan) (lines : ℕ) (seats : length plans ≡ length (opened_world tree plans lines).seats)
-    (nameless : RepliesNameNoHandles (opened_world tree plans lines) asked.limits.scope) where
+    (nameless : RepliesNameNoHandles (opened_world tree plans lines) (scope_asked asked)) where
   abbrev world : WorldView
   world = opened_world tree plans lines
 
   abbrev scope : Scope
-  scope = asked.limits.scope
+  scope = scope_asked asked
 
   abbrev Tells : Type 0
   Tells = Telling world scope asked.named.items tree (length plans)

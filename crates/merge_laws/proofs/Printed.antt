@@ -12,6 +12,7 @@ use Rattle.explore.specs.Promise as promise
 use Rattle.serde_json.specs.Data.{Data}
 use Rattle.serde_json.specs.Read.{read}
 use Rattle.explore_parts.specs.declared.asked.Asked.{Asked}
+use Rattle.explore_command.specs.Surveyed.{scope_asked}
 use Rattle.explore_command.specs.Classes.{IsTold, AreTold}
 use Rattle.explore_parts.specs.Merging.{FirstAsks, LinesSay, is_line, lines_in}
 use Rattle.explore_command.specs.Part.{AreWhoMight, AreFarEnough, HasLists, IsNone, IsPart}
@@ -93,17 +94,17 @@ module _ (own : Asked) (tree : State) (plans : List ActorPlan) (lines : ℕ) (pa
     told = ⊎_elim (λ has. inl (lists has)) (λ none. inr (nothing none)) is.told;
     might = λ at actors found.
         let there = zip_get SameActors part.might.items other.might.items same.might at actors found in
-        subst (λ (might : List ℕ). AreWhoMight (opened_world tree plans lines) own.limits (length plans) (take at own.limits.scope.begin.items) might) there.1.1
+        subst (λ (might : List ℕ). AreWhoMight (opened_world tree plans lines) (scope_asked own) (length plans) (take at own.limits.scope.begin.items) might) there.1.1
         (is.might at there.0 there.1.0);
-    far = subst (λ (turns : ℕ). AreFarEnough (opened_world tree plans lines) own.limits own.limits.scope.begin.items turns)
+    far = subst (λ (turns : ℕ). AreFarEnough (opened_world tree plans lines) (scope_asked own) own.limits.scope.begin.items turns)
         (zip_length SameActors part.might.items other.might.items same.might) is.far;
   }
     where
       lists : HasLists own tree plans lines part → HasLists own tree plans lines other
       lists has = record {
         classes = has.classes;
-        explored = subst (λ (turns : ℕ). promise.IsMerged (opened_world tree plans lines) own.limits.scope has.classes other.lists turns) same.turns
-            (subst (λ (many : ℕ). promise.IsMerged (opened_world tree plans lines) own.limits.scope has.classes many part.turns) same.lists has.explored);
+        explored = subst (λ (turns : ℕ). promise.IsMerged (opened_world tree plans lines) (scope_asked own) has.classes other.lists turns) same.turns
+            (subst (λ (many : ℕ). promise.IsMerged (opened_world tree plans lines) (scope_asked own) has.classes many part.turns) same.lists has.explored);
         told = all_like own.named.items tree (length plans) has.classes part.all.items other.all.items same.all has.told;
       }
 

@@ -2,8 +2,7 @@
 use Rattle.std.specs.Prelude.{◌≡◌, ℕ, min, List, [], ◌∷◌, Bool, true, false, map, length, sum_by, if◌then◌else◌, refl}
 use Rattle.std.proofs.Common.{◌∙◌, inl, inr, sym, ap, subst}
 use Rattle.std.proofs.lemmas.Bool.{true≢false}
-use Rattle.local_states.specs.declared.limits.Scope.{Scope}
-use Rattle.explore.specs.Explored.{IsAsked, AgreeIn, EndingView, ClassView, IsEnding, rank, is_at_most, Rank}
+use Rattle.explore.specs.Explored.{Scope, IsAsked, AgreeIn, EndingView, ClassView, IsEnding, rank, is_at_most, Rank}
 use Rattle.explore.proofs.Lists.Told.{agree_same, agree_turned, agree_on}
 use Rattle.explore_command.specs.Classes.{IsTold}
 use Rattle.race_core.specs.Worlds.{WorldView}

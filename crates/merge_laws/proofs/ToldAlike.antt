@@ -1,8 +1,7 @@
 -- What is told of two lists that lead to one outcome.
 use Rattle.std.specs.Prelude.{◌≡◌, ◌<◌, ℕ, List, length, refl}
 use Rattle.std.proofs.Common.{◌∙◌, sym, ap, subst}
-use Rattle.local_states.specs.declared.limits.Scope.{Scope}
-use Rattle.explore.specs.Explored.{AgreeIn, EndingView, ClassView, IsEnding}
+use Rattle.explore.specs.Explored.{Scope, AgreeIn, EndingView, ClassView, IsEnding}
 use Rattle.local_states.proofs.Lists.Runs.{actors_stay}
 use Rattle.explore_command.specs.Classes.{IsTold}
 use Rattle.race_core.specs.declared.report.Outcome.{Outcome}

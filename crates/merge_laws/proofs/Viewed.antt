@@ -3,10 +3,10 @@ use Rattle.std.specs.Prelude.{◌≡◌, ◌+◌, ℕ, max, List, [], ◌∷◌,
 use Rattle.std.proofs.Common.{◌∙◌, inl, inr, sym, ap, subst, ⊎_elim}
 use Rattle.std.proofs.lemmas.List.{map-append}
 use Rattle.std.proofs.lemmas.List.Sums.{sum_by-cons}
-use Rattle.local_states.specs.declared.limits.Scope.{Scope}
-use Rattle.explore.specs.Explored.{ClassView, IsEnding}
+use Rattle.explore.specs.Explored.{Scope, ClassView, IsEnding}
 use Rattle.explore.specs.Opened.{opened_world}
 use Rattle.explore_parts.specs.declared.asked.Asked.{Asked}
+use Rattle.explore_command.specs.Surveyed.{scope_asked}
 use Rattle.explore_command.specs.Classes.{AreTold}
 use Rattle.explore_command.specs.Part as of_scene
 use Rattle.race_core.specs.declared.plan.ActorPlan.{ActorPlan}
@@ -115,21 +115,21 @@ module _ (asked : Asked) (tree : State) (plans : List ActorPlan) (lines : ℕ) w
   world = opened_world tree plans lines
 
   abbrev pub Viewed : Part → Type 0
-  Viewed part = IsViewed world asked.limits.scope asked.named.items tree (length plans) part
+  Viewed part = IsViewed world (scope_asked asked) asked.named.items tree (length plans) part
 
   module _ (own : Asked) (part : Part) (one : AreOneQuestion own asked) (begin : part.begin.items ≡ own.limits.scope.begin.items) where
     with_lists : of_scene.HasLists own tree plans lines part → Viewed part
     with_lists has =
         let view : PartView = part_with own.limits.scope.begin.items has.classes part.lists part.turns in
-        let is : IsPart world asked.limits.scope view =
-        searches_tell_parts world own.limits.scope asked.limits.scope has.classes part.lists part.turns one.scope has.explored in record {
+        let is : IsPart world (scope_asked asked) view =
+        searches_tell_parts world (scope_asked own) (scope_asked asked) has.classes part.lists part.turns one.scope has.explored in record {
           view = view;
           begin = sym begin;
           lists = refl;
           turns = refl;
-          told = paired world asked.limits.scope asked.named.items tree (length plans) has.classes part.all.items
+          told = paired world (scope_asked asked) asked.named.items tree (length plans) has.classes part.all.items
               (subst (λ (names : List ℕ). AreTold names tree (length plans) has.classes part.all.items) one.named has.told)
-              (endings_in world asked.limits.scope asked.named.items tree (length plans) view is);
+              (endings_in world (scope_asked asked) asked.named.items tree (length plans) view is);
           is = is;
         }
 
@@ -140,7 +140,7 @@ module _ (asked : Asked) (tree : State) (plans : List ActorPlan) (lines : ℕ) w
       lists = sym none.1.lists;
       turns = sym none.1.turns;
       told = record { pieces = []; are_classes = refl; are_told = sym none.1.all };
-      is = barred_part world asked.limits.scope own.limits own.limits.scope.begin.items one.scope.cuts none.0;
+      is = barred_part world (scope_asked asked) (scope_asked own) own.limits.scope.begin.items one.scope.cuts none.0;
     }
 
   pub viewed_part : (part : Part) → IsPartOf asked tree plans lines part → Viewed part

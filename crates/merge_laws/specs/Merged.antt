@@ -1,15 +1,14 @@
 -- What parts of all schedules come to, merged, and what the one search of all tells: statements of laws.
 use Rattle.std.specs.Prelude.{◌≡◌, ℕ, List, [], Bool, true, length, map, Some, None, Ok}
-use Rattle.local_states.specs.declared.limits.Scope.{Scope}
 use Rattle.local_states.specs.Worlds.{after_turns}
-use Rattle.explore.specs.Explored.{IsAsked, AgreeIn, ClassView, IsEnding}
+use Rattle.explore.specs.Explored.{Scope, IsAsked, AgreeIn, ClassView, IsEnding}
 use Rattle.explore.specs.Opened.{opened_world}
 use Rattle.race_core.specs.Renamed.{replies_by}
 use Rattle.explore_parts.specs.declared.asked.Asked.{Asked}
 use Rattle.explore_command.specs.Classes.{IsTold}
 use Rattle.explore_command.specs.Explore.{IsSurveyOf}
 use Rattle.explore_command.specs.Part.{IsPart}
-use Rattle.explore_command.specs.Surveyed.{IsSurvey}
+use Rattle.explore_command.specs.Surveyed.{scope_asked, IsSurvey}
 use Rattle.race_core.specs.declared.plan.ActorPlan.{ActorPlan}
 use Rattle.race_core.specs.declared.report.Outcome.{Outcome}
 use Rattle.race_core.specs.Worlds.{WorldView, ledgers_in, replies_in}
@@ -55,7 +54,7 @@ AgreeingListsAreToldAlike = (w : WorldView) (scope : Scope) (named : List ℕ) (
 -- one question, whatever turns the lists of the part begin with; those of the whole begin with any
 pub record AreOneQuestion (part whole : Asked) : Type 0 where
   pub named : part.named.items ≡ whole.named.items
-  pub scope : IsWholeOf part.limits.scope whole.limits.scope
+  pub scope : IsWholeOf (scope_asked part) (scope_asked whole)
 
 -- it is the answer to this question for the lists that begin with some turns
 abbrev pub IsPartOf : Asked → State → List ActorPlan → ℕ → Part → Type 0
@@ -69,7 +68,7 @@ pub record ArePartsOf (asked : Asked) (tree : State) (plans : List ActorPlan) (l
     (parts : List Part) : Type 0 where
   pub whole : asked.limits.scope.begin.items ≡ []
   pub each : (part : Part) → IsAmong part parts → IsPartOf asked tree plans lines part
-  pub cover : AreBeginnings (opened_world tree plans lines) asked.limits.scope
+  pub cover : AreBeginnings (opened_world tree plans lines) (scope_asked asked)
       (λ begin. IsAmong begin (begins_in parts))
   pub once : EachOnce (begins_in parts)
 

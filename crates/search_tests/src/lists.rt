@@ -1,6 +1,8 @@
 //! What searches find, beside what each list of turns comes to in a world of its own.
 use crate::scenes::{REMOVED, TWO_MAKE, TWO_RESOLVE, scene_of};
-use explore::{Beginnings, Class, Findings, Limits, Scene, Scope, SearchFault, Silent, explore};
+use explore::{
+    Beginnings, Class, End, Findings, Limits, Scene, Scope, SearchFault, Silent, explore,
+};
 use fixtures::{PLAIN, standing_of};
 use path_text::NoMemory;
 use race_core::{Outcomes, Planned, Report, World, like_outcomes};
@@ -79,10 +81,10 @@ fn are_same_trees(alloc: Global, tree: &ListTree, other: &ListTree) -> Result<bo
 /// Whether the report has the class's outcome.
 fn leads_to(
     alloc: Global,
-    class: &Class<ListTree>,
+    class: &Class<End<ListTree>>,
     report: &Report<ListTree>,
 ) -> Result<bool, NoMemory> {
-    let least = &class.least.report;
+    let least = &class.outcome.report;
     Ok(
         are_same_replies(least.replies.as_slice(), report.replies.as_slice())
             && are_same_trees(alloc, &least.tree, &report.tree)?,
@@ -94,7 +96,7 @@ fn lists_to(
     alloc: Global,
     scene: &Scene,
     size: Size,
-    class: &Class<ListTree>,
+    class: &Class<End<ListTree>>,
 ) -> Result<u64, NoMemory> {
     let (turns, numbers) = size;
     let mut lists: u64 = 0;
@@ -125,7 +127,7 @@ fn are_counted(
     alloc: Global,
     scene: &Scene,
     size: Size,
-    found: &Findings<ListTree>,
+    found: &Findings<End<ListTree>>,
 ) -> Result<bool, NoMemory> {
     let mut all: u64 = 0;
     for class in &found.classes {
@@ -138,17 +140,16 @@ fn are_counted(
 }
 
 /// What is found of all lists.
-fn found(alloc: Global, scene: &Scene) -> Result<Findings<ListTree>, SearchFault> {
+fn found(alloc: Global, scene: &Scene) -> Result<Findings<End<ListTree>>, SearchFault> {
     let limits = Limits {
         states: 1_000,
         turns: 100,
         scope: Scope {
             cuts: None,
-            outside: false,
             begin: Vec::new(alloc),
         },
     };
-    explore(alloc, scene, &limits, &mut Silent)
+    explore(alloc, scene, &limits, false, &mut Silent)
 }
 
 /// Whether the search finds what the lists come to, each by itself.

@@ -31,15 +31,14 @@ const WHOLE: Which = (Some(0), false);
 
 const OUTSIDE: Which = (None, true);
 
-/// The most states and turns, and which lists: those that begin with these turns.
+/// The most states and turns, and which lists: those with at most so many cuts that begin with these turns.
 fn limits_of(
     alloc: Global,
     states: u64,
     turns: u32,
-    which: Which,
+    cuts: Option<u64>,
     begin: &[u32],
 ) -> Result<Limits, NoMemory> {
-    let (cuts, outside) = which;
     let mut first = Vec::new(alloc);
     first.extend_from_slice(begin)?;
     Ok(Limits {
@@ -47,7 +46,6 @@ fn limits_of(
         turns,
         scope: Scope {
             cuts,
-            outside,
             begin: first,
         },
     })
@@ -72,9 +70,14 @@ const SEARCHES: [Search; 12] = [
 ];
 
 /// What is found, with 0 states where the last number that was told is another one.
-fn found(alloc: Global, scene: &Scene, limits: &Limits) -> Result<Found, SearchFault> {
+fn found(
+    alloc: Global,
+    scene: &Scene,
+    limits: &Limits,
+    outside: bool,
+) -> Result<Found, SearchFault> {
     let mut last = Last(0);
-    let found = explore(alloc, scene, limits, &mut last)?;
+    let found = explore(alloc, scene, limits, outside, &mut last)?;
     let states = if last.0 == found.states { last.0 } else { 0 };
     Ok((found.lists, states, found.turns, found.classes.len()))
 }
@@ -83,8 +86,9 @@ fn found(alloc: Global, scene: &Scene, limits: &Limits) -> Result<Found, SearchF
 fn first_wrong(alloc: Global) -> Result<Option<usize>, RunFault> {
     for (at, (script, states, turns, which, wanted)) in SEARCHES.iter().enumerate() {
         let scene = scene_of(alloc, script)?;
-        let limits = limits_of(alloc, *states, *turns, *which, [].as_slice())?;
-        if found(alloc, &scene, &limits) != *wanted {
+        let (cuts, outside) = *which;
+        let limits = limits_of(alloc, *states, *turns, cuts, [].as_slice())?;
+        if found(alloc, &scene, &limits, outside) != *wanted {
             return Ok(Some(at));
         }
     }
@@ -122,8 +126,9 @@ const PARTS: [Part; 9] = [
 fn first_wrong_part(alloc: Global) -> Result<Option<usize>, RunFault> {
     for (at, (script, turns, which, begin, wanted)) in PARTS.iter().enumerate() {
         let scene = scene_of(alloc, script)?;
-        let limits = limits_of(alloc, 1_000, *turns, *which, begin)?;
-        let got = found(alloc, &scene, &limits);
+        let (cuts, outside) = *which;
+        let limits = limits_of(alloc, 1_000, *turns, cuts, begin)?;
+        let got = found(alloc, &scene, &limits, outside);
         if got != *wanted {
             return Ok(Some(at));
         }

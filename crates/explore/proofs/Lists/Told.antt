@@ -3,8 +3,7 @@ use Rattle.std.specs.Prelude.{ℕ, List}
 use Rattle.race_core.specs.Worlds.{WorldView}
 use Rattle.local_states.specs.Worlds.{after_turns}
 use Rattle.local_states.proofs.Worlds.Ends.{tell_same, tell_turned, tell_on}
-use Rattle.local_states.specs.declared.limits.Scope.{Scope}
-use Rattle.explore.specs.Explored.{AgreeIn}
+use Rattle.explore.specs.Explored.{Scope, AgreeIn}
 
 pub agree_same : (w : WorldView) (scope : Scope) (is : List ℕ) → AgreeIn w scope is is
 agree_same w scope is = tell_same scope.outside (after_turns w is)

@@ -11,13 +11,13 @@ use tree_model::{Snapshot, Tree, same_nodes};
 
 /// The end of a world's run. Contracts see it as an `EndView`.
 #[derive(Drop)]
-pub(crate) struct End<T: Tree> {
+pub struct End<T: Tree> {
     /// The report on the run.
-    pub(crate) report: Report<T>,
+    pub report: Report<T>,
     /// Of each actor, how many changes it made outside of its root.
-    pub(crate) outside: Vec<u64>,
+    pub outside: Vec<u64>,
     /// The tree of the report, as a value.
-    pub(crate) nodes: Snapshot,
+    pub nodes: Snapshot,
 }
 
 impl<T: Tree> Model for End<T> {

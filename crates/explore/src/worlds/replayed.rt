@@ -1,5 +1,5 @@
 //! A world gone through from the beginning by a list of turns, and what it comes to.
-ghost use Rattle.std.specs.Prelude.{◌≡◌, ◌≤◌, [], false, length, IfOk, IfErr, OnOk};
+ghost use Rattle.std.specs.Prelude.{◌≡◌, ◌≤◌, [], Bool, false, length, IfOk, IfErr, OnOk};
 ghost use Rattle.race_core.specs.Turns.{Luck};
 ghost use Rattle.race_core.specs.Worlds.{Runs, RunsTo, turn};
 ghost use Rattle.race_core.specs.declared.opening.TheConstants.{ACTORS_MAX};
@@ -10,9 +10,9 @@ ghost use Rattle.local_states.specs.OutOfMemory.{EndsWell, replies_out_of_memory
 ghost use Rattle.explore.specs.Replayed.{ReplayedView};
 ghost use Rattle.local_states.specs.Worlds.{IsEndOf};
 
-use crate::limits::{Limits, SearchFault};
 use crate::outcomes::end::End;
 use crate::worlds::beginnings::Beginnings;
+use layered_search::{Limits, SearchFault};
 use local_states::{Tally, tells_out_of_memory};
 use path_text::NoMemory;
 use race_core::{ACTORS_MAX, Report, World};
@@ -111,7 +111,8 @@ pub(crate) fn replay<T: Tree + Drop, B: Beginnings<T>>(
     ensures actors { IfOk result (λ replayed.
         length replayed.world.seats ≡ length (B.opening beginnings.now).seats) }
     ensures few { OnOk result (length (B.opening beginnings.now).seats ≤ ACTORS_MAX) }
-    ensures err { (limits : Limits) → IfErr result (WhyNot (B.opening beginnings.now) limits) }
+    ensures err { (limits : Limits) (outside : Bool) → IfErr result
+        (WhyNot (B.opening beginnings.now) limits outside) }
 {
     let world = beginnings.world(alloc)?;
     if world.actors() > ACTORS_MAX {
@@ -174,13 +175,4 @@ pub(crate) fn turns_of(alloc: Global, list: &[u8]) -> Result<Vec<u32>, NoMemory>
         turns.push(u32::from(*actor))?;
     }
     Ok(turns)
-}
-
-/// An equal list of turns. NoMemory where its room was refused.
-pub(crate) fn copy_turns(alloc: Global, turns: &[u32]) -> Result<Vec<u32>, NoMemory>
-    ensures { IfOk result (λ copy. copy.items ≡ turns.now) }
-{
-    let mut copy = Vec::with_capacity(alloc, turns.len())?;
-    copy.extend_from_slice(turns)?;
-    Ok(copy)
 }

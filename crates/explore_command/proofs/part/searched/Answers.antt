@@ -8,7 +8,7 @@ pub returns-in-Err-TooManyCuts : goal.returns-in-Err-TooManyCuts
 returns-in-Err-TooManyCuts g c =
     let scene = c.args.scene.now in
     let w = opened_world scene.tree scene.plans.items scene.lines in
-    let cut = subst (λ (fault : SearchFault). WhyNot w c.args.asked.now.limits fault) c.in-Err-TooManyCuts.field-0-is c.in-Err-TooManyCuts.ensures.err in
+    let cut = subst (λ (fault : SearchFault). WhyNot w c.args.asked.now.limits c.args.asked.now.outside fault) c.in-Err-TooManyCuts.field-0-is c.in-Err-TooManyCuts.ensures.err in
     record {
       of_these = search rules;
       begin = c.in_ok-no_lists-in-Err-TooManyCuts.ensures.begin;

@@ -1,3 +1,4 @@
+use Rattle.explore.specs.Explored.{classes_in}
 use Rattle.explore_command.proofs.search.searched.Goals as goal
 
 -- what is told of the outcomes that were found is the survey's text, and they are its outcomes
@@ -7,7 +8,7 @@ returns-in_ok-survey_of-in-Ok g c =
     let told = c.in_ok-survey_of-in-Ok.ensures in (
       record {
         of_these = c.requires.these;
-        classes = found.classes.items;
+        classes = classes_in found.classes.items;
         lists = found.lists;
         states = found.states;
         turns = found.turns;

@@ -1,6 +1,8 @@
 use Rattle.std.proofs.Common.{◌∙◌, IfOk, List, ap, subst, length}
 use Rattle.std.specs.Prelude.{Result, Ok, Err, Some}
-use Rattle.explore.specs.Explored.{ClassView}
+use Rattle.layered_search.specs.declared.found.Class.{Class}
+use Rattle.local_states.specs.Worlds.{EndView}
+use Rattle.explore.specs.Explored.{classes_in}
 use Rattle.outcome_text.specs.declared.property.Property.{Property}
 use Rattle.outcome_text.specs.Conditions.{counted, told_text, told_holds}
 use Rattle.outcome_text.specs.Order.{in_order}
@@ -20,7 +22,7 @@ returns c =
     both (λ survey text holds outcomes. (
       record {
         all = all;
-        told = subst (λ (cs : List ClassView). AreTold c.args.asked.now.named.items scene.tree (length scene.plans.items) cs all) c.deref.ensures.value c.in_ok-all.ensures;
+        told = subst (λ (cs : List (Class EndView)). AreTold c.args.asked.now.named.items scene.tree (length scene.plans.items) (classes_in cs) all) c.deref.ensures.value c.in_ok-all.ensures;
         is = text ∙ ap (λ (ps : List Property). told_text found.lists (Some found.states) found.turns (in_order all) ps) c.deref-2.ensures.value;
         judged = holds ∙ ap (λ (ps : List Property). told_holds (in_order all) ps) c.deref-2.ensures.value;
       },
