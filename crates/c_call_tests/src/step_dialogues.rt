@@ -1,7 +1,7 @@
 //! Single steps by answers that Linux gives, each as a dialogue; and how a change ends by what its system call gave.
 use dialogue::{Answer, Asked, Question};
 use linux_steps::{
-    Ended, LinkEntry, There, change_ended, dup_step, is_there, open_step, parent_step,
+    Ended, LinkEntry, There, change_ended, dup_step, is_there, look_error, open_step, parent_step,
     read_link_step,
 };
 use path_text::{Errno, LentBytes, LentName};
@@ -382,4 +382,22 @@ fn texts_and_second_names_have_their_errors(rt: HostRuntime) {
         Ok(change_ended(&step(9, b""), true, 17)),
         Errno::Exists,
     );
+}
+
+// statx(2): its own error; ENOSYS where the kernel doesn't say which object it is.
+#[test]
+fn looks_have_their_errors(rt: HostRuntime) {
+    for (error, has_mount, wanted) in [
+        (0, true, 0),
+        (0, false, ENOSYS),
+        (EACCES, true, EACCES),
+        (EACCES, false, EACCES),
+        (EINTR, true, EINTR),
+    ] {
+        let about = Answer {
+            has_mount,
+            ..gave(0, error, 1, EXT4)
+        };
+        assert_eq!(&rt; look_error(&about), wanted);
+    }
 }

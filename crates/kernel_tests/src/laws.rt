@@ -15,15 +15,8 @@ fn laws_are_at_hand() {
     remove_by_calls::exchanges_are_few();
     list_directory::a_part_is_bounded();
     list_directory::all_levels_are_bounded();
-    list_directory::a_full_part_has_names();
-    list_directory::what_is_gone_has_no_more_names();
-    list_directory::no_error_is_passed_over();
-    list_directory::why_it_fails();
-    list_directory::each_open_is_closed_once();
-    list_directory::an_open_is_tried_again_for_a_reason();
-    list_directory::a_signal_ends_nothing();
-    list_directory::what_is_listed_was_sorted();
-    list_directory::calls_are_few();
+    list_directory::listings_hold();
+    list_directory::names_are_those_of_the_records();
     system_calls::contradictions_are_refused();
     system_calls::kinds_are_asked_for();
     system_calls::pauses_add_up();
@@ -45,4 +38,16 @@ fn laws_are_at_hand() {
     place_protocol::names_are_told_by_the_kernels_check();
     place_protocol::names_are_looked_up_first();
     place_protocol::only_the_root_is_at_itself();
+    give_entry::calls_are_few();
+    give_entry::each_descriptor_is_closed_once_or_given();
+    give_entry::what_fits_is_given();
+    give_entry::what_is_given_was_seen_to_be_the_one();
+    give_entry::why_it_fails();
+}
+
+#[test]
+fn laws_of_all_dialogues() {
+    dialogue::driving_is_talking::<u8, u8, u8>();
+    dialogue::checkpoints_are_kept::<u8, u8, u8, u8>();
+    dialogue::signals_may_be_left_out::<u8, u8, u8>();
 }

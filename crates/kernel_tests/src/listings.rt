@@ -1,29 +1,63 @@
 //! Which system call comes next as a directory is listed, by answers that the kernel gives.
 use crate::records::put_record;
-use crate::rows::{Room, all_go, name_of, number, shown, word_of};
-use list_directory::{ENDS, Listing, begin, next};
+use crate::rows::{Room, all_go, name_of, number, shown};
+use list_directory::{Asked, Came, Listing, Outcome, Question, a_part, part_size, take_read};
 use std::alloc::{AllocError, Global};
 
 const MIB: usize = 1_048_576;
 
 const DASHES: [u8; 512] = [b'-'; 512];
 
-// A listing with the least part, whose room has 512 bytes.
+// A listing with the least part, whose room has 512 bytes; and what came so far in the part under way.
 #[derive(Drop)]
 struct Directory {
     alloc: Global,
     listing: Listing,
+    outcomes: [Outcome; 4],
+    count: usize,
     room: [u8; 512],
 }
 
 impl Directory {
-    // Takes what a call gave, and the records that it read.
-    fn go_on(&mut self, error: u32, records: &[u8]) -> Option<()> {
-        if self.listing.size != 512 || self.listing.used > 512 {
+    fn came(&self) -> Asked<Came> {
+        let mut outcomes = &self.outcomes[..self.count.min(4)];
+        a_part(&mut outcomes, &self.listing)
+    }
+
+    // How many bytes of names there are, as the outcomes tell.
+    fn used(&self) -> usize {
+        let mut used = self.listing.used;
+        for outcome in &self.outcomes {
+            used = used.max(outcome.used);
+        }
+        used
+    }
+
+    fn hear(&mut self, outcome: Outcome) -> Option<()> {
+        if self.count >= 4 {
             return None;
         }
-        self.listing = next(self.listing, error, records, &mut self.room);
+        self.outcomes[self.count] = outcome;
+        self.count += 1;
+        if let Ok(Came::Again(listing)) = self.came() {
+            self.listing = listing;
+            self.count = 0;
+        }
         Some(())
+    }
+
+    // Takes what a call gave, and the records that it read.
+    fn go_on(&mut self, error: u32, records: &[u8]) -> Option<()> {
+        let is_read = matches!(self.came(), Err(Question::Read(7)));
+        if is_read && error == 0 && self.listing.used <= 512 {
+            let outcome = take_read(records, &mut self.room, self.listing.used);
+            return self.hear(outcome);
+        }
+        self.hear(Outcome {
+            error,
+            descriptor: 7,
+            ..Outcome::default()
+        })
     }
 }
 
@@ -31,18 +65,24 @@ impl Room for Directory {
     fn begun(alloc: Global, _: &'static str) -> Directory {
         Directory {
             alloc,
-            listing: begin(4 * MIB),
+            listing: Listing::default(),
+            outcomes: [Outcome::default(); 4],
+            count: 0,
             room: DASHES,
         }
     }
 
     // With the names that were read, or a dash.
     fn due(&self, alloc: Global) -> Result<String, AllocError> {
-        let word = word_of(self.listing.next, "open read close sort ends fails");
-        let names = shown(alloc, &self.room, self.listing.used.max(1))?;
-        match self.listing.error {
-            0 => format!(in alloc; "{word} {names}"),
-            error => format!(in alloc; "{word} {names} {}", name_of(error)),
+        let names = shown(alloc, &self.room, self.used().max(1))?;
+        match self.came() {
+            Err(Question::Open) => format!(in alloc; "open {names}"),
+            Err(Question::Read(_)) => format!(in alloc; "read {names}"),
+            Err(Question::Close(_)) => format!(in alloc; "close {names}"),
+            Err(Question::Sort(_)) => format!(in alloc; "sort {names}"),
+            Ok(Came::Listed(_)) => format!(in alloc; "ends {names}"),
+            Ok(Came::Failed(error)) => format!(in alloc; "fails {names} {}", name_of(error)),
+            Ok(Came::Again(_)) => format!(in alloc; "again"),
         }
     }
 
@@ -65,11 +105,9 @@ impl Room for Directory {
         self.go_on(0, records.as_slice())
     }
 
-    // No byte behind the names was written. Where nothing comes any more, nothing changes.
+    // No byte behind the names was written.
     fn is_right(&mut self) -> bool {
-        let end = self.listing;
-        let is_kept = self.room.get(end.used..) == DASHES.get(end.used..);
-        is_kept && (end.next < ENDS || self.go_on(13, b"").is_some() && self.listing == end)
+        self.room.get(self.used()..) == DASHES.get(self.used()..)
     }
 }
 
@@ -84,11 +122,11 @@ open - = ok; read - = names a*255 b*254 c*1; close 511 bytes
 open - = ok; read - = names a*1; read /a = ENOENT; close /a = ok; sort /a
 open - = ENOENT; fails - ENOENT
 # any other error closes it and fails; close(2) may fail, too
-open - = ok; read - = EACCES; close - EACCES = EIO; fails - EACCES
+open - = ok; read - = EACCES; close - = EIO; fails - EACCES
 open - = EACCES; fails - EACCES
 open - = ok; read - = ok; close - = EIO; sort - = ENOMEM; fails - ENOMEM
 # what is no record closes it and fails
-open - = ok; read - = no record; close - EIO = ok; fails - EIO
+open - = ok; read - = no record; close - = ok; fails - EIO
 # no descriptor left ends a listing
 open - = EMFILE; fails - EMFILE
 open - = ENFILE; fails - ENFILE
@@ -100,27 +138,23 @@ fn a_directory_is_listed(rt: HostRuntime) -> Result<(), AllocError> {
     all_go::<Directory>(&rt, rt.alloc(), LISTINGS)
 }
 
-// How many bytes of names a call holds, and how many there may be in a room, and in one of records.
-const PARTS: [(usize, usize, usize); 9] = [
-    (0, MIB, 32_768),
-    (4, MIB - 1, 32_768),
-    (MIB, 786_432, 32_768),
-    (4 * MIB - 131_072, 32_768, 32_768),
-    (4 * MIB - 131_068, 32_767, 4_096),
-    (4 * MIB - 2_052, 513, 4_096),
-    (4 * MIB - 2_048, 512, 4_096),
-    (4 * MIB, 512, 4_096),
-    (usize::MAX, 512, 4_096),
+// How many bytes of names a call holds, and how many there may be in a room.
+const PARTS: [(usize, usize); 9] = [
+    (0, MIB),
+    (4, MIB - 1),
+    (MIB, 786_432),
+    (4 * MIB - 131_072, 32_768),
+    (4 * MIB - 131_068, 32_767),
+    (4 * MIB - 2_052, 513),
+    (4 * MIB - 2_048, 512),
+    (4 * MIB, 512),
+    (usize::MAX, 512),
 ];
 
 #[test]
 fn each_part_is_a_fourth_of_what_is_left(rt: HostRuntime) -> Result<(), AllocError> {
-    for (held, size, records) in &PARTS {
-        let listing = begin(*held);
-        assert!(rt;
-            listing.size == *size && listing.records == *records,
-            "{held}"
-        );
+    for (held, size) in &PARTS {
+        assert!(rt; part_size(*held) == *size, "{held}");
     }
     Ok(())
 }

@@ -1,6 +1,6 @@
 //! Which call comes next as all missing parts of a path are made, by answers that a kernel gives.
 use make_through_links::{Came, Making, Question, begin, pass};
-use open_or_make::{Outcome, lay_link};
+use open_or_make::{Outcome, front_length, joined_length, lay_link, rest_at};
 use std::test::Fail;
 use system_calls::next_try;
 
@@ -366,4 +366,27 @@ fn makes_one_try_if_told_so(rt: HostRuntime) -> Result<(), Fail> {
     let whole = [failed(ENOENT), partly(3, 1), OPENED];
     assert!(rt; came(&making, &room, &whole, b"") == Some(Came::Fails(EAGAIN, 8)));
     Ok(())
+}
+
+// A link's text; where it goes on behind its first name; how many of seven bytes come before it; and how long the path
+// is of these seven, the text and nothing, or `rest`, behind it.
+const TEXTS: [(&str, usize, usize, usize, usize); 5] = [
+    ("", 0, 7, 7, 12),
+    ("name", 4, 7, 11, 16),
+    ("a//b/c", 3, 7, 13, 18),
+    ("/a/b", 1, 0, 11, 16),
+    ("//", 2, 0, 9, 14),
+];
+
+#[test]
+fn link_texts_stand_in_paths(rt: HostRuntime) {
+    for (text, rest, front, alone, joined) in &TEXTS {
+        let text = text.as_bytes();
+        assert!(rt; rest_at(text) == *rest && front_length(text, 7) == *front);
+        let (bare, all) = (
+            joined_length(b"on/the/", text, b""),
+            joined_length(b"on/the/", text, b"rest"),
+        );
+        assert!(rt; bare == *alone && all == *joined, "{bare} {all}");
+    }
 }

@@ -1,3 +1,3 @@
-pub mod HistoryLemmas
+pub mod NameLemmas
 pub mod PartLemmas
 pub mod ReadLemmas

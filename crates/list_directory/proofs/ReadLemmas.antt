@@ -1,269 +1,237 @@
--- The names that are read.
-use Rattle.std.proofs.Common.{◌≡◌, ◌≢◌, ◌≤◌, ◌<◌, ◌+◌, ◌-◌, ℕ, List, [], ◌∷◌, ◌++◌, Bool, true, false, not, ◌&&◌, ◌||◌, if◌then◌else◌, nat_lt, length, take, drop, refl, ap, sym, subst, ◌∙◌, arith, length-append, append_assoc, Some, None}
-use Rattle.std.specs.Prelude.{◌==◌, MatchBool}
-use Rattle.std.specs.List.{filter}
-use Rattle.std.proofs.Math.Seq.{take-append_seam, take-append-add}
-use Rattle.std.proofs.lemmas.Bool.{ne_eqb, ltb-false}
-use Rattle.std.proofs.lemmas.List.{append-nil, length-take-le}
-use Rattle.std.proofs.lemmas.List.Elements.{filter-append}
-use Rattle.path_text.specs.Name.{is_component, name_fault}
-use Rattle.path_text.specs.Print.{after_slashes}
-use Rattle.path_text.specs.Text.{is_empty}
-use Rattle.path_text.specs.declared.errno.Errno.TheVariants.{Invalid, TooLong}
-use Rattle.path_text.specs.declared.name.TheConstants.{NAME_MAX}
-use Rattle.path_text.proofs.Lists.{slashes-append}
-use Rattle.system_calls.specs.Listing.{entries_text, is_entry, IsTaken, Stops}
-use Rattle.system_calls.specs.declared.records.Taken.{Taken}
-use Rattle.list_directory.specs.Parts.{part_size}
-use Rattle.list_directory.specs.History.{after_exchange, after_read, after_records, asks, gave_records, is_question, names_after, next_after, used_after, Exchange, IsHistory, Next, ReadNone, ReadSome, Took}
-use Rattle.list_directory.specs.Listing.{due_of, AnsweredBy, IsAt, Reads, Same}
-use Rattle.list_directory.specs.Promises.{cost_of, costs, is_full}
-use Rattle.list_directory.proofs.HistoryLemmas.{asked_is, to_read}
-use Rattle.list_directory.proofs.HistoryLemmas.Asked.{close_it, open_it, read_it, sort_it}
-use Rattle.list_directory.specs.declared.listing.Listing.{Listing}
-use Rattle.list_directory.specs.declared.listing.TheConstants.{OPEN, READ, CLOSE, SORT}
+-- What the parts of a listing come to.
+use Rattle.std.proofs.Common.{◌≡◌, ◌≢◌, ◌+◌, ◌*◌, ℕ, zero, suc, List, [], ◌∷◌, length, Bool, true, false, not, ◌||◌, if◌then◌else◌, ◌⊎◌, inl, inr, refl, ap, sym, subst, ◌∙◌, arith}
+use Rattle.std.specs.Prelude.{◌==◌, Option, Some, None}
+use Rattle.std.proofs.lemmas.Bool.{eqb-true, eqb-false}
+use Rattle.system_calls.specs.Errors.{EINTR, ENOENT}
+use Rattle.system_calls.specs.Held.{without}
+use Rattle.dialogue.specs.Dialogue.{and_then, asking, ends}
+use Rattle.dialogue.proofs.HeldLemmas.{out_by}
+use Rattle.dialogue.proofs.HoldLemmas.{Goes, asks_then, both, over, weak}
+use Rattle.list_directory.specs.Promises.{Ends, IsBetween, ListingsHold, Stands}
+use Rattle.list_directory.specs.Reading.{a_part, at, at_first, finished, go_on, listing_of, opened, part_by, parts, read, read_so, sorted}
+use Rattle.list_directory.specs.Seen.{AreAll, AreMore, HaveFailed, IsOpen, IsUnopened, Seen, after, nothing, used_by, watch}
+use Rattle.list_directory.specs.declared.asking.Outcome.{Outcome}
+use Rattle.list_directory.specs.declared.asking.Question.TheVariants.{Open, Read, Close, Sort}
+use Rattle.list_directory.specs.declared.reading.Came.{Came}
+use Rattle.list_directory.specs.declared.reading.Came.TheVariants.{Listed, Failed, Again}
+use Rattle.list_directory.specs.declared.reading.Listing.{Listing}
 
--- ---- the bytes of names
+-- ---- the directory is closed
 
-pub entries-append : (xs ys : List (List ℕ)) → entries_text (xs ++ ys) ≡ entries_text xs ++ entries_text ys
-entries-append xs ys = ap after_slashes (filter-append is_entry xs ys)
-    ∙ slashes-append (filter is_entry xs) (filter is_entry ys)
+record Ended (s : Seen) (size error : ℕ) : Type 0 where
+  none : error ≡ 0
+  all : AreAll s.reads
+  same : size ≡ used_by s.reads
 
-pub used_more : (e : Exchange) (older : List Exchange)
-    → used_after (e ∷ older) ≡ used_after older + length (entries_text e.names)
-used_more e older =
-    ap length (entries-append (names_after older) e.names)
-    ∙ length-append (entries_text (names_after older)) (entries_text e.names)
+-- read to the end, or until a read failed
+abbrev Why : Seen → ℕ → ℕ → Type 0
+Why s used error = Ended s used error ⊎ HaveFailed s.reads error
 
--- ---- a part is never more than full
+record Over (s : Seen) (directory used error : ℕ) : Type 0 where
+  held : s.held ≡ directory ∷ []
+  sorted : s.sorted ≡ None
+  few : s.asked ≡ suc (s.signals + length s.reads)
+  why : Why s used error
 
-none_used : (names : List (List ℕ)) → names ≡ [] → length (entries_text names) ≡ 0
-none_used names is = ap (λ l. length (entries_text l)) is
+sorts_goes : (s : Seen) (used : ℕ) → s.held ≡ [] → AreAll s.reads → used ≡ used_by s.reads
+    → s.asked ≡ suc (suc (s.signals + length s.reads))
+    → (a : Outcome) → Goes watch 0 (after s (Sort used) a) (ends (sorted used a.error)) Ends
+sorts_goes s used held all same few a = by_case (a.error == 0) refl
+  where
+    by_case : (good : Bool) → (a.error == 0) ≡ good
+        → Goes watch 0 (after s (Sort used) a) (ends (if good then Listed used else Failed a.error)) Ends
+    by_case true is = over (record {
+      held = held;
+      all = all;
+      used = same;
+      sorted = ap (λ n. Some n) (eqb-true a.error 0 is);
+      few = omega (arith, few);
+    })
+    by_case false is = over (record {
+      held = held;
+      some = eqb-false a.error 0 is;
+      why = inr (inr (all, refl));
+      few = omega (arith, few);
+    })
 
-fits_by : (b : Bool) (room : ℕ) (e : Exchange) → MatchBool b (ReadSome room e) (ReadNone e)
-    → length (entries_text e.names) ≤ room
-fits_by true room e took = took.fits
-fits_by false room e took = omega (arith, none_used e.names took.names)
+some_failed : (reads : List Outcome) (error : ℕ) → HaveFailed reads error → error ≢ 0
+some_failed [] error h = absurd h
+some_failed (a ∷ older) error h = h.1
 
-pub within : (held : ℕ) (history : List Exchange) → IsHistory held history → used_after history ≤ part_size held
-within held [] h = omega arith
-within held (e ∷ older) h =
-    let before = within held older h.1 in
-    let fits = fits_by (gave_records e) (part_size held - used_after older) e h.0.took in
-    omega (arith, before, fits, used_more e older)
+all_read : (s : Seen) (used error : ℕ) → Why s used error → error ≡ 0 → Ended s used error
+all_read s used error (inl all) none = all
+all_read s used error (inr failed) none = absurd (some_failed s.reads error failed none)
 
--- ---- a part that is full
+failed_so : (s : Seen) (used error : ℕ) → Why s used error → error ≢ 0 → HaveFailed s.reads error
+failed_so s used error (inl all) some = absurd (some all.none)
+failed_so s used error (inr failed) some = failed
 
-short_by : (component long : Bool) (name : List ℕ) → nat_lt NAME_MAX (length name) ≡ long
-    → (if not component then Some Invalid else (if long then Some TooLong else None)) ≡ None → length name ≤ NAME_MAX
-short_by true true name l none = absurd (cc)
-short_by true false name l none = ltb-false NAME_MAX (length name) l
-short_by false long name l none = absurd (cc)
+is_over : (s : Seen) (used error : ℕ) → Why s used error → AreAll s.reads ⊎ ((e : ℕ) × HaveFailed s.reads e)
+is_over s used error (inl all) = inl all.all
+is_over s used error (inr failed) = inr (error, failed)
 
-short : (name : List ℕ) → name_fault name ≡ None → length name ≤ NAME_MAX
-short name none = short_by (is_component name) (nat_lt NAME_MAX (length name)) name refl none
+finished_goes : (s : Seen) (directory used error : ℕ) → Over s directory used error
+    → Goes watch 2 s (finished directory used error) Ends
+unfolding finished
+finished_goes s directory used error o =
+    asks_then 1 (Close directory) (record { held = o.held; why = is_over s used error o.why })
+    (λ b. by_case b (error == 0) refl)
+  where
+    none : without directory s.held ≡ []
+    none = out_by directory s.held [] o.held
 
-stop_by : (full : Bool) (rest : List ℕ) (room error : ℕ) → Stops rest room full error → full ≡ true → room ≤ NAME_MAX
-stop_by true rest room error stop is =
-    let last = stop.1 in
-    omega (arith, last.short, short last.name last.fault)
-stop_by false rest room error stop is = absurd (cc)
+    by_case : (b : Outcome) (good : Bool) → (error == 0) ≡ good
+        → Goes watch 1 (after s (Close directory) b)
+        (if not good then ends (Failed error)
+        else and_then (asking listing_of (Sort used)) (λ a. ends (sorted used a.error))) Ends
+    by_case b true is =
+        let all = all_read s used error o.why (eqb-true error 0 is) in
+        let few = o.few in
+        asks_then 0 (Sort used) (record { held = none; all = all.all; used = all.same; sorted = o.sorted })
+        (sorts_goes (after s (Close directory) b) used none all.all all.same (omega (arith, few)))
+    by_case b false is =
+        let some = eqb-false error 0 is in
+        let few = o.few in
+        over (record {
+          held = none;
+          some = some;
+          why = inr (inl (failed_so s used error o.why some));
+          few = omega (arith, few);
+        })
 
-full_by : (b : Bool) (room : ℕ) (e : Exchange) → MatchBool b (ReadSome room e) (ReadNone e) → e.full ≡ true
-    → room ≤ length (entries_text e.names) + NAME_MAX
-full_by true room e took full =
-    let left = stop_by e.full took.rest (room - length (entries_text e.names)) e.fault took.stop full in
-    omega (arith, left)
-full_by false room e took full = absurd (cc (took.full, full))
+-- ---- a read
 
-pub full_part : (held : ℕ) (history : List Exchange) → IsHistory held history → is_full history ≡ true
-    → part_size held ≤ used_after history + NAME_MAX
-full_part held [] h full = absurd (cc)
-full_part held (e ∷ older) h full =
-    let left = full_by (gave_records e) (part_size held - used_after older) e h.0.took full in
-    omega (arith, left, used_more e older)
+read_so_goes : (s : Seen) (directory used : ℕ) → IsOpen s directory → used ≡ used_by s.reads → (a : Outcome)
+    → Goes watch 2 (after s (Read directory) a) (read_so directory used a) Ends
+unfolding read_so
+read_so_goes s directory used now same a =
+    by_case (a.error == EINTR) (a.error == ENOENT) (a.error == 0) a.last refl refl refl refl
+  where
+    few : s.asked ≡ suc (s.signals + length s.reads)
+    few = now.few
 
--- ---- one reading
+    used_now : (good : Bool) → (a.error == 0) ≡ good
+        → used_by (a ∷ s.reads) ≡ (if good then a.used else used_by s.reads)
+    used_now good is = ap (λ (b : Bool). if b then a.used else used_by s.reads) is
 
--- what was read is no name
-pub fault_closes : (none full : Bool) (fault why : ℕ) → why ≡ fault → fault ≢ 0
-    → asks CLOSE why ≡ after_records none full fault
-fault_closes none full fault why is some =
-    ap (asks CLOSE) is
-    ∙ ap (λ (b : Bool). if b then (if full || none then asks CLOSE 0 else asks READ 0) else asks CLOSE fault)
-    (sym (ne_eqb fault 0 some))
+    ended : (used error : ℕ) → Why (record s { reads = a ∷ s.reads; asked = suc s.asked }) used error
+        → Goes watch 2 (record s { reads = a ∷ s.reads; asked = suc s.asked }) (finished directory used error) Ends
+    ended used error why =
+        finished_goes (record s { reads = a ∷ s.reads; asked = suc s.asked }) directory used error
+        (record { held = now.held; sorted = now.sorted; few = omega (arith, few); why = why })
 
-laid_behind : (used : ℕ) (old entries more after : List ℕ) → used ≤ length old
-    → take (used + length entries) (take used old ++ ((entries ++ more) ++ after)) ≡ take used old ++ entries
-laid_behind used old entries more after few =
-    let size : length (take used old) ≡ used = length-take-le used old few in
-    ap (λ n. take (n + length entries) (take used old ++ ((entries ++ more) ++ after))) (sym size)
-    ∙ take-append-add (take used old) ((entries ++ more) ++ after) (length entries)
-    ∙ ap (λ l. take used old ++ take (length entries) l) (append_assoc entries more after)
-    ∙ ap (λ l. take used old ++ l) (take-append_seam entries (more ++ after))
-
-pub read_some : (listing result : Listing) (next why : ℕ) (bytes old part new after : List ℕ) (taken : Taken)
-    → IsTaken bytes part new taken
-    → length part ≡ listing.size - listing.used → length old ≡ listing.size → listing.used ≤ listing.size
-    → result ≡ record listing { used = listing.used + taken.used; next = next; error = why }
-    → asks next why ≡ after_records (is_empty bytes) taken.full taken.error
-    → Reads listing 0 bytes old result (take listing.used old ++ (new ++ after))
-read_some listing result next why bytes old part new after taken t size whole few same due =
-    let used : result.used ≡ listing.used + taken.used = ap (λ (l : Listing). l.used) same in
-    let more : result.used ≡ listing.used + length (entries_text t.names) = used ∙ ap (λ n. listing.used + n) t.used in
-    record {
-      e = record { asked = READ; error = 0; records = bytes; names = t.names; full = taken.full; fault = taken.error };
-      asked = refl;
-      error = refl;
-      records = refl;
-      took = record {
-        rest = t.rest;
-        read = t.read;
-        fits = omega (arith, t.used, t.within, size);
-        stop = subst (λ n. Stops t.rest n taken.full taken.error) (omega (arith, t.used, size)) t.stop;
+    by_case : (signal gone good last : Bool) → (a.error == EINTR) ≡ signal → (a.error == ENOENT) ≡ gone
+        → (a.error == 0) ≡ good → a.last ≡ last
+        → Goes watch 2 (record (if signal then record s { signals = suc s.signals }
+        else record s { reads = a ∷ s.reads }) { asked = suc s.asked })
+        (if signal then ends (Again (at directory used))
+        else (if gone then finished directory used 0
+        else (if not good || last then finished directory a.used a.error
+        else ends (Again (at directory a.used))))) Ends
+    by_case true gone good last i e g l = over (record {
+      stands = record { held = now.held; more = now.more; sorted = now.sorted; few = omega (arith, few) };
+      used = same;
+    })
+    by_case false true good last i e g l =
+        let is = eqb-true a.error ENOENT e in
+        ended used 0 (inl (record {
+          none = refl;
+          all = (inl is, now.more);
+          same = same ∙ sym (used_now false (ap (λ n. n == 0) is));
+        }))
+    by_case false false false last i e g l =
+        ended a.used a.error
+        (inr (refl, eqb-false a.error 0 g, eqb-false a.error ENOENT e, now.more))
+    by_case false false true true i e g l =
+        let is = eqb-true a.error 0 g in
+        ended a.used a.error (inl (record { none = is; all = (inr (is, l), now.more); same = sym (used_now true g) }))
+    by_case false false true false i e g l = over (record {
+      stands = record {
+        held = now.held;
+        more = ((eqb-true a.error 0 g, l), now.more);
+        sorted = now.sorted;
+        few = omega (arith, few);
       };
-      due = ap due_of same ∙ due;
-      used = more;
-      within = omega (arith, used, t.within, size, few);
-      laid = ap (λ n. take n (take listing.used old ++ (new ++ after))) more
-          ∙ ap (λ l. take (listing.used + length (entries_text t.names)) (take listing.used old ++ (l ++ after))) t.laid
-          ∙ laid_behind listing.used old (entries_text t.names) (drop taken.used part) after
-          (omega (arith, few, whole));
-      size = ap (λ (l : Listing). l.size) same;
-      at_once = ap (λ (l : Listing). l.records) same;
-    }
+      used = sym (used_now true g);
+    })
 
-pub read_none : (listing result : Listing) (next why gave : ℕ) (bytes old : List ℕ) → gave ≢ 0
-    → listing.used ≤ listing.size
-    → result ≡ record listing { next = next; error = why } → asks next why ≡ after_read gave (is_empty bytes) false 0
-    → Reads listing gave bytes old result old
-read_none listing result next why gave bytes old some few same due =
-    record {
-      e = record { asked = READ; error = gave; records = bytes; names = []; full = false; fault = 0 };
-      asked = refl;
-      error = refl;
-      records = refl;
-      took = subst (λ b. MatchBool b
-          (ReadSome (listing.size - listing.used)
-          (record { asked = READ; error = gave; records = bytes; names = []; full = false; fault = 0 }))
-          (ReadNone (record { asked = READ; error = gave; records = bytes; names = []; full = false; fault = 0 })))
-          (sym (ne_eqb gave 0 some)) (record { names = refl; full = refl; fault = refl });
-      due = ap due_of same ∙ due;
-      used = ap (λ (l : Listing). l.used) same ∙ omega arith;
-      within = omega (arith, few, ap (λ (l : Listing). l.used) same);
-      laid = ap (λ n. take n old) (ap (λ (l : Listing). l.used) same) ∙ sym (append-nil (take listing.used old));
-      size = ap (λ (l : Listing). l.size) same;
-      at_once = ap (λ (l : Listing). l.records) same;
-    }
+read_goes : (s : Seen) (directory used : ℕ) → IsOpen s directory → used ≡ used_by s.reads
+    → Goes watch 3 s (read directory used) Ends
+unfolding read
+read_goes s directory used now same =
+    asks_then 2 (Read directory) now (read_so_goes s directory used now same)
 
--- ---- one exchange more
+-- ---- a part
 
-pub goes_on : (held : ℕ) (history : List Exchange) (listing result : Listing) (e : Exchange) (room new : List ℕ)
-    → IsAt held history listing room → is_question listing.next ≡ true → e.asked ≡ listing.next
-    → Took (listing.size - listing.used) e → due_of result ≡ after_exchange e listing.error
-    → result.used ≡ listing.used + length (entries_text e.names) → result.used ≤ listing.size
-    → take result.used new ≡ take listing.used room ++ entries_text e.names
-    → result.size ≡ listing.size → result.records ≡ listing.records → IsAt held (e ∷ history) result new
-goes_on held history listing result e room new at question asked took due used few laid size records =
-    let k = at.keeps in
-    let left : listing.size - listing.used ≡ part_size held - used_after history = omega (arith, k.size, k.used) in
-    record {
-      history = (
-        record {
-          due = asked ∙ ap (λ (n : Next). n.next) at.due;
-          question = subst (λ n. is_question n ≡ true) (sym asked) question;
-          took = subst (λ n. Took n e) left took;
-        },
-        at.history,
-      );
-      keeps = record {
-        size = size ∙ k.size;
-        records = records ∙ k.records;
-        used = omega (arith, used, k.used, used_more e history);
-        within = omega (arith, few, size);
-        laid = laid ∙ ap (λ l. l ++ entries_text e.names) k.laid ∙ sym (entries-append (names_after history) e.names);
-      };
-      due = due ∙ ap (after_exchange e) (ap (λ (n : Next). n.error) at.due);
-    }
+opened_goes : (s : Seen) (l : Listing) → l.directory ≡ None → IsUnopened s → l.used ≡ used_by s.reads → (a : Outcome)
+    → Goes watch 3 (after s Open a) (opened l a) Ends
+opened_goes s l none un same a = by_case (a.error == EINTR) (a.error == 0) refl refl
+  where
+    few : s.asked ≡ s.signals
+    few = un.few
 
-abbrev pub quiet : Listing → ℕ → List ℕ → Exchange
-quiet listing gave bytes =
-    record { asked = listing.next; error = gave; records = bytes; names = []; full = false; fault = 0 }
+    no_reads : length s.reads ≡ 0
+    no_reads = ap length un.reads
 
--- where no records were read
-pub goes_quietly : (held : ℕ) (history : List Exchange) (listing result : Listing) (gave : ℕ) (bytes room : List ℕ)
-    → IsAt held history listing room → is_question listing.next ≡ true → listing.next ≢ READ → Same listing result
-    → due_of result ≡ after_exchange (quiet listing gave bytes) listing.error
-    → (e : Exchange) × AnsweredBy listing gave bytes e × IsAt held (e ∷ history) result room
-goes_quietly held history listing result gave bytes room at question other same due =
-    let e = quiet listing gave bytes in
-    let used : result.used ≡ listing.used = ap (λ (l : Listing). l.used) same in
-    let none : gave_records e ≡ false = ap (λ b. b && (gave == 0)) (ne_eqb listing.next READ other) in
-    let took : Took (listing.size - listing.used) e =
-    subst (λ b. MatchBool b (ReadSome (listing.size - listing.used) e) (ReadNone e)) (sym none)
-    (record { names = refl; full = refl; fault = refl }) in (
-      e,
-      record { asked = refl; error = refl; records = refl },
-      goes_on held history listing result e room room at question refl took due (used ∙ omega arith)
-          (omega (arith, used, at.keeps.within))
-          (ap (λ n. take n room) used ∙ sym (append-nil (take listing.used room)))
-          (ap (λ (l : Listing). l.size) same) (ap (λ (l : Listing). l.records) same),
-    )
+    by_case : (signal good : Bool) → (a.error == EINTR) ≡ signal → (a.error == 0) ≡ good
+        → Goes watch 3 (record (if signal then record s { signals = suc s.signals }
+        else (if good then record s { opened = Some 0; held = a.descriptor ∷ s.held }
+        else record s { opened = Some a.error })) { asked = suc s.asked })
+        (if good then read a.descriptor l.used else (if signal then ends (Again l) else ends (Failed a.error))) Ends
+    by_case true true i g = absurd (omega (arith, eqb-true a.error EINTR i, eqb-true a.error 0 g))
+    by_case true false i g = over (record {
+      stands = subst (Stands (record s { signals = suc s.signals; asked = suc s.asked })) (sym none) (record {
+        opened = un.opened;
+        held = un.held;
+        reads = un.reads;
+        sorted = un.sorted;
+        few = omega (arith, few);
+      });
+      used = same;
+    })
+    by_case false true i g =
+        read_goes (record s { opened = Some 0; held = a.descriptor ∷ s.held; asked = suc s.asked }) a.descriptor l.used
+        (record {
+          held = ap (λ xs. a.descriptor ∷ xs) un.held;
+          more = subst AreMore (sym un.reads) tt;
+          sorted = un.sorted;
+          few = omega (arith, few, no_reads);
+        }) same
+    by_case false false i g = over (record {
+      held = un.held;
+      some = eqb-false a.error 0 g;
+      why = inl (refl, un.reads);
+      few = omega (arith, few);
+    })
 
--- where they were
-pub goes_reading : (held : ℕ) (history : List Exchange) (listing result : Listing) (gave : ℕ) (bytes room new : List ℕ)
-    → IsAt held history listing room → is_question listing.next ≡ true → listing.next ≡ READ
-    → Reads listing gave bytes room result new
-    → (e : Exchange) × AnsweredBy listing gave bytes e × IsAt held (e ∷ history) result new
-goes_reading held history listing result gave bytes room new at question is r =
-    let asked : r.e.asked ≡ listing.next = r.asked ∙ sym is in
-    let due : due_of result ≡ after_exchange r.e listing.error =
-    r.due ∙ ap (λ n. after_read n (is_empty bytes) r.e.full r.e.fault) (sym r.error)
-    ∙ ap (λ l. after_read r.e.error (is_empty l) r.e.full r.e.fault) (sym r.records)
-    ∙ sym (to_read r.e listing.error r.asked) in (
-      r.e,
-      record { asked = asked; error = r.error; records = r.records },
-      goes_on held history listing result r.e room new at question asked r.took due r.used r.within r.laid r.size
-          r.at_once,
-    )
+part_goes : (s : Seen) (l : Listing) → IsBetween s l → Goes watch 4 s (a_part l) Ends
+unfolding a_part
+part_goes s l between = by_case l.directory refl between.stands
+  where
+    by_case : (d : Option ℕ) → l.directory ≡ d → Stands s d → Goes watch 4 s (part_by l d) Ends
+    by_case (Some directory) is now =
+        weak 3 (omega arith) (read_goes s directory l.used now between.used) (λ t c done. done)
+    by_case None is un = asks_then 3 Open un (opened_goes s l is un between.used)
 
--- ---- how many exchanges there are
+-- ---- one part after another
 
--- so many at most come before this, beside what they cost
-abbrev rank : ℕ → ℕ
-rank next =
-    if next == OPEN then 0
-    else (if next == READ then 1
-    else (if next == CLOSE then 2 else (if next == SORT then 3 else 4)))
+abbrev HoldsFrom : ℕ → Type 0
+HoldsFrom n = (s : Seen) (l : Listing) → IsBetween s l → Goes watch (4 * n) s (parts n l) Ends
 
-some_by : (bytes : List ℕ) → is_empty bytes ≡ false → 0 < length bytes
-some_by [] none = absurd (cc)
-some_by (b ∷ bytes) none = omega arith
+behind : (n : ℕ) → HoldsFrom n → (t : Seen) (c : Came) → Ends t c → Goes watch (4 * n) t (go_on (parts n) c) Ends
+behind n rest t (Again l) is = rest t l is
+behind n rest t (Listed used) is = over is
+behind n rest t (Failed error) is = over is
 
-rank_step : (e : Exchange) (why used : ℕ) → is_question e.asked ≡ true
-    → (is_empty (entries_text e.names) ≡ false → 0 < used)
-    → rank e.asked + 1 ≤ cost_of e + used + rank (after_exchange e why).next
-rank_step e why used question some =
-    elim (asked_is e.asked question) [
-      | open_it at ↦ grind (arith, at)
-      | read_it at ↦ grind (arith, at)
-      | close_it at ↦ grind (arith, at)
-      | sort_it at ↦ grind (arith, at)
-    ]
+holds_from : (n : ℕ) → HoldsFrom n
+holds_from zero s l between = over between
+holds_from (suc n) s l between =
+    weak (4 + 4 * n) (omega arith) (both 4 (4 * n) (part_goes s l between) (behind n (holds_from n)))
+    (λ t c done. done)
 
-rank_most : (next : ℕ) → rank next ≤ 4
-rank_most next = grind arith
-
-ranked : (held : ℕ) (history : List Exchange) → IsHistory held history
-    → length history ≤ costs history + used_after history + rank (next_after history).next
-ranked held [] h = omega arith
-ranked held (e ∷ older) h =
-    let ih = ranked held older h.1 in
-    let step = rank_step e (next_after older).error (length (entries_text e.names)) h.0.question
-    (some_by (entries_text e.names)) in
-    let same = ap rank h.0.due in
-    omega (arith, ih, step, same, used_more e older)
-
-pub few : (held : ℕ) (history : List Exchange) → IsHistory held history
-    → length history ≤ costs history + used_after history + 4
-few held history h = omega (arith, ranked held history h, rank_most (next_after history).next)
+pub listings-hold : ListingsHold
+listings-hold n =
+    (holds_from n nothing at_first (record {
+      stands = record { opened = refl; held = refl; reads = refl; sorted = refl; few = refl };
+      used = refl;
+    })).each

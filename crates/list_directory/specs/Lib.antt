@@ -1,4 +1,5 @@
-pub mod History
-pub mod Listing
+pub mod Names
 pub mod Parts
 pub mod Promises
+pub mod Reading
+pub mod Seen

@@ -22,10 +22,6 @@ part_size held =
     if nat_lt (share held) LEAST_PART then LEAST_PART
     else (if nat_lt MOST_PART (share held) then MOST_PART else share held)
 
--- what getdents64(2) may give at once
-abbrev pub records_size : ℕ → ℕ
-records_size part = if nat_lt part 32768 then 4096 else 32768
-
 -- ---- what a call holds
 
 -- A directory's names were read, so many bytes. Or the ones at this place are let go.

@@ -1,88 +1,46 @@
--- What holds of every history.
-use Rattle.std.specs.Prelude.{◌≡◌, ℕ, ◌+◌, List, [], ◌∷◌, ◌==◌, ◌⊎◌, Bool, true, false, ◌&&◌, ◌||◌, not, if◌then◌else◌}
-use Rattle.path_text.specs.Text.{is_empty}
-use Rattle.system_calls.specs.Errors.{ENOENT, EINTR}
-use Rattle.system_calls.specs.Listing.{entries_text}
-use Rattle.list_directory.specs.History.{Exchange}
-use Rattle.list_directory.specs.declared.listing.TheConstants.{OPEN, READ, CLOSE, SORT}
+-- What holds of listings.
+use Rattle.std.specs.Prelude.{◌≡◌, ◌≢◌, ◌≤◌, ◌⊎◌, ℕ, ◌+◌, ◌*◌, [], length, Option, Some, None}
+use Rattle.dialogue.specs.Holds.{EachHolds}
+use Rattle.list_directory.specs.Reading.{at_first, parts}
+use Rattle.list_directory.specs.Seen.{AreAll, HaveFailed, IsOpen, IsUnopened, Seen, nothing, used_by, watch}
+use Rattle.list_directory.specs.declared.reading.Came.{Came}
+use Rattle.list_directory.specs.declared.reading.Came.TheVariants.{Listed, Failed, Again}
+use Rattle.list_directory.specs.declared.reading.Listing.{Listing}
 
--- ---- descriptors
+-- one question for each signal, one for each read; it is opened, closed and sorted
+abbrev pub AreFew : Seen → Type 0
+AreFew s = s.asked ≤ s.signals + length s.reads + 3
 
--- whether the directory is open
-abbrev pub open_by : Exchange → Bool → Bool
-open_by e was = if e.asked == OPEN then e.error == 0 else (if e.asked == CLOSE then false else was)
+-- All was read, as far as there was room. The names were sorted, after the directory was closed.
+pub record IsListed (s : Seen) (size : ℕ) : Type 0 where
+  pub held : s.held ≡ []
+  pub all : AreAll s.reads
+  pub used : size ≡ used_by s.reads
+  pub sorted : s.sorted ≡ Some 0
+  pub few : AreFew s
 
-abbrev pub is_open_after : List Exchange → Bool
-is_open_after [] = false
-is_open_after (e ∷ older) = open_by e (is_open_after older)
+-- It could not be opened by this error, or a read or the sort failed by it.
+pub record IsWhy (s : Seen) (error : ℕ) : Type 0 where
+  pub held : s.held ≡ []
+  pub some : error ≢ 0
+  pub why : ((s.opened ≡ Some error) × (s.reads ≡ []))
+      ⊎ (HaveFailed s.reads error ⊎ (AreAll s.reads × (s.sorted ≡ Some error)))
+  pub few : AreFew s
 
--- it is read and closed while it is open, and nothing else is asked for then, nor is that the end
-abbrev pub needs_open : ℕ → Bool
-needs_open next = (next == READ) || (next == CLOSE)
+abbrev pub Stands : Seen → Option ℕ → Type 0
+Stands s None = IsUnopened s
+Stands s (Some directory) = IsOpen s directory
 
--- ---- what an open needs
+-- between two parts
+pub record IsBetween (s : Seen) (l : Listing) : Type 0 where
+  pub stands : Stands s l.directory
+  pub used : l.used ≡ used_by s.reads
 
--- a signal interrupted the last one
-abbrev pub WasInterrupted : Exchange → Type 0
-WasInterrupted e = (e.asked ≡ OPEN) × (e.error ≡ EINTR)
+abbrev pub Ends : Seen → Came → Type 0
+Ends s (Listed used) = IsListed s used
+Ends s (Failed error) = IsWhy s error
+Ends s (Again l) = IsBetween s l
 
--- it is the first, or a signal interrupted the last one
-abbrev pub MayOpen : List Exchange → Type 0
-MayOpen [] = Unit {0}
-MayOpen (e ∷ older) = WasInterrupted e
-
--- ---- errors
-
--- what isn't the listing's error: none; a signal; and a directory that is gone
-abbrev pub is_no_error : Exchange → Bool
-is_no_error e =
-    (e.asked == CLOSE)
-    || (((e.error == 0) && (e.fault == 0))
-    || (((e.asked == OPEN) && (e.error == EINTR))
-    || ((e.asked == READ) && ((e.error == EINTR) || (e.error == ENOENT)))))
-
-abbrev pub NoError : Exchange → Type 0
-NoError e = is_no_error e ≡ true
-
--- an exchange ended by this error, or what it read has it
-abbrev pub Gave : Exchange → ℕ → Type 0
-Gave e error = (e.error ≡ error) ⊎ (e.fault ≡ error)
-
-abbrev pub LastGave : List Exchange → ℕ → Type 0
-LastGave [] error = ⊥
-LastGave (e ∷ older) error = Gave e error
-
--- the error is that of the last system call or sort; or of the one before the directory was closed
-abbrev pub IsWhy : List Exchange → ℕ → Type 0
-IsWhy [] error = ⊥
-IsWhy (e ∷ older) error = Gave e error ⊎ ((e.asked ≡ CLOSE) × LastGave older error)
-
--- ---- the end
-
--- the names were sorted, right after the directory was closed
-abbrev pub WasClosed : List Exchange → Type 0
-WasClosed [] = ⊥
-WasClosed (e ∷ older) = e.asked ≡ CLOSE
-
-abbrev pub WasSorted : List Exchange → Type 0
-WasSorted [] = ⊥
-WasSorted (e ∷ older) = (e.asked ≡ SORT) × ((e.error ≡ 0) × WasClosed older)
-
--- there was no room for the next name
-abbrev pub is_full : List Exchange → Bool
-is_full [] = false
-is_full (e ∷ older) = e.full
-
--- One for each signal that interrupted openat(2) or getdents64(2), and one for each time that records were read and
--- none of them was taken as an entry's.
-abbrev pub took_no_entry : Exchange → Bool
-took_no_entry e = not (is_empty e.records) && is_empty (entries_text e.names)
-
-abbrev pub cost_of : Exchange → ℕ
-cost_of e =
-    if ((e.asked == OPEN) || (e.asked == READ)) && (e.error == EINTR) then 1
-    else (if (e.asked == READ) && ((e.error == 0) && took_no_entry e) then 1 else 0)
-
-abbrev pub costs : List Exchange → ℕ
-costs [] = 0
-costs (e ∷ older) = costs older + cost_of e
+-- four questions at most for each part
+abbrev pub ListingsHold : Type 0
+ListingsHold = (n : ℕ) → EachHolds watch (4 * n) nothing (parts n at_first) Ends

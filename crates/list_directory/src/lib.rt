@@ -1,17 +1,18 @@
-//! Which system call comes next as the names of a directory are read, by what the calls before gave.
+//! A directory that is listed: which system call comes next, and how many bytes of names the directory gets.
 //!
-//! A driver makes the calls, one at a time, and hands over what a call gave. The names of the records that it read
-//! are taken here. No function makes a system call or takes memory.
+//! A part of a listing is a dialogue: it asks to open, read and close the directory, and to sort the names. Behind it
+//! comes the end, or another part. The names of the records that were read are taken here. No function makes a system
+//! call or takes memory.
 #![tactic(auto)]
 
+mod asking;
 mod laws;
-mod listing;
 mod parts;
+mod reading;
+mod taking;
 
-pub use laws::{
-    a_full_part_has_names, a_part_is_bounded, a_signal_ends_nothing, all_levels_are_bounded,
-    an_open_is_tried_again_for_a_reason, calls_are_few, each_open_is_closed_once,
-    no_error_is_passed_over, what_is_gone_has_no_more_names, what_is_listed_was_sorted,
-    why_it_fails,
-};
-pub use listing::{CLOSE, ENDS, FAILS, Listing, OPEN, READ, SORT, begin, next};
+pub use asking::{Asked, Outcome, Question};
+pub use laws::{a_part_is_bounded, all_levels_are_bounded, listings_hold, names_are_those_of_the_records};
+pub use parts::part_size;
+pub use reading::{Came, Listing, a_part};
+pub use taking::take_read;

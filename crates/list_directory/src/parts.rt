@@ -1,6 +1,6 @@
-//! How large a directory's part of the names is, and how much of it is read at once.
+//! How large a directory's part of the names is.
 ghost use Rattle.std.specs.Prelude.{◌≡◌};
-ghost use Rattle.list_directory.specs.Parts.{part_size, records_size};
+ghost use Rattle.list_directory.specs.Parts.{part_size};
 
 // So many bytes of names a call holds, but for the least parts.
 const ALL_NAMES: usize = 4_194_304;
@@ -10,12 +10,10 @@ const LEAST_PART: usize = 512;
 
 const MOST_PART: usize = 1_048_576;
 
-const RECORDS: usize = 32_768;
-
-const FEW_RECORDS: usize = 4_096;
-
-// A fourth of what is left, so that each level of a tree gets its part.
-pub(crate) fn part_size(held: usize) -> usize
+/// How many bytes of names a directory gets, where a call holds so many of other directories' names: a fourth of what
+/// is left of 4 MiB, so that each level of a tree gets its part; but 512 bytes at least, and 1 MiB at most. Takes no
+/// memory.
+pub fn part_size(held: usize) -> usize
     ensures { result ≡ part_size held }
 {
     let part = ALL_NAMES.saturating_sub(held) / 4;
@@ -26,10 +24,4 @@ pub(crate) fn part_size(held: usize) -> usize
     } else {
         part
     }
-}
-
-pub(crate) fn records_size(part: usize) -> usize
-    ensures { result ≡ records_size part }
-{
-    if part < RECORDS { FEW_RECORDS } else { RECORDS }
 }

@@ -9,6 +9,7 @@ use crate::path::piece;
 use dialogue::{Answer, Asked, Question, ask};
 use find_proc::Known;
 use linux_steps::{Ended, LinkEntry};
+use list_directory::Came;
 use place_protocol::{BY_NAME, BY_PARENT, BY_ROOT};
 use std::alloc::Global;
 use system_calls::errors::{EMFILE, ENFILE};
@@ -184,11 +185,8 @@ impl Steps {
     pub(crate) fn listed(&mut self, alloc: Global, error: u32, value: u32, read: &[u8]) {
         self.listing
             .take(alloc, error, value, read, &mut self.attempt.names);
-        if !self.listing.is_over() {
-            return;
-        }
-        match self.listing.listed() {
-            Ok(length) => {
+        match self.listing.came {
+            Ok(Came::Listed(length)) => {
                 let handle = self.talk.handle();
                 let slot = self.attempt.handles.at(handle);
                 self.attempt.handles.set(
@@ -202,7 +200,8 @@ impl Steps {
                 let answer = listed(alloc, self.attempt.names.as_slice());
                 self.answer(answer);
             }
-            Err(error) => self.unlisted(error),
+            Ok(Came::Failed(error)) => self.unlisted(error),
+            _ => {}
         }
     }
 }

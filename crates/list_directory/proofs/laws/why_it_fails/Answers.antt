@@ -1,5 +1,0 @@
-use Rattle.list_directory.proofs.HistoryLemmas.{fails}
-use Rattle.list_directory.proofs.laws.why_it_fails.Goals as goal
-
-pub returns : goal.returns
-returns c = fails
