@@ -1,4 +1,5 @@
 //! The statuses, and what a command line asks for.
+use clap::ArgMatches;
 use command_line::{
     Drawing, Fault, Request, Screen, asked, blamed, command, is_strict, order_of, script_named,
     status, style_of,
@@ -6,12 +7,14 @@ use command_line::{
 use draw_command::Form;
 use drawings::{Closes, Colours, Legend};
 use outcome_text::{ExploreFault, OptionFault, Options, SearchFault};
+use path_text::NoMemory;
 use run_command::ServiceFault;
 use scripts::{RunFault, ScriptFault, TurnOrder};
 use std::alloc::Global;
+use step_text::Output;
 
 /// The fault of a search that gives nothing.
-fn searched(fault: SearchFault) -> Fault {
+pub fn searched(fault: SearchFault) -> Fault {
     Fault::from(ExploreFault::from(fault))
 }
 
@@ -49,136 +52,149 @@ fn ends_with_its_statuses(rt: HostRuntime) {
         (Err(Fault::ReplayEvents), 4),
         (Err(Fault::Service(ServiceFault::Lost(0))), 4),
     ] {
-        assert!(rt; status(&ended) == want, "{want:?}");
+        assert!(rt; status(&ended) == want, "{ended:?}");
     }
 }
 
-/// How a replay or a drawing is written.
-#[derive(Clone, Copy, PartialEq, Eq)]
-enum Written {
-    Text,
-    Json,
-    Picture,
-    Svg,
-    Page,
+// A command line without its first word, and what it asks for: a walk's path and restrictions; the turns of a replay or
+// a drawing, how it is written, and whether with what is closed; the workers of a run. A script that is read strictly
+// and its file come last.
+const LINES: &str = "\
+walk a = walk a
+walk a file = walk a of file
+walk --no-links -- -a = walk -a no_links
+walk -b -L a file = walk a beneath no_links of file
+walk a --strict = walk a strict
+walk --no-links a = walk a no_links
+replay = replay script text
+replay --schedule 0*3,1 = replay 0*3,1 text
+replay --schedule=1 --json = replay 1 json
+replay file = replay script text of file
+replay file a = none
+replay file --json = replay script json of file
+replay --strict = replay script text strict
+replay --html = none
+replay --svg = none
+--strict replay = none
+draw --all = draw script picture shown
+draw --schedule=- --svg = draw - svg hidden
+draw --html --all = draw script page shown
+draw --html --svg = none
+draw --json = none
+draw --all --strict = draw script picture shown strict
+draw -- -file = draw script picture hidden of -file
+run --workers 1 = run 1
+run --workers=8 = run 8
+run --workers 0 = none
+run --workers 9 = none
+run --workers x = none
+run --workers = none
+run = none
+run --workers 1 --strict = run 1 strict
+run --workers 1 file = run 1 of file
+explore = explore
+explore --strict --cuts 1 = explore strict
+explore --never row file = explore of file
+explore --merge = merge";
+
+/// Adds words, one after another.
+fn add(out: &mut Output, words: &[&str]) -> Result<(), NoMemory> {
+    for word in words {
+        out.text(word)?;
+    }
+    Ok(())
 }
 
-/// Turns that are asked for with a replay or a drawing, how it is written, and whether with what is closed.
-type Run<'a> = (Option<&'a str>, Written, Closes);
-
-fn is_run(want: Option<Run>, schedule: Option<&str>, written: Written, closes: Closes) -> bool {
-    match want {
-        Some((turns, form, shown)) => turns == schedule && form == written && shown == closes,
-        None => false,
-    }
+/// The word where that is so, and else nothing.
+fn word_if(is_so: bool, word: &str) -> &str {
+    if is_so { word } else { "" }
 }
 
 /// How a drawing that is asked for is written.
-fn written_as(drawing: Drawing) -> Written {
-    if drawing.html {
-        Written::Page
-    } else if drawing.svg {
-        Written::Svg
-    } else {
-        Written::Picture
+fn form_of(drawing: Drawing) -> &'static str {
+    match (drawing.html, drawing.svg) {
+        (true, _) => " page",
+        (false, true) => " svg",
+        (false, false) => " picture",
     }
 }
 
-/// Whether a command line asks for this replay or drawing, or for none.
-fn asks_run(alloc: Global, words: &[&str], want: Option<Run>) -> bool {
-    let Ok(command) = command(alloc) else {
-        return false;
-    };
-    let Ok(matches) = command.try_get_matches_from(words) else {
-        return want.is_none();
-    };
-    match asked(&matches) {
-        Some(Request::Replay(replaying)) => {
-            let written = if replaying.json {
-                Written::Json
-            } else {
-                Written::Text
-            };
-            is_run(want, replaying.schedule, written, Closes::Hidden)
+/// Tells what is asked for.
+fn tell_request(out: &mut Output, request: Request) -> Result<(), NoMemory> {
+    match request {
+        Request::Walk(walk) => {
+            let beneath = word_if(walk.flags.beneath, " beneath");
+            let no_links = word_if(walk.flags.no_links, " no_links");
+            add(out, &["walk ", walk.path, beneath, no_links])
         }
-        Some(Request::Draw(drawing)) => {
-            is_run(want, drawing.schedule, written_as(drawing), drawing.closes)
+        Request::Replay(replaying) => {
+            let form = if replaying.json { " json" } else { " text" };
+            add(
+                out,
+                &["replay ", replaying.schedule.unwrap_or("script"), form],
+            )
         }
-        _ => want.is_none(),
+        Request::Draw(drawing) => {
+            let turns = drawing.schedule.unwrap_or("script");
+            let are_shown = drawing.closes == Closes::Shown;
+            let closes = if are_shown { " shown" } else { " hidden" };
+            add(out, &["draw ", turns, form_of(drawing), closes])
+        }
+        Request::Run(workers) => {
+            out.text("run ")?;
+            out.number(workers as u64)
+        }
+        Request::Explore(_) => out.text("explore"),
+        Request::ExplorePage(_) => out.text("page"),
+        Request::Part(_) => out.text("part"),
+        Request::Merge(_) => out.text("merge"),
     }
 }
 
-/// Whether a command line asks for this walk.
-fn asks(alloc: Global, words: &[&str], path: &str, beneath: bool, no_links: bool) -> bool {
-    let Ok(command) = command(alloc) else {
-        return false;
+/// Tells what is asked for, whether strictly, and of which file.
+fn tell(out: &mut Output, matches: &ArgMatches) -> Result<(), NoMemory> {
+    match asked(matches) {
+        Some(request) => tell_request(out, request)?,
+        None => out.text("nothing")?,
+    }
+    out.text(word_if(is_strict(matches), " strict"))?;
+    match script_named(matches) {
+        Some(file) => add(out, &[" of ", file]),
+        None => Ok(()),
+    }
+}
+
+/// Whether a command line asks for that, and where it is refused for none.
+fn asks(alloc: Global, line: &str, wanted: &str) -> Option<bool> {
+    let mut words = Vec::new(alloc);
+    words.push("inroot").ok()?;
+    for word in line.split(' ') {
+        words.push(word).ok()?;
+    }
+    let command = command(alloc).ok()?;
+    let Ok(matches) = command.try_get_matches_from(words.as_slice()) else {
+        return Some(wanted == "none");
     };
-    let Ok(matches) = command.try_get_matches_from(words) else {
-        return false;
-    };
-    let Some(Request::Walk(walk)) = asked(&matches) else {
-        return false;
-    };
-    walk.path == path && walk.flags.beneath == beneath && walk.flags.no_links == no_links
+    let mut told = Output::new(alloc);
+    tell(&mut told, &matches).ok()?;
+    Some(told.as_slice() == wanted.as_bytes())
 }
 
 #[test]
 fn reads_its_command_line(rt: HostRuntime) {
-    let words = ["inroot", "walk", "--no-links", "--", "-a"];
-    assert!(rt; asks(rt.alloc(), &words, "-a", false, true));
-    let words = ["inroot", "walk", "-b", "-L", "a", "file"];
-    assert!(rt; asks(rt.alloc(), &words, "a", true, true));
-    for (words, want) in [
-        (
-            ["inroot", "replay"].as_slice(),
-            Some((None, Written::Text, Closes::Hidden)),
-        ),
-        (
-            &["inroot", "replay", "--schedule", "0*3,1"],
-            Some((Some("0*3,1"), Written::Text, Closes::Hidden)),
-        ),
-        (
-            &["inroot", "replay", "--schedule=1", "--json"],
-            Some((Some("1"), Written::Json, Closes::Hidden)),
-        ),
-        (
-            &["inroot", "replay", "file"],
-            Some((None, Written::Text, Closes::Hidden)),
-        ),
-        (&["inroot", "replay", "file", "a"], None),
-        (
-            &["inroot", "draw", "--all"],
-            Some((None, Written::Picture, Closes::Shown)),
-        ),
-        (
-            &["inroot", "draw", "--schedule=-", "--svg"],
-            Some((Some("-"), Written::Svg, Closes::Hidden)),
-        ),
-        (
-            &["inroot", "draw", "--html", "--all"],
-            Some((None, Written::Page, Closes::Shown)),
-        ),
-        (&["inroot", "draw", "--html", "--svg"], None),
-        (&["inroot", "draw", "--json"], None),
-        (&["inroot", "replay", "--html"], None),
-        (&["inroot", "replay", "--svg"], None),
-    ] {
-        assert!(rt; asks_run(rt.alloc(), words, want), "{words:?}");
+    for row in LINES.lines() {
+        let (line, wanted) = row.split_once(" = ").unwrap_or((row, ""));
+        assert!(rt; asks(rt.alloc(), line, wanted) == Some(true), "{row}");
     }
 }
 
 /// Whether a command line asks for an exploration with these options.
-fn asks_explored(alloc: Global, words: &[&str], want: Options) -> bool {
-    let Ok(command) = command(alloc) else {
-        return false;
-    };
-    let Ok(matches) = command.try_get_matches_from(words) else {
-        return false;
-    };
+fn asks_explored(alloc: Global, words: &[&str], want: Options) -> Option<bool> {
+    let matches = command(alloc).ok()?.try_get_matches_from(words).ok()?;
     let Some(Request::Explore(options)) = asked(&matches) else {
-        return false;
+        return None;
     };
-    options.actors == want.actors
+    let are_so = options.actors == want.actors
         && options.cuts == want.cuts
         && options.begin == want.begin
         && options.states == want.states
@@ -186,33 +202,21 @@ fn asks_explored(alloc: Global, words: &[&str], want: Options) -> bool {
         && options.outside == want.outside
         && options.when == want.when
         && options.never == want.never
-        && options.always == want.always
+        && options.always == want.always;
+    Some(are_so)
 }
+
+#[rattlefmt::skip]
+const EXPLORED: &[&str] = &[
+    "inroot", "explore", "--actor", "0", "--never", "held 0 2", "--actor=2", "--cuts", "1", "--begin", "0,1*2",
+    "--states=7", "--memory", "512", "--outside", "--when", "row", "--always", "held 1 1",
+];
 
 #[test]
 fn reads_what_is_to_be_explored(rt: HostRuntime) {
-    assert!(rt; asks_explored(rt.alloc(), &["inroot", "explore"], Options::default()));
-    let words = [
-        "inroot",
-        "explore",
-        "--actor",
-        "0",
-        "--never",
-        "held 0 2",
-        "--actor=2",
-        "--cuts",
-        "1",
-        "--begin",
-        "0,1*2",
-        "--states=7",
-        "--memory",
-        "512",
-        "--outside",
-        "--when",
-        "row",
-        "--always",
-        "held 1 1",
-    ];
+    assert!(rt;
+        asks_explored(rt.alloc(), &["inroot", "explore"], Options::default()) == Some(true)
+    );
     let want = Options {
         actors: &["0", "2"],
         cuts: Some("1"),
@@ -224,7 +228,7 @@ fn reads_what_is_to_be_explored(rt: HostRuntime) {
         never: &["held 0 2"],
         always: &["held 1 1"],
     };
-    assert!(rt; asks_explored(rt.alloc(), &words, want));
+    assert!(rt; asks_explored(rt.alloc(), EXPLORED, want) == Some(true));
 }
 
 /// How many pieces of turns a text asks for: none where it stands for the script's.
@@ -247,82 +251,6 @@ fn reads_the_turns_that_are_asked_for(rt: HostRuntime) {
     }
 }
 
-/// How many workers a command line asks for.
-fn asks_workers(alloc: Global, words: &[&str]) -> Option<usize> {
-    let matches = command(alloc).ok()?.try_get_matches_from(words).ok()?;
-    match asked(&matches)? {
-        Request::Run(workers) => Some(workers),
-        _ => None,
-    }
-}
-
-#[test]
-fn reads_how_many_workers(rt: HostRuntime) {
-    for (words, want) in [
-        (["inroot", "run", "--workers", "1"].as_slice(), Some(1)),
-        (["inroot", "run", "--workers=8"].as_slice(), Some(8)),
-        (["inroot", "run", "--workers", "0"].as_slice(), None),
-        (["inroot", "run", "--workers", "9"].as_slice(), None),
-        (["inroot", "run", "--workers", "x"].as_slice(), None),
-        (["inroot", "run", "--workers"].as_slice(), None),
-        (["inroot", "run"].as_slice(), None),
-    ] {
-        assert!(rt; asks_workers(rt.alloc(), words) == want, "{words:?}");
-    }
-}
-
-/// Whether a command line asks that its script is read strictly.
-fn asks_strictly(alloc: Global, words: &[&str]) -> Option<bool> {
-    let matches = command(alloc).ok()?.try_get_matches_from(words).ok()?;
-    Some(is_strict(&matches))
-}
-
-#[test]
-fn reads_whether_it_is_strict(rt: HostRuntime) {
-    for (words, want) in [
-        (["inroot", "walk", "a", "--strict"].as_slice(), Some(true)),
-        (&["inroot", "walk", "--no-links", "a"], Some(false)),
-        (&["inroot", "replay", "--strict"], Some(true)),
-        (&["inroot", "draw", "--all", "--strict"], Some(true)),
-        (&["inroot", "run", "--workers", "1", "--strict"], Some(true)),
-        (
-            &["inroot", "explore", "--strict", "--cuts", "1"],
-            Some(true),
-        ),
-        (&["inroot", "explore"], Some(false)),
-        (&["inroot", "--strict", "replay"], None),
-    ] {
-        assert!(rt; asks_strictly(rt.alloc(), words) == want, "{words:?}");
-    }
-}
-
-/// Whether a command line names this file for its script, or none.
-fn names_script(alloc: Global, words: &[&str], want: Option<&str>) -> Option<bool> {
-    let matches = command(alloc).ok()?.try_get_matches_from(words).ok()?;
-    Some(script_named(&matches) == want)
-}
-
-#[test]
-fn reads_the_file_of_its_script(rt: HostRuntime) {
-    for (words, want) in [
-        (["inroot", "walk", "a"].as_slice(), None),
-        (&["inroot", "walk", "a", "file"], Some("file")),
-        (&["inroot", "replay", "file", "--json"], Some("file")),
-        (&["inroot", "draw", "--", "-file"], Some("-file")),
-        (&["inroot", "run", "--workers", "1", "file"], Some("file")),
-        (
-            &["inroot", "explore", "--never", "row", "file"],
-            Some("file"),
-        ),
-        (&["inroot", "explore", "--merge"], None),
-    ] {
-        assert!(rt;
-            names_script(rt.alloc(), words, want) == Some(true),
-            "{words:?}"
-        );
-    }
-}
-
 /// How a picture looks: its columns, its colours, and whether it is said that closes are left out; or why there is
 /// none.
 type Look = Result<(usize, Colours, Legend), Fault>;
@@ -334,89 +262,29 @@ fn look_of(drawing: Drawing, screen: Screen) -> Look {
     }
 }
 
-/// A case: the width and the colours that are asked for, the columns of the terminal, if it is one, whether that has no
-/// colours, and how the picture looks.
-type Case<'a> = (
-    Option<&'a str>,
-    Option<&'a str>,
-    Option<&'a str>,
-    bool,
-    bool,
-    Look,
-);
+/// The width and the colours that are asked for.
+type Wish<'a> = (Option<&'a str>, Option<&'a str>);
 
-const CASES: [Case; 10] = [
-    (
-        None,
-        None,
-        Some("60"),
-        false,
-        false,
-        Ok((100, Colours::Off, Legend::Off)),
-    ),
-    (
-        None,
-        None,
-        Some("60"),
-        true,
-        false,
-        Ok((60, Colours::On, Legend::NoCloses)),
-    ),
-    (
-        None,
-        None,
-        None,
-        true,
-        true,
-        Ok((80, Colours::Off, Legend::NoCloses)),
-    ),
-    (
-        None,
-        None,
-        Some("39"),
-        true,
-        false,
-        Ok((80, Colours::On, Legend::NoCloses)),
-    ),
-    (
-        None,
-        Some("always"),
-        None,
-        false,
-        true,
-        Ok((100, Colours::On, Legend::Off)),
-    ),
-    (
-        None,
-        Some("never"),
-        None,
-        true,
-        false,
-        Ok((80, Colours::Off, Legend::NoCloses)),
-    ),
-    (
-        Some("40"),
-        Some("auto"),
-        None,
-        false,
-        false,
-        Ok((40, Colours::Off, Legend::NoCloses)),
-    ),
-    (Some("39"), None, None, true, false, Err(Fault::Width)),
-    (
-        Some("10001"),
-        Some("on"),
-        None,
-        true,
-        false,
-        Err(Fault::Width),
-    ),
-    (None, Some("on"), None, true, false, Err(Fault::Color)),
+/// The columns of what is written to, whether it is a terminal, and whether that has no colours.
+type Onto<'a> = (Option<&'a str>, bool, bool);
+
+#[rattlefmt::skip]
+const LOOKS: [(Wish, Onto, Look); 10] = [
+    ((None, None), (Some("60"), false, false), Ok((100, Colours::Off, Legend::Off))),
+    ((None, None), (Some("60"), true, false), Ok((60, Colours::On, Legend::NoCloses))),
+    ((None, None), (None, true, true), Ok((80, Colours::Off, Legend::NoCloses))),
+    ((None, None), (Some("39"), true, false), Ok((80, Colours::On, Legend::NoCloses))),
+    ((None, Some("always")), (None, false, true), Ok((100, Colours::On, Legend::Off))),
+    ((None, Some("never")), (None, true, false), Ok((80, Colours::Off, Legend::NoCloses))),
+    ((Some("40"), Some("auto")), (None, false, false), Ok((40, Colours::Off, Legend::NoCloses))),
+    ((Some("39"), None), (None, true, false), Err(Fault::Width)),
+    ((Some("10001"), Some("on")), (None, true, false), Err(Fault::Width)),
+    ((None, Some("on")), (None, true, false), Err(Fault::Color)),
 ];
 
 #[test]
 fn draws_as_it_is_asked_to(rt: HostRuntime) {
-    for (width, color, columns, is_terminal, is_plain, want) in CASES {
+    for ((width, color), (columns, is_terminal, is_plain), want) in LOOKS {
         let drawing = Drawing {
             schedule: None,
             svg: false,
@@ -451,6 +319,9 @@ fn blames_the_turns_that_are_asked_for(rt: HostRuntime) {
         (ScriptFault::TooManyTurns, Fault::AskedTurns),
         (ScriptFault::Lines, script),
     ] {
-        assert!(rt; blamed_for(rt.alloc(), "0*3,7", fault) == Ok(want));
+        assert!(rt;
+            blamed_for(rt.alloc(), "0*3,7", fault) == Ok(want),
+            "{want:?}"
+        );
     }
 }

@@ -18,25 +18,25 @@ fn tells(alloc: Global, fault: RunFault, want: &str) -> bool {
     }
 }
 
+/// A fault, and how it is told.
+#[rattlefmt::skip]
+const TOLD: [(RunFault, &str); 6] = [
+    (RunFault::Script(ScriptFault::TreeEntry(7, Cause::Refused(Errno::Loop))),
+        "script: tree 7\nELOOP: it has no place"),
+    (RunFault::Script(ScriptFault::Call(1, 2, None)), "script: call 1 2\na call has an \"op\" with its fields"),
+    (RunFault::ReadFailed, "read failed"),
+    (RunFault::WriteFailed, "write failed"),
+    (RunFault::NoMemory, "no memory"),
+    (RunFault::BookFull, "book full"),
+];
+
 #[test]
 fn tells_faults(rt: HostRuntime) {
     first_refused_entry_is_told();
     each_refusal_is_told();
-    let alloc = rt.alloc();
-    let entry = ScriptFault::TreeEntry(7, Cause::Refused(Errno::Loop));
-    let are_told = tells(
-        alloc,
-        RunFault::Script(entry),
-        "script: tree 7\nELOOP: it has no place",
-    ) && tells(
-        alloc,
-        RunFault::Script(ScriptFault::Call(1, 2, None)),
-        "script: call 1 2\na call has an \"op\" with its fields",
-    ) && tells(alloc, RunFault::ReadFailed, "read failed")
-        && tells(alloc, RunFault::WriteFailed, "write failed")
-        && tells(alloc, RunFault::NoMemory, "no memory")
-        && tells(alloc, RunFault::BookFull, "book full");
-    assert!(rt; are_told);
+    for (fault, want) in TOLD {
+        assert!(rt; tells(rt.alloc(), fault, want), "{want}");
+    }
 }
 
 /// Whether a script that is looked at strictly passes, or else is refused in these words.

@@ -1,5 +1,5 @@
-//! What command lines ask for, and the statuses that the program ends with; walks over both trees that no script makes,
-//! faults that no script meets, and what is told of a fault.
+//! What command lines ask for, what commands write, and the statuses that the program ends with; walks over both trees
+//! that no script makes, faults that no script meets, and what is told of a fault.
 #![tactic(auto)]
 
 #[cfg(test)]
@@ -12,3 +12,5 @@ mod messages;
 mod reads;
 #[cfg(test)]
 mod walks;
+#[cfg(test)]
+mod written;

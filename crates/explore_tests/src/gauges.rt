@@ -4,7 +4,6 @@ use explore_command::{Gauge, Silent, explore_part, explore_script, peak_in};
 use outcome_text::ExploreFault;
 use search_tests::scenes::{REMOVED, script_of};
 use std::alloc::Global;
-use std::test::Fail;
 
 /// A gauge that says so many bytes, or nothing.
 #[derive(Drop)]
@@ -25,21 +24,14 @@ impl Gauge for Says {
 /// A limit of megabytes, what the gauge says, and how a search ends.
 type Case = (Option<u32>, Option<u64>, Result<(), ExploreFault>);
 
+#[rattlefmt::skip]
 const CASES: [Case; 7] = [
     (None, None, Ok(())),
     (None, Some(u64::MAX), Ok(())),
     (Some(1), Some(1_000_000), Ok(())),
-    (
-        Some(1),
-        Some(1_000_001),
-        Err(ExploreFault::TooMuchMemory(1)),
-    ),
+    (Some(1), Some(1_000_001), Err(ExploreFault::TooMuchMemory(1))),
     (Some(512), Some(512_000_000), Ok(())),
-    (
-        Some(512),
-        Some(u64::MAX),
-        Err(ExploreFault::TooMuchMemory(512)),
-    ),
+    (Some(512), Some(u64::MAX), Err(ExploreFault::TooMuchMemory(512))),
     (Some(1_000_000), None, Err(ExploreFault::NoGauge)),
 ];
 
@@ -63,35 +55,26 @@ fn ends_so(alloc: Global, case: &Case, part: bool) -> Option<bool> {
     Some(ended == *wanted && text.is_empty() == wanted.is_err())
 }
 
-/// The place of the first case, from 0, that ends otherwise.
-fn first_wrong(alloc: Global, part: bool) -> Option<usize> {
-    for (at, case) in CASES.iter().enumerate() {
-        if ends_so(alloc, case, part) != Some(true) {
-            return Some(at);
-        }
-    }
-    None
-}
-
 #[test]
-fn searches_end_by_their_gauge(rt: HostRuntime) -> Result<(), Fail> {
-    for part in [false, true] {
-        assert_eq!(rt; first_wrong(rt.alloc(), part), None);
+fn searches_end_by_their_gauge(rt: HostRuntime) {
+    let alloc = rt.alloc();
+    for case in &CASES {
+        let ended = (ends_so(alloc, case, false), ends_so(alloc, case, true));
+        assert!(rt;
+            ended == (Some(true), Some(true)),
+            "{:?} {:?}",
+            case.0,
+            case.1
+        );
     }
-    Ok(())
 }
 
 /// A text of /proc/self/status, and what it says.
+#[rattlefmt::skip]
 const STATUSES: [(&str, Option<u64>); 7] = [
-    (
-        "Name:\tinroot\nVmPeak:\t    9000 kB\nVmHWM:\t    2816 kB\nVmRSS:\t    2700 kB\n",
-        Some(2_883_584),
-    ),
+    ("Name:\tinroot\nVmPeak:\t    9000 kB\nVmHWM:\t    2816 kB\nVmRSS:\t    2700 kB\n", Some(2_883_584)),
     ("Name:\tinroot\nVmHWM:\t       0 kB\n", Some(0)),
-    (
-        "Name:\tVmHWM:\t1 kB\nVmHWM:\t    2816 kB\n",
-        Some(2_883_584),
-    ),
+    ("Name:\tVmHWM:\t1 kB\nVmHWM:\t    2816 kB\n", Some(2_883_584)),
     ("Name:\tinroot\nVmRSS:\t    2700 kB\n", None),
     ("Name:\tinroot\nVmHWM:\t    2816", None),
     ("Name:\tinroot\nVmHWM:\t 18446744073709551615 kB\n", None),
@@ -100,7 +83,7 @@ const STATUSES: [(&str, Option<u64>); 7] = [
 
 #[test]
 fn linux_says_how_much_was_resident(rt: HostRuntime) {
-    for (status, bytes) in STATUSES.iter() {
-        assert_eq!(rt; peak_in(*status), *bytes);
+    for (status, bytes) in STATUSES {
+        assert_eq!(rt; peak_in(status), bytes, "{status}");
     }
 }

@@ -5,6 +5,8 @@
 #[cfg(test)]
 mod gauges;
 #[cfg(test)]
+mod laws;
+#[cfg(test)]
 mod merges;
 #[cfg(test)]
 mod options;

@@ -20,6 +20,7 @@ const PART_1: Begun = (&[1], &[&[0, 1]], 1);
 /// Parts without outcomes, and why they make no whole, if they make none.
 type Merge = (&'static [Begun], Option<MergeFault>);
 
+#[rattlefmt::skip]
 const MERGES: [Merge; 15] = [
     (&[PART_1, PART_0], None),
     (&[(&[], &[], 6)], None),
@@ -28,44 +29,19 @@ const MERGES: [Merge; 15] = [
     (&[], Some(MergeFault::NoSchedule)),
     (&[(&[], &[], 0)], Some(MergeFault::NoSchedule)),
     (&[PART_1, PART_0, PART_1], Some(MergeFault::Overlap(0, 2))),
-    (
-        &[PART_1, (&[0, 1], &[&[0, 1], &[0, 1]], 1), PART_0],
-        Some(MergeFault::Overlap(1, 2)),
-    ),
+    (&[PART_1, (&[0, 1], &[&[0, 1], &[0, 1]], 1), PART_0], Some(MergeFault::Overlap(1, 2))),
     (&[PART_0, (&[], &[], 6)], Some(MergeFault::Overlap(0, 1))),
     // the first part's neighbours in the order of words are the last one, with which it doesn't go along, and part 1
-    (
-        &[
-            (&[0, 2], &[&[0, 1], &[0, 1, 2]], 1),
-            PART_1,
-            PART_0,
-            (&[0, 1], &[&[0, 1], &[0, 1, 2]], 1),
-        ],
-        Some(MergeFault::Overlap(0, 2)),
-    ),
+    (&[(&[0, 2], &[&[0, 1], &[0, 1, 2]], 1), PART_1, PART_0, (&[0, 1], &[&[0, 1], &[0, 1, 2]], 1)],
+        Some(MergeFault::Overlap(0, 2))),
     // an overlap is told before a gap, even if one of the parts has no schedules
-    (
-        &[PART_0, (&[0], &[&[0, 1]], 0)],
-        Some(MergeFault::Overlap(0, 1)),
-    ),
+    (&[PART_0, (&[0], &[&[0, 1]], 0)], Some(MergeFault::Overlap(0, 1))),
     (&[PART_0], Some(MergeFault::Missing(0, 0, 1))),
-    (
-        &[(&[0], &[&[2, 0, 1]], 5), PART_1],
-        Some(MergeFault::Missing(0, 0, 2)),
-    ),
-    (
-        &[PART_1, (&[0, 0], &[&[0, 1], &[0, 1]], 4)],
-        Some(MergeFault::Missing(1, 1, 1)),
-    ),
+    (&[(&[0], &[&[2, 0, 1]], 5), PART_1], Some(MergeFault::Missing(0, 0, 2))),
+    (&[PART_1, (&[0, 0], &[&[0, 1], &[0, 1]], 4)], Some(MergeFault::Missing(1, 1, 1))),
     // a part of no schedules doesn't stand for any
-    (
-        &[PART_0, (&[1], &[&[0, 1]], 0)],
-        Some(MergeFault::Missing(0, 0, 1)),
-    ),
-    (
-        &[(&[0], &[&[0, 1]], 0), (&[1], &[&[0, 1]], 0)],
-        Some(MergeFault::Missing(0, 0, 0)),
-    ),
+    (&[PART_0, (&[1], &[&[0, 1]], 0)], Some(MergeFault::Missing(0, 0, 1))),
+    (&[(&[0], &[&[0, 1]], 0), (&[1], &[&[0, 1]], 0)], Some(MergeFault::Missing(0, 0, 0))),
 ];
 
 /// Equal rows.
@@ -99,19 +75,15 @@ fn fault_of_parts(alloc: Global, begun: &[Begun]) -> Option<Option<MergeFault>> 
     Some(merge(alloc, parts, &Vec::new(alloc)).err())
 }
 
-/// The place of the first parts, from 0, that make a whole otherwise than is wanted, or make none.
-fn first_wrong_merge(alloc: Global) -> Option<usize> {
-    for (at, (begun, wanted)) in MERGES.iter().enumerate() {
-        if fault_of_parts(alloc, begun) != Some(*wanted) {
-            return Some(at);
-        }
-    }
-    None
-}
-
 #[test]
 fn parts_that_make_no_whole_are_refused(rt: HostRuntime) {
-    assert_eq!(rt; first_wrong_merge(rt.alloc()), None);
+    for (at, (begun, wanted)) in MERGES.iter().enumerate() {
+        assert_eq!(rt;
+            fault_of_parts(rt.alloc(), begun),
+            Some(*wanted),
+            "row {at}"
+        );
+    }
 }
 
 /// A script, the most cuts, and a beginning.
@@ -126,14 +98,11 @@ const LINE_0: Line = (REMOVED, None, "0");
 /// The schedules that begin with actor 1.
 const LINE_1: Line = (REMOVED, None, "1");
 
+#[rattlefmt::skip]
 const LINES: [Lines; 18] = [
     (&[LINE_1, LINE_0], "", None),
     // without a cut actor 0 goes on once it has begun
-    (
-        &[(REMOVED, Some("0"), "1"), (REMOVED, Some("0"), "0*2")],
-        "\n",
-        None,
-    ),
+    (&[(REMOVED, Some("0"), "1"), (REMOVED, Some("0"), "0*2")], "\n", None),
     (&[], "", Some(MergeFault::NoSchedule)),
     (&[], "\n\n", Some(MergeFault::NoSchedule)),
     (&[], "7", Some(MergeFault::NotAPart(0))),
@@ -141,58 +110,18 @@ const LINES: [Lines; 18] = [
     // empty lines are passed over, and have no place
     (&[LINE_1, LINE_0], "\n\n{}\n", Some(MergeFault::NotAPart(2))),
     // a line that is no part is told before parts that overlap, and of wrong lines the first
-    (
-        &[LINE_0, LINE_0],
-        "\"part of\"",
-        Some(MergeFault::NotAPart(2)),
-    ),
-    (
-        &[LINE_0, (REMOVED, Some("0"), "1")],
-        "7",
-        Some(MergeFault::OtherQuestion(1)),
-    ),
-    (
-        &[LINE_0, (TWO_RESOLVE, None, "1")],
-        "",
-        Some(MergeFault::OtherQuestion(1)),
-    ),
-    (
-        &[LINE_0, (REMOVED, None, "1,0"), (REMOVED, Some("1"), "1*2")],
-        "",
-        Some(MergeFault::OtherQuestion(2)),
-    ),
-    (
-        &[LINE_0, LINE_1, LINE_0],
-        "",
-        Some(MergeFault::Overlap(0, 2)),
-    ),
-    (
-        &[LINE_1, (REMOVED, None, "0,1"), LINE_0],
-        "",
-        Some(MergeFault::Overlap(1, 2)),
-    ),
-    (
-        &[LINE_1, (REMOVED, None, "")],
-        "",
-        Some(MergeFault::Overlap(0, 1)),
-    ),
+    (&[LINE_0, LINE_0], "\"part of\"", Some(MergeFault::NotAPart(2))),
+    (&[LINE_0, (REMOVED, Some("0"), "1")], "7", Some(MergeFault::OtherQuestion(1))),
+    (&[LINE_0, (TWO_RESOLVE, None, "1")], "", Some(MergeFault::OtherQuestion(1))),
+    (&[LINE_0, (REMOVED, None, "1,0"), (REMOVED, Some("1"), "1*2")], "", Some(MergeFault::OtherQuestion(2))),
+    (&[LINE_0, LINE_1, LINE_0], "", Some(MergeFault::Overlap(0, 2))),
+    (&[LINE_1, (REMOVED, None, "0,1"), LINE_0], "", Some(MergeFault::Overlap(1, 2))),
+    (&[LINE_1, (REMOVED, None, "")], "", Some(MergeFault::Overlap(0, 1))),
     (&[LINE_0], "", Some(MergeFault::Missing(0, 0, 1))),
-    (
-        &[LINE_1, (REMOVED, None, "0*2")],
-        "",
-        Some(MergeFault::Missing(1, 1, 1)),
-    ),
+    (&[LINE_1, (REMOVED, None, "0*2")], "", Some(MergeFault::Missing(1, 1, 1))),
     // where the turns can't be taken the part has no schedules, and those of others are missing
-    (
-        &[(REMOVED, None, "2")],
-        "",
-        Some(MergeFault::Missing(0, 0, 0)),
-    ),
-    (
-        &[LINE_0, (REMOVED, None, "1*2")],
-        "",
-        Some(MergeFault::Missing(0, 0, 1)),
-    ),
+    (&[(REMOVED, None, "2")], "", Some(MergeFault::Missing(0, 0, 0))),
+    (&[LINE_0, (REMOVED, None, "1*2")], "", Some(MergeFault::Missing(0, 0, 1))),
 ];
 
 /// Parts as lines.
@@ -220,20 +149,11 @@ fn fault_of(alloc: Global, lines: &Lines) -> Option<Option<MergeFault>> {
     }
 }
 
-/// The place of the first lines, from 0, that make a whole otherwise than is wanted, or make none.
-fn first_wrong(alloc: Global) -> Option<usize> {
-    for (at, lines) in LINES.iter().enumerate() {
-        let (_, _, wanted) = lines;
-        if fault_of(alloc, lines) != Some(*wanted) {
-            return Some(at);
-        }
-    }
-    None
-}
-
 #[test]
 fn lines_that_make_no_whole_are_refused(rt: HostRuntime) {
-    assert_eq!(rt; first_wrong(rt.alloc()), None);
+    for (at, lines) in LINES.iter().enumerate() {
+        assert_eq!(rt; fault_of(rt.alloc(), lines), Some(lines.2), "row {at}");
+    }
 }
 
 /// Whether lines of which these bits of that byte are changed are refused as none that were written, or as changed, and
@@ -274,37 +194,13 @@ type Untold = (&'static str, Question, u64, ExploreFault);
 const ONE_LINE: &str = r#"{"version":1,"lines":1,"tree":[["dir","/c"]],"actors":[
 {"root":"/c","calls":[]},{"root":"/c","calls":[]}]}"#;
 
+#[rattlefmt::skip]
 const UNTOLD: [Untold; 5] = [
-    (
-        "7",
-        (&[], None, false, &[], &[]),
-        100,
-        ExploreFault::Run(RunFault::Script(ScriptFault::NotObject)),
-    ),
-    (
-        ONE_LINE,
-        (&["2"], None, false, &[], &[]),
-        100,
-        ExploreFault::Run(RunFault::BookFull),
-    ),
-    (
-        REMOVED,
-        (&["1", "2"], None, false, &["held 2"], &[]),
-        100,
-        ExploreFault::NoSuchActor(2),
-    ),
-    (
-        REMOVED,
-        (&["1"], None, false, &["held 1"], &["held 2"]),
-        1,
-        ExploreFault::NoSuchLine(1),
-    ),
-    (
-        REMOVED,
-        (&["1"], None, false, &["held 1"], &[]),
-        14,
-        ExploreFault::Search(SearchFault::TooManyStates),
-    ),
+    ("7", (&[], None, false, &[], &[]), 100, ExploreFault::Run(RunFault::Script(ScriptFault::NotObject))),
+    (ONE_LINE, (&["2"], None, false, &[], &[]), 100, ExploreFault::Run(RunFault::BookFull)),
+    (REMOVED, (&["1", "2"], None, false, &["held 2"], &[]), 100, ExploreFault::NoSuchActor(2)),
+    (REMOVED, (&["1"], None, false, &["held 1"], &["held 2"]), 1, ExploreFault::NoSuchLine(1)),
+    (REMOVED, (&["1"], None, false, &["held 1"], &[]), 14, ExploreFault::Search(SearchFault::TooManyStates)),
 ];
 
 /// Why no part is told, if nothing is written.
@@ -318,20 +214,11 @@ fn untold(alloc: Global, case: &Untold) -> Option<ExploreFault> {
     if written.is_empty() { told.err() } else { None }
 }
 
-/// The place of the first of these, from 0, that is told, or untold for another reason.
-fn first_told(alloc: Global) -> Option<usize> {
-    for (at, case) in UNTOLD.iter().enumerate() {
-        let (_, _, _, wanted) = case;
-        if untold(alloc, case) != Some(*wanted) {
-            return Some(at);
-        }
-    }
-    None
-}
-
 #[test]
 fn parts_are_refused_as_scripts_are(rt: HostRuntime) {
-    assert_eq!(rt; first_told(rt.alloc()), None);
+    for (at, case) in UNTOLD.iter().enumerate() {
+        assert_eq!(rt; untold(rt.alloc(), case), Some(case.3), "row {at}");
+    }
 }
 
 /// A reader of a text, a few bytes at a time, whose second read fails.

@@ -1,14 +1,13 @@
 //! Parts of searches: what each tells, and that parts which have all schedules make what the whole search writes.
 use explore::{Scene, explore};
 use explore_command::{Silent, explore_part, explore_script, part_of_scene, survey_scene};
-use explore_parts::{Asked, merge_parts, read_asked};
+use explore_parts::{Asked, merge_parts, part_text, read_asked, sum_of};
 use outcome_text::{Options, Part, Survey, merge};
 use race_core::ACTORS_MAX;
 use search_tests::scenes::{
     CARRIED_OUT, MOVED_OUT, REMOVED, THREE_MAKE, TWO_MAKE, TWO_RESOLVE, scene_of, script_of,
 };
 use std::alloc::Global;
-use std::test::Fail;
 
 /// The actors that are named, the most cuts, whether steps outside of roots are counted, and the properties by `never`
 /// and by `always`.
@@ -28,65 +27,22 @@ pub fn all_within(cuts: Option<&'static str>) -> Question {
 /// A script, what is asked of it, and whether no property fails.
 type Case = (&'static str, Question, bool);
 
+#[rattlefmt::skip]
 const CASES: [Case; 11] = [
-    (
-        REMOVED,
-        (&[], None, false, &["reply 0 0 fault EAGAIN"], &[]),
-        false,
-    ),
+    (REMOVED, (&[], None, false, &["reply 0 0 fault EAGAIN"], &[]), false),
     // without a cut the directory is removed before the resolution or after it
-    (
-        REMOVED,
-        (
-            &[],
-            Some("0"),
-            false,
-            &["reply 0 0 fault EAGAIN"],
-            &["reply 1 0 stepped done"],
-        ),
-        true,
-    ),
+    (REMOVED, (&[], Some("0"), false, &["reply 0 0 fault EAGAIN"], &["reply 1 0 stepped done"]), true),
     // nobody takes a handle from actor 1: its root, and the two that it opens
     (MOVED_OUT, (&["0"], None, false, &[], &["held 1 3"]), true),
-    (
-        MOVED_OUT,
-        (
-            &["0"],
-            Some("1"),
-            false,
-            &["reply 0 0 fault EAGAIN"],
-            &["reply 1 2 stepped done"],
-        ),
-        false,
-    ),
+    (MOVED_OUT, (&["0"], Some("1"), false, &["reply 0 0 fault EAGAIN"], &["reply 1 2 stepped done"]), false),
     (CARRIED_OUT, (&[], None, true, &[], &["outside 0 0"]), false),
     // nothing is outside of actor 1's root
-    (
-        CARRIED_OUT,
-        (&["0"], None, true, &["outside 1 1"], &["outside 1 0"]),
-        true,
-    ),
+    (CARRIED_OUT, (&["0"], None, true, &["outside 1 1"], &["outside 1 0"]), true),
     (TWO_MAKE, (&[], None, false, &[], &[]), true),
-    (
-        TWO_MAKE,
-        (&["1"], Some("2"), false, &[], &["reply 0 1 opened"]),
-        true,
-    ),
-    (
-        TWO_RESOLVE,
-        (&[], None, false, &["held 0 3"], &["held 0 2"]),
-        true,
-    ),
-    (
-        THREE_MAKE,
-        (&[], None, false, &[], &["reply 2 0 stepped done"]),
-        true,
-    ),
-    (
-        THREE_MAKE,
-        (&["1", "0"], None, false, &[], &["reply 0 0 stepped done"]),
-        false,
-    ),
+    (TWO_MAKE, (&["1"], Some("2"), false, &[], &["reply 0 1 opened"]), true),
+    (TWO_RESOLVE, (&[], None, false, &["held 0 3"], &["held 0 2"]), true),
+    (THREE_MAKE, (&[], None, false, &[], &["reply 2 0 stepped done"]), true),
+    (THREE_MAKE, (&["1", "0"], None, false, &[], &["reply 0 0 stepped done"]), false),
 ];
 
 /// The beginnings of parts, each as a text. With an empty text no beginning is asked for.
@@ -94,13 +50,12 @@ type Cover = &'static [&'static str];
 
 /// Parts that have each schedule of three actors once, in no order. Where there are two actors, a beginning with a turn
 /// of actor 2 has no schedules.
+#[rattlefmt::skip]
 const COVERS: [Cover; 5] = [
     &[""],
     &["-"],
     &["2", "0", "1"],
-    &[
-        "1,2", "0,0", "2,1", "2,2", "1,0", "0,1", "2,0", "0,2", "1,1",
-    ],
+    &["1,2", "0,0", "2,1", "2,2", "1,0", "0,1", "2,0", "0,2", "1,1"],
     &["0,2", "2", "0,0", "1", "0,1"],
 ];
 
@@ -184,20 +139,11 @@ fn wrong_cover(alloc: Global, case: &Case) -> Option<usize> {
     None
 }
 
-/// The place of the first case, from 0, of which the parts of a cover make something else, and of that cover.
-fn first_wrong(alloc: Global) -> Option<(usize, usize)> {
-    for (at, case) in CASES.iter().enumerate() {
-        if let Some(place) = wrong_cover(alloc, case) {
-            return Some((at, place));
-        }
-    }
-    None
-}
-
 #[test]
-fn parts_make_what_the_whole_search_writes(rt: HostRuntime) -> Result<(), Fail> {
-    assert_eq!(rt; first_wrong(rt.alloc()), None);
-    Ok(())
+fn parts_make_what_the_whole_search_writes(rt: HostRuntime) {
+    for (at, case) in CASES.iter().enumerate() {
+        assert_eq!(rt; wrong_cover(rt.alloc(), case), None, "case {at}");
+    }
 }
 
 /// What is told of a part, where there may be so many actors.
@@ -228,6 +174,7 @@ type Row = (
 
 const NONE: (u64, u64, usize) = (0, 0, 0);
 
+#[rattlefmt::skip]
 const ROWS: [Row; 16] = [
     (REMOVED, None, "", &[], (6, 6, 3)),
     (REMOVED, None, "0", &[&[0, 1]], (5, 6, 2)),
@@ -263,6 +210,38 @@ fn are_same(rows: &[Vec<u32>], others: &[&[u32]]) -> bool {
     rows.len() == others.len()
 }
 
+/// Whether a part is written as its line, with its script's digest.
+fn is_line(alloc: Global, script: &str, asked: &Asked, part: &Part) -> Option<bool> {
+    let digest = sum_of(alloc, script.as_bytes()).ok()?;
+    let line = part_text(alloc, digest.as_bytes(), asked, part).ok()?;
+    let mut written = Vec::new(alloc);
+    add_part(alloc, &mut written, script, asked)?;
+    Some(written.as_slice() == line.as_slice())
+}
+
+/// Texts and their digests, of FIPS 180-4's examples.
+const DIGESTS: [(&str, &str); 2] = [
+    (
+        "",
+        "e3b0c44298fc1c149afbf4c8996fb92427ae41e4649b934ca495991b7852b855",
+    ),
+    (
+        "abc",
+        "ba7816bf8f01cfea414140de5dae2223b00361a396177a9cb410ff61f20015ad",
+    ),
+];
+
+#[test]
+fn digests_are_those_of_the_standard(rt: HostRuntime) {
+    for (text, wanted) in DIGESTS {
+        let is_so = match sum_of(rt.alloc(), text.as_bytes()) {
+            Ok(sum) => sum.as_str() == wanted,
+            Err(_) => false,
+        };
+        assert!(rt; is_so, "{text}");
+    }
+}
+
 /// Whether the part of a row is told as the row wants.
 fn is_told(alloc: Global, row: &Row) -> Option<bool> {
     let (script, cuts, begin, might, numbers) = row;
@@ -270,22 +249,15 @@ fn is_told(alloc: Global, row: &Row) -> Option<bool> {
     let asked = asked_of(alloc, &all_within(*cuts), *begin)?;
     let part = part_of(alloc, &scene, &asked)?;
     let told = (part.lists, part.turns, part.all.len());
-    Some(are_same(&part.might, might) && told == *numbers)
-}
-
-/// The place of the first row, from 0, whose part is told otherwise.
-fn first_wrong_row(alloc: Global) -> Option<usize> {
-    for (at, row) in ROWS.iter().enumerate() {
-        if is_told(alloc, row) != Some(true) {
-            return Some(at);
-        }
-    }
-    None
+    let is_line = is_line(alloc, script, &asked, &part)?;
+    Some(are_same(&part.might, might) && told == *numbers && is_line)
 }
 
 #[test]
 fn parts_tell_who_might_have_turns(rt: HostRuntime) {
-    assert_eq!(rt; first_wrong_row(rt.alloc()), None);
+    for (at, row) in ROWS.iter().enumerate() {
+        assert_eq!(rt; is_told(rt.alloc(), row), Some(true), "row {at}");
+    }
 }
 
 /// A script, and how the text begins that its parts make.
@@ -345,9 +317,8 @@ fn wrong_parts(alloc: Global, head: &Head) -> Option<usize> {
 }
 
 #[test]
-fn parts_have_all_schedules(rt: HostRuntime) -> Result<(), Fail> {
-    for head in HEADS.iter() {
-        assert_eq!(rt; wrong_parts(rt.alloc(), head), None);
+fn parts_have_all_schedules(rt: HostRuntime) {
+    for head in &HEADS {
+        assert_eq!(rt; wrong_parts(rt.alloc(), head), None, "{}", head.1);
     }
-    Ok(())
 }

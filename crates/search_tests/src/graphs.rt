@@ -4,11 +4,10 @@ ghost use Rattle.schedule_graph.specs.Words.{AreApart, IsLayer, edges_from};
 
 use path_text::NoMemory;
 use schedule_graph::{
-    COUNT_CAP, Count, Counts, EDGES_IN_PLACE, Edge, Graph, Node, Place, is_not_after,
+    COUNT_CAP, Count, EDGES_IN_PLACE, Edge, Graph, Node, Place, count_cap_is_a_number, is_not_after,
 };
 use smallvec::SmallVec;
 use std::alloc::Global;
-use std::test::Fail;
 
 /// A node: the edges by labels 0, 1, ..., each with its mark (1 a cut, 2 a change, 3 both) and where it leads to; or,
 /// where there are none, the class of the words that end there.
@@ -24,80 +23,33 @@ const END: &[(u8, usize)] = &[];
 
 const NONE: Wanted<'_> = (0, 0, None);
 
+#[rattlefmt::skip]
 const CASES: &[Case<'_>] = &[
     // no layers
     (&[], NONE, NONE, NONE),
     // no nodes
     (&[&[]], NONE, NONE, NONE),
     // the word of no labels
-    (
-        &[&[(1, END)]],
-        NONE,
-        (1, 0, Some((0, 0, &[]))),
-        (1, 0, Some((0, 0, &[]))),
-    ),
+    (&[&[(1, END)]], NONE, (1, 0, Some((0, 0, &[]))), (1, 0, Some((0, 0, &[])))),
     // two actors of one turn each, in either order
-    (
-        &[
-            &[(0, &[(0, 0), (0, 1)])],
-            &[(0, &[(0, 0), (2, 0)]), (0, &[(2, 0)])],
-            &[(0, END)],
-        ],
-        (3, 2, Some((0, 0, &[0, 0]))),
-        NONE,
-        (3, 2, Some((0, 0, &[0, 0]))),
-    ),
+    (&[&[(0, &[(0, 0), (0, 1)])], &[(0, &[(0, 0), (2, 0)]), (0, &[(2, 0)])], &[(0, END)]],
+        (3, 2, Some((0, 0, &[0, 0]))), NONE, (3, 2, Some((0, 0, &[0, 0])))),
     // fewer changes don't outweigh a cut, nor an earlier word a change
-    (
-        &[
-            &[(0, &[(0, 0), (0, 1), (0, 2)])],
-            &[(0, &[(1, 0)]), (0, &[(2, 0)]), (0, &[(2, 0), (2, 1)])],
-            &[(0, END), (1, END)],
-        ],
-        (3, 2, Some((0, 1, &[1, 0]))),
-        (1, 2, Some((0, 1, &[2, 1]))),
-        (4, 2, Some((0, 1, &[1, 0]))),
-    ),
+    (&[&[(0, &[(0, 0), (0, 1), (0, 2)])], &[(0, &[(1, 0)]), (0, &[(2, 0)]), (0, &[(2, 0), (2, 1)])],
+        &[(0, END), (1, END)]],
+        (3, 2, Some((0, 1, &[1, 0]))), (1, 2, Some((0, 1, &[2, 1]))), (4, 2, Some((0, 1, &[1, 0])))),
     // words of one class have several lengths, and the longer one is the least
-    (
-        &[
-            &[(0, &[(3, 0), (0, 1)])],
-            &[(1, END), (0, &[(2, 0)])],
-            &[(1, END)],
-        ],
-        NONE,
-        (2, 2, Some((0, 1, &[1, 0]))),
-        (2, 2, Some((0, 1, &[1, 0]))),
-    ),
+    (&[&[(0, &[(3, 0), (0, 1)])], &[(1, END), (0, &[(2, 0)])], &[(1, END)]], NONE, (2, 2, Some((0, 1, &[1, 0]))),
+        (2, 2, Some((0, 1, &[1, 0])))),
     // the lesser of two words is kept where they meet, whichever came first
-    (
-        &[
-            &[(0, &[(1, 0), (0, 1)])],
-            &[(0, &[(0, 0)]), (0, &[(0, 0)])],
-            &[(0, &[(0, 0), (1, 0)])],
-            &[(0, END)],
-        ],
-        (4, 3, Some((0, 0, &[1, 0, 0]))),
-        NONE,
-        (4, 3, Some((0, 0, &[1, 0, 0]))),
-    ),
+    (&[&[(0, &[(1, 0), (0, 1)])], &[(0, &[(0, 0)]), (0, &[(0, 0)])], &[(0, &[(0, 0), (1, 0)])], &[(0, END)]],
+        (4, 3, Some((0, 0, &[1, 0, 0]))), NONE, (4, 3, Some((0, 0, &[1, 0, 0])))),
     // an edge to no node is of no word, and a class that isn't asked for is in none but all
-    (
-        &[&[(0, &[(0, 5), (0, 1), (0, 0)])], &[(2, END), (0, END)]],
-        (1, 1, Some((0, 0, &[1]))),
-        NONE,
-        (2, 1, Some((0, 0, &[1]))),
-    ),
+    (&[&[(0, &[(0, 5), (0, 1), (0, 0)])], &[(2, END), (0, END)]], (1, 1, Some((0, 0, &[1]))), NONE,
+        (2, 1, Some((0, 0, &[1])))),
     // more edges than lie in a node
-    (
-        &[
-            &[(0, &[(1, 0), (1, 0), (2, 0), (3, 0), (0, 0)])],
-            &[(0, END)],
-        ],
-        (5, 1, Some((0, 0, &[4]))),
-        NONE,
-        (5, 1, Some((0, 0, &[4]))),
-    ),
+    (&[&[(0, &[(1, 0), (1, 0), (2, 0), (3, 0), (0, 0)])], &[(0, END)]], (5, 1, Some((0, 0, &[4]))), NONE,
+        (5, 1, Some((0, 0, &[4])))),
     // words that lead nowhere
     (&[&[(0, &[(0, 0)])], &[(0, &[(0, 0)])]], NONE, NONE, NONE),
 ];
@@ -172,20 +124,11 @@ fn comes_to(alloc: Global, case: &Case<'_>) -> Result<bool, NoMemory> {
     })
 }
 
-/// The place of the first case, from 0, that comes to something else.
-fn first_wrong(alloc: Global) -> Result<Option<usize>, NoMemory> {
-    for (at, case) in CASES.iter().enumerate() {
-        if !comes_to(alloc, case)? {
-            return Ok(Some(at));
-        }
-    }
-    Ok(None)
-}
-
 #[test]
-fn graphs_are_counted(rt: HostRuntime) -> Result<(), Fail> {
-    assert_eq!(rt; first_wrong(rt.alloc())?, None);
-    Ok(())
+fn graphs_are_counted(rt: HostRuntime) {
+    for (at, case) in CASES.iter().enumerate() {
+        assert!(rt; comes_to(rt.alloc(), case) == Ok(true), "case {at}");
+    }
 }
 
 /// So many layers, each of one node with two edges, the second of them a change; and the end.
@@ -199,8 +142,9 @@ fn doubled(alloc: Global, layers: usize) -> Result<Graph, NoMemory> {
 }
 
 /// Whether there are so many words, in the one class and in all, and the least is without a change.
-fn are_so_many(counts: &Counts, layers: usize, words: u64) -> bool {
-    match (counts.classes.as_slice(), &counts.all.least) {
+fn are_so_many(alloc: Global, layers: usize, words: u64) -> Result<bool, NoMemory> {
+    let counts = doubled(alloc, layers)?.counted(alloc, 1)?;
+    Ok(match (counts.classes.as_slice(), &counts.all.least) {
         ([of_class], Some(least)) => {
             counts.all.words == words
                 && counts.all.longest == layers
@@ -209,7 +153,7 @@ fn are_so_many(counts: &Counts, layers: usize, words: u64) -> bool {
                 && least.word.len() == layers
         }
         _ => false,
-    }
+    })
 }
 
 const DOUBLED: [(usize, u64); 5] = [
@@ -220,21 +164,15 @@ const DOUBLED: [(usize, u64); 5] = [
     (100, COUNT_CAP),
 ];
 
-/// The first number of layers that come to something else.
-fn wrong_layers(alloc: Global) -> Result<Option<usize>, NoMemory> {
-    for (layers, words) in DOUBLED {
-        let counts = doubled(alloc, layers)?.counted(alloc, 1)?;
-        if !are_so_many(&counts, layers, words) {
-            return Ok(Some(layers));
-        }
-    }
-    Ok(None)
-}
-
 #[test]
-fn many_words_are_counted_up_to_the_cap(rt: HostRuntime) -> Result<(), Fail> {
-    assert_eq!(rt; wrong_layers(rt.alloc())?, None);
-    Ok(())
+fn many_words_are_counted_up_to_the_cap(rt: HostRuntime) {
+    count_cap_is_a_number();
+    for (layers, words) in DOUBLED {
+        assert!(rt;
+            are_so_many(rt.alloc(), layers, words) == Ok(true),
+            "{layers}"
+        );
+    }
 }
 
 /// Two words, the first of which isn't after the other.
@@ -249,20 +187,14 @@ const IN_ORDER: [(&[u8], &[u8]); 8] = [
     (&[0, 1, 7], &[0, 2]),
 ];
 
-/// The place of the first two that are told otherwise. Of two that differ, the other is after the first.
-fn first_out_of_order() -> Option<usize> {
-    for (at, (labels, others)) in IN_ORDER.iter().enumerate() {
-        let are_equal = *labels == *others;
-        if !is_not_after(labels, others) || is_not_after(others, labels) != are_equal {
-            return Some(at);
-        }
-    }
-    None
-}
-
+/// Of two that differ, the other is after the first.
 #[test]
 fn words_are_in_order(rt: HostRuntime) {
-    assert_eq!(rt; first_out_of_order(), None);
+    for (labels, others) in IN_ORDER {
+        let are_equal = labels == others;
+        let is_so = is_not_after(labels, others) && is_not_after(others, labels) == are_equal;
+        assert!(rt; is_so, "{labels:?} {others:?}");
+    }
 }
 
 /// Numbers around the bound of a half, and the ends of the range.
@@ -276,17 +208,9 @@ const NUMBERS: [usize; 7] = [
     18_446_744_073_709_551_615,
 ];
 
-/// The first number that isn't the one of its place.
-fn first_other_number() -> Option<usize> {
-    for number in NUMBERS {
-        if Place::of(number).number() != number {
-            return Some(number);
-        }
-    }
-    None
-}
-
 #[test]
 fn a_place_is_its_number(rt: HostRuntime) {
-    assert_eq!(rt; first_other_number(), None);
+    for number in NUMBERS {
+        assert_eq!(rt; Place::of(number).number(), number);
+    }
 }

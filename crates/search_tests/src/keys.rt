@@ -6,7 +6,6 @@ use local_states::{ACTORS_IN_PLACE, Effect, Fingerprint, Key, Own};
 use path_text::NoMemory;
 use smallvec::SmallVec;
 use std::alloc::Global;
-use std::test::Fail;
 
 /// Numbers, one after another, and what they are mixed to, by a computation apart from the code: a number p with w more
 /// is (p + w + 1) times 0x9E3779B97F4A7C15 without what is beyond 64 bits, with its own upper 35 bits mixed in.
@@ -27,19 +26,11 @@ fn print_of(words: &[u64]) -> u64 {
     print.0
 }
 
-/// The place of the first row, from 0, whose numbers are mixed to another one.
-fn first_other_print() -> Option<usize> {
-    for (at, (words, wanted)) in PRINTS.iter().enumerate() {
-        if print_of(words) != *wanted {
-            return Some(at);
-        }
-    }
-    None
-}
-
 #[test]
 fn numbers_are_mixed(rt: HostRuntime) {
-    assert_eq!(rt; first_other_print(), None);
+    for (words, wanted) in PRINTS {
+        assert_eq!(rt; print_of(words), wanted, "{words:?}");
+    }
 }
 
 /// A key: the place of its nodes, and how many events, opened handles and closed ones; of each actor the place of its
@@ -51,6 +42,7 @@ const KEY: Drawn = ([7, 3, 2, 1], &[(4, 0), (5, 8)]);
 const LONG: Drawn = ([0, 0, 0, 0], &[(1, 0), (2, 0), (3, 0), (4, 0), (5, 0)]);
 
 /// Two keys; whether they are the same, and whether they are but for changes outside of roots.
+#[rattlefmt::skip]
 const PAIRS: [(Drawn, Drawn, bool, bool); 11] = [
     (KEY, KEY, true, true),
     (KEY, ([6, 3, 2, 1], &[(4, 0), (5, 8)]), false, false),
@@ -63,12 +55,7 @@ const PAIRS: [(Drawn, Drawn, bool, bool); 11] = [
     (KEY, ([7, 3, 2, 1], &[(4, 1), (5, 8)]), false, true),
     // more actors than lie in a key's own value
     (LONG, LONG, true, true),
-    (
-        LONG,
-        ([0, 0, 0, 0], &[(1, 0), (2, 0), (3, 0), (4, 0), (5, 1)]),
-        false,
-        true,
-    ),
+    (LONG, ([0, 0, 0, 0], &[(1, 0), (2, 0), (3, 0), (4, 0), (5, 1)]), false, true),
 ];
 
 fn own_of(
@@ -106,22 +93,18 @@ fn are_so(key: &Key, other: &Key, same: bool, but_outside: bool) -> bool {
         && (key.print() == other.print()) == but_outside
 }
 
-/// The place of the first pair, from 0, that is otherwise.
-fn first_other_pair(alloc: Global) -> Result<Option<usize>, NoMemory> {
-    for (at, (drawn, other, same, but_outside)) in PAIRS.iter().enumerate() {
-        let (key, other) = (key_of(alloc, drawn)?, key_of(alloc, other)?);
-        let copy = key.copy(alloc)?;
-        if !are_so(&key, &other, *same, *but_outside) || !are_so(&copy, &key, true, true) {
-            return Ok(Some(at));
-        }
-    }
-    Ok(None)
+fn compares(alloc: Global, pair: &(Drawn, Drawn, bool, bool)) -> Result<bool, NoMemory> {
+    let (drawn, other, same, but_outside) = pair;
+    let (key, other) = (key_of(alloc, drawn)?, key_of(alloc, other)?);
+    let copy = key.copy(alloc)?;
+    Ok(are_so(&key, &other, *same, *but_outside) && are_so(&copy, &key, true, true))
 }
 
 #[test]
-fn keys_are_compared(rt: HostRuntime) -> Result<(), Fail> {
-    assert_eq!(rt; first_other_pair(rt.alloc())?, None);
-    Ok(())
+fn keys_are_compared(rt: HostRuntime) {
+    for (at, pair) in PAIRS.iter().enumerate() {
+        assert!(rt; compares(rt.alloc(), pair) == Ok(true), "pair {at}");
+    }
 }
 
 /// The fingerprint of a key is that of its numbers in order, without the changes outside of roots.
@@ -131,9 +114,8 @@ fn print_in_order(alloc: Global) -> Result<bool, NoMemory> {
 }
 
 #[test]
-fn a_key_has_its_fingerprint(rt: HostRuntime) -> Result<(), Fail> {
-    assert!(rt; print_in_order(rt.alloc())?);
-    Ok(())
+fn a_key_has_its_fingerprint(rt: HostRuntime) {
+    assert!(rt; print_in_order(rt.alloc()) == Ok(true));
 }
 
 // A key of two actors, of which the second has made a change outside of its root.
@@ -162,56 +144,26 @@ fn before_turns(alloc: Global) -> Result<Key, NoMemory>
 }
 
 /// What a turn of the second actor comes to, and the key after it.
+#[rattlefmt::skip]
 const TURNS: [(Effect, Drawn); 3] = [
-    (
-        Effect {
-            nodes: 8,
-            part: 6,
-            event: true,
-            opens: true,
-            closes: false,
-            outside: true,
-        },
-        ([8, 4, 3, 1], &[(4, 0), (6, 9)]),
-    ),
-    (
-        Effect {
-            nodes: 7,
-            part: 0,
-            event: true,
-            opens: false,
-            closes: true,
-            outside: false,
-        },
-        ([7, 4, 2, 2], &[(4, 0), (0, 8)]),
-    ),
-    (
-        Effect {
-            nodes: 7,
-            part: 5,
-            event: false,
-            opens: false,
-            closes: false,
-            outside: false,
-        },
-        KEY,
-    ),
+    (Effect { nodes: 8, part: 6, event: true, opens: true, closes: false, outside: true },
+        ([8, 4, 3, 1], &[(4, 0), (6, 9)])),
+    (Effect { nodes: 7, part: 0, event: true, opens: false, closes: true, outside: false },
+        ([7, 4, 2, 2], &[(4, 0), (0, 8)])),
+    (Effect { nodes: 7, part: 5, event: false, opens: false, closes: false, outside: false }, KEY),
 ];
 
-/// The place of the first turn, from 0, that comes to another key.
-fn first_other_turn(alloc: Global) -> Result<Option<usize>, NoMemory> {
-    for (at, (effect, wanted)) in TURNS.iter().enumerate() {
-        let key = before_turns(alloc)?;
-        let after = key.after(alloc, 1, effect)?;
-        if !after.same(&key_of(alloc, wanted)?) {
-            return Ok(Some(at));
-        }
-    }
-    Ok(None)
+fn comes_to(alloc: Global, effect: &Effect, wanted: &Drawn) -> Result<bool, NoMemory> {
+    let after = before_turns(alloc)?.after(alloc, 1, effect)?;
+    Ok(after.same(&key_of(alloc, wanted)?))
 }
 
 #[test]
-fn a_turn_makes_the_key_after_it(rt: HostRuntime) -> Result<(), Fail> {
-    assert_eq!(rt; first_other_turn(rt.alloc())?, None);
-    Ok(())
+fn a_turn_makes_the_key_after_it(rt: HostRuntime) {
+    for (at, (effect, wanted)) in TURNS.iter().enumerate() {
+        assert!(rt;
+            comes_to(rt.alloc(), effect, wanted) == Ok(true),
+            "turn {at}"
+        );
+    }
 }

@@ -8,6 +8,7 @@ use root_ops::{Op, Reply, Request};
 use sessions::{CloseRefusal, Closed, Gate, NoGate, OpenRefusal, Service, Session};
 use std::alloc::Global;
 use std::sync::Wait;
+use std::sync::atomic::{AtomicU64, Ordering};
 use std::thread;
 use std::thread::Threads;
 use step_text::Output;
@@ -105,21 +106,6 @@ fn request_of(alloc: Global, line: &str) -> Result<Request, NoMemory> {
     }
 }
 
-/// The reply to `rename OLD NEW`, or to a path that is to be opened.
-pub fn ask<T: Tree, R: Wait, G: Gate>(
-    rt: &R,
-    alloc: Global,
-    service: &Service<T>,
-    session: &mut Session,
-    gate: &G,
-    asked: &str,
-) -> Reply {
-    match request_of(alloc, asked) {
-        Ok(request) => session.call(rt, alloc, service, gate, request),
-        Err(NoMemory) => Reply::Fault(Errno::NoMemory),
-    }
-}
-
 /// What a reply holds open.
 pub fn held(reply: Reply) -> Option<Standing> {
     match reply {
@@ -128,20 +114,6 @@ pub fn held(reply: Reply) -> Option<Standing> {
             drop(other);
             None
         }
-    }
-}
-
-/// The reply to the Release of what a reply holds open; Done where that is nothing.
-pub fn give_back<T: Tree, R: Wait>(
-    rt: &R,
-    alloc: Global,
-    service: &Service<T>,
-    session: &mut Session,
-    reply: Reply,
-) -> Reply {
-    match held(reply) {
-        Some(standing) => session.call(rt, alloc, service, &NoGate, release(standing)),
-        None => Reply::Done,
     }
 }
 
@@ -167,46 +139,93 @@ pub fn reads(alloc: Global, reply: &Reply, wanted: &str) -> bool {
     written.is_ok() && is_wanted
 }
 
-/// Whether a session, if there is one, is told so. What it opens is left open.
-pub fn is_told<T: Tree, R: Wait, G: Gate>(
-    rt: &R,
-    alloc: Global,
-    service: &Service<T>,
-    session: Option<&mut Session>,
-    gate: &G,
-    asked: &str,
-    wanted: &str,
-) -> bool {
-    let Some(session) = session else {
-        return false;
-    };
-    let reply = ask(rt, alloc, service, session, gate, asked);
-    let told = reads(alloc, &reply, wanted);
-    drop(reply);
-    told
+/// A service, and what its calls are made with.
+#[derive(Drop)]
+pub struct On<'a, T: Tree, R: Wait> {
+    pub rt: &'a R,
+    pub alloc: Global,
+    pub service: &'a Service<T>,
 }
 
-/// Whether a session, if there is one, opens `a` on one service, as it is to stand, is told so of its release on
-/// another, and releases it.
-pub fn opens_and_releases<T: Tree, R: Wait>(
-    rt: &R,
-    alloc: Global,
-    own: &Service<T>,
-    other: &Service<T>,
-    session: Option<&mut Session>,
-    wanted: &str,
-) -> bool {
-    let Some(session) = session else {
-        return false;
-    };
-    let opened = ask(rt, alloc, own, session, &NoGate, "a");
-    let is_there = reads(alloc, &opened, "opened dir 2 /a\n");
-    let back = give_back(rt, alloc, other, session, opened);
-    let told = reads(alloc, &back, wanted);
-    let done = give_back(rt, alloc, own, session, back);
-    let is_done = reads(alloc, &done, "done\n");
-    drop(done);
-    is_there && told && is_done
+impl<'a, T: Tree, R: Wait> On<'a, T, R> {
+    pub fn new(rt: &'a R, alloc: Global, service: &'a Service<T>) -> On<'a, T, R> {
+        On { rt, alloc, service }
+    }
+
+    /// The reply to `rename OLD NEW`, or to a path that is to be opened.
+    pub fn ask<G: Gate>(&self, session: &mut Session, gate: &G, asked: &str) -> Reply {
+        match request_of(self.alloc, asked) {
+            Ok(request) => session.call(self.rt, self.alloc, self.service, gate, request),
+            Err(NoMemory) => Reply::Fault(Errno::NoMemory),
+        }
+    }
+
+    /// The reply to a Release.
+    pub fn release<G: Gate>(&self, session: &mut Session, gate: &G, standing: Standing) -> Reply {
+        session.call(self.rt, self.alloc, self.service, gate, release(standing))
+    }
+
+    /// The reply to the Release of what a reply holds open; Done where that is nothing.
+    pub fn give_back(&self, session: &mut Session, reply: Reply) -> Reply {
+        match held(reply) {
+            Some(standing) => self.release(session, &NoGate, standing),
+            None => Reply::Done,
+        }
+    }
+
+    /// Whether a session, if there is one, is told so. What it opens is left open.
+    pub fn is_told<G: Gate>(
+        &self,
+        session: Option<&mut Session>,
+        gate: &G,
+        asked: &str,
+        wanted: &str,
+    ) -> bool {
+        let Some(session) = session else {
+            return false;
+        };
+        let reply = self.ask(session, gate, asked);
+        let told = reads(self.alloc, &reply, wanted);
+        drop(reply);
+        told
+    }
+
+    /// Whether a session, if there is one, opens `a` here, as it is to stand, is told so of its release on another
+    /// service, and releases it here.
+    pub fn opens_and_releases(
+        &self,
+        other: &Service<T>,
+        session: Option<&mut Session>,
+        wanted: &str,
+    ) -> bool {
+        let Some(session) = session else {
+            return false;
+        };
+        let opened = self.ask(session, &NoGate, "a");
+        let is_there = reads(self.alloc, &opened, "opened dir 2 /a\n");
+        let back = match held(opened) {
+            Some(standing) => {
+                session.call(self.rt, self.alloc, other, &NoGate, release(standing))
+            }
+            None => Reply::Done,
+        };
+        let told = reads(self.alloc, &back, wanted);
+        let done = self.give_back(session, back);
+        let is_done = reads(self.alloc, &done, "done\n");
+        drop(done);
+        is_there && told && is_done
+    }
+}
+
+/// Waits for a flag, but not for ever; and tells whether it came.
+pub fn comes(flag: &AtomicU64) -> bool {
+    for _ in 0..10_000_000 {
+        if flag.load(Ordering::SeqCst) == 1 {
+            return true;
+        }
+        thread::yield_now();
+    }
+    false
 }
 
 /// What each session does on a thread of its own.

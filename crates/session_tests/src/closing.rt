@@ -1,7 +1,5 @@
 //! Sessions that aren't a service's own, which it turns away, and which don't close it.
-use crate::calling::{
-    Base, ask, events_closed, held, is_told, opened, opens_and_releases, reads, release,
-};
+use crate::calling::{Base, On, events_closed, held, opened, reads};
 use sessions::{CloseCause, CloseRefusal, Closed, NoGate, Service, Session, Stopped};
 use std::alloc::Global;
 use std::mem;
@@ -123,20 +121,6 @@ const WRONG: Moves = &[
     (ASIDE, OWN, Some(Ok(0))),
 ];
 
-fn wrong_sessions<T: Base>(alloc: Global) -> bool {
-    let Some((service, own)) = opened::<T>(alloc, &["/c", "/"], 1, 9) else {
-        return false;
-    };
-    let others = sessions_of::<T>(alloc, &["/c", "/"], 2, 9);
-    closes_so(alloc, service, own, others, WRONG)
-}
-
-#[test]
-fn wrong_sessions_close_nothing(rt: HostRuntime) {
-    let alloc = rt.alloc();
-    assert!(rt; wrong_sessions::<ListTree>(alloc) && wrong_sessions::<SlabTree>(alloc));
-}
-
 // Whether a service that isn't closed, for want of its session 1, gives up the tree: with what session 0 holds, its two
 // steps, and the opening, in which each session has its root.
 fn gives_up_the_tree<T: Base, R: Wait>(rt: &R, alloc: Global) -> bool {
@@ -144,15 +128,8 @@ fn gives_up_the_tree<T: Base, R: Wait>(rt: &R, alloc: Global) -> bool {
         return false;
     };
     drop(own.pop());
-    let told = is_told(
-        rt,
-        alloc,
-        &service,
-        own.last_mut(),
-        &NoGate,
-        "a",
-        "opened dir 2 /a\n",
-    );
+    let on = On::new(rt, alloc, &service);
+    let told = on.is_told(own.last_mut(), &NoGate, "a", "opened dir 2 /a\n");
     let Err(refusal) = service.stop().close(own) else {
         return false;
     };
@@ -203,30 +180,37 @@ const USER_FIRST: Moves = &[
     (OTHERS, OWN, Some(Ok(3))),
 ];
 
-// Two services of one tag, of two sessions each: whether the first serves the second one's session 1, and ends as it is
-// stated.
-fn one_tag<T: Base, R: Wait>(rt: &R, alloc: Global, moves: Moves) -> bool {
-    let Some((service, own)) = opened::<T>(alloc, &["/c", "/c"], 7, 99) else {
+/// Two services, with sessions at these roots each: their tags, and whether the first serves the other's session 1,
+/// which nobody sees by a tag that both have; and then the moves.
+type Pair<'a> = (&'a [&'a str], u64, u64, bool, Moves<'a>);
+
+const PAIRS: [Pair; 3] = [
+    (&["/c", "/"], 1, 2, false, WRONG),
+    (&["/c", "/c"], 7, 7, true, USER_LAST),
+    (&["/c", "/c"], 7, 7, true, USER_FIRST),
+];
+
+// Whether the first serves the other's session 1 as it is to, and ends as it is stated.
+fn ends_as_stated<T: Base, R: Wait>(rt: &R, alloc: Global, pair: &Pair) -> bool {
+    let (roots, tag, other_tag, is_served, moves) = *pair;
+    let Some((service, own)) = opened::<T>(alloc, roots, tag, 99) else {
         return false;
     };
-    let mut others = sessions_of::<T>(alloc, &["/c", "/c"], 7, 99);
-    let user = others.last_mut();
-    let served = opens_and_releases(rt, alloc, &service, &service, user, "done\n");
-    let closed = closes_so(alloc, service, own, others, moves);
-    served && closed
+    let mut others = sessions_of::<T>(alloc, roots, other_tag, 99);
+    let on = On::new(rt, alloc, &service);
+    let served = !is_served || on.opens_and_releases(&service, others.last_mut(), "done\n");
+    served && closes_so(alloc, service, own, others, moves)
 }
 
-/// What the tag doesn't tell apart, closing does.
+/// What a tag doesn't tell apart, closing does.
 #[test]
-fn services_of_one_tag_are_told_apart(rt: HostRuntime) {
+fn services_close_with_their_own_sessions(rt: HostRuntime) {
     let alloc = rt.alloc();
-    let mut told = true;
-    for moves in [USER_LAST, USER_FIRST] {
-        told = told
-            && one_tag::<ListTree, _>(&rt, alloc, moves)
-            && one_tag::<SlabTree, _>(&rt, alloc, moves);
+    for (at, pair) in PAIRS.iter().enumerate() {
+        let are_so = ends_as_stated::<ListTree, _>(&rt, alloc, pair)
+            && ends_as_stated::<SlabTree, _>(&rt, alloc, pair);
+        assert!(rt; are_so, "pair {at}");
     }
-    assert!(rt; told);
 }
 
 // Whether a session is of tag 7, and its root too.
@@ -237,34 +221,26 @@ fn is_of_seven(session: &Session) -> bool {
 
 // Whether a service turns the last of another one's sessions away, and keeps what it opened.
 fn is_turned_away<T: Tree, R: Wait>(
-    rt: &R,
-    alloc: Global,
-    service: &Service<T>,
-    own: &Service<T>,
+    on: &On<T, R>,
+    own: &On<T, R>,
     sessions: &mut [Session],
 ) -> bool {
     let Some(session) = sessions.last() else {
         return false;
     };
     is_of_seven(session)
-        && is_told(
-            rt,
-            alloc,
-            service,
-            sessions.last_mut(),
-            &NoGate,
-            "a",
-            "fault EINVAL\n",
-        )
-        && opens_and_releases(rt, alloc, own, service, sessions.last_mut(), "kept\n")
+        && on.is_told(sessions.last_mut(), &NoGate, "a", "fault EINVAL\n")
+        && own.opens_and_releases(on.service, sessions.last_mut(), "kept\n")
 }
 
 // Whether a service turns session 1 of another one away, which is of tag 7 and has three events in the end.
-fn turns_away<T: Base, R: Wait>(rt: &R, alloc: Global, service: &Service<T>) -> bool {
+fn turns_away<T: Base, R: Wait>(on: &On<T, R>) -> bool {
+    let (rt, alloc) = (on.rt, on.alloc);
     let Some((other, mut others)) = opened::<T>(alloc, &["/c", "/c"], 7, 99) else {
         return false;
     };
-    let told = is_turned_away(rt, alloc, service, &other, others.as_mut_slice());
+    let own = On::new(rt, alloc, &other);
+    let told = is_turned_away(on, &own, others.as_mut_slice());
     let events = events_closed(other.stop().close(others));
     told && events == Some(3)
 }
@@ -274,7 +250,7 @@ fn has_no_stranger<T: Base, R: Wait>(rt: &R, alloc: Global, paths: &[&str], tag:
     let Some((service, own)) = opened::<T>(alloc, paths, tag, 99) else {
         return false;
     };
-    let told = turns_away(rt, alloc, &service);
+    let told = turns_away(&On::new(rt, alloc, &service));
     let events = events_closed(service.stop().close(own));
     told && events == Some(0)
 }
@@ -283,31 +259,27 @@ fn has_no_stranger<T: Base, R: Wait>(rt: &R, alloc: Global, paths: &[&str], tag:
 #[test]
 fn strangers_are_turned_away(rt: HostRuntime) {
     let alloc = rt.alloc();
-    let mut told = true;
     for (paths, tag) in [(["/c", "/c"].as_slice(), 8), (&["/c"], 7)] {
-        told = told
-            && has_no_stranger::<ListTree, _>(&rt, alloc, paths, tag)
+        let are_away = has_no_stranger::<ListTree, _>(&rt, alloc, paths, tag)
             && has_no_stranger::<SlabTree, _>(&rt, alloc, paths, tag);
+        assert!(rt; are_away, "tag {tag}");
     }
-    assert!(rt; told);
 }
 
 // The replies to three Releases of one handle: of a session with this tag of another service, and then of the session
 // that opened it, twice. The service closes, since its book has the one Close.
 fn releases_thrice<T: Base, R: Wait>(
-    rt: &R,
-    alloc: Global,
-    service: &Service<T>,
+    on: &On<T, R>,
     session: &mut Session,
     twin: &mut Session,
 ) -> Option<bool> {
-    let opened = held(ask(rt, alloc, service, session, &NoGate, "a"))?;
-    let (second, third) = (opened.copy(alloc).ok()?, opened.copy(alloc).ok()?);
-    let first = twin.call(rt, alloc, service, &NoGate, release(opened));
-    let own = session.call(rt, alloc, service, &NoGate, release(second));
-    let again = session.call(rt, alloc, service, &NoGate, release(third));
-    let are_done = reads(alloc, &first, "done\n") && reads(alloc, &own, "done\n");
-    Some(are_done && reads(alloc, &again, "fault EBADF\n"))
+    let opened = held(on.ask(session, &NoGate, "a"))?;
+    let (second, third) = (opened.copy(on.alloc).ok()?, opened.copy(on.alloc).ok()?);
+    let first = on.release(twin, &NoGate, opened);
+    let own = on.release(session, &NoGate, second);
+    let again = on.release(session, &NoGate, third);
+    let are_done = reads(on.alloc, &first, "done\n") && reads(on.alloc, &own, "done\n");
+    Some(are_done && reads(on.alloc, &again, "fault EBADF\n"))
 }
 
 fn release_is_made<T: Base, R: Wait>(rt: &R, alloc: Global) -> bool {
@@ -315,8 +287,9 @@ fn release_is_made<T: Base, R: Wait>(rt: &R, alloc: Global) -> bool {
         return false;
     };
     let mut others = sessions_of::<T>(alloc, &["/c"], 1, 99);
+    let on = On::new(rt, alloc, &service);
     let told = match (sessions.first_mut(), others.first_mut()) {
-        (Some(session), Some(twin)) => releases_thrice(rt, alloc, &service, session, twin),
+        (Some(session), Some(twin)) => releases_thrice(&on, session, twin),
         _ => None,
     };
     drop(others);

@@ -1,32 +1,22 @@
 //! Jobs that are served by sessions on threads.
-use crate::calling::{events_closed, give_back, held, opened, release, resolve, write_reply};
+use crate::calling::{On, comes, events_closed, held, opened, release, resolve, write_reply};
 use path_text::NoMemory;
 use root_ops::{Reply, Request};
 use sessions::{Gate, NoGate, Pause, Service, Session};
 use std::alloc::Global;
 use std::sync::Wait;
 use std::sync::atomic::{AtomicU64, Ordering};
-use std::thread;
 use std::thread::Threads;
 use step_text::Output;
 use tree_list::ListTree;
-use workers::{ServeCause, ServeRefusal, Served, serve};
+use workers::{ServeCause, ServeRefusal, Served, serve, workers_limit_is_a_number};
 
-/// The most turns of a wait.
-const TURNS_MAX: u32 = 10_000_000;
+/// So many of these are the roots of sessions.
+const ROOTS: &[&str] = &["/c", "/c", "/c", "/c", "/c", "/c", "/c", "/c", "/c"];
 
-// Roots for so many sessions.
-const NONE: &[&str] = &[];
-
-const ONE: &[&str] = &["/c"];
-
-const TWO: &[&str] = &["/c", "/c"];
-
-const FOUR: &[&str] = &["/c", "/c", "/c", "/c"];
-
-const EIGHT: &[&str] = &["/c", "/c", "/c", "/c", "/c", "/c", "/c", "/c"];
-
-const NINE: &[&str] = &["/c", "/c", "/c", "/c", "/c", "/c", "/c", "/c", "/c"];
+fn roots(count: usize) -> &'static [&'static str] {
+    ROOTS.get(..count).unwrap_or(ROOTS)
+}
 
 fn jobs_of(alloc: Global, paths: &[&str]) -> Result<Vec<Request>, NoMemory> {
     let mut jobs = Vec::new(alloc);
@@ -45,32 +35,21 @@ fn holder(reply: &Reply) -> usize {
 }
 
 // Releases what a reply opened, by its session.
-fn release_opened<R: Wait>(
-    rt: &R,
-    alloc: Global,
-    service: &Service<ListTree>,
-    sessions: &mut [Session],
-    reply: Reply,
-) {
+fn release_opened<R: Wait>(on: &On<ListTree, R>, sessions: &mut [Session], reply: Reply) {
     match sessions.get_mut(holder(&reply)) {
-        Some(session) => drop(give_back(rt, alloc, service, session, reply)),
+        Some(session) => drop(on.give_back(session, reply)),
         None => drop(reply),
     }
 }
 
 // The sessions that served, where each object that was opened is released.
-fn release_all<R: Wait>(
-    rt: &R,
-    alloc: Global,
-    service: &Service<ListTree>,
-    served: Served,
-) -> Vec<Session> {
+fn release_all<R: Wait>(on: &On<ListTree, R>, served: Served) -> Vec<Session> {
     let Served {
         mut sessions,
         replies,
     } = served;
     for reply in replies {
-        release_opened(rt, alloc, service, sessions.as_mut_slice(), reply);
+        release_opened(on, sessions.as_mut_slice(), reply);
     }
     sessions
 }
@@ -97,7 +76,8 @@ fn events_served<R: Wait>(
     let (told, sessions) = match served {
         Some(served) => {
             let told = are_lines(alloc, served.replies.as_slice(), wanted);
-            (told, release_all(rt, alloc, &service, served))
+            let on = On::new(rt, alloc, &service);
+            (told, release_all(&on, served))
         }
         None => (false, Vec::new(alloc)),
     };
@@ -107,15 +87,13 @@ fn events_served<R: Wait>(
 
 // Jobs that were served, if they were.
 fn served<R: Threads + Wait + Sync, G: Gate>(
-    rt: &R,
-    alloc: Global,
-    service: &Service<ListTree>,
+    on: &On<ListTree, R>,
     sessions: Vec<Session>,
     jobs: Result<Vec<Request>, NoMemory>,
     gate: &G,
 ) -> Option<Served> {
     let jobs = jobs.ok()?;
-    serve(rt, alloc, service, sessions, &jobs, gate).ok()
+    serve(on.rt, on.alloc, on.service, sessions, &jobs, gate).ok()
 }
 
 // The same where sessions at these roots open these paths.
@@ -128,7 +106,8 @@ fn events_of_jobs<R: Threads + Wait + Sync, G: Gate>(
     gate: &G,
 ) -> Option<usize> {
     let (service, sessions) = opened::<ListTree>(alloc, roots, 1, 999)?;
-    let served = served(rt, alloc, &service, sessions, jobs_of(alloc, paths), gate);
+    let on = On::new(rt, alloc, &service);
+    let served = served(&on, sessions, jobs_of(alloc, paths), gate);
     events_served(rt, alloc, service, served, wanted)
 }
 
@@ -141,11 +120,9 @@ fn stand_by_job<R: Threads + Wait + Sync>(rt: &R, alloc: Global, roots: &[&str])
 
 #[test]
 fn replies_stand_by_job(rt: HostRuntime) {
-    let mut told = true;
-    for roots in [ONE, TWO, FOUR, EIGHT] {
-        told = told && stand_by_job(&rt, rt.alloc(), roots);
+    for workers in [1, 2, 4, 8] {
+        assert!(rt; stand_by_job(&rt, rt.alloc(), roots(workers)), "{workers}");
     }
-    assert!(rt; told);
 }
 
 /// Before its second step, each of two sessions waits for the other's.
@@ -160,13 +137,9 @@ impl Meeting {
     // Tells the other, and waits for it, but not for ever.
     fn meet(&self, mine: &AtomicU64, other: &AtomicU64) {
         mine.store(1, Ordering::SeqCst);
-        for _ in 0..TURNS_MAX {
-            if other.load(Ordering::SeqCst) == 1 {
-                return;
-            }
-            thread::yield_now();
+        if !comes(other) {
+            self.ran_out.store(1, Ordering::SeqCst);
         }
-        self.ran_out.store(1, Ordering::SeqCst);
     }
 }
 
@@ -188,7 +161,7 @@ fn meet_in_jobs<R: Threads + Wait + Sync>(rt: &R, alloc: Global) -> bool {
         ran_out: AtomicU64::new(0),
     };
     let wanted = "opened file 4 /a/b/f\nopened file 4 /a/b/f\n";
-    let events = events_of_jobs(rt, alloc, TWO, &["a/b/f", "abs/f"], wanted, &meeting);
+    let events = events_of_jobs(rt, alloc, roots(2), &["a/b/f", "abs/f"], wanted, &meeting);
     events.is_some() && meeting.ran_out.load(Ordering::SeqCst) == 0
 }
 
@@ -231,15 +204,17 @@ fn is_refused<R: Threads + Wait + Sync>(
 
 #[test]
 fn too_few_and_too_many_are_refused(rt: HostRuntime) {
-    let mut told = true;
-    for (roots, wanted) in [
-        (NONE, Some((ServeCause::NoWorkers, 0))),
-        (NINE, Some((ServeCause::TooManyWorkers, 9))),
-        (EIGHT, None),
+    workers_limit_is_a_number();
+    for (workers, wanted) in [
+        (0, Some((ServeCause::NoWorkers, 0))),
+        (9, Some((ServeCause::TooManyWorkers, 9))),
+        (8, None),
     ] {
-        told = told && is_refused(&rt, rt.alloc(), roots, wanted);
+        assert!(rt;
+            is_refused(&rt, rt.alloc(), roots(workers), wanted),
+            "{workers}"
+        );
     }
-    assert!(rt; told);
 }
 
 // The jobs of releasing what a reply opened.
@@ -252,31 +227,26 @@ fn jobs_of_release(alloc: Global, reply: Reply) -> Vec<Request> {
 }
 
 // A reply that was served is served again as jobs, by the same sessions.
-fn serve_again<R: Threads + Wait + Sync>(
-    rt: &R,
-    alloc: Global,
-    service: &Service<ListTree>,
-    before: Served,
-) -> Option<Served> {
+fn serve_again<R: Threads + Wait + Sync>(on: &On<ListTree, R>, before: Served) -> Option<Served> {
     let Served {
         sessions,
         mut replies,
     } = before;
     let jobs = match replies.pop() {
-        Some(reply) => jobs_of_release(alloc, reply),
-        None => Vec::new(alloc),
+        Some(reply) => jobs_of_release(on.alloc, reply),
+        None => Vec::new(on.alloc),
     };
-    served(rt, alloc, service, sessions, Ok(jobs), &NoGate)
+    served(on, sessions, Ok(jobs), &NoGate)
 }
 
 // Whether a Release as a job is told Invalid, and its service closes with the events of one Resolve alone.
 fn is_left_open<R: Threads + Wait + Sync>(rt: &R, alloc: Global) -> bool {
-    let Some((service, sessions)) = opened::<ListTree>(alloc, ONE, 1, 999) else {
+    let Some((service, sessions)) = opened::<ListTree>(alloc, roots(1), 1, 999) else {
         return false;
     };
-    let jobs = jobs_of(alloc, &["a/b/f"]);
-    let served = match served(rt, alloc, &service, sessions, jobs, &NoGate) {
-        Some(served) => serve_again(rt, alloc, &service, served),
+    let on = On::new(rt, alloc, &service);
+    let served = match served(&on, sessions, jobs_of(alloc, &["a/b/f"]), &NoGate) {
+        Some(served) => serve_again(&on, served),
         None => None,
     };
     events_served(rt, alloc, service, served, "fault EINVAL\n") == Some(6)

@@ -1,6 +1,6 @@
 //! Services that are opened, or refused, and a book that is full.
-use crate::calling::{Base, Opening, events_closed, is_told, open, opened};
-use sessions::{NoGate, OpenCause};
+use crate::calling::{Base, On, Opening, events_closed, open, opened};
+use sessions::{NoGate, OpenCause, sessions_limit_is_a_number};
 use std::alloc::Global;
 use std::sync::Wait;
 use tree_list::ListTree;
@@ -50,6 +50,7 @@ fn wrong_opening<T: Base>(alloc: Global) -> Option<u32> {
 
 #[test]
 fn openings_are_refused(rt: HostRuntime) {
+    sessions_limit_is_a_number();
     let alloc = rt.alloc();
     let wrong = (
         wrong_opening::<ListTree>(alloc),
@@ -63,9 +64,8 @@ fn full_book<T: Base, R: Wait>(rt: &R, alloc: Global) -> bool {
     let Some((service, mut sessions)) = opened::<T>(alloc, &["/c"], 1, 7) else {
         return false;
     };
-    let session = sessions.first_mut();
-    let (asked, wanted) = ("a/b/f", "fault ENOSPC\n");
-    let told = is_told(rt, alloc, &service, session, &NoGate, asked, wanted);
+    let on = On::new(rt, alloc, &service);
+    let told = on.is_told(sessions.first_mut(), &NoGate, "a/b/f", "fault ENOSPC\n");
     let events = events_closed(service.stop().close(sessions));
     told && events == Some(6)
 }

@@ -1,19 +1,15 @@
 //! One race: a session's walk has made three steps as another session makes its calls. On two threads, which take
 //! turns, and on one.
-use crate::calling::{Base, Part, is_told, on_threads, opened};
+use crate::calling::{Base, On, Part, comes, on_threads, opened};
 use event_log::EventLog;
 use sessions::{Closed, Gate, NoGate, Pause, Service, Session};
 use std::alloc::Global;
 use std::sync::atomic::{AtomicU64, Ordering};
 use std::sync::{Mutex, Wait};
-use std::thread;
 use std::thread::Threads;
 use tree_list::ListTree;
 use tree_model::{Actor, Tree};
 use tree_slab::SlabTree;
-
-/// The most turns of a wait.
-const TURNS_MAX: u32 = 10_000_000;
 
 /// Holds session 1 before its first step until session 0 is before its fourth, and session 0 there until all that
 /// session 1 was asked is done.
@@ -36,15 +32,11 @@ impl Turns {
         }
     }
 
-    // Waits for a flag, but not for ever.
+    // Waits for a flag, and tells where it doesn't come.
     fn wait_for(&self, flag: &AtomicU64) {
-        for _ in 0..TURNS_MAX {
-            if flag.load(Ordering::SeqCst) == 1 {
-                return;
-            }
-            thread::yield_now();
+        if !comes(flag) {
+            self.ran_out.store(1, Ordering::SeqCst);
         }
-        self.ran_out.store(1, Ordering::SeqCst);
     }
 }
 
@@ -63,17 +55,21 @@ impl Gate for Turns {
 
 // Renames the file under the other's walk, and finds it again.
 fn moves_the_file<T: Tree, R: Wait, G: Gate>(
-    rt: &R,
-    alloc: Global,
-    service: &Service<T>,
+    on: &On<T, R>,
     session: &mut Session,
     gate: &G,
 ) -> bool {
-    let asked = "rename c/a/b/f c/a/b/g";
-    let moved = is_told(rt, alloc, service, Some(session), gate, asked, "done\n");
-    let (asked, wanted) = ("c/a/b/g", "opened file 4 /c/a/b/g\n");
-    let found = is_told(rt, alloc, service, Some(session), gate, asked, wanted);
-    moved && found
+    let moved = on.is_told(Some(session), gate, "rename c/a/b/f c/a/b/g", "done\n");
+    on.is_told(Some(session), gate, "c/a/b/g", "opened file 4 /c/a/b/g\n") && moved
+}
+
+// Whether a session misses the file.
+fn misses_the_file<T: Tree, R: Wait, G: Gate>(
+    on: &On<T, R>,
+    session: Option<&mut Session>,
+    gate: &G,
+) -> bool {
+    on.is_told(session, gate, "a/b/f", "fault ENOENT\n")
 }
 
 // How many of the first events, or of all, are session 0's.
@@ -108,28 +104,17 @@ fn closes_well<T: Tree + Drop>(service: Service<T>, sessions: Vec<Session>) -> b
 /// What the two sessions do on their threads: session 1 moves the file, and session 0 misses it.
 #[derive(Drop)]
 struct Racing<'a, T: Tree, R: Wait> {
-    rt: &'a R,
-    alloc: Global,
-    service: &'a Service<T>,
+    on: On<'a, T, R>,
     turns: Turns,
 }
 
 impl<'a, T: Base, R: Wait + Sync> Part for Racing<'a, T, R> {
     fn takes(&self, session: &mut Session) {
-        let (rt, turns) = (self.rt, &self.turns);
+        let turns = &self.turns;
         let told = if session.owner().actor == Actor::new(0) {
-            let (asked, wanted) = ("a/b/f", "fault ENOENT\n");
-            is_told(
-                rt,
-                self.alloc,
-                self.service,
-                Some(session),
-                turns,
-                asked,
-                wanted,
-            )
+            misses_the_file(&self.on, Some(session), turns)
         } else {
-            let moved = moves_the_file(rt, self.alloc, self.service, session, turns);
+            let moved = moves_the_file(&self.on, session, turns);
             turns.one_is_done.store(1, Ordering::SeqCst);
             moved
         };
@@ -146,12 +131,9 @@ fn take_turns<T: Base, R: Wait + Threads + Sync>(
     service: &Service<T>,
     sessions: &mut [Session],
 ) -> bool {
-    let turns = Turns::new();
     let racing = Racing {
-        rt,
-        alloc,
-        service,
-        turns,
+        on: On::new(rt, alloc, service),
+        turns: Turns::new(),
     };
     on_threads(rt, sessions, &racing);
     let turns = &racing.turns;
@@ -180,9 +162,7 @@ fn two_threads_take_turns(rt: HostRuntime) {
 /// Lets session 1 make its calls before session 0's fourth step, and counts the pauses that come in their order.
 #[derive(Drop)]
 struct Meddles<'a, T: Tree, R: Wait> {
-    rt: &'a R,
-    alloc: Global,
-    service: &'a Service<T>,
+    on: On<'a, T, R>,
     one: Mutex<Session>,
     pauses: AtomicU64,
     is_moved: AtomicU64,
@@ -196,8 +176,8 @@ impl<'a, T: Base, R: Wait + Sync> Gate for Meddles<'a, T, R> {
             self.pauses.store(step.saturating_add(1), Ordering::SeqCst);
         }
         if pause.step == 3 {
-            let mut one = self.one.lock(self.rt);
-            if moves_the_file(self.rt, self.alloc, self.service, &mut one, &NoGate) {
+            let mut one = self.one.lock(self.on.rt);
+            if moves_the_file(&self.on, &mut one, &NoGate) {
                 self.is_moved.store(1, Ordering::SeqCst);
             }
         }
@@ -216,23 +196,13 @@ fn is_meddled_with<T: Base, R: Wait + Sync>(
         return false;
     };
     let gate = Meddles {
-        rt,
-        alloc,
-        service,
+        on: On::new(rt, alloc, service),
         one: Mutex::new(one),
         pauses: AtomicU64::new(0),
         is_moved: AtomicU64::new(0),
     };
-    let (asked, wanted) = ("a/b/f", "fault ENOENT\n");
-    let missed = is_told(
-        rt,
-        alloc,
-        service,
-        sessions.first_mut(),
-        &gate,
-        asked,
-        wanted,
-    );
+    let on = On::new(rt, alloc, service);
+    let missed = misses_the_file(&on, sessions.first_mut(), &gate);
     let moved = gate.is_moved.load(Ordering::SeqCst) == 1;
     let in_order = gate.pauses.load(Ordering::SeqCst) == 5;
     let back = sessions.push(gate.one.into_inner()).ok();

@@ -1,10 +1,13 @@
 //! Four sessions on four threads, and whether the closed history tells of each reply.
-use crate::calling::{Base, Part, ask, held, on_threads, opened, release, write_reply};
+use crate::calling::{Base, On, Part, held, on_threads, opened, write_reply};
 use event_log::EventLog;
 use fixtures::names_of;
 use path_text::{Errno, Names, NoMemory};
 use root_ops::Reply;
-use sessions::{Closed, Gate, Pause, Service, Session};
+use sessions::{
+    Closed, Gate, Pause, Service, Session, calls_stand_in_order, each_call_tells_in_threads,
+    services_tell, walks_tell_in_threads,
+};
 use std::alloc::Global;
 use std::sync::atomic::{AtomicU64, Ordering};
 use std::sync::{Mutex, Wait};
@@ -47,20 +50,18 @@ fn note(alloc: Global, seen: &mut Seen, gate: &Counts, reply: &Reply) {
 /// What the four sessions do on their threads, and what they saw.
 #[derive(Drop)]
 struct Mixing<'a, T: Tree, R: Wait> {
-    rt: &'a R,
-    alloc: Global,
-    service: &'a Service<T>,
+    on: On<'a, T, R>,
     all: Mutex<Vec<Seen>>,
 }
 
 impl<'a, T: Tree, R: Wait> Mixing<'a, T, R> {
     // Makes one call, releases what it opened, and notes both.
     fn calls(&self, session: &mut Session, gate: &Counts, asked: &str, seen: &mut Seen) {
-        let reply = ask(self.rt, self.alloc, self.service, session, gate, asked);
-        note(self.alloc, seen, gate, &reply);
+        let reply = self.on.ask(session, gate, asked);
+        note(self.on.alloc, seen, gate, &reply);
         if let Some(standing) = held(reply) {
-            let reply = session.call(self.rt, self.alloc, self.service, gate, release(standing));
-            note(self.alloc, seen, gate, &reply);
+            let reply = self.on.release(session, gate, standing);
+            note(self.on.alloc, seen, gate, &reply);
             drop(reply);
         }
     }
@@ -86,11 +87,11 @@ impl<'a, T: Base, R: Wait + Sync> Part for Mixing<'a, T, R> {
     fn takes(&self, session: &mut Session) {
         let mut seen = Seen {
             actor: session.owner().actor,
-            steps: Vec::new(self.alloc),
-            lines: Output::new(self.alloc),
+            steps: Vec::new(self.on.alloc),
+            lines: Output::new(self.on.alloc),
         };
         self.mixes(session, &mut seen);
-        drop(self.all.lock(self.rt).push(seen));
+        drop(self.all.lock(self.on.rt).push(seen));
     }
 }
 
@@ -102,9 +103,7 @@ fn all_mix<T: Base, R: Wait + Threads + Sync>(
     sessions: &mut [Session],
 ) -> Vec<Seen> {
     let mixing = Mixing {
-        rt,
-        alloc,
-        service,
+        on: On::new(rt, alloc, service),
         all: Mutex::new(Vec::new(alloc)),
     };
     on_threads(rt, sessions, &mixing);
@@ -352,6 +351,10 @@ fn race_of_four<T: Base, R: Wait + Threads + Sync>(rt: &R, alloc: Global) -> boo
 /// of the step table when they are made again, and each reply is the one that its own events there tell.
 #[test]
 fn four_threads_close(rt: HostRuntime) {
+    calls_stand_in_order();
+    walks_tell_in_threads();
+    each_call_tells_in_threads();
+    services_tell();
     let alloc = rt.alloc();
     assert!(rt; race_of_four::<ListTree, _>(&rt, alloc) && race_of_four::<SlabTree, _>(&rt, alloc));
 }
