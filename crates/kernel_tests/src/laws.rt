@@ -34,15 +34,14 @@ fn laws_are_at_hand() {
     find_proc::the_kept_one_is_looked_at();
     find_proc::a_proc_is_handed_in();
     find_proc::a_proc_is_made();
-    ask_place::calls_hold();
-    ask_place::questions_are_few();
-    place_protocol::places_are_witnessed();
-    place_protocol::places_stood();
-    place_protocol::places_were_passed();
-    place_protocol::agreeing_witnesses_are_told();
-    place_protocol::names_lie_in_the_text();
-    place_protocol::questions_come_to_an_end();
-    place_protocol::names_are_told_by_the_kernels_check();
-    place_protocol::names_are_looked_up_first();
-    place_protocol::only_the_root_is_at_itself();
+    find_place::calls_hold();
+    find_place::questions_are_few();
+    find_place::places_are_witnessed();
+    find_place::places_stood();
+    find_place::places_were_passed();
+    find_place::agreeing_witnesses_are_told();
+    find_place::questions_come_to_an_end();
+    find_place::names_are_told_by_the_kernels_check();
+    find_place::names_are_looked_up_first();
+    find_place::only_the_root_is_at_itself();
 }
