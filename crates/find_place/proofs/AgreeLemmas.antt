@@ -1,9 +1,9 @@
 -- Agreeing answers are a conversation that tells the place.
-use Rattle.std.proofs.Common.{◌≡◌, ◌==◌, ◌&&◌, ◌≤◌, inl, inr, ℕ, Bool, true, false, not, List, [], ◌∷◌, length, Some, refl, sym, ap, subst, ◌∙◌}
+use Rattle.std.proofs.Common.{◌≡◌, ◌&&◌, ◌≤◌, inl, inr, ℕ, Bool, true, false, not, List, [], ◌∷◌, length, refl, sym, ap, subst}
 use Rattle.std.specs.Cmp.Derive.{both_true}
 use Rattle.std.proofs.lemmas.Bool.{eq-eqb}
 use Rattle.path_text.specs.declared.path.TheConstants.{TEXT_MAX}
-use Rattle.system_calls.specs.Place.{ends_as_gone, is_named, place_told}
+use Rattle.system_calls.specs.Place.{ends_as_gone, is_named}
 use Rattle.find_place.specs.Place.{are_same, below_root, confirmed, is_there, looked_up, place, with_place}
 use Rattle.find_place.specs.Questions.{Exchange, is_dead, is_top, link_again, looks_up, object_link, root_link, text_of}
 use Rattle.find_place.specs.Witness.{AgreeingWitnessesAreTold, AreShort, FindsObject, IsConfirmed, IsThere}

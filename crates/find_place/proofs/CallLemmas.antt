@@ -1,5 +1,5 @@
 -- How many questions come about a place, and what those about a program's descriptor come to.
-use Rattle.std.proofs.Common.{◌≡◌, ◌≢◌, ◌≤◌, ℕ, zero, suc, Bool, true, false, not, ◌||◌, ◌==◌, ◌&&◌, ◌⊎◌, inl, inr, if◌then◌else◌, List, [], ◌∷◌, ◌++◌, length, Option, Some, None, Ok, Err, refl, sym, ap, subst, ◌∙◌, arith}
+use Rattle.std.proofs.Common.{◌≡◌, ◌≤◌, ℕ, zero, suc, Bool, true, false, not, ◌||◌, ◌==◌, ◌&&◌, inl, inr, if◌then◌else◌, List, [], ◌∷◌, ◌++◌, length, Option, Some, None, Ok, Err, refl, sym, ap, subst, ◌∙◌, arith}
 use Rattle.std.specs.Prelude.{codes}
 use Rattle.std.proofs.lemmas.Bool.{both_ways, cond-false, cond-true, eq-eqb, eqb-true, eqb-false, not-false, not-true}
 use Rattle.std.proofs.lemmas.List.{append_assoc, append-nil}
@@ -9,7 +9,7 @@ use Rattle.system_calls.specs.Place.{ends_as_gone, is_named, place_told}
 use Rattle.system_calls.specs.declared.objects.Object.{Object}
 use Rattle.dialogue.specs.Dialogue.{Talks, Whole, and_then, asking, asks, ends, without_signals}
 use Rattle.dialogue.specs.Holds.{AllMay, Holds, state_after}
-use Rattle.dialogue.proofs.HoldLemmas.{Goes, asks_then, both, choose, exchange, over, weak}
+use Rattle.dialogue.proofs.HoldLemmas.{Goes, asks_then, both, choose, exchange, over}
 use Rattle.find_place.specs.Place.{are_same, ask_place, closing, confirmed, copied, facts_of, found, is_there, link, link_told, lost, looked_up, or_unfound, place, place_if, unfound, with_place, with_text}
 use Rattle.find_place.specs.Promises.{CallsHold, Ends, IsAsked, IsTold, Seen, after, at_first, needs_open, watch}
 use Rattle.find_place.specs.Questions.{Asked, Exchange, Talk, Told, closes, copies, is_dead, is_removed, is_top, link_again, looks, looks_up, object_link, questions, root_link}
@@ -197,8 +197,8 @@ unfound_goes a es error w =
     comes : (t : Seen) (r : Told) → t.is_open ≡ true → t.why ≡ 0 → Whole (place (facts_of t.directory)) t.exchanges (Err error)
         → (error ≡ EAGAIN → t.directory ≡ true → t.asked ≡ true)
         → r ≡ (if error == EAGAIN then lost t.gone else Err error) → Comes t r
-    comes t r opened fine whole asks is =
-        record { opened = opened; asked = record { fine = fine; came = Err error; whole = whole; told = (asks, is) } }
+    comes t r opened fine whole was is =
+        record { opened = opened; asked = record { fine = fine; came = Err error; whole = whole; told = (was, is) } }
 
 found_goes : (a : Answer) → Goes watch 5 (asked_at a []) (found a) Comes
 unfolding found

@@ -1,5 +1,5 @@
 -- Each place is witnessed.
-use Rattle.std.proofs.Common.{◌≡◌, ◌==◌, ◌&&◌, ◌⊎◌, inl, inr, ℕ, Bool, true, false, not, List, [], ◌∷◌, Some, refl, sym, ap, subst, ◌∙◌}
+use Rattle.std.proofs.Common.{◌≡◌, ◌==◌, ◌&&◌, inl, inr, ℕ, Bool, true, false, not, List, [], ◌∷◌, Some, refl, sym, ap, subst, ◌∙◌}
 use Rattle.std.proofs.lemmas.Bool.{and_parts, both_ways, eqb-true, not-false, not-true}
 use Rattle.system_calls.specs.Objects.{is_same_object}
 use Rattle.system_calls.specs.Place.{ends_as_gone, is_named, place_told}
@@ -29,7 +29,7 @@ there_tells facts names p es h =
                 last = e;
                 all = ap (λ xs. e ∷ xs) n.2;
                 is = n.1;
-                there = inl (not-true (ends_as_gone p) c.0, worked, n.0);
+                there = inl (not-true (ends_as_gone p) c.0, (worked, n.0));
               })
       | inr c ↦
           elim (either names (not facts.directory) _ _ es c.1) [

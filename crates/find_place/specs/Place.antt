@@ -1,6 +1,6 @@
 -- At which names an object stands: what is asked, one question after another. Witness.antt says what that is worth.
 -- Errors are numbers of errno(3).
-use Rattle.std.specs.Prelude.{ℕ, List, ◌==◌, Bool, false, not, ◌&&◌, ◌||◌, if◌then◌else◌, nat_lt, length, Option, Some, None, Result, Ok, Err}
+use Rattle.std.specs.Prelude.{ℕ, List, ◌==◌, Bool, false, not, ◌&&◌, ◌||◌, if◌then◌else◌, nat_lt, length, Option, Some, None, Ok, Err}
 use Rattle.path_text.specs.declared.path.TheConstants.{TEXT_MAX}
 use Rattle.system_calls.specs.Errors.{ENOENT, EAGAIN, ENAMETOOLONG, ENOSYS}
 use Rattle.system_calls.specs.Objects.{is_elsewhere, is_same_object}
