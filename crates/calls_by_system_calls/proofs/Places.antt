@@ -9,8 +9,8 @@ use Rattle.tree_model.specs.declared.inode.Inode.{Inode}
 use Rattle.tree_model.specs.State.{State, is_gone, names_below, names_within, place_at}
 use Rattle.tree_model.specs.Steps.{shows}
 use Rattle.step_resolver.proofs.Underway.AfterParent.{names_same}
-use Rattle.place_protocol.specs.Moments.{PlacesStood, StaysGone}
-use Rattle.place_protocol.proofs.MomentLemmas.{places-stood}
+use Rattle.find_place.specs.Moments.{PlacesStood, StaysGone}
+use Rattle.find_place.proofs.MomentLemmas.{places-stood}
 use Rattle.calls_by_system_calls.specs.Linux.{Linux, state_at}
 use Rattle.calls_by_system_calls.specs.Places.{are_names, AskedPlacesStood, IsTheRoot, place_world, PlaceIsAsked, PlaceIsFound, PlaceIsTold}
 use Rattle.calls_by_system_calls.proofs.Moments.{gone_next, longer_later}

@@ -1,9 +1,10 @@
 -- The race with a change, computed.
-use Rattle.std.proofs.Common.{◌≡◌, ◌≢◌, inl, inr, ℕ, zero, suc, ◌+◌, ◌≤◌, ◌⊎◌, ⊎_elim, Bool, true, false, if◌then◌else◌, List, [], ◌∷◌, length, Option, Some, None, refl, ap, ◌∙◌, subst, ne_eqb, arith}
-use Rattle.std.specs.Prelude.{codes}
+use Rattle.std.proofs.Common.{◌≡◌, ◌≢◌, inl, inr, ℕ, zero, suc, ◌+◌, ◌≤◌, ◌⊎◌, ⊎_elim, Bool, true, false, if◌then◌else◌, List, [], ◌∷◌, length, Option, Some, None, refl, sym, ap, ◌∙◌, subst, ne_eqb, arith}
+use Rattle.std.specs.Prelude.{◌==◌, codes}
 use Rattle.std.specs.List.{AllByRecursion}
-use Rattle.std.proofs.lemmas.Bool.{false≢true}
+use Rattle.std.proofs.lemmas.Bool.{eq-eqb, false≢true}
 use Rattle.std.proofs.lemmas.Option.{same_Some}
+use Rattle.path_text.specs.declared.name.TheConstants.{SLASH}
 use Rattle.tree_model.specs.declared.answer.Answer.TheVariants.{Names, Done}
 use Rattle.tree_model.specs.declared.answer.Event.{Event}
 use Rattle.tree_model.specs.declared.step.StepOf.TheVariants.{MakeDir}
@@ -11,11 +12,12 @@ use Rattle.tree_model.specs.History.{IsLegal, after_events}
 use Rattle.tree_model.specs.State.{State}
 use Rattle.tree_model.proofs.TreeTests.{IsState-from_test}
 use Rattle.system_calls.specs.declared.objects.Object.{Object}
-use Rattle.place_protocol.specs.Conversation.{Exchange}
-use Rattle.place_protocol.specs.Moments.{IsAnswer, TextsTell, World}
-use Rattle.place_protocol.specs.declared.questions.Facts.{Facts as PlaceFacts}
-use Rattle.place_protocol.specs.declared.questions.Question.{Question}
-use Rattle.place_protocol.specs.declared.questions.Question.TheVariants.{RootLink, ObjectLink, LookUp, LinkAgain}
+use Rattle.dialogue.specs.Dialogue.{Talks, and_then, asking}
+use Rattle.find_place.specs.Moments.{IsAnswer, TextsTell, World}
+use Rattle.find_place.specs.Place.{confirmed, is_there, link, place}
+use Rattle.find_place.specs.Questions.{Asked, Exchange, link_again, looks_up, object_link, root_link}
+use Rattle.find_place.specs.Witness.{Tells}
+use Rattle.find_place.specs.declared.places.Facts.{Facts as PlaceFacts}
 use Rattle.calls_by_system_calls.specs.Linux.{Change, found_behind, state_at, with_change, ChangeNothing, IsLinux}
 use Rattle.calls_by_system_calls.specs.Changes.{IsChange}
 use Rattle.calls_by_system_calls.specs.Lines.{AllDiffer, AreMade, numbers_opened}
@@ -56,25 +58,30 @@ nothing m calls apart n less =
 abbrev no_object : Object
 no_object = record { device = 0; inode = 0; mount = 0 }
 
-abbrev asked : Question → List ℕ → List ℕ → Exchange
-asked question names text = record {
-  question = question;
-  names = names;
-  answer = record { error = 0; yes = false; held = no_object; found = no_object };
-  text = text;
+abbrev said : Asked → List ℕ → Exchange
+said asked text = record {
+  asked = asked;
+  answer = record {
+    text = record { ref_ptr = (0, 0); now = text };
+    held = no_object;
+    found = no_object;
+    links = 1;
+    error = 0;
+    yes = false;
+  };
 }
 
 abbrev read_root : Exchange
-read_root = asked RootLink [] (codes "/c")
+read_root = said root_link (codes "/c")
 
 abbrev read_b : Exchange
-read_b = asked ObjectLink [] (codes "/c/a/b")
+read_b = said object_link (codes "/c/a/b")
 
 abbrev looked_up : Exchange
-looked_up = asked LookUp (codes "/a/b") []
+looked_up = said (looks_up (codes "/a/b")) []
 
 abbrev read_again : Exchange
-read_again = asked LinkAgain [] (codes "/c/a/b")
+read_again = said link_again (codes "/c/a/b")
 
 abbrev of_directory : PlaceFacts
 of_directory = record { directory = true; seen = false }
@@ -104,6 +111,11 @@ says_b = record {
   looked_root = λ found. absurd (cc (found.0.0));
 }
 
+far : (p q : List ℕ) → looks_up p ≡ looks_up q → (length p == length q) ≡ false → ⊥
+far p q is apart =
+    let same : p ≡ q = cc in
+    absurd (false≢true (sym apart ∙ (ap (λ x. length x == length q) same ∙ eq-eqb (length q) (length q) refl)))
+
 says_looked_up : IsAnswer place_moments of_directory 2 looked_up
 says_looked_up = record {
   link_again = λ worked plain. absurd (cc (worked.0));
@@ -112,7 +124,7 @@ says_looked_up = record {
   object_link = λ worked. absurd (cc (worked.0));
   root_link = λ worked. absurd (cc (worked.0));
   look_up = λ place found. refl;
-  looked_root = λ found. let long : 4 ≡ 1 = ap length found.1 in absurd (omega (arith, long));
+  looked_root = λ found. absurd (far (codes "/a/b") (SLASH ∷ []) found.0.0 refl);
 }
 
 says_again : IsAnswer place_moments of_directory 3 read_again
@@ -133,6 +145,10 @@ texts = record {
       inr (subst (λ p. place_moments.stands 1 p ≡ true) (same_Some (codes "/a/b") place told) refl);
 }
 
+tells_b : Tells of_directory (read_root ∷ read_b ∷ looked_up ∷ read_again ∷ []) (codes "/a/b")
+unfolding Talks place link confirmed is_there and_then asking
+tells_b = (refl, (refl, (refl, (refl, refl))))
+
 asks_b : PlaceIsAsked mkdir_race 3 4 1 3 (Names (codes "a" ∷ codes "b" ∷ []))
 asks_b = record {
   facts = of_directory;
@@ -141,7 +157,7 @@ asks_b = record {
   passed = λ n place. true;
   root = λ n. codes "/c";
   object = λ n. codes "/c/a/b";
-  is = (refl, (refl, ((refl, refl), (refl, refl))));
+  is = tells_b;
   all = refl;
   says = (says_root, (says_b, (says_looked_up, (says_again, tt))));
   texts = λ plain. texts;

@@ -1,4 +1,4 @@
--- NameBelow, for which Linux has no one system call. By a conversation of place_protocol, each answer of Linux says of
+-- NameBelow, for which Linux has no one system call. By a conversation of find_place, each answer of Linux says of
 -- the place at its moment what the manual pages say. So its answer was so at one of these moments.
 use Rattle.std.specs.Prelude.{◌≡◌, ◌⊎◌, ◌≤◌, ◌<◌, ℕ, suc, ◌+◌, List, [], Bool, true, false, length, Option, Some, reverse}
 use Rattle.path_text.specs.Names.{same_names}
@@ -7,10 +7,10 @@ use Rattle.tree_model.specs.declared.answer.Answer.{Answer}
 use Rattle.tree_model.specs.declared.answer.Answer.TheVariants.{Names}
 use Rattle.tree_model.specs.State.{State, is_gone, names_below}
 use Rattle.tree_model.specs.Steps.{shows}
-use Rattle.place_protocol.specs.Conversation.{Conversation, Exchange, StandsAt}
-use Rattle.place_protocol.specs.Moments.{AreAnswers, TextsTell, World}
-use Rattle.place_protocol.specs.Texts.{is_top}
-use Rattle.place_protocol.specs.declared.questions.Facts.{Facts}
+use Rattle.find_place.specs.Moments.{AreAnswers, TextsTell, World}
+use Rattle.find_place.specs.Questions.{Exchange, is_top}
+use Rattle.find_place.specs.Witness.{Tells}
+use Rattle.find_place.specs.declared.places.Facts.{Facts}
 use Rattle.calls_by_system_calls.specs.Linux.{Linux, IsLinux, state_at}
 
 -- The answer is what stood at one of the moments. This is a premise of an answer that is neither the root's own nor a
@@ -53,7 +53,7 @@ pub record PlaceIsAsked (x : Linux) (m calls top node : ℕ) (answer : Answer) :
   pub passed : ℕ → List ℕ → Bool
   pub root : ℕ → List ℕ
   pub object : ℕ → List ℕ
-  pub is : Conversation facts exchanges (StandsAt place)
+  pub is : Tells facts exchanges place
   pub all : length exchanges ≡ calls
   pub says : AreAnswers (place_world x m top node passed root object) facts 0 exchanges
   pub texts : is_top place ≡ false → TextsTell (place_world x m top node passed root object)

@@ -8,8 +8,8 @@ ghost use Rattle.calls_by_system_calls.specs.SeenBelow.{ResolvesSeenBelowBySyste
 ghost use Rattle.calls_by_system_calls.specs.WorkedChange.{MkdirIsMade};
 ghost use Rattle.calls_by_system_calls.specs.WorkedRace.{RaceIsMade};
 
+use find_place::places_stood;
 use kernel_walks::{fails_at_once_tell, resolves_seen_below};
-use place_protocol::places_stood;
 use root_ops::calls_tell_by_any_numbers;
 
 /// Of no history, from what `Call::start`, `take` and `pass` of `root_ops` say alone, whatever the answers are: each
@@ -41,7 +41,7 @@ pub fn steps_are_refused_so()
 /// What each answer of Linux says of the tree at its moment is a premise (openat2(2), statx(2), readlink(2), rmdir(2),
 /// statfs(2), getdents(2), mkdir(2), mknod(2), symlink(2), link(2), unlink(2), renameat2(2); `specs/Linux.antt` and
 /// `specs/Changes.antt` of `linux_steps`). So is it that a Close closes. The answer to a NameBelow is a place in
-/// which a conversation of `place_protocol` ended, or the root's own; that any other, and that to a List, was so at
+/// which a conversation of `find_place` ended, or the root's own; that any other, and that to a List, was so at
 /// one of its moments is a premise. Then there is a history that begins with the tree as the call did: what others
 /// did, with the call's steps among it, each at a moment of its own system calls. In this history the call tells what
 /// `each_call_tells` of `root_ops` says, by whatever numbers the program gave to handles and nodes: which handles it
@@ -77,7 +77,7 @@ pub fn seen_below_by_system_calls()
     resolves_seen_below();
 }
 
-/// Where a conversation of `place_protocol` told a place, and its names are the answer to a NameBelow, this answer was
+/// Where a conversation of `find_place` told a place, and its names are the answer to a NameBelow, this answer was
 /// so at the moment of one of its system calls (getcwd(2), proc(5), openat2(2), statx(2)). Of what the kernel had seen
 /// below the root right before it is supposed that it isn't removed.
 pub fn asked_places_stood()

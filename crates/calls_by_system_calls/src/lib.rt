@@ -1,6 +1,6 @@
 //! Calls of `root_ops` by system calls: laws, on which no other crate stands.
 //!
-//! `linux_steps` has laws on one step's conversation of system calls, and `place_protocol` on one about an object's
+//! `linux_steps` has laws on one step's conversation of system calls, and `find_place` on one about an object's
 //! place. The laws here join them: they put the steps of a call, each made by system calls, among what others do
 //! meanwhile. So they have the history in which the call tells what `root_ops` says. `conversations_are_calls` and
 //! `unmade_steps_end_calls` say of a call's turns what comes of them in no history, whatever is answered. Which errors

@@ -172,8 +172,16 @@ fn points_to_what_is_refused(rt: HostRuntime) {
     let unknown = CallFault::Unknown(Field::Op);
     for (script, fault, want) in [
         (LINES, ScriptFault::Version, Some((2, 14))),
-        (LINES, ScriptFault::TreeEntry(0, Cause::Shape), Some((2, 38))),
-        (LINES, ScriptFault::TreeEntry(1, Cause::Shape), Some((2, 54))),
+        (
+            LINES,
+            ScriptFault::TreeEntry(0, Cause::Shape),
+            Some((2, 38)),
+        ),
+        (
+            LINES,
+            ScriptFault::TreeEntry(1, Cause::Shape),
+            Some((2, 54)),
+        ),
         (LINES, ScriptFault::TreeEntry(2, Cause::Shape), None),
         (LINES, ScriptFault::Actor(1, Cause::Shape), Some((3, 39))),
         (
@@ -189,13 +197,13 @@ fn points_to_what_is_refused(rt: HostRuntime) {
         ),
         (LINES, ScriptFault::NoJob(0), None),
         (LINES, ScriptFault::Turn(1), Some((5, 52))),
+        (LINES, ScriptFault::Loose(Loose::Label(1, 0)), None),
+        ("[]", ScriptFault::NotObject, Some((1, 1))),
         (
-            LINES,
-            ScriptFault::Loose(Loose::Label(1, 0)),
+            r#"{"\u0074ree":[7]}"#,
+            ScriptFault::TreeEntry(0, Cause::Shape),
             None,
         ),
-        ("[]", ScriptFault::NotObject, Some((1, 1))),
-        (r#"{"\u0074ree":[7]}"#, ScriptFault::TreeEntry(0, Cause::Shape), None),
     ] {
         let place = position_of(script.as_bytes(), fault);
         let place = place.map(|place| (place.line, place.column));

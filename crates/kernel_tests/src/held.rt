@@ -1,8 +1,6 @@
 //! What comes before the first question about the place of what a walk holds.
 use crate::rows::word_of;
-use place_protocol::{
-    BY_NAME, BY_PARENT, BY_ROOT, Held, SEEN_BELOW, before_questions, behind_look_up,
-};
+use find_place::{BY_NAME, BY_PARENT, BY_ROOT, Held, SEEN_BELOW, before_questions, behind_look_up};
 use std::test::Fail;
 
 /// By which way a walk holds something, of which kind that is, whether the kernel's check is enough (`below`), whether

@@ -3,8 +3,6 @@
 #![tactic(auto)]
 
 #[cfg(test)]
-mod askings;
-#[cfg(test)]
 mod courses;
 #[cfg(test)]
 mod held;
@@ -21,9 +19,9 @@ mod openings;
 #[cfg(test)]
 mod places;
 #[cfg(test)]
-mod procs;
+mod placings;
 #[cfg(test)]
-mod protocol;
+mod procs;
 #[cfg(test)]
 mod records;
 #[cfg(test)]

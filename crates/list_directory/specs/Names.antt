@@ -7,15 +7,15 @@ use Rattle.list_directory.specs.declared.asking.Outcome.{Outcome}
 -- Behind so many bytes of names come those of the first records that there is room for, and why no more.
 pub record Lays (before : ℕ) (records old : List ℕ) (names : List (List ℕ)) (gave : Outcome) (new : List ℕ) : Type 0
   where
-  pub rest : List ℕ
-  pub full : Bool
-  pub read : ReadsTo records names rest
-  pub used : gave.used ≡ before + length (entries_text names)
-  pub within : gave.used ≤ length old
-  pub size : length new ≡ length old
-  pub laid : take gave.used new ≡ take before old ++ entries_text names
-  pub stop : Stops rest (length old - gave.used) full gave.error
-  pub last : gave.last ≡ (full || is_empty records)
+    pub rest : List ℕ
+    pub full : Bool
+    pub read : ReadsTo records names rest
+    pub used : gave.used ≡ before + length (entries_text names)
+    pub within : gave.used ≤ length old
+    pub size : length new ≡ length old
+    pub laid : take gave.used new ≡ take before old ++ entries_text names
+    pub stop : Stops rest (length old - gave.used) full gave.error
+    pub last : gave.last ≡ (full || is_empty records)
 
 abbrev pub IsRead : ℕ → List ℕ → List ℕ → Outcome → List ℕ → Type 0
 IsRead before records old gave new = (names : List (List ℕ)) × Lays before records old names gave new

@@ -12,7 +12,9 @@ mod reading;
 mod taking;
 
 pub use asking::{Asked, Outcome, Question};
-pub use laws::{a_part_is_bounded, all_levels_are_bounded, listings_hold, names_are_those_of_the_records};
+pub use laws::{
+    a_part_is_bounded, all_levels_are_bounded, listings_hold, names_are_those_of_the_records,
+};
 pub use parts::part_size;
 pub use reading::{Came, Listing, a_part};
 pub use taking::take_read;

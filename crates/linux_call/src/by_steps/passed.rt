@@ -4,8 +4,8 @@
 use crate::by_steps::name::Name;
 use crate::by_steps::slots::Handles;
 use crate::path::front;
+use find_place::BY_ROOT;
 use path_text::SLASH;
-use place_protocol::BY_ROOT;
 use std::alloc::Global;
 
 // A path, and a NUL.

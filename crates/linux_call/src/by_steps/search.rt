@@ -1,54 +1,35 @@
-//! At which names below the root an object stands: each question of `place_protocol` by its system calls.
+//! At which names below the root an object stands: each question of `find_place` by its system calls.
 use crate::by_proc::proc_error;
 use crate::by_steps::slots::Slot;
-use crate::by_steps::there::may_be_dead;
+use crate::by_steps::there::{is_dead, may_be_dead};
 use crate::path::piece;
 use crate::walk::{RESOLVE_BENEATH, RESOLVE_NO_MAGICLINKS, RESOLVE_NO_SYMLINKS, opened};
 use dialogue::{Answer as Gave, Asked, Question, ask};
+use find_place::{Answer, BY_NAME, BY_ROOT, Facts, Question as Wanted, SEEN_BELOW, Told};
 use find_proc::{Known, Proc, find};
 use linux_steps::look_error;
-use place_protocol::{Answer, BY_NAME, BY_ROOT, Facts, SEEN_BELOW, Told, begin, next};
 use std::alloc::Global;
 use system_calls::errors::{EAGAIN, ENOMEM};
-use system_calls::{Object, is_same_object};
-
-// What is told, by its numbers.
-const ROOT_LINK: u8 = 1;
-
-const OBJECT_LINK: u8 = 2;
-
-const LOOK_UP: u8 = 3;
-
-const LINK_AGAIN: u8 = 4;
-
-const STANDS: u8 = 6;
-
-const UNMADE: u8 = 7;
+use system_calls::{Object, is_same_object, kind_of};
 
 const DIRECTORY: u8 = 1;
 
-/// What is asked about one object. The texts stay until the place is told.
-#[derive(Drop)]
-pub(crate) struct Search {
-    root: u32,
-    held: Slot,
-    facts: Facts,
-    told: Told,
-    // The root's link, the object's, and that once more.
-    above: Vec<u8>,
-    text: Vec<u8>,
-    again: Vec<u8>,
-}
+// So many questions come at most.
+const QUESTIONS: usize = 8;
 
-/// What a question was answered.
+// In place of a descriptor.
+const NO_DESCRIPTOR: u32 = 0xffff_ffff;
+
+/// What a question was answered; and where the text lies that was read, and how long it is.
 #[derive(Clone, Copy)]
-pub(crate) enum Found {
-    /// A link's text has so many bytes; or an error. By this /proc, if there is one.
-    Link(Result<u32, u32>, Option<Proc>),
-    /// What is told behind a look-up, and what that opened, if it is open still.
-    LookedUp(Told, Option<u32>),
-    /// Whether the directory may have been removed.
-    Dead(bool),
+pub(crate) struct Heard {
+    held: Object,
+    found: Object,
+    links: u64,
+    error: u32,
+    yes: bool,
+    start: usize,
+    length: usize,
 }
 
 const NOTHING: Object = Object {
@@ -57,13 +38,56 @@ const NOTHING: Object = Object {
     mount: 0,
 };
 
-fn answer_of(error: u32) -> Answer {
-    Answer {
+const NOTHING_HEARD: Heard = Heard {
+    held: NOTHING,
+    found: NOTHING,
+    links: 0,
+    error: 0,
+    yes: false,
+    start: 0,
+    length: 0,
+};
+
+fn failed(error: u32) -> Heard {
+    Heard {
         error,
-        yes: false,
-        held: NOTHING,
-        found: NOTHING,
+        ..NOTHING_HEARD
     }
+}
+
+fn said(yes: bool) -> Heard {
+    Heard {
+        yes,
+        ..NOTHING_HEARD
+    }
+}
+
+/// What was asked about one object, by a walk or by a program. The texts that were read stay until the place is told.
+#[derive(Drop)]
+pub(crate) struct Search {
+    root: u32,
+    held: Slot,
+    // The program's own descriptor. None: a walk asks.
+    program: Option<u32>,
+    facts: Facts,
+    heard: [Heard; QUESTIONS],
+    count: usize,
+    texts: Vec<u8>,
+}
+
+/// What a question was answered.
+#[derive(Clone, Copy)]
+pub(crate) enum Found {
+    /// A link's text has so many bytes; or an error. By this /proc, if there is one.
+    Link(Result<u32, u32>, Option<Proc>),
+    /// Of a look-up; and what that opened, if it is open still.
+    LookedUp(Heard, Option<u32>),
+    /// Of a look at the object; and its kind.
+    Looked(Heard, u8),
+    /// The copy of the program's descriptor, or an error.
+    Copied(Result<u32, u32>),
+    /// Of any other.
+    Said(Heard),
 }
 
 /// Opens names through no link.
@@ -140,78 +164,152 @@ impl Search {
         Search {
             root: 0,
             held: Slot::new(None, 0, BY_NAME),
+            program: None,
             facts: Facts {
                 directory: false,
                 seen: false,
             },
-            told: begin(),
-            above: Vec::new(alloc),
-            text: Vec::new(alloc),
-            again: Vec::new(alloc),
+            heard: [NOTHING_HEARD; QUESTIONS],
+            count: 0,
+            texts: Vec::new(alloc),
         }
     }
 
+    /// A walk asks for the place of what it holds.
     pub(crate) fn begin(&mut self, root: u32, held: Slot) {
         self.root = root;
         self.held = held;
+        self.program = None;
         self.facts = Facts {
             directory: held.kind == DIRECTORY,
             seen: held.way == SEEN_BELOW,
         };
-        self.told = begin();
-        self.above.clear();
-        self.text.clear();
-        self.again.clear();
+        self.count = 0;
+        self.texts.clear();
+    }
+
+    /// A program asks for the place of a descriptor's object.
+    pub(crate) fn begin_for(&mut self, root: u32, fd: u32) {
+        self.begin(root, Slot::new(None, 0, BY_NAME));
+        self.program = Some(fd);
     }
 
     fn held_fd(&self) -> u32 {
-        self.held.fd.unwrap_or(0xffff_ffff)
+        self.held.fd.unwrap_or(NO_DESCRIPTOR)
     }
 
-    // What is told behind this answer.
-    fn behind(&self, answer: &Answer) -> Told {
-        next(
-            &self.facts,
-            self.told.what,
-            answer,
-            self.above.as_slice(),
-            self.text.as_slice(),
-            self.again.as_slice(),
-        )
+    fn program_fd(&self) -> u32 {
+        self.program.unwrap_or(NO_DESCRIPTOR)
     }
 
-    // The names are the end of the object's text.
-    fn sought(&self) -> &[u8] {
-        if self.told.length > 1 {
-            let start = self.told.start.saturating_add(1);
-            piece(self.text.as_slice(), start, self.told.length - 1)
-        } else {
-            b"."
+    fn answer<'s>(&'s self, heard: &Heard) -> Answer<'s> {
+        Answer {
+            text: piece(self.texts.as_slice(), heard.start, heard.length),
+            held: heard.held,
+            found: heard.found,
+            links: heard.links,
+            error: heard.error,
+            yes: heard.yes,
         }
+    }
+
+    // What the first answers come to, so many of them; or the question that is due.
+    fn behind<'s>(
+        &'s self,
+        h: &[Heard; QUESTIONS],
+        count: usize,
+    ) -> find_place::Asked<'s, Told<'s>> {
+        let answers = [
+            self.answer(&h[0]),
+            self.answer(&h[1]),
+            self.answer(&h[2]),
+            self.answer(&h[3]),
+            self.answer(&h[4]),
+            self.answer(&h[5]),
+            self.answer(&h[6]),
+            self.answer(&h[7]),
+        ];
+        let mut left: &[Answer<'s>] = &answers;
+        if count <= QUESTIONS {
+            left = &answers[..count];
+        }
+        if self.program.is_some() {
+            find_place::ask_place(&mut left)
+        } else {
+            find_place::place(&mut left, &self.facts)
+        }
+    }
+
+    fn now(&self) -> find_place::Asked<'_, Told<'_>> {
+        self.behind(&self.heard, self.count)
+    }
+
+    // Whether no place is told behind this answer.
+    fn fails_behind(&self, answer: Heard) -> bool {
+        let mut heard = self.heard;
+        if self.count < QUESTIONS {
+            heard[self.count] = answer;
+        }
+        matches!(self.behind(&heard, self.count + 1), Ok(Err(_)))
     }
 
     // If what was found is the object, the call goes on with that, so that no step rests on the numbers that were
     // compared. If one of them can't be asked, that counts as others' doing.
-    fn look_up<'s>(&'s self, answers: &mut &[Gave], known: &mut Known) -> Asked<'s, Found> {
-        let found = match look_up(answers, known, self.root, self.sought())? {
-            Ok(found) => found,
-            Err(error) => return Ok(Found::LookedUp(self.behind(&answer_of(error)), None)),
+    fn look_up<'s>(
+        &'s self,
+        answers: &mut &[Gave],
+        known: &mut Known,
+        names: &'s [u8],
+    ) -> Asked<'s, Found> {
+        let sought = if names.len() > 1 {
+            piece(names, 1, names.len() - 1)
+        } else {
+            b"."
         };
-        let answer = match find_both(answers, self.held_fd(), found)? {
-            Some((held, found)) => Answer {
+        let found = match look_up(answers, known, self.root, sought)? {
+            Ok(found) => found,
+            Err(error) => return Ok(Found::LookedUp(failed(error), None)),
+        };
+        let heard = match find_both(answers, self.held_fd(), found)? {
+            Some((held, found)) => Heard {
                 held,
                 found,
-                ..answer_of(0)
+                ..NOTHING_HEARD
             },
-            None => answer_of(EAGAIN),
+            None => failed(EAGAIN),
         };
-        let told = self.behind(&answer);
-        if told.what == UNMADE {
+        if self.fails_behind(heard) {
             ask(answers, Question::Close(found))?;
-            return Ok(Found::LookedUp(told, None));
+            return Ok(Found::LookedUp(heard, None));
         }
         ask(answers, Question::Close(self.held_fd()))?;
-        Ok(Found::LookedUp(told, Some(found)))
+        Ok(Found::LookedUp(heard, Some(found)))
+    }
+
+    fn look<'s>(&'s self, answers: &mut &[Gave]) -> Asked<'s, Found> {
+        let about = ask(answers, Question::Stat(self.program_fd()))?;
+        let kind = kind_of(about.mode as u32);
+        let heard = Heard {
+            links: about.links as u64,
+            yes: kind == DIRECTORY,
+            ..failed(look_error(&about))
+        };
+        Ok(Found::Looked(heard, kind))
+    }
+
+    // By a copy, which a look-up may close.
+    fn copy<'s>(&'s self, answers: &mut &[Gave]) -> Asked<'s, Found> {
+        let copied = ask(answers, Question::CopyAbove(self.program_fd()))?;
+        Ok(Found::Copied(if copied.error == 0 {
+            Ok(copied.value)
+        } else {
+            Err(copied.error)
+        }))
+    }
+
+    fn close<'s>(&'s self, answers: &mut &[Gave]) -> Asked<'s, Found> {
+        let closed = ask(answers, Question::Close(self.held_fd()))?;
+        Ok(Found::Said(failed(closed.error)))
     }
 
     /// Asks what comes next. PROC: the one that is known.
@@ -221,80 +319,85 @@ impl Search {
         known: &mut Known,
         proc: Option<Proc>,
     ) -> Asked<'s, Found> {
-        match self.told.what {
-            ROOT_LINK => read_link(answers, known, proc, self.root),
-            OBJECT_LINK | LINK_AGAIN => read_link(answers, known, proc, self.held_fd()),
-            LOOK_UP => self.look_up(answers, known),
-            _ => Ok(Found::Dead(may_be_dead(answers, self.held_fd())?)),
+        let held = self.held_fd();
+        match self.now() {
+            Err(Wanted::Look) => self.look(answers),
+            Err(Wanted::Copy) => self.copy(answers),
+            Err(Wanted::RootLink) => read_link(answers, known, proc, self.root),
+            Err(Wanted::ObjectLink | Wanted::LinkAgain) => read_link(answers, known, proc, held),
+            Err(Wanted::LookUp(names)) => self.look_up(answers, known, names),
+            Err(Wanted::Dead) => Ok(Found::Said(said(may_be_dead(answers, held)?))),
+            Err(Wanted::Removed) => Ok(Found::Said(said(is_dead(answers, held)?))),
+            Err(Wanted::Close) => self.close(answers),
+            Ok(_) => Ok(Found::Said(failed(0))),
         }
     }
 
-    // Keeps the text that was read: 0 or an error.
-    fn keep(&mut self, read: &[u8]) -> u32 {
-        let kept = match self.told.what {
-            ROOT_LINK => &mut self.above,
-            OBJECT_LINK => &mut self.text,
-            _ => &mut self.again,
-        };
-        kept.clear();
-        match kept.extend_from_slice(read) {
-            Ok(()) => 0,
-            Err(_) => ENOMEM,
+    // Keeps the text that was read.
+    fn keep(&mut self, text: &[u8]) -> Heard {
+        let start = self.texts.len();
+        match self.texts.extend_from_slice(text) {
+            Ok(()) => Heard {
+                start,
+                length: text.len(),
+                ..NOTHING_HEARD
+            },
+            Err(_) => failed(ENOMEM),
+        }
+    }
+
+    fn hear(&mut self, heard: Heard) {
+        if self.count < QUESTIONS {
+            self.heard[self.count] = heard;
+            self.count += 1;
         }
     }
 
     /// Takes what was answered. READ: the text that was read last.
     pub(crate) fn take(&mut self, found: Found, read: &[u8]) {
-        self.told = match found {
-            Found::Link(Ok(length), _) => {
-                let error = self.keep(piece(read, 0, length as usize));
-                self.behind(&answer_of(error))
-            }
-            Found::Link(Err(error), _) => {
-                self.keep(b"");
-                self.behind(&answer_of(error))
-            }
-            Found::LookedUp(told, opened) => {
+        let heard = match found {
+            Found::Link(Ok(length), _) => self.keep(piece(read, 0, length as usize)),
+            Found::Link(Err(error), _) | Found::Copied(Err(error)) => failed(error),
+            Found::LookedUp(heard, opened) => {
                 if opened.is_some() {
                     self.held.fd = opened;
                 }
-                told
+                heard
             }
-            Found::Dead(yes) => self.behind(&Answer {
-                yes,
-                ..answer_of(0)
-            }),
+            Found::Looked(heard, kind) => {
+                self.held.kind = kind;
+                heard
+            }
+            Found::Copied(Ok(copy)) => {
+                self.held.fd = Some(copy);
+                failed(0)
+            }
+            Found::Said(heard) => heard,
         };
+        self.hear(heard);
     }
 
-    pub(crate) fn is_over(&self) -> bool {
-        self.told.what >= STANDS
+    /// The names, a slash before each, or a slash alone; or why they couldn't be found out. None: more is to be asked.
+    pub(crate) fn told(&self) -> Option<Told<'_>> {
+        self.now().ok()
     }
 
     /// The object's slot, once the search is over.
     pub(crate) fn held(&self) -> Slot {
-        let way = if self.told.what == STANDS && self.told.length == 1 {
-            BY_ROOT
-        } else if self.held.way == SEEN_BELOW {
-            BY_NAME
-        } else {
-            self.held.way
+        let way = match self.now() {
+            Ok(Ok(names)) if names.len() == 1 => BY_ROOT,
+            _ if self.held.way == SEEN_BELOW => BY_NAME,
+            _ => self.held.way,
         };
         Slot { way, ..self.held }
     }
 
-    /// Why it couldn't be found out where the object stands; none, if it stands at the names.
-    pub(crate) fn error(&self) -> Option<u32> {
-        if self.told.what == STANDS {
-            None
-        } else {
-            Some(self.told.error)
-        }
-    }
-
-    /// The names, a slash before each, or a slash alone.
+    /// The names, if they were found.
     pub(crate) fn names(&self) -> &[u8] {
-        piece(self.text.as_slice(), self.told.start, self.told.length)
+        match self.now() {
+            Ok(Ok(names)) => names,
+            _ => b"",
+        }
     }
 }
 

@@ -18,7 +18,7 @@ pub(crate) struct Slot {
     pub depth: u32,
     /// So many bytes of names the call holds for it.
     pub listed: usize,
-    /// How it was opened (`place_protocol`).
+    /// How it was opened (`find_place`).
     pub way: u8,
     /// 1 a directory, 2 a file, 3 a link.
     pub kind: u8,

@@ -2,10 +2,8 @@
 use crate::by_steps::attempt::Attempt;
 use crate::by_steps::listing::Names;
 use crate::by_steps::name::Name;
-use crate::by_steps::place::Asking;
 use crate::by_steps::removal::Removing;
 use crate::by_steps::search::{Found, Search};
-use crate::by_steps::slots::Slot;
 use crate::by_steps::talk::Talk;
 use crate::by_steps::tries::Course;
 use crate::request::{FAILED, MKDIR_ALL, PLACE, REMOVE_ALL, Request};
@@ -14,7 +12,6 @@ use call_course::Facts;
 use dialogue::{Answer, Asked};
 use find_proc::{Known, Proc, has_floor};
 use path_text::Errno;
-use place_protocol::BY_NAME;
 use std::alloc::Global;
 use system_calls::errors::ENOMEM;
 
@@ -31,8 +28,6 @@ pub(crate) enum Stage {
     Unmade(u32),
     /// The place of what the step is about, or of the request's object.
     Place,
-    /// What comes next as the place of the request's object is asked for.
-    Asking,
     /// The names of a directory.
     Listing,
     /// The proved call has replied.
@@ -56,8 +51,6 @@ pub(crate) enum Part {
     Before(u8, Option<u32>),
     /// A question about a place.
     Place(Found),
-    /// A question about the request's object: its answer, and the descriptor or the kind that it gave.
-    Object(ask_place::Answer, u32),
     /// A system call of a listing: 0 or an error, and a number.
     Listed(u32, u32),
     /// A change: 0 or an error; what was made and opened; why that could not be opened, or 0.
@@ -94,9 +87,6 @@ pub(crate) struct Steps {
     pub(crate) attempt: Attempt,
     pub(crate) talk: Talk,
     pub(crate) search: Search,
-    pub(crate) asking: Asking,
-    /// The copy of the request's object, as its place is asked for.
-    pub(crate) object: Slot,
     pub(crate) listing: Names,
     pub(crate) removing: Option<Removing>,
     /// The kind of what was opened.
@@ -184,8 +174,6 @@ impl Steps {
             attempt: Attempt::new(alloc),
             talk: Talk::failed(alloc, Errno::NoMemory),
             search: Search::new(alloc),
-            asking: Asking::begin(),
-            object: Slot::new(None, 0, BY_NAME),
             listing: Names::new(alloc),
             removing,
             kind: 0,
@@ -209,7 +197,6 @@ impl Steps {
             Stage::Step => self.step_due(known, answers, read),
             Stage::Unmade(error) => Ok(Part::Unmade(error)),
             Stage::Place => Ok(Part::Place(self.search.due(answers, known, self.attempt.proc)?)),
-            Stage::Asking => self.object_due(known, answers),
             Stage::Listing => {
                 let (error, value) = self
                     .listing
@@ -230,7 +217,6 @@ impl Steps {
             Part::Another(found) => return self.another_found(found, read),
             Part::Replied => return self.replied(read),
             Part::Removed => return self.removal_done(),
-            Part::Object(answer, number) => return self.object_asked(answer, number, read),
             Part::Place(found) => return self.place_asked(alloc, found, read),
             Part::Made(made) => self.made(alloc, made, read),
             Part::Before(next, found) => self.before_asked(alloc, next, found),

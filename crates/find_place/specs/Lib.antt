@@ -1,0 +1,7 @@
+pub mod Again
+pub mod Held
+pub mod Moments
+pub mod Place
+pub mod Promises
+pub mod Questions
+pub mod Witness

@@ -1,5 +1,0 @@
-use Rattle.place_protocol.proofs.HeldLemmas.{names-are-looked-up-first}
-use Rattle.place_protocol.proofs.laws.names_are_looked_up_first.Goals as goal
-
-pub returns : goal.returns
-returns c = names-are-looked-up-first

@@ -1,5 +1,0 @@
-use Rattle.place_protocol.proofs.HeldLemmas.{names-are-told-by-the-kernels-check}
-use Rattle.place_protocol.proofs.laws.names_are_told_by_the_kernels_check.Goals as goal
-
-pub returns : goal.returns
-returns c = names-are-told-by-the-kernels-check

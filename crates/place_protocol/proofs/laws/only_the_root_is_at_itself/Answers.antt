@@ -1,5 +1,0 @@
-use Rattle.place_protocol.proofs.HeldLemmas.{only-the-root-is-at-itself}
-use Rattle.place_protocol.proofs.laws.only_the_root_is_at_itself.Goals as goal
-
-pub returns : goal.returns
-returns c = only-the-root-is-at-itself
