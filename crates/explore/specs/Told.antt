@@ -1,5 +1,5 @@
 -- A class as it is told: its least list is gone through once more.
-use Rattle.std.specs.Prelude.{◌≡◌, ℕ, List, length, Some, slice_get}
+use Rattle.std.specs.Prelude.{◌≡◌, ℕ, List, length, Bool, Some, slice_get}
 use Rattle.race_core.specs.Worlds.{WorldView}
 use Rattle.layered_search.specs.declared.found.Class.{Class}
 use Rattle.explore.specs.Search.{IsFull}
