@@ -259,6 +259,15 @@ static const struct command *find_command(const char *name)
     return NULL;
 }
 
+/* There are too many words: one that looks like an option stands too far behind, or else the last is too many. */
+static enum fs_status too_many(char *const *words, int given, int most)
+{
+    for (int at = 0; at < given; at++)
+        if (words[at][0] == '-' && words[at][1] != '\0')
+            return fs_wrong_call("options stand before the other arguments:", words[at]);
+    return fs_wrong_call("there is an argument too many:", words[most]);
+}
+
 static enum fs_status run(int count, char **words)
 {
     const struct command *command = find_command(words[2]);
@@ -272,10 +281,10 @@ static enum fs_status run(int count, char **words)
     if (given < command->least)
         return fs_wrong_call("an argument is missing to", command->name);
     if (given > command->most)
-        return fs_wrong_call("there is an argument too many:", call.words[command->most]);
+        return too_many(call.words, given, command->most);
     call.root = open(words[1], O_PATH | O_DIRECTORY | O_CLOEXEC);
     if (call.root < 0)
-        return fs_fault(&call, "the root can't be opened", errno);
+        return fs_fault(&(struct fs_call){.command = "the root can't be opened"}, words[1], errno);
     status = command->run(&call);
     close(call.root);
     return finish(status);

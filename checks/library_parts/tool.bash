@@ -146,6 +146,8 @@ expect 2 '' "inroot-fs: there is no option '--frob'" rm --frob a
 expect 2 '' 'inroot-fs: rm has no option -p' rm -p a
 expect 2 '' "inroot-fs: an argument is missing to 'rm'" rm
 expect 2 '' "inroot-fs: there is an argument too many: 'b'" rm a b
+expect 2 '' "inroot-fs: options stand before the other arguments: '-r'" rm a -r
+expect 2 '' "inroot-fs: options stand before the other arguments: '-n'" mv a -n b
 expect 2 '' "inroot-fs: a mode is octal digits, at most 7777, and not '8'" mkdir -m 8 x
 expect 2 '' "inroot-fs: no value stands after '-m'" mkdir -m
 expect 2 '' 'inroot-fs: --no-replace and --exchange exclude each other' mv -nX a b
@@ -167,7 +169,7 @@ verdict $? "inroot-fs cat of what can't be read: $(cat -v "$work/err")"
 [ $? -eq 4 ] && [ "$(cat "$work/err")" = 'inroot-fs: write failed' ]
 verdict $? "inroot-fs to a full device: $(cat "$work/err")"
 "$fs" "$work/none" ls 2>"$work/err"
-[ $? -eq 4 ] && grep -q "the root can't be opened: .*(ENOENT)" "$work/err"
+[ $? -eq 4 ] && grep -q "^inroot-fs: the root can't be opened: $work/none: .*(ENOENT)" "$work/err"
 verdict $? "inroot-fs below a root that isn't there: $(cat "$work/err")"
 # A removal that takes long is told of on a terminal, and nowhere else.
 cat >"$work/slow.c" <<'END'
