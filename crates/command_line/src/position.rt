@@ -1,6 +1,5 @@
 //! Where a script's text has what is refused: what the text has from there on, and its line and column.
 ghost use Rattle.std.specs.Prelude.{◌≡◌, ◌≤◌, ◌+◌, length, option_map};
-ghost use Rattle.serde_json.specs.View.{view};
 ghost use Rattle.command_line.specs.Position.{START, trimmed, is_end, behind, next_of, inside, further, item, key_of, value_of, last_member, under, item_under, call_in, field_of, loose_in, text_from, line_column, position_of};
 
 use crate::cut::cut;
