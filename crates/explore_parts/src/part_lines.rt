@@ -7,9 +7,9 @@ ghost use Rattle.explore_parts.specs.PartText.{cuts_words, flag_words, property_
 use crate::asked::Asked;
 use crate::lists::{lists, numbers};
 use crate::seal::seal;
-use report_text::json_words::{comma, text};
 use outcome_text::{Part, Property, Told};
 use path_text::NoMemory;
+use report_text::json_words::{comma, text};
 use report_text::numbered;
 use std::alloc::Global;
 use step_text::Output;

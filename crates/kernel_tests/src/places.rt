@@ -1,6 +1,6 @@
 //! Where an object stands, by texts as proc(5) has them, and by others.
-use system_calls::{ends_as_gone, is_named, place_told};
 use std::test::Fail;
+use system_calls::{ends_as_gone, is_named, place_told};
 
 /// The root's path, the object's, and the place, or no bytes where none is told.
 const PLACES: [(&str, &str, &str); 16] = [

@@ -1,8 +1,8 @@
 //! Records as getdents64(2) writes them, and others; and names in order.
 use crate::rows::{letters, name_of, shown};
-use system_calls::{Coming, next_entry, sort_names, take_names};
 use std::alloc::{AllocError, Global};
 use std::test::Fail;
+use system_calls::{Coming, next_entry, sort_names, take_names};
 
 // A record of getdents64(2), whose own length may be told as another.
 pub(crate) fn put_record(

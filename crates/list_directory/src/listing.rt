@@ -5,8 +5,8 @@ ghost use Rattle.list_directory.specs.History.{after_close, after_open, after_so
 ghost use Rattle.list_directory.specs.Listing.{due_of, AnsweredBy, IsAt, Reads, Same};
 
 use crate::parts::{part_size, records_size};
-use system_calls::take_names;
 use system_calls::errors::{EINTR, ENOENT};
+use system_calls::take_names;
 
 /// The directory is opened: openat(2) of `.` with O_RDONLY, O_DIRECTORY and O_CLOEXEC.
 pub const OPEN: u8 = 1;

@@ -7,8 +7,8 @@ ghost use Rattle.pages.specs.History.{step_part, answer_part, deed_words, event_
 
 use crate::changes::changes;
 use event_log::EventLog;
-use report_text::json_words::{comma, text};
 use path_text::NoMemory;
+use report_text::json_words::{comma, text};
 use report_text::numbered;
 use std::alloc::Global;
 use step_text::Output;

@@ -5,8 +5,8 @@ ghost use Rattle.report_text.specs.Report.{numbered};
 ghost use Rattle.pages.specs.Shown.{tone_word, toned_words, head_words, moment_words, line_words, heads_words, lines_words, actors_part, heading_part, lines_part, picture_json};
 
 use drawings::{Head, Line, Picture, Tone};
-use report_text::json_words::{comma, text};
 use path_text::NoMemory;
+use report_text::json_words::{comma, text};
 use report_text::numbered;
 use step_text::Output;
 

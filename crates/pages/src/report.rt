@@ -6,9 +6,9 @@ ghost use Rattle.pages.specs.Run.{reply_at, replies_at, replies_words, replies_p
 use crate::changes::changes;
 use crate::history::add_events;
 use event_log::EventLog;
-use report_text::json_words::{comma, text};
 use path_text::NoMemory;
 use race_core::{Outcome, Outcomes};
+use report_text::json_words::{comma, text};
 use report_text::reply_words;
 use std::alloc::Global;
 use step_text::Output;

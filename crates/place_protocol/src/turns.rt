@@ -5,10 +5,9 @@ ghost use Rattle.place_protocol.specs.Texts.{is_top, texts_of};
 ghost use Rattle.place_protocol.specs.Turns.{after_dead, after_found, after_link_again, after_look_up, after_object, after_root, are_same, ask_there, confirm, due_of, follows, link_error, look_up_error};
 
 use crate::questions::{Answer, Facts, Question};
-use system_calls::{ends_as_gone, is_named, place_told};
 use path_text::TEXT_MAX;
 use system_calls::errors::{EAGAIN, ENAMETOOLONG, ENOENT, ENOSYS};
-use system_calls::{is_elsewhere, is_same_object};
+use system_calls::{ends_as_gone, is_elsewhere, is_named, is_same_object, place_told};
 
 /// What is due.
 #[derive(Clone, Copy, Debug, PartialEq, Eq)]

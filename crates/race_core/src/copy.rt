@@ -2,10 +2,10 @@
 ghost use Rattle.std.specs.Prelude.{◌≡◌, [], IfOk};
 ghost use Rattle.race_core.specs.WithoutOutcomes.{without_outcomes};
 
+use crate::Planned;
 use crate::ledger::Ledger;
 use crate::report::Outcomes;
 use crate::seat::Seat;
-use crate::Planned;
 use handles::Standing;
 use path_text::NoMemory;
 use root_ops::Call;

@@ -2,12 +2,12 @@
 ghost use Rattle.std.specs.Prelude.{◌≡◌, ◌<◌, ◌≤◌, length, IfOk};
 ghost use Rattle.race_core.specs.Opening.{GrantsOne, GrantsTo, Opens, seats_of, ledgers_of, root_fault, book_fault};
 
+use crate::ActorPlan;
 use crate::book::Book;
 use crate::ledger::Ledger;
 use crate::report::WorldFault;
 use crate::seat::Seat;
 use crate::world::World;
-use crate::ActorPlan;
 use handles::Owner;
 use path_text::{Errno, NoMemory};
 use std::alloc::Global;

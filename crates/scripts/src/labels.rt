@@ -5,8 +5,8 @@ ghost use Rattle.scripts.specs.Labels.{takes_label, label_of, labels_from, giver
 
 use crate::fields::text_in;
 use crate::words::{OpName, op_name_of};
-use race_core::Ref;
 use path_text::{Bytes, NoMemory};
+use race_core::Ref;
 use serde_json::Value;
 use std::alloc::Global;
 

@@ -8,8 +8,8 @@
 //! alone takes memory.
 #![tactic(auto)]
 
-pub mod errors;
 mod entries;
+pub mod errors;
 mod laws;
 mod listing;
 mod objects;

@@ -1,6 +1,6 @@
 //! Texts and commas of JSON, by RFC 8259.
-use report_text::json_words::{comma, text};
 use path_text::NoMemory;
+use report_text::json_words::{comma, text};
 use std::alloc::Global;
 use std::test::Fail;
 use step_text::Output;

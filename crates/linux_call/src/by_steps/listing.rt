@@ -3,10 +3,10 @@
 use crate::path::piece;
 use crate::walk::O_CLOEXEC;
 use dialogue::{Answer, Asked, Question, ask};
-use system_calls::sort_names;
 use list_directory::{CLOSE, ENDS, FAILS, Listing, OPEN, READ, SORT, begin, next};
 use std::alloc::Global;
 use system_calls::errors::{EIO, ENOMEM};
+use system_calls::sort_names;
 
 // As if the call held so much already: then a part has 64 kilobytes at most, which are soon made.
 const HELD: usize = 4 * 1024 * 1024 - 4 * 65536;
