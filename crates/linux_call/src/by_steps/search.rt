@@ -1,11 +1,11 @@
 //! At which names below the root an object stands: each question of `place_protocol` by its system calls.
-use crate::by_proc::proc_error;
 use crate::by_steps::slots::Slot;
 use crate::by_steps::there::may_be_dead;
 use crate::path::piece;
 use crate::walk::{RESOLVE_BENEATH, RESOLVE_NO_MAGICLINKS, RESOLVE_NO_SYMLINKS, opened};
 use dialogue::{Answer as Gave, Asked, Question, ask};
 use find_proc::{Known, Proc, find};
+use kernel_calls::proc_error;
 use linux_steps::look_error;
 use place_protocol::{Answer, BY_NAME, BY_ROOT, Facts, SEEN_BELOW, Told, begin, next};
 use std::alloc::Global;
