@@ -5,3 +5,5 @@ pub mod Flags
 pub mod InProc
 pub mod Look
 pub mod Path
+pub mod Promises
+pub mod Seen

@@ -10,6 +10,7 @@ mod change;
 mod entry;
 pub mod flags;
 mod in_proc;
+mod laws;
 mod look;
 mod path;
 pub mod steps;
@@ -17,8 +18,12 @@ pub mod steps;
 pub use calls::{change_entry, rename, resolve};
 pub use change::{Change, Wanted, make_change};
 pub use entry::{
-    Behind, Closes, Dir, NO_CLOSES, NOT_BEHIND, LastName, find_directory, leave, named, parts,
+    Behind, Closes, Dir, LastName, NO_CLOSES, NOT_BEHIND, find_directory, leave, named, parts,
 };
 pub use in_proc::{Act, by_proc, gives, proc_error};
+pub use laws::{
+    entries_are_changed_where_they_stand, entries_are_renamed_where_they_stand,
+    paths_are_looked_up_as_a_whole,
+};
 pub use look::{Below, Outcome, forget, look_up, openat2, opened, walk};
 pub use path::{PathOf, front, piece};
