@@ -109,7 +109,7 @@ asks_plain w s dir name other nofollow text h texts last unopened =
     (λ is. plain w s (makes_directory dir name w.how.mode) (changes w s 8 dir name h is, refl) (λ a. refl))
     (λ no8. picks _ _ (is_opened w.how w.step) (λ is. absurd (false≢true (sym unopened ∙ is)))
     (λ _. picks _ _ (w.step == 9)
-    (λ is. plain w s (makes_node dir name w.how.mode w.how.device) (changes w s 9 dir name h is, refl) (λ a. refl))
+    (λ is. plain w s (makes_node dir name w.how.mode w.how.device) (changes w s 9 dir name h is, refl, refl) (λ a. refl))
     (λ no9. picks _ _ (w.step == 10)
     (λ is. plain w s (makes_link dir name text) (changes w s 10 dir name h is, texts is) (λ a. refl))
     (λ no10. picks _ _ (w.step == 11)

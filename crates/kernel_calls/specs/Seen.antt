@@ -182,7 +182,7 @@ May w s (closes fd) = is_in fd (fds s.held) ≡ true
 May w s (knows known) = Unit {0}
 -- mkdirat(2), mknodat(2), symlinkat(2), unlinkat(2), renameat2(2)
 May w s (makes_directory dir name mode) = Changes w s 8 dir name × (mode ≡ w.how.mode)
-May w s (makes_node dir name mode device) = Changes w s 9 dir name × (mode ≡ w.how.mode)
+May w s (makes_node dir name mode device) = Changes w s 9 dir name × (mode ≡ w.how.mode) × (device ≡ w.how.device)
 May w s (makes_link dir name text) = Changes w s 10 dir name × (text ≡ w.text)
 May w s (removes dir name directory) = Changes w s (if directory then 12 else 11) dir name
 May w s (renames from name to new flags) =
