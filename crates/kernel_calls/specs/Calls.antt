@@ -54,7 +54,7 @@ pub record Ended : Type 0 where
   pub known : Known
 
 abbrev pub ended : Known → List ℕ → Outcome → Ended
-ended k closes outcome = record { outcome = outcome; closes = closes; known = k }
+ended k fds outcome = record { outcome = outcome; closes = fds; known = k }
 
 -- symlink(2): the text is the first that is wrong; what is given must be looked at, which takes a kernel that can
 unfoldable pub is_plain : Known → Bool → ℕ → List ℕ → Dialogue Bool
@@ -97,7 +97,7 @@ pub record Left : Type 0 where
   pub closes : List ℕ
 
 abbrev pub left : List ℕ → Outcome → Left
-left closes outcome = record { outcome = outcome; closes = closes }
+left fds outcome = record { outcome = outcome; closes = fds }
 
 -- single steps go on
 abbrev pub is_steps : Outcome → Bool
