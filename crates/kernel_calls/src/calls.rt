@@ -102,7 +102,7 @@ pub fn change_entry<'n>(
 ) -> Asked<'n, Outcome>
     ensures { ran_by (λ r. ended known.new (closed_by behind.new.closes) r) asked_of
         result answers.new.now
-        ≡ ran (change_entry known.old (at_of at.now) (named_of named) wanted.now step text.now read.now ends)
+        ≡ ran (change_entry known.old (at_of at.now) (named_of named.entry) wanted.now step text.now read.now ends)
         answers.old.now }
 {
     *behind = NOT_BEHIND;
@@ -205,7 +205,7 @@ fn rename_from<'n>(
 ) -> Asked<'n, Outcome>
     ensures { ran_by (λ r. ended known.new (closed_by behind.new.closes) r) asked_of
         result answers.new.now
-        ≡ ran (rename_from known.old wanted.now from name.now (at_of at.now) (named_of to) ends) answers.old.now }
+        ≡ ran (rename_from known.old wanted.now from name.now (at_of at.now) (named_of to.entry) ends) answers.old.now }
 {
     match find_directory(answers, known, at, to.above)? {
         Ok(dir) => rename_in(answers, known, wanted, from, name, dir, to.name, ends, behind),
@@ -229,7 +229,7 @@ pub fn rename<'n>(
 ) -> Asked<'n, Outcome>
     ensures { ran_by (λ r. ended known.new (closed_by behind.new.closes) r) asked_of
         result answers.new.now
-        ≡ ran (rename known.old (at_of at.now) (named_of from) (at_of other.now) (named_of to) wanted.now ends)
+        ≡ ran (rename known.old (at_of at.now) (named_of from.entry) (at_of other.now) (named_of to.entry) wanted.now ends)
         answers.old.now }
 {
     *behind = NOT_BEHIND;

@@ -1,9 +1,9 @@
 //! An entry: the directory that has it, and its name.
-ghost use Rattle.std.specs.Prelude.{◌≡◌, ◌++◌, ◌==◌, drop, length, take, MatchOption};
+ghost use Rattle.std.specs.Prelude.{◌≡◌, ◌++◌, drop, MatchOption};
 ghost use Rattle.dialogue.specs.Dialogue.{asked_of, ran, ran_by};
 ghost use Rattle.kernel_walks.specs.Split.{IsParted};
-ghost use Rattle.kernel_calls.specs.Entry.{IsEntryAt, above_by, closed_by, find_directory, leave, named_by, own_of, slashed_of};
-ghost use Rattle.kernel_calls.specs.Path.{at_of, without_slashes};
+ghost use Rattle.kernel_calls.specs.Entry.{closed_by, find_directory, leave, own_of, slashed_of};
+ghost use Rattle.kernel_calls.specs.Path.{at_of};
 
 use crate::flags::{BENEATH, O_PATH, has};
 use crate::look::{Below, Outcome, walk};
@@ -59,7 +59,7 @@ pub const NOT_BEHIND: Behind = Behind {
 #[inline(always)]
 pub fn parts(path: PathOf<'_>, takes_slash: bool) -> Option<Parted>
     ensures { MatchOption result (Unit {0})
-        (λ parted. IsParted (drop 1 path.slashed.now) takes_slash parted × (parted.error ≡ 0)) }
+        (λ parted. IsParted (drop 1 path.entry.slashed.now) takes_slash parted × (parted.error ≡ 0)) }
 {
     let parted = split(path.text(), takes_slash);
     if parted.error == 0 {
@@ -70,10 +70,7 @@ pub fn parts(path: PathOf<'_>, takes_slash: bool) -> Option<Parted>
 }
 
 #[inline(always)]
-fn above<'n>(path: PathOf<'n>, parted: &Parted) -> Option<PathOf<'n>>
-    ensures { slashed_of result
-        ≡ above_by path.slashed.now (length (without_slashes (take parted.now.name (drop 1 path.slashed.now)))) }
-{
+fn above<'n>(path: PathOf<'n>, parted: &Parted) -> Option<PathOf<'n>> {
     let end = unslashed(path.text(), parted.name);
     if end == 0 {
         None
@@ -84,9 +81,7 @@ fn above<'n>(path: PathOf<'n>, parted: &Parted) -> Option<PathOf<'n>>
 
 /// Divides a path; one without a last name isn't divided.
 #[inline(always)]
-pub fn named<'n>(path: PathOf<'n>, takes_slash: bool) -> Option<LastName<'n>>
-    ensures { IsEntryAt path.slashed.now takes_slash (named_by result) }
-{
+pub fn named<'n>(path: PathOf<'n>, takes_slash: bool) -> Option<LastName<'n>> {
     let parted = parts(path, takes_slash)?;
     Some(LastName {
         above: above(path, &parted),
@@ -104,7 +99,7 @@ pub fn find_directory<'n>(
     above: Option<PathOf<'n>>,
 ) -> Asked<'n, Result<Dir, Outcome>>
     ensures { ran_by (λ r. record { value = r; known = known.new }) asked_of result answers.new.now
-        ≡ ran (find_directory known.old (at_of at.now) (slashed_of above)) answers.old.now }
+        ≡ ran (find_directory known.old (at_of at.now) (slashed_of above.entry)) answers.old.now }
 {
     if has(at.flags, BENEATH) && at.path.text().first() == Some(&SLASH) {
         return Ok(Err(Outcome::Steps));

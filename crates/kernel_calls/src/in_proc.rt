@@ -22,7 +22,7 @@ pub enum Act<'n> {
 }
 
 fn question_of<'n>(act: Act<'n>, proc: u32, fd: u32) -> Question<'n>
-    ensures { asked_of result ≡ question_of (act_of act) proc fd }
+    ensures { asked_of result ≡ question_of (act_of act.entry) proc fd }
 {
     match act {
         Act::Open(flags) => Question::OpenObject(proc, fd, flags),
@@ -131,7 +131,7 @@ fn done_in<'n>(
     fd: u32,
     act: Act<'n>,
 ) -> Asked<'n, Result<u32, u32>>
-    ensures { ran_by (λ x. x) asked_of result answers.new.now ≡ ran (done_in proc fd (act_of act)) answers.old.now }
+    ensures { ran_by (λ x. x) asked_of result answers.new.now ≡ ran (done_in proc fd (act_of act.entry)) answers.old.now }
 {
     let error = match gives(answers, question_of(act, proc, fd))? {
         Ok(value) => return Ok(Ok(value)),
@@ -171,7 +171,7 @@ fn tried_in<'n>(
     act: Act<'n>,
 ) -> Asked<'n, (Result<u32, u32>, bool)>
     ensures { ran_by (λ x. x) asked_of result answers.new.now
-        ≡ ran (tried_in known.now proc fd (act_of act)) answers.old.now }
+        ≡ ran (tried_in known.now proc fd (act_of act.entry)) answers.old.now }
 {
     match done_in(answers, proc, fd, act)? {
         Ok(value) => Ok((Ok(value), false)),
@@ -188,7 +188,7 @@ fn done_by<'n>(
     act: Act<'n>,
 ) -> Asked<'n, (Result<u32, u32>, bool)>
     ensures { ran_by (λ x. x) asked_of result answers.new.now
-        ≡ ran (done_by known.now proc fd (act_of act)) answers.old.now }
+        ≡ ran (done_by known.now proc fd (act_of act.entry)) answers.old.now }
 {
     let done = tried_in(answers, known, proc.fd, fd, act)?;
     if proc.own {
@@ -207,7 +207,7 @@ fn act_by<'n>(
     surely: bool,
 ) -> Asked<'n, (Result<u32, u32>, bool)>
     ensures { ran_by (λ r. record { value = r; known = known.new }) asked_of result answers.new.now
-        ≡ ran (act_by known.old fd (act_of act) surely) answers.old.now }
+        ≡ ran (act_by known.old fd (act_of act.entry) surely) answers.old.now }
 {
     match find(answers, known, surely)? {
         Ok(proc) => done_by(answers, known, proc, fd, act),
@@ -224,7 +224,7 @@ fn act_twice<'n>(
     act: Act<'n>,
 ) -> Asked<'n, Result<u32, u32>>
     ensures { ran_by (λ r. record { value = r; known = known.new }) asked_of result answers.new.now
-        ≡ ran (act_twice known.old fd (act_of act)) answers.old.now }
+        ≡ ran (act_twice known.old fd (act_of act.entry)) answers.old.now }
 {
     let (first, lost) = act_by(answers, known, fd, act, false)?;
     if !lost {
@@ -243,7 +243,7 @@ pub fn by_proc<'n>(
     act: Act<'n>,
 ) -> Asked<'n, Result<u32, u32>>
     ensures { ran_by (λ r. record { value = r; known = known.new }) asked_of result answers.new.now
-        ≡ ran (by_proc known.old fd (act_of act)) answers.old.now }
+        ≡ ran (by_proc known.old fd (act_of act.entry)) answers.old.now }
 {
     let error = match act_twice(answers, known, fd, act)? {
         Ok(value) => return Ok(Ok(value)),

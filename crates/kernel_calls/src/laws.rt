@@ -10,8 +10,8 @@ pub fn paths_are_looked_up_as_a_whole()
 {}
 
 /// An entry is made or removed by its name, in the directory that one look-up from the root opened: a look-up of just
-/// the path before the name, by RESOLVE_IN_ROOT or RESOLVE_BENEATH, RESOLVE_NO_MAGICLINKS and O_DIRECTORY; or in the
-/// root itself, if the path has nothing before the name. No look-up has failed then. There is one change at most, and
+/// the path of the entry's directory, by RESOLVE_IN_ROOT or RESOLVE_BENEATH, RESOLVE_NO_MAGICLINKS and O_DIRECTORY; or in
+/// the root itself, if there is no such path. No look-up has failed then. There is one change at most, and
 /// behind it no look-up but that of the entry which was made.
 ///
 /// What is looked at, read or closed is open then. In the end nothing is open but the reply's descriptor, and what is
@@ -22,8 +22,7 @@ pub fn entries_are_changed_where_they_stand()
     ensures { EntriesHold }
 {}
 
-/// The same of a rename: both directories were opened by look-ups of just the paths before both names, and are open, or
-/// are the root.
+/// The same of a rename: both directories were opened by look-ups of just their paths, and are open, or are the root.
 pub fn entries_are_renamed_where_they_stand()
     ensures { RenamesHold }
 {}

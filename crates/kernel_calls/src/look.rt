@@ -40,12 +40,7 @@ pub enum Outcome {
 fn is_slashes(text: &[u8]) -> bool
     ensures { result ≡ list_all is_slash text.now }
 {
-    for byte in text {
-        if *byte != SLASH {
-            return false;
-        }
-    }
-    true
+    text.iter().all(|byte| *byte == SLASH)
 }
 
 // For a path of slashes alone the kernel doesn't search the root, as the steps do.

@@ -1,6 +1,6 @@
 //! The texts of a request.
-ghost use Rattle.std.specs.Prelude.{◌≡◌, ◌+◌, length, take, drop};
-ghost use Rattle.kernel_calls.specs.Path.{place_in, without_slashes};
+ghost use Rattle.std.specs.Prelude.{◌≡◌, ◌+◌, take, drop};
+ghost use Rattle.kernel_calls.specs.Path.{place_in};
 
 use path_text::{SLASH, before_slashes};
 
@@ -20,7 +20,7 @@ impl<'n> PathOf<'n> {
 
     #[inline(always)]
     pub fn text(self) -> &'n [u8]
-        ensures { result.now ≡ drop 1 self.slashed.now }
+        ensures { result.now ≡ drop 1 self.entry.slashed.now }
     {
         match self.slashed.split_first() {
             Some((_, text)) => text,
@@ -31,7 +31,7 @@ impl<'n> PathOf<'n> {
     /// A slash, and what stands behind it.
     #[inline(always)]
     pub fn place(self) -> &'n [u8]
-        ensures { result.now ≡ place_in self.slashed.now }
+        ensures { result.now ≡ place_in self.entry.slashed.now }
     {
         let text = self.text();
         if text.first() == Some(&SLASH) {
@@ -44,7 +44,7 @@ impl<'n> PathOf<'n> {
     /// Its first bytes.
     #[inline(always)]
     pub fn front(self, length: usize) -> PathOf<'n>
-        ensures { result.slashed.now ≡ take (1 + length) self.slashed.now }
+        ensures { result.slashed.now ≡ take (1 + length) self.entry.slashed.now }
     {
         let slashed = self.slashed;
         PathOf {
@@ -68,7 +68,7 @@ impl<'n> PathOf<'n> {
     /// So many bytes from there on, before which a slash stands.
     #[inline(always)]
     pub fn part(self, at: usize, length: usize) -> PathOf<'n>
-        ensures { result.slashed.now ≡ take (1 + length) (drop at self.slashed.now) }
+        ensures { result.slashed.now ≡ take (1 + length) (drop at self.entry.slashed.now) }
     {
         PathOf {
             slashed: behind(self.slashed, at),
@@ -78,7 +78,7 @@ impl<'n> PathOf<'n> {
 
     #[inline(always)]
     pub fn piece(self, at: usize, length: usize) -> &'n [u8]
-        ensures { result.now ≡ take length (drop at (drop 1 self.slashed.now)) }
+        ensures { result.now ≡ take length (drop at (drop 1 self.entry.slashed.now)) }
     {
         self.part(at, length).text()
     }
@@ -116,8 +116,7 @@ pub fn front(text: &[u8], length: usize) -> &[u8]
 
 /// How long a text's first bytes are without the slashes at their end.
 #[inline(always)]
-pub(crate) fn unslashed(text: &[u8], length: usize) -> usize
-    ensures { result ≡ length (without_slashes (take length text.now)) }
+pub(crate) fn unslashed(text: &[u8], count: usize) -> usize
 {
-    before_slashes(front(text, length)).len()
+    before_slashes(front(text, count)).len()
 }

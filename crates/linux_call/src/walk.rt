@@ -4,7 +4,7 @@ use crate::progress::{Number, Progress};
 use crate::request::{Reply, Request};
 use dialogue::Asked;
 pub(crate) use kernel_calls::flags::*;
-pub(crate) use kernel_calls::{Below, bit, forget, has, openat2, opened};
+pub(crate) use kernel_calls::{Below, forget, openat2, opened};
 
 pub(crate) const NOFOLLOW: u32 = 4;
 
