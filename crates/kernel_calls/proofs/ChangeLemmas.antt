@@ -109,7 +109,8 @@ asks_plain w s dir name other nofollow text h texts last unopened =
     (λ is. plain w s (makes_directory dir name w.how.mode) (changes w s 8 dir name h is, refl) (λ a. refl))
     (λ no8. picks _ _ (is_opened w.how w.step) (λ is. absurd (false≢true (sym unopened ∙ is)))
     (λ _. picks _ _ (w.step == 9)
-    (λ is. plain w s (makes_node dir name w.how.mode w.how.device) (changes w s 9 dir name h is, refl, refl) (λ a. refl))
+    (λ is. plain w s (makes_node dir name w.how.mode w.how.device) (changes w s 9 dir name h is, refl, refl)
+    (λ a. refl))
     (λ no9. picks _ _ (w.step == 10)
     (λ is. plain w s (makes_link dir name text) (changes w s 10 dir name h is, texts is) (λ a. refl))
     (λ no10. picks _ _ (w.step == 11)
@@ -144,7 +145,8 @@ asks_file w s dir name other nofollow text h opens_now =
     let q = file_call w dir name nofollow in
     picks _ _ (w.step == 8) (λ is. absurd (not_both w.step is nine))
     (λ _. picks _ _ (is_opened w.how w.step)
-    (λ _. file w s q (subst (λ o. MayOpen w s o dir name (flags_of w.how nofollow) (without_kind w.how.mode)) (sym h.first)
+    (λ _. file w s q
+    (subst (λ o. MayOpen w s o dir name (flags_of w.how nofollow) (without_kind w.how.mode)) (sym h.first)
     (changes w s 9 dir name h nine, new_flags w.how nofollow, refl))
     (λ a. ap (λ o. opens_after o s q a) h.first))
     (λ unhanded. absurd (false≢true (sym unhanded ∙ opens_now))))
@@ -249,7 +251,8 @@ unfolding given
 given_plain w s k made dir name other text read h unlinked unopened none =
     let t = changed s made in
     choose (not w.how.gives)
-    (λ ungiven. let hands = plain_hands (w.step == 9) w.how.linked w.how.opens w.how.gives _ unlinked unopened ungiven in
+    (λ ungiven. let hands =
+    plain_hands (w.step == 9) w.how.linked w.how.opens w.how.gives _ unlinked unopened ungiven in
     over
     (record {
       held = sym (ap (λ b. (if b then 0 ∷ [] else []) ++ fds s.held) hands);

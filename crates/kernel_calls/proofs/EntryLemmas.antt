@@ -207,8 +207,8 @@ unfolding change_entry
 entry_goes k p how step text read is_last unlinked low high =
     let w = for_entry k p how step text in
     both 3 13 (plain w at_first k how.gives step text refl)
-    (λ t is same. subst (λ u. Goes (watch w) 13 u (plain_told k p.at p.entry how step text read is_last is) (CallEnds w))
-    (sym same)
+    (λ t is same. subst
+    (λ u. Goes (watch w) 13 u (plain_told k p.at p.entry how step text read is_last is) (CallEnds w)) (sym same)
     (choose (not is) (λ _. over (record { held = refl; replies = refl }))
     (λ _. both 5 8
     (finds w at_first k p.at p.entry.above
@@ -274,7 +274,8 @@ record From (w : Wish) (p : Place) (s : Seen) (dir : Dir) : Type 0 where
 
 not_renames : (w : Wish) (s t : Seen) (now : Known) (from : Dir) (why : Outcome) (is_last : Bool) → Unfound s t why
     → s.change ≡ None → fds s.held ≡ own_of from
-    → Goes (watch w) 1 t (and_then (not_renamed from why is_last) (λ l. ends (ended now l.closes l.outcome))) (CallEnds w)
+    → Goes (watch w) 1 t (and_then (not_renamed from why is_last) (λ l. ends (ended now l.closes l.outcome)))
+    (CallEnds w)
 unfolding not_renamed
 not_renames w s t now from why is_last h none held =
     by_case (is_last && not (is_steps why))

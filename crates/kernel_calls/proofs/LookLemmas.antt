@@ -44,7 +44,8 @@ record Bits (resolve bits : ℕ) : Type 0 where
   stays : bit_and (bit_or resolve 4) 4 ≡ 4
 
 bits_by : (beneath links mount : Bool)
-    → Bits (bit_or (bit_or (bit_or 2 (if not beneath then 8 else 16)) (if not links then 4 else 0)) (if not mount then 1 else 0))
+    → Bits (bit_or (bit_or (bit_or 2 (if not beneath then 8 else 16)) (if not links then 4 else 0))
+    (if not mount then 1 else 0))
     (2 + (if beneath then 16 else 8) + (if links then 0 else 4) + (if mount then 0 else 1))
 bits_by true true true = record { same = refl; walks = refl; looks = refl; stays = refl }
 bits_by true true false = record { same = refl; walks = refl; looks = refl; stays = refl }
@@ -100,7 +101,8 @@ opens : (w : Wish) (s : Seen) (k : Known) (q : SystemCall) → May w s q
 unfolding opened
 opens w s k q may is =
     asks_then 1 q may
-    (λ a. subst (λ u. Goes (watch w) 1 u (opened_told k a) (Got k s q)) (sym (is a)) (opened_so w s k q a (a.error == 0)))
+    (λ a. subst (λ u. Goes (watch w) 1 u (opened_told k a) (Got k s q)) (sym (is a))
+    (opened_so w s k q a (a.error == 0)))
 
 -- ---- or why not
 
@@ -260,7 +262,8 @@ abbrev pub FoundBy : ℕ → At → Option (List ℕ) → Seen → Seen → Resu
 FoundBy d at above s t (Ok dir) = Reached d at above s t dir
 FoundBy d at above s t (Err why) = Unfound s t why
 
-pub record Found (k : Known) (at : At) (above : Option (List ℕ)) (s t : Seen) (c : Came (Result Dir Outcome)) : Type 0 where
+pub record Found (k : Known) (at : At) (above : Option (List ℕ)) (s t : Seen)
+    (c : Came (Result Dir Outcome)) : Type 0 where
   pub machine : c.known.machine ≡ k.machine
   pub by : FoundBy (way k) at above s t c.value
 

@@ -30,7 +30,8 @@ kinds : (w : Wish) (at : At) (fd : ℕ)
 unfolding with_kind
 kinds w at fd =
     asks_then 1 (stats fd) (inr (first_in fd []))
-    (λ a. choose (not (look_error a == 0)) (λ _. asks_then 0 (closes fd) (first_in fd []) (λ b. over (rw (same fd) refl)))
+    (λ a. choose (not (look_error a == 0))
+    (λ _. asks_then 0 (closes fd) (first_in fd []) (λ b. over (rw (same fd) refl)))
     (λ _. over (fd, refl, (kind_of a.mode, refl))))
 
 abbrev Told : ℕ → At → Bool → Seen → Came Outcome → Type 0
@@ -40,7 +41,8 @@ told_so : (w : Wish) (at : At) (now : Known) (asks : Bool) (t : Seen) (r : Resul
     → WalkedBy at_first (looks w.look at at.slashed) t r
     → Goes (watch w) 2 t (resolve_by asks now r) (Told w.look at asks)
 told_so w at now false t (Ok fd) is =
-    subst (λ u. Goes (watch w) 2 u (resolve_by false now (Ok fd)) (Told w.look at false)) (sym is) (over (fd, refl, refl))
+    subst (λ u. Goes (watch w) 2 u (resolve_by false now (Ok fd)) (Told w.look at false)) (sym is)
+    (over (fd, refl, refl))
 told_so w at now true t (Ok fd) is =
     subst (λ u. Goes (watch w) 2 u (resolve_by true now (Ok fd)) (Told w.look at true)) (sym is)
     (both 2 0 (kinds w at fd) (λ v o h. over h))
@@ -53,5 +55,6 @@ paths-hold k at follows directory asks =
     let named = path_in (bit_or O_PATH (bit (not follows) k.machine.nofollow)) (bit directory k.machine.directory)
     (path_in O_PATH (bit (not follows) k.machine.nofollow) refl) in
     (both 5 2
-    (walks_so w at_first k at at.slashed w.look named (refl, refl, λ q is. subst (May w at_first) (sym is) (inr (inl (refl, inl refl)))))
+    (walks_so w at_first k at at.slashed w.look named
+    (refl, refl, λ q is. subst (May w at_first) (sym is) (inr (inl (refl, inl refl)))))
     (λ t c h. told_so w at c.known asks t c.value h.by)).each

@@ -64,7 +64,9 @@ nothing =
 abbrev pub for_path : Known → At → Bool → Bool → Wish
 for_path k at follows directory =
     record {
-      look = bit_or (bit_or O_PATH (if not follows then k.machine.nofollow else 0)) (if directory then k.machine.directory else 0);
+      look =
+          bit_or (bit_or O_PATH (if not follows then k.machine.nofollow else 0))
+          (if directory then k.machine.directory else 0);
       place = record { at = at; entry = record { above = Some at.slashed; name = [] } };
       step = 0;
       how = nothing;

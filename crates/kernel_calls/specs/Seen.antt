@@ -165,7 +165,8 @@ IsNew how flags = IsNewBy how.opens how.how flags
 
 -- S_IFMT of inode(7) is 61440: the mode has the other bits of the caller's
 abbrev pub MayOpen : Wish → Seen → Option Answer → ℕ → List ℕ → ℕ → ℕ → Type 0
-MayOpen w s None dir name flags mode = Changes w s 9 dir name × IsNew w.how flags × (mode ≡ bit_and w.how.mode 4294905855)
+MayOpen w s None dir name flags mode =
+    Changes w s 9 dir name × IsNew w.how flags × (mode ≡ bit_and w.how.mode 4294905855)
 MayOpen w s (Some made) dir name flags mode = Gives w s made dir name
 
 -- openat(2): the current directory, in which statx(2) is asked for numbers of mounts
