@@ -1,29 +1,26 @@
 -- What a change leaves behind it.
-use Rattle.std.proofs.Common.{◌≡◌, ◌≢◌, inl, inr, ℕ, ◌+◌, List, [], ◌∷◌, ◌++◌, Bool, true, false, not, ◌&&◌, ◌||◌, if◌then◌else◌, Result, Ok, Err, refl, sym, ap, subst, ◌∙◌, arith}
+use Rattle.std.proofs.Common.{◌≡◌, ◌≢◌, inl, inr, ℕ, List, [], ◌∷◌, ◌++◌, Bool, true, false, not, ◌&&◌, ◌||◌, if◌then◌else◌, Result, Ok, Err, refl, sym, ap, subst, ◌∙◌, arith}
 use Rattle.std.specs.Prelude.{◌==◌, bit_and, bit_or, Option, Some, None}
 use Rattle.std.proofs.lemmas.Bool.{eqb-true, false≢true}
 use Rattle.std.proofs.lemmas.Nat.{and_or_self, or_comm}
-use Rattle.system_calls.specs.Objects.{S_IFREG, format}
 use Rattle.system_calls.specs.OpenFlags.{O_CLOEXEC, O_PATH}
-use Rattle.dialogue.specs.Dialogue.{Dialogue, SystemCall, and_then, calling, ends, look_up, makes_directory, makes_link, makes_node, opens, removes, renames}
+use Rattle.dialogue.specs.Dialogue.{Dialogue, SystemCall, and_then, ends, makes_directory, makes_link, makes_node, opens, removes, renames}
 use Rattle.dialogue.specs.declared.calls.Answer.{Answer}
 use Rattle.dialogue.proofs.HeldLemmas.{first_in}
-use Rattle.dialogue.proofs.HoldLemmas.{Goes, asks_then, both, choose, over, weak}
-use Rattle.find_proc.proofs.Parts.{IsSome, not_zero}
+use Rattle.dialogue.proofs.HoldLemmas.{Goes, asks_then, both, choose, over}
+use Rattle.find_proc.proofs.Parts.{not_zero}
 use Rattle.find_proc.specs.declared.asks.Known.{Known}
 use Rattle.give_entry.specs.Seen.{held_first}
-use Rattle.give_entry.specs.declared.giving.Made.{Made}
-use Rattle.give_entry.specs.declared.giving.Made.TheVariants.{Name, File, Entry}
+use Rattle.give_entry.specs.declared.giving.Made.TheVariants.{Name, Entry}
 use Rattle.kernel_calls.specs.InProc.{by_proc, gave, gives, linking}
-use Rattle.kernel_calls.specs.Change.{Changing, flags_of, give, give_by, given, is_made, is_opened, made_by, made_of, make, make_by, make_change, make_told, mode_of, not_given, number_of, opening, question_of, without_kind}
+use Rattle.kernel_calls.specs.Change.{Changing, flags_of, give, give_by, given, is_made, is_opened, made_of, make, make_by, make_change, make_told, mode_of, not_given, opening, question_of, without_kind}
 use Rattle.kernel_calls.specs.Flags.{NEW, NO_XDEV, has}
-use Rattle.kernel_calls.specs.Look.{Came, came_to, forget}
+use Rattle.kernel_calls.specs.Look.{Came, came_to}
 use Rattle.kernel_calls.specs.Path.{At}
-use Rattle.kernel_calls.specs.Promises.{IsWhy, Replies, handed, hands_out}
-use Rattle.kernel_calls.specs.Seen.{Changes, Gives, Held, IsAt, IsDirectory, IsNew, IsNewBy, IsOpen, May, MayLook, MayOpen, Seen, Wish, changed, fds, gets, made_after, opened_after, opens_after, seen_by, watch}
+use Rattle.kernel_calls.specs.Promises.{Replies, handed}
+use Rattle.kernel_calls.specs.Seen.{Changes, Gives, Held, IsAt, IsDirectory, IsNew, IsNewBy, May, MayLook, MayOpen, Seen, Wish, changed, fds, gets, made_after, opened_after, opens_after, seen_by, watch}
 use Rattle.kernel_calls.specs.declared.change.Wanted.{Wanted}
 use Rattle.kernel_calls.specs.declared.look.Outcome.{Outcome}
-use Rattle.kernel_calls.specs.declared.look.Outcome.TheVariants.{Value, Fails, FailsAt, Steps}
 use Rattle.kernel_calls.proofs.GiveLemmas.{IsTold, Leaves, gives_entry}
 use Rattle.kernel_calls.proofs.LookLemmas.{forgets}
 

@@ -1,30 +1,29 @@
 -- How a call on an entry ends.
-use Rattle.std.proofs.Common.{◌≡◌, ◌≢◌, inl, inr, ℕ, ◌+◌, List, [], ◌∷◌, ◌++◌, Bool, true, false, not, ◌&&◌, ◌||◌, if◌then◌else◌, Result, Ok, Err, refl, sym, ap, subst, ◌∙◌, arith}
+use Rattle.std.proofs.Common.{◌≡◌, inl, inr, ℕ, List, [], ◌∷◌, ◌++◌, Bool, true, false, not, ◌&&◌, ◌||◌, if◌then◌else◌, Result, Ok, Err, refl, sym, ap, subst, ◌∙◌, arith}
 use Rattle.std.specs.Prelude.{◌==◌, ◌≤◌, bit_or, nat_lt, length, Option, Some, None}
-use Rattle.std.proofs.lemmas.Bool.{eqb-true, false≢true}
 use Rattle.path_text.specs.Text.{is_empty}
 use Rattle.path_text.specs.declared.path.TheConstants.{TEXT_MAX}
 use Rattle.system_calls.specs.Errors.{EBADF}
 use Rattle.system_calls.specs.Held.{without}
-use Rattle.dialogue.specs.Dialogue.{SystemCall, O_PATH, and_then, calling, closes, ends, knows, look_up, stats}
+use Rattle.dialogue.specs.Dialogue.{SystemCall, O_PATH, and_then, closes, ends, knows, look_up, stats}
 use Rattle.dialogue.specs.Holds.{is_in}
 use Rattle.dialogue.proofs.HeldLemmas.{first_in, second_in, without_first, without_second}
 use Rattle.dialogue.proofs.HoldLemmas.{Goes, asks_then, both, choose, over, weak}
 use Rattle.find_proc.specs.Asks.{AT_FDCWD, NO_DIRECTORY, NO_MAGICLINKS, SAME, has_floor, has_number, is_short}
 use Rattle.find_proc.specs.declared.asks.Known.{Known}
-use Rattle.kernel_calls.specs.Calls.{Ended, behind_of, change_at, change_entry, change_in, change_told, ended, from_by, from_told, is_plain, is_steps, left, not_renamed, plain_told, rename, rename_from, rename_in, rename_to, rename_told, to_told}
+use Rattle.kernel_calls.specs.Calls.{behind_of, change_entry, change_in, change_told, ended, from_by, is_plain, is_steps, left, not_renamed, plain_told, rename, rename_from, rename_in, rename_to, rename_told}
 use Rattle.kernel_calls.specs.Entry.{leave, own_of}
 use Rattle.kernel_calls.specs.Flags.{MAKE_LINK}
 use Rattle.kernel_calls.specs.Look.{Came}
 use Rattle.kernel_calls.specs.Path.{At, text_in}
 use Rattle.kernel_calls.specs.Promises.{CallEnds, EntriesHold, RenamesHold, Replies, for_entry, for_rename, handed, hands_out}
-use Rattle.kernel_calls.specs.Seen.{Finds, Held, IsAt, IsDirectory, IsLookUp, IsOpen, May, MayLook, Place, Seen, Wish, at_first, below_bits, fds, shut, watch}
+use Rattle.kernel_calls.specs.Seen.{Finds, Held, IsAt, IsDirectory, IsLookUp, IsOpen, May, MayLook, Place, Seen, Wish, at_first, below_bits, fds, watch}
 use Rattle.kernel_calls.specs.declared.change.Wanted.{Wanted}
 use Rattle.kernel_calls.specs.declared.entry.Dir.{Dir}
 use Rattle.kernel_calls.specs.declared.look.Outcome.{Outcome}
 use Rattle.kernel_calls.specs.declared.look.Outcome.TheVariants.{Value, Fails, FailsAt, Steps}
-use Rattle.kernel_calls.proofs.ChangeLemmas.{Done, Last, Ready, makes}
-use Rattle.kernel_calls.proofs.LookLemmas.{Found, FoundBy, MaySeek, Reached, Tells, Unfound, finds, shut_fds}
+use Rattle.kernel_calls.proofs.ChangeLemmas.{Done, Last, makes}
+use Rattle.kernel_calls.proofs.LookLemmas.{FoundBy, Tells, Unfound, finds, shut_fds}
 
 -- ---- whether the kernel has what is needed
 

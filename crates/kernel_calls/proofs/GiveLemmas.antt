@@ -1,5 +1,5 @@
 -- What a call leaves behind that opens the entry which it has made.
-use Rattle.std.proofs.Common.{◌≡◌, ◌≢◌, inl, inr, ℕ, List, [], ◌∷◌, ◌++◌, Bool, true, false, not, ◌||◌, if◌then◌else◌, Result, Ok, Err, refl, sym, ap, subst, ◌∙◌, arith}
+use Rattle.std.proofs.Common.{◌≡◌, ◌≢◌, inr, ℕ, List, ◌∷◌, ◌++◌, Bool, true, false, not, ◌||◌, if◌then◌else◌, Result, Ok, Err, refl, sym, ap, subst, ◌∙◌, arith}
 use Rattle.std.specs.Prelude.{◌==◌}
 use Rattle.system_calls.specs.Held.{without}
 use Rattle.system_calls.specs.Objects.{S_IFLNK, format}
@@ -15,7 +15,7 @@ use Rattle.give_entry.specs.Promises.{left}
 use Rattle.give_entry.specs.Seen.{held_first}
 use Rattle.give_entry.specs.declared.giving.Made.{Made}
 use Rattle.give_entry.specs.declared.giving.Made.TheVariants.{Name, File, Entry}
-use Rattle.kernel_calls.specs.Seen.{May, Seen, Wish, fds, gets, opened_after, seen_by, shut, watch}
+use Rattle.kernel_calls.specs.Seen.{May, Seen, Wish, fds, gets, opened_after, seen_by, watch}
 use Rattle.kernel_calls.proofs.LookLemmas.{shut_fds}
 
 -- ---- it is looked at

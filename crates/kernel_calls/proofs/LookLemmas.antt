@@ -1,5 +1,5 @@
 -- What a look-up leaves behind it.
-use Rattle.std.proofs.Common.{◌≡◌, ◌≢◌, ◌⊎◌, inl, inr, ℕ, ◌+◌, List, [], ◌∷◌, ◌++◌, Bool, true, false, not, ◌&&◌, ◌||◌, if◌then◌else◌, Result, Ok, Err, refl, sym, ap, subst, ◌∙◌, arith}
+use Rattle.std.proofs.Common.{◌≡◌, ◌≢◌, inl, inr, ℕ, ◌+◌, List, [], ◌∷◌, ◌++◌, Bool, true, false, not, ◌&&◌, if◌then◌else◌, Result, Ok, Err, refl, sym, ap, subst, ◌∙◌}
 use Rattle.std.specs.Prelude.{◌==◌, bit_and, bit_or, Option, Some, None}
 use Rattle.std.proofs.lemmas.Bool.{eqb-true, false≢true}
 use Rattle.std.proofs.lemmas.Nat.{and_assoc, and_or_self, or_comm}
@@ -7,19 +7,17 @@ use Rattle.path_text.specs.Text.{begins_with_slash}
 use Rattle.system_calls.specs.Errors.{EINTR, ENOENT}
 use Rattle.system_calls.specs.Held.{without}
 use Rattle.system_calls.specs.OpenFlags.{O_CLOEXEC, O_PATH}
-use Rattle.dialogue.specs.Dialogue.{SystemCall, and_then, calling, closes, ends, knows, look_up, open_path}
-use Rattle.dialogue.specs.Holds.{is_in}
+use Rattle.dialogue.specs.Dialogue.{SystemCall, and_then, closes, ends, knows, look_up, open_path}
 use Rattle.dialogue.specs.declared.calls.Answer.{Answer}
 use Rattle.dialogue.proofs.HeldLemmas.{first_in, same}
-use Rattle.dialogue.proofs.HoldLemmas.{Goes, asks_then, both, choose, goes_on, over, weak}
-use Rattle.find_proc.proofs.Parts.{not_zero}
+use Rattle.dialogue.proofs.HoldLemmas.{Goes, asks_then, both, choose, over}
 use Rattle.find_proc.specs.declared.asks.Known.{Known}
 use Rattle.kernel_walks.specs.AtOnce.{misses_at_once}
-use Rattle.kernel_calls.specs.Entry.{directory_at, directory_by, directory_told, find_directory, own_of}
-use Rattle.kernel_calls.specs.Flags.{BENEATH, OPEN, REOPEN, has, resolve_of}
-use Rattle.kernel_calls.specs.Look.{Came, came_to, forget, is_filtered, is_missing, is_missing_told, look_up as looking_up, looks_up, may_walk, missing_by, missing_told, opened, opened_told, unsure, walk, walk_by, walk_failed, walk_told}
+use Rattle.kernel_calls.specs.Entry.{directory_at, directory_by, find_directory, own_of}
+use Rattle.kernel_calls.specs.Flags.{BENEATH, OPEN, has, resolve_of}
+use Rattle.kernel_calls.specs.Look.{Came, came_to, forget, is_filtered, is_missing, look_up as looking_up, may_walk, missing_by, opened, opened_told, walk, walk_by, walk_failed}
 use Rattle.kernel_calls.specs.Path.{At, place_in, text_in}
-use Rattle.kernel_calls.specs.Seen.{Held, IsDirectory, IsLookUp, IsOpen, May, MayLook, Place, Seen, Wish, below_bits, fds, gets, looks, opened_after, seen_by, shut, watch}
+use Rattle.kernel_calls.specs.Seen.{Held, IsDirectory, IsLookUp, IsOpen, May, MayLook, Seen, Wish, below_bits, fds, gets, looks, opened_after, seen_by, shut, watch}
 use Rattle.kernel_calls.specs.declared.entry.Dir.{Dir}
 use Rattle.kernel_calls.specs.declared.look.Outcome.{Outcome}
 use Rattle.kernel_calls.specs.declared.look.Outcome.TheVariants.{Value, Fails, FailsAt, Steps}

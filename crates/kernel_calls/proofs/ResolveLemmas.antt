@@ -1,19 +1,19 @@
 -- How a call on what is at a path's end ends.
-use Rattle.std.proofs.Common.{◌≡◌, inl, inr, ℕ, ◌+◌, ◌*◌, List, [], ◌∷◌, Bool, true, false, not, if◌then◌else◌, Result, Ok, Err, refl, sym, ap, subst, ◌∙◌, arith}
-use Rattle.std.specs.Prelude.{◌==◌, ◌^◌, bit_and, bit_or, Some, None}
+use Rattle.std.proofs.Common.{inl, inr, ℕ, [], Bool, true, false, not, Result, Ok, Err, refl, sym, subst}
+use Rattle.std.specs.Prelude.{◌==◌, bit_or}
 use Rattle.system_calls.specs.Objects.{kind_of}
 use Rattle.system_calls.specs.OpenFlags.{O_PATH}
-use Rattle.dialogue.specs.Dialogue.{SystemCall, and_then, closes, ends, look_up, stats}
+use Rattle.dialogue.specs.Dialogue.{closes, stats}
 use Rattle.dialogue.proofs.HeldLemmas.{first_in, same}
-use Rattle.dialogue.proofs.HoldLemmas.{Goes, asks_then, both, choose, over, weak}
+use Rattle.dialogue.proofs.HoldLemmas.{Goes, asks_then, both, choose, over}
 use Rattle.find_proc.specs.declared.asks.Known.{Known}
 use Rattle.linux_steps.specs.Steps.{look_error}
-use Rattle.kernel_calls.specs.Calls.{kind_told, resolve, resolve_by, with_kind}
+use Rattle.kernel_calls.specs.Calls.{resolve, resolve_by, with_kind}
 use Rattle.kernel_calls.specs.Flags.{bit}
-use Rattle.kernel_calls.specs.Look.{Came, came_to}
-use Rattle.kernel_calls.specs.Path.{At, text_in}
+use Rattle.kernel_calls.specs.Look.{Came}
+use Rattle.kernel_calls.specs.Path.{At}
 use Rattle.kernel_calls.specs.Promises.{PathEnds, PathsHold, for_path}
-use Rattle.kernel_calls.specs.Seen.{IsLookUp, May, Seen, Wish, at_first, gets, looks, watch}
+use Rattle.kernel_calls.specs.Seen.{May, Seen, Wish, at_first, gets, looks, watch}
 use Rattle.kernel_calls.specs.declared.look.Outcome.{Outcome}
 use Rattle.kernel_calls.specs.declared.look.Outcome.TheVariants.{Value, Fails, FailsAt, Steps}
 use Rattle.kernel_calls.proofs.LookLemmas.{Unfound, WalkedBy, path_in, walks_so}

@@ -1,6 +1,6 @@
 -- What the exchanges of a call on an entry come to, except signals: what is open, and by which system call; whether a
 -- look-up has failed; and the change.
-use Rattle.std.specs.Prelude.{◌≡◌, ◌⊎◌, ℕ, ◌+◌, List, [], ◌∷◌, ◌==◌, Bool, true, false, if◌then◌else◌, bit_and, bit_or, Option, Some, None}
+use Rattle.std.specs.Prelude.{◌≡◌, ◌⊎◌, ℕ, ◌+◌, List, [], ◌∷◌, ◌==◌, Bool, true, false, if◌then◌else◌, bit_and, Option, Some, None}
 use Rattle.system_calls.specs.Errors.{ENOENT}
 use Rattle.dialogue.specs.Dialogue.{SystemCall, O_PATH, closes, knows, look_up, makes_directory, makes_link, makes_node, opens, reads_link, removes, renames, stats}
 use Rattle.dialogue.specs.Holds.{Watch, is_in}
