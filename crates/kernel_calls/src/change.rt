@@ -1,7 +1,7 @@
 //! The one system call of a change, by a directory that is open and a name in it; and a descriptor of what it made.
 ghost use Rattle.std.specs.Prelude.{◌≡◌};
 ghost use Rattle.dialogue.specs.Dialogue.{asked_of, ran, ran_by};
-ghost use Rattle.kernel_calls.specs.Change.{changing_of, flags_of, give, given, is_opened, made_of, make, make_change, mode_of, opening, question_of};
+ghost use Rattle.kernel_calls.specs.Change.{changing_of, flags_of, give, given, is_linked, is_opened, made_of, make, make_change, mode_of, opening, question_of};
 
 use crate::in_proc::{Act, by_proc, gives};
 use crate::flags::{NO_XDEV, O_CLOEXEC, O_PATH, RESOLVE_NO_XDEV, has};
@@ -92,6 +92,12 @@ fn question_of<'n>(wanted: &Wanted, change: &Change<'n>, nofollow: u32) -> Quest
     }
 }
 
+fn is_linked(wanted: &Wanted, step: u8) -> bool
+    ensures { result ≡ is_linked wanted.now step }
+{
+    wanted.linked && (step == steps::MAKE_FILE || step == steps::MAKE_LINK)
+}
+
 // The object of a descriptor gets another name through its link in /proc. If the object is a link, linkat(2) doesn't
 // follow it.
 #[tactic(auto, using(dialogue::proofs::TalkLemmas::ran_then, dialogue::proofs::TalkLemmas::ran_ends), unfolding(crate::specs::Change::make))]
@@ -105,8 +111,7 @@ fn make<'n>(
     ensures { ran_by (λ r. record { value = r; known = known.new }) asked_of result answers.new.now
         ≡ ran (make known.old wanted.now (changing_of change.now)) answers.old.now }
 {
-    let is_made = change.step == steps::MAKE_FILE || change.step == steps::MAKE_LINK;
-    if wanted.linked && is_made {
+    if is_linked(wanted, change.step) {
         return by_proc(answers, known, wanted.fd, Act::Link(change.dir, change.name));
     }
     gives(answers, question_of(wanted, change, known.machine.nofollow))

@@ -1,7 +1,7 @@
 //! What is done to an object by its link in /proc, if the kernel takes no descriptor that only names it.
 ghost use Rattle.std.specs.Prelude.{◌≡◌};
 ghost use Rattle.dialogue.specs.Dialogue.{asked_of, ran, ran_by};
-ghost use Rattle.kernel_calls.specs.InProc.{act_by, act_of, act_twice, by_proc, done_by, done_in, failed_in, from_top, gives, tried_in, is_at_top, is_unknown, object_of, proc_error, question_of};
+ghost use Rattle.kernel_calls.specs.InProc.{act_by, act_of, act_twice, by_proc, done_by, done_in, error_or_none, failed_in, from_top, gives, tried_in, is_at_top, is_unknown, object_of, proc_error, question_of};
 
 use dialogue::{Answer, Asked, Question, ask};
 use find_proc::{AT_FDCWD, Known, Proc, find, is_lost};
@@ -47,6 +47,12 @@ pub fn gives<'n>(answers: &mut &[Answer], question: Question<'n>) -> Asked<'n, R
     })
 }
 
+fn error_or_none(error: u32, is_none: bool) -> u32
+    ensures { result ≡ error_or_none error is_none }
+{
+    if is_none { ENOSYS } else { error }
+}
+
 /// The error of a system call on a descriptor's name in a /proc. If there is no such link at all, or the number is
 /// another file's by now, there is no such /proc.
 #[tactic(auto, using(dialogue::proofs::TalkLemmas::ran_then, dialogue::proofs::TalkLemmas::ran_ends), unfolding(crate::specs::InProc::proc_error))]
@@ -60,14 +66,15 @@ pub fn proc_error<'n>(
     ensures { ran_by (λ x. x) asked_of result answers.new.now
         ≡ ran (proc_error known.now proc fd error) answers.old.now }
 {
-    let is_none = if error == ENOENT {
-        ask(answers, Question::ReadObjectLink(proc, fd))?.error == ENOENT
-    } else if error == EACCES || error == EPERM || error == ESRCH {
-        is_lost(answers, known, proc)?
-    } else {
-        false
-    };
-    Ok(if is_none { ENOSYS } else { error })
+    if error == ENOENT {
+        let gave = ask(answers, Question::ReadObjectLink(proc, fd))?;
+        return Ok(error_or_none(error, gave.error == ENOENT));
+    }
+    if error == EACCES || (error == EPERM || error == ESRCH) {
+        let lost = is_lost(answers, known, proc)?;
+        return Ok(error_or_none(error, lost));
+    }
+    Ok(error)
 }
 
 fn object_of(answer: &Answer) -> Object

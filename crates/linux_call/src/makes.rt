@@ -5,7 +5,7 @@ use crate::request::{MKDIR, MKFILE, RESOLVE, RMDIR, Reply, Request, SYMLINK, UNL
 use crate::steps;
 use crate::walk::{Below, O_PATH};
 use dialogue::{Asked, Question};
-use kernel_calls::{Change, Outcome, Wanted, named};
+use kernel_calls::{Change, Wanted, named};
 use system_calls::errors::{EEXIST, ENOENT};
 
 // So many directories that are missing one in the other are made by look-ups from the root.
