@@ -13,7 +13,7 @@ use Rattle.find_proc.specs.declared.asks.Known.{Known}
 use Rattle.give_entry.specs.Seen.{held_first}
 use Rattle.give_entry.specs.declared.giving.Made.TheVariants.{Name, Entry}
 use Rattle.kernel_calls.specs.InProc.{by_proc, gave, gives, linking}
-use Rattle.kernel_calls.specs.Change.{Changing, flags_of, give, give_by, given, is_made, is_opened, made_of, make, make_by, make_change, make_told, mode_of, not_given, opening, question_of, without_kind}
+use Rattle.kernel_calls.specs.Change.{Changing, flags_of, give, give_by, given, is_opened, made_of, make, make_by, make_change, make_told, mode_of, not_given, opening, question_of, without_kind}
 use Rattle.kernel_calls.specs.Flags.{NEW, NO_XDEV, has}
 use Rattle.kernel_calls.specs.Look.{Came, came_to}
 use Rattle.kernel_calls.specs.Path.{At}
@@ -345,7 +345,7 @@ pub makes : (w : Wish) (s : Seen) (k : Known) (dir : ℕ) (name : List ℕ) (oth
 unfolding make_change make
 makes w s k dir name other text read h unlinked texts last =
     subst (λ b. Goes (watch w) 7 s
-    (and_then (if b && is_made w.step then by_proc k w.how.fd (linking dir name)
+    (and_then (if b && ((w.step == 9) || (w.step == 10)) then by_proc k w.how.fd (linking dir name)
     else made_alone k w (change_of w dir name other text)) (make_told w.how (change_of w dir name other text) read))
     (Done w (fds s.held))) (sym unlinked)
     (makes_by w s k dir name other text read (is_opened w.how w.step) refl h unlinked texts last)
