@@ -17,7 +17,7 @@ use Rattle.kernel_calls.specs.Path.{At}
 use Rattle.kernel_calls.specs.declared.change.Wanted.{Wanted}
 use Rattle.kernel_calls.specs.declared.entry.Dir.{Dir}
 use Rattle.kernel_calls.specs.declared.look.Outcome.{Outcome}
-use Rattle.kernel_calls.specs.declared.look.Outcome.TheVariants.{Value, Fails, FailsAt, Steps}
+use Rattle.kernel_calls.specs.declared.look.Outcome.TheVariants.{Value, Steps}
 
 -- ---- what is at the end
 

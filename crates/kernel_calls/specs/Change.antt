@@ -51,14 +51,13 @@ question_of w c nofollow =
     else (if c.step == REMOVE_DIR then removes c.dir c.name true
     else renames c.dir c.name c.other c.text w.how)))))
 
--- another name of an object is asked for
-abbrev pub is_linked : Wanted → ℕ → Bool
-is_linked w step = w.linked && ((step == MAKE_FILE) || (step == MAKE_LINK))
+abbrev pub is_made : ℕ → Bool
+is_made step = (step == MAKE_FILE) || (step == MAKE_LINK)
 
 -- An object gets another name through its link in /proc (linkat(2), AT_SYMLINK_FOLLOW).
 unfoldable pub make : Known → Wanted → Changing → Dialogue (Came (Result ℕ ℕ))
 make k w c =
-    if is_linked w c.step then by_proc k w.fd (linking c.dir c.name)
+    if w.linked && is_made c.step then by_proc k w.fd (linking c.dir c.name)
     else and_then (gives (question_of w c k.machine.nofollow)) (λ r. ends (came_to k r))
 
 -- ---- and given

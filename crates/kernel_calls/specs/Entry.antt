@@ -1,14 +1,12 @@
 -- An entry: the directory that has it, and its name.
-use Rattle.std.specs.Prelude.{◌≡◌, ℕ, ◌+◌, List, [], ◌∷◌, ◌==◌, Bool, true, false, not, ◌&&◌, if◌then◌else◌, bit_or, length, take, drop, Option, Some, None, Result, Ok, Err}
+use Rattle.std.specs.Prelude.{ℕ, List, [], ◌∷◌, ◌==◌, Bool, true, false, not, ◌&&◌, if◌then◌else◌, bit_or, Option, Some, None, Result, Ok, Err}
 use Rattle.path_text.specs.Text.{begins_with_slash}
 use Rattle.system_calls.specs.OpenFlags.{O_PATH}
 use Rattle.dialogue.specs.Dialogue.{Dialogue, and_then, calling, closes, ends}
 use Rattle.find_proc.specs.declared.asks.Known.{Known}
-use Rattle.kernel_walks.specs.Split.{IsParted}
-use Rattle.kernel_walks.specs.declared.last_name.Parted.{Parted}
 use Rattle.kernel_calls.specs.Flags.{BENEATH, has}
 use Rattle.kernel_calls.specs.Look.{Came, came_to, walk}
-use Rattle.kernel_calls.specs.Path.{At, text_in, without_slashes}
+use Rattle.kernel_calls.specs.Path.{At, text_in}
 use Rattle.kernel_calls.specs.declared.entry.Closes.{Closes}
 use Rattle.kernel_calls.specs.declared.entry.Dir.{Dir}
 use Rattle.kernel_calls.specs.declared.entry.LastName.{LastName}
@@ -29,29 +27,6 @@ slashed_of None = None
 
 abbrev pub named_of : LastName → EntryAt
 named_of n = record { above = slashed_of n.above; name = n.name.now }
-
-abbrev pub named_by : Option LastName → Option EntryAt
-named_by (Some n) = Some (named_of n)
-named_by None = None
-
--- so many bytes of the path, and the slash before it
-abbrev pub above_by : List ℕ → ℕ → Option (List ℕ)
-above_by slashed end = if end == 0 then None else Some (take (1 + end) slashed)
-
-abbrev pub entry_by : List ℕ → Parted → Option EntryAt
-entry_by slashed parted =
-    if parted.error == 0
-    then Some (record {
-      above = above_by slashed (length (without_slashes (take parted.name (text_in slashed))));
-      name = take parted.length (drop parted.name (text_in slashed));
-    })
-    else None
-
--- where the path's last name stands in it (`split` of kernel_walks), if it has one
-pub record IsEntryAt (slashed : List ℕ) (takes_slash : Bool) (entry : Option EntryAt) : Type 0 where
-  pub parted : Parted
-  pub split : IsParted (text_in slashed) takes_slash parted
-  pub is : entry ≡ entry_by slashed parted
 
 -- ---- its directory
 

@@ -1,5 +1,5 @@
 -- The numbers of flags, kinds and steps.
-use Rattle.std.specs.Prelude.{ℕ, ◌+◌, ◌^◌, ◌==◌, Bool, not, if◌then◌else◌, bit_and, bit_or}
+use Rattle.std.specs.Prelude.{ℕ, ◌==◌, Bool, not, if◌then◌else◌, bit_and, bit_or}
 use Rattle.system_calls.specs.OpenFlags.{O_CLOEXEC, O_CREAT, O_EXCL, O_NOCTTY}
 
 -- ---- inroot.h: the flags of every call on a path

@@ -1,7 +1,6 @@
 -- A path below a root.
-use Rattle.std.specs.Prelude.{ℕ, List, [], ◌∷◌, ◌==◌, Bool, if◌then◌else◌, drop}
+use Rattle.std.specs.Prelude.{ℕ, List, Bool, if◌then◌else◌, drop}
 use Rattle.path_text.specs.Text.{begins_with_slash}
-use Rattle.path_text.specs.declared.name.TheConstants.{SLASH}
 use Rattle.kernel_calls.specs.declared.look.Below.{Below}
 
 -- a root, flags of inroot.h, and a path with a slash before it; and whether the first answer is that of its look-up
@@ -21,12 +20,3 @@ text_in slashed = drop 1 slashed
 -- a slash, and what stands behind it
 abbrev pub place_in : List ℕ → List ℕ
 place_in slashed = if begins_with_slash (text_in slashed) then text_in slashed else slashed
-
-abbrev pub before_slash : ℕ → List ℕ → List ℕ
-before_slash b [] = if b == SLASH then [] else b ∷ []
-before_slash b (c ∷ cs) = b ∷ c ∷ cs
-
--- without the slashes at its end
-abbrev pub without_slashes : List ℕ → List ℕ
-without_slashes [] = []
-without_slashes (b ∷ bs) = before_slash b (without_slashes bs)

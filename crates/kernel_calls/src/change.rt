@@ -1,7 +1,7 @@
 //! The one system call of a change, by a directory that is open and a name in it; and a descriptor of what it made.
-ghost use Rattle.std.specs.Prelude.{◌≡◌};
+ghost use Rattle.std.specs.Prelude.{◌≡◌, ◌&&◌};
 ghost use Rattle.dialogue.specs.Dialogue.{asked_of, ran, ran_by};
-ghost use Rattle.kernel_calls.specs.Change.{changing_of, flags_of, give, given, is_linked, is_opened, made_of, make, make_change, mode_of, opening, question_of};
+ghost use Rattle.kernel_calls.specs.Change.{changing_of, flags_of, give, given, is_made, is_opened, made_of, make, make_change, mode_of, opening, question_of};
 
 use crate::in_proc::{Act, by_proc, gives};
 use crate::flags::{NO_XDEV, O_CLOEXEC, O_PATH, RESOLVE_NO_XDEV, has};
@@ -93,7 +93,7 @@ fn question_of<'n>(wanted: &Wanted, change: &Change<'n>, nofollow: u32) -> Quest
 }
 
 fn is_linked(wanted: &Wanted, step: u8) -> bool
-    ensures { result ≡ is_linked wanted.now step }
+    ensures { result ≡ wanted.now.linked && is_made step }
 {
     wanted.linked && (step == steps::MAKE_FILE || step == steps::MAKE_LINK)
 }
