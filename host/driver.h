@@ -40,7 +40,7 @@ void inroot_program_known(struct inroot_known *known);
 long inroot_program_does(const struct inroot_due *due);
 
 /* error.c */
-/* Keeps why the thread's last call failed: the error, the step's number (crates/linux_call/src/steps.rt), and a name. */
+/* Keeps why the thread's last call failed: the error, the step's number (crates/kernel_calls/src/steps.rt), and a name. */
 void inroot_error_keep(int error, unsigned step, const char *name);
 
 #pragma GCC visibility pop

@@ -9,7 +9,7 @@
 
 static _Thread_local struct inroot_error last = {.step = ""};
 
-/* A step, by its number (crates/linux_call/src/steps.rt); what a call can't do that fails there; and to what, if no name is told. */
+/* A step, by its number (crates/kernel_calls/src/steps.rt); what a call can't do that fails there; and to what, if no name is told. */
 static const struct {
     const char *name, *act, *object;
 } steps[] = {

@@ -27,4 +27,7 @@ fn laws_of_walks_by_the_kernel() {
     kernel_walks::entries_are_changed_behind_walks();
     kernel_walks::directories_are_looked_up();
     kernel_walks::renames_are_looked_up();
+    kernel_calls::entries_are_changed_where_they_stand();
+    kernel_calls::entries_are_renamed_where_they_stand();
+    kernel_calls::paths_are_looked_up_as_a_whole();
 }

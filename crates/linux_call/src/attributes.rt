@@ -1,9 +1,9 @@
 //! The mode, the owner, the times and the extended attributes of an object that was found; and that it is opened again.
-use crate::by_proc::Act;
 use crate::progress::{Progress, Said};
 use crate::request::{A_LINK, MODE_BITS, Request, SET_ATTRIBUTE, given, refused, told, value};
 use crate::steps;
 use dialogue::Question;
+use kernel_calls::Act;
 use linux_steps::look_error;
 use system_calls::errors::{EBADF, EINVAL, EOPNOTSUPP, ERANGE};
 use system_calls::{kind_of, reopen_flags};

@@ -7,6 +7,7 @@ use crate::steps;
 use crate::walk::{DIRECTORY, EXACT, FOLLOW, GIVE, NO_RETRY, NOFOLLOW, has, path_below};
 use dialogue::Question;
 use find_place::next_question;
+use kernel_calls::{find_directory, leave, named};
 use kernel_walks::split;
 use linux_steps::look_error;
 use system_calls::errors::{EINVAL, ENOENT};
@@ -126,18 +127,22 @@ impl Progress<'_> {
             return self.by_steps(request, texts);
         }
         let at = path_below(request, &texts);
-        let entry = match self.find_entry(&at, false)? {
-            Ok(entry) => entry,
+        let parted = split(at.path.text(), false);
+        let above = match named(at.path, false) {
+            Some(entry) => entry.above,
+            None => return self.by_steps(request, texts),
+        };
+        let dir = match find_directory(&mut self.answers, &mut self.known, &at, above)? {
+            Ok(dir) => dir,
             Err(_) => return self.by_steps(request, texts),
         };
-        let named = Request {
-            root: entry.dir,
+        let there = Request {
+            root: dir.fd,
             ..*request
         };
-        let parted = split(at.path.text(), false);
         let name = at.path.part(parted.name, parted.length);
-        let reply = self.by_steps(&named, texts.on(name))?;
-        self.leave(entry, false)?;
+        let reply = self.by_steps(&there, texts.on(name))?;
+        leave(&mut self.answers, dir, false)?;
         Ok(reply)
     }
 

@@ -6,8 +6,8 @@ ghost use Rattle.linux_call.specs.declared.by_steps.state.Steps.{Steps};
 mod parts;
 
 use crate::by_steps::Steps;
-use crate::request::{Closes, NO_CLOSES};
 use find_proc::{File, Kept as Proc, Known};
+use kernel_calls::{Closes, NO_CLOSES};
 use make_through_links::Making;
 use open_or_make::{Course, Outcome};
 use parts::Parts;

@@ -6,13 +6,9 @@
 #![tactic(auto)]
 
 mod attributes;
-mod by_proc;
 mod by_steps;
 mod calls;
-mod change;
 mod due;
-mod entry;
-mod give;
 mod inner;
 mod kept;
 mod make_all;

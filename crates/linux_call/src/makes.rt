@@ -1,19 +1,12 @@
-//! Calls on paths that the kernel walks: what is at the end, an entry there, all directories.
-use crate::change::Change;
-use crate::entry::{Entry, above, parts};
+//! Calls on paths that the kernel walks, as `kernel_calls` makes them; and all directories of a path.
 use crate::path::{PathOf, Texts};
 use crate::progress::{Number, Progress, Said};
-use crate::request::{
-    MKDIR, MKFILE, RESOLVE_NOFOLLOW, RMDIR, Reply, Request, SYMLINK, UNLINK, value,
-};
+use crate::request::{MKDIR, MKFILE, RESOLVE, RMDIR, Reply, Request, SYMLINK, UNLINK, value};
 use crate::steps;
-use crate::walk::{Below, O_PATH, bit};
+use crate::walk::{Below, O_PATH};
 use dialogue::{Asked, Question};
-use find_proc::has_floor;
-use linux_steps::look_error;
-use path_text::TEXT_MAX;
+use kernel_calls::{Change, Wanted, named};
 use system_calls::errors::{EEXIST, ENOENT};
-use system_calls::kind_of;
 
 // So many directories that are missing one in the other are made by look-ups from the root.
 const MISSING_MAX: u32 = 16;
@@ -29,56 +22,53 @@ fn step_of(what: u8) -> u8 {
     }
 }
 
+#[inline(always)]
+fn wanted_of(request: &Request) -> Wanted {
+    Wanted {
+        device: request.device,
+        flags: request.flags,
+        mode: request.mode,
+        how: request.how,
+        fd: request.fd,
+        linked: request.linked,
+        opens: request.opens,
+        gives: request.gives,
+    }
+}
+
 // The path of the directory so many levels above; none is the root.
 fn levels_above(path: PathOf<'_>, levels: u32) -> Option<Option<PathOf<'_>>> {
     let mut here = Some(path);
     for _ in 0..levels {
-        here = match here {
-            Some(path) => {
-                let parted = parts(path, true)?;
-                above(path, &parted)
-            }
-            None => return None,
-        };
+        here = named(here?, true)?.above;
     }
     Some(here)
 }
 
 impl Progress<'_> {
-    // The kind of what was opened stands above the descriptor.
-    #[inline(never)]
-    fn with_kind<'n>(&mut self, fd: u32) -> Said<'n> {
-        let about = self.ask(Question::Stat(fd))?;
-        if look_error(&about) != 0 {
-            self.close(fd)?;
-            return Ok(Reply::Steps);
-        }
-        let kind = kind_of(about.mode as u32);
-        Ok(Reply::Value(kind as u64 * 0x1_0000_0000 + fd as u64, b""))
-    }
-
     #[inline(always)]
     pub(crate) fn resolve<'n>(&mut self, request: &Request, at: &Below<'n>) -> Said<'n> {
-        let machine = self.known.machine;
-        let last = bit(request.what == RESOLVE_NOFOLLOW, machine.nofollow);
-        let wanted = bit(request.directory, machine.directory);
-        match self.walk(at, O_PATH | last | wanted, 0)? {
-            Ok(fd) if request.asks_kind => self.with_kind(fd),
-            Ok(fd) => Ok(value(fd)),
-            Err(reply) => Ok(reply),
-        }
+        let (answers, known) = (&mut self.answers, &mut self.known);
+        let follows = request.what == RESOLVE;
+        let asks = request.asks_kind;
+        let outcome = kernel_calls::resolve(answers, known, at, follows, request.directory, asks)?;
+        Ok(Reply::of(outcome, b""))
     }
 
     // ---- an entry
 
-    // A link's text is the first that is wrong of a call that makes one; and what is given must be looked at.
+    /// Makes a change in a directory that is open, and opens what it made if the call gives that. READ: the text that
+    /// was read last.
     #[inline(always)]
-    fn is_plain<'n>(&mut self, request: &Request, text: &[u8]) -> Asked<'n, bool> {
-        let is_text = !text.is_empty() && text.len() <= TEXT_MAX;
-        if request.what == SYMLINK && !is_text {
-            return Ok(false);
-        }
-        Ok(!request.gives || has_floor(&mut self.answers, &self.known)?)
+    pub(crate) fn make_change<'n>(
+        &mut self,
+        request: &Request,
+        change: &Change<'n>,
+        read: &[u8],
+    ) -> Said<'n> {
+        let (answers, known) = (&mut self.answers, &mut self.known);
+        let outcome = kernel_calls::make_change(answers, known, &wanted_of(request), change, read)?;
+        Ok(Reply::of(outcome, change.name))
     }
 
     /// Makes or removes an entry.
@@ -89,57 +79,24 @@ impl Progress<'_> {
         at: &Below<'n>,
         texts: Texts<'n>,
     ) -> Said<'n> {
-        let text = texts.target;
-        if !self.is_plain(request, text)? {
-            return Ok(Reply::Steps);
-        }
         let takes_slash = request.what == MKDIR || request.what == RMDIR;
-        let entry = match self.find_entry(at, takes_slash)? {
-            Ok(entry) => entry,
-            Err(reply) => return Ok(reply),
+        let entry = match named(at.path, takes_slash) {
+            Some(entry) => entry,
+            None => return Ok(Reply::Steps),
         };
-        let what = Change {
-            step: step_of(request.what),
-            dir: entry.dir,
-            name: entry.name,
-            other: 0,
-            text,
-        };
-        let is_behind = self.is_closed_behind(entry);
-        self.changes = is_behind && !request.gives;
-        let reply = self.make_change(request, &what, texts.read)?;
-        self.changes = false;
-        self.leave(entry, is_behind)?;
-        Ok(reply)
-    }
-
-    fn rename_to<'n>(&mut self, request: &Request, from: Entry<'n>, at: &Below<'n>) -> Said<'n> {
-        let to = match self.find_entry(at, false)? {
-            Ok(to) => to,
-            Err(reply) => {
-                let is_behind = match reply {
-                    Reply::Steps => false,
-                    _ => self.is_closed_behind(from),
-                };
-                self.leave(from, is_behind)?;
-                return Ok(reply);
-            }
-        };
-        let what = Change {
-            step: steps::RENAME,
-            dir: from.dir,
-            name: from.name,
-            other: to.dir,
-            text: to.name,
-        };
-        let is_to_behind = self.is_closed_behind(to);
-        let is_from_behind = self.is_closed_behind(from);
-        self.changes = is_to_behind && is_from_behind;
-        let reply = self.make_change(request, &what, b"")?;
-        self.changes = false;
-        self.leave(to, is_to_behind)?;
-        self.leave(from, is_from_behind)?;
-        Ok(reply)
+        let outcome = kernel_calls::change_entry(
+            &mut self.answers,
+            &mut self.known,
+            at,
+            entry,
+            &wanted_of(request),
+            step_of(request.what),
+            texts.target,
+            texts.read,
+            self.ends,
+            &mut self.behind,
+        )?;
+        Ok(Reply::of(outcome, entry.name))
     }
 
     /// Renames an entry. What both paths end in comes first. With a slash there the steps look whether a directory is
@@ -150,19 +107,27 @@ impl Progress<'_> {
         at: &Below<'n>,
         to: PathOf<'n>,
     ) -> Said<'n> {
-        if !at.looked && parts(to, false).is_none() {
-            return Ok(Reply::Steps);
-        }
-        let from = match self.find_entry(at, false)? {
-            Ok(from) => from,
-            Err(reply) => return Ok(reply),
+        let (from, new) = match (named(at.path, false), named(to, false)) {
+            (Some(from), Some(new)) => (from, new),
+            _ => return Ok(Reply::Steps),
         };
-        let second = Below {
+        let other = Below {
             path: to,
             looked: false,
             ..*at
         };
-        self.rename_to(request, from, &second)
+        let outcome = kernel_calls::rename(
+            &mut self.answers,
+            &mut self.known,
+            at,
+            from,
+            &other,
+            new,
+            &wanted_of(request),
+            self.ends,
+            &mut self.behind,
+        )?;
+        Ok(Reply::of(outcome, from.name))
     }
 
     // ---- all directories of a path
@@ -203,10 +168,9 @@ impl Progress<'_> {
             Some(Some(path)) => path,
             _ => at.path,
         };
-        let made = match parts(path, true) {
-            Some(parted) => {
-                let name = path.piece(parted.name, parted.length);
-                let made = self.ask(Question::MakeDirectory(dir, name, mode))?;
+        let made = match named(path, true) {
+            Some(entry) => {
+                let made = self.ask(Question::MakeDirectory(dir, entry.name, mode))?;
                 made.error == 0 || made.error == EEXIST
             }
             None => false,

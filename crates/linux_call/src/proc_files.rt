@@ -1,7 +1,6 @@
 //! Files of the /proc by which the library goes. One openat2(2) leads to each, through nothing that is mounted there,
 //! and through no link of the kernel's own, which leads to an object: such a one is opened at the end alone, if the
 //! caller follows it.
-use crate::entry::parts;
 use crate::path::{PathOf, Texts};
 use crate::progress::{Number, Progress, Said};
 use crate::request::{A_LINK, Request, given, refused};
@@ -11,6 +10,7 @@ use crate::walk::{
 };
 use dialogue::{Asked, Question};
 use find_proc::{Known, Proc, find};
+use kernel_calls::parts;
 use linux_steps::look_error;
 use system_calls::errors::{EAGAIN, EINVAL, ELOOP, ENOENT, ENOSYS, EXDEV};
 use system_calls::{kind_of, reopen_flags};

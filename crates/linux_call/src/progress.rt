@@ -1,7 +1,8 @@
 //! How far a call has come.
-use crate::request::{Closes, NO_CLOSES, Reply, Request};
+use crate::request::{Reply, Request};
 use dialogue::{Answer, Asked, Question, ask};
 use find_proc::Known;
+use kernel_calls::{Act, Behind, NOT_BEHIND, by_proc};
 
 /// A reply; or the system call that is due.
 pub(crate) type Said<'n> = Asked<'n, Reply<'n>>;
@@ -17,11 +18,9 @@ pub(crate) struct Progress<'a> {
     pub known: Known,
     /// The call that is to be made by single steps.
     pub inner: Option<Request>,
-    /// What is closed behind the call's end, if the reply comes right behind the change of an entry.
-    pub closes: Closes,
+    /// The reply comes right behind the change of an entry; then what is closed behind the call's end.
     pub ends: bool,
-    /// The change is due, and the reply is 0 if no error comes.
-    pub changes: bool,
+    pub behind: Behind,
 }
 
 impl<'a> Progress<'a> {
@@ -31,9 +30,8 @@ impl<'a> Progress<'a> {
             answers,
             known,
             inner: None,
-            closes: NO_CLOSES,
             ends,
-            changes: false,
+            behind: NOT_BEHIND,
         }
     }
 
@@ -45,12 +43,12 @@ impl<'a> Progress<'a> {
     /// What a system call gave.
     #[inline(always)]
     pub(crate) fn gives<'n>(&mut self, question: Question<'n>) -> Number<'n> {
-        let gave = self.ask(question)?;
-        Ok(if gave.error == 0 {
-            Ok(gave.value)
-        } else {
-            Err(gave.error)
-        })
+        kernel_calls::gives(&mut self.answers, question)
+    }
+
+    /// Does it to the object of a descriptor, by its link in /proc.
+    pub(crate) fn by_proc<'n>(&mut self, fd: u32, act: Act<'n>) -> Number<'n> {
+        by_proc(&mut self.answers, &mut self.known, fd, act)
     }
 
     #[inline(always)]

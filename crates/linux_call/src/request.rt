@@ -1,6 +1,7 @@
 //! What a call is asked for, and what it replies.
 use crate::steps;
 use find_proc::Known;
+use kernel_calls::Outcome;
 use system_calls::errors::{EBADF, EIO};
 
 /// What a call is asked for: WHAT is one of the numbers below. Its texts come beside it.
@@ -125,21 +126,6 @@ pub(crate) const A_DIRECTORY: u8 = 1;
 
 pub(crate) const A_LINK: u8 = 3;
 
-/// Descriptors that are closed: so many.
-#[repr(C)]
-#[derive(Clone, Copy)]
-pub(crate) struct Closes {
-    pub first: u32,
-    pub second: u32,
-    pub count: u32,
-}
-
-pub(crate) const NO_CLOSES: Closes = Closes {
-    first: 0,
-    second: 0,
-    count: 0,
-};
-
 /// What a call replies.
 #[derive(Clone, Copy)]
 pub(crate) enum Reply<'n> {
@@ -153,7 +139,18 @@ pub(crate) enum Reply<'n> {
     Steps,
 }
 
-impl Reply<'_> {
+impl<'n> Reply<'n> {
+    /// What a call by the kernel's walk came to, on an entry of this name.
+    #[inline(always)]
+    pub(crate) fn of(outcome: Outcome, name: &'n [u8]) -> Reply<'n> {
+        match outcome {
+            Outcome::Value(number) => Reply::Value(number, b""),
+            Outcome::Fails(error, step) => Reply::Fails(error, step, b""),
+            Outcome::FailsAt(error, step) => Reply::Fails(error, step, name),
+            Outcome::Steps => Reply::Steps,
+        }
+    }
+
     /// The number, the error or 0, and the step to blame.
     pub(crate) fn outcome(&self) -> (u64, u32, u8) {
         match *self {

@@ -15,6 +15,7 @@ use crate::several::{Part, Then, begin, keep_gave, next_call};
 use crate::walk::{Below, EXACT, NOFOLLOW, O_PATH, has};
 use crate::{open_at, steps};
 use dialogue::{Answer, Question};
+use kernel_calls::Closes;
 use std::alloc::Global;
 use std::mem;
 use system_calls::Opening;
@@ -214,11 +215,11 @@ fn go(
                 state.looked = is_look_up(request, &question);
                 state.opens = state.looked && is_reply(request, state);
             }
-            state.changes = now.changes;
-            state.closes = now.closes;
+            state.changes = now.behind.changes;
+            state.closes = now.behind.closes;
             Came::Due(due_of(&question, request, room))
         }
-        Ok(Ok(reply)) => Came::Due(end_and_close(&reply, &now.closes, room)),
+        Ok(Ok(reply)) => Came::Due(end_and_close(&reply, &now.behind.closes, room)),
         Ok(Err(gave)) => {
             let then = keep_gave(state, &gave, room);
             request.known = now.known;

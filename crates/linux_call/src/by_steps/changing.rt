@@ -1,12 +1,12 @@
 //! A step that changes an entry: the same system calls as where the kernel walks.
 use crate::by_steps::slots::Handles;
 use crate::by_steps::state::{Part, Steps};
-use crate::change::Change;
 use crate::progress::Progress;
 use crate::request::{RENAME as RENAMES, Reply};
 use crate::steps;
 use dialogue::{Answer, Asked};
 use find_proc::{Known, has_floor};
+use kernel_calls::Change;
 use linux_steps::{Ended, change_ended};
 use std::alloc::Global;
 use system_calls::errors::{EIO, ENOSYS};

@@ -1,5 +1,4 @@
 //! At which names below the root an object stands: each question of `find_place` by its system calls.
-use crate::by_proc::proc_error;
 use crate::by_steps::slots::Slot;
 use crate::by_steps::there::{is_dead, may_be_dead};
 use crate::path::piece;
@@ -7,6 +6,7 @@ use crate::walk::{RESOLVE_BENEATH, RESOLVE_NO_MAGICLINKS, RESOLVE_NO_SYMLINKS, o
 use dialogue::{Answer as Gave, Asked, Question, ask};
 use find_place::{Answer, BY_NAME, BY_ROOT, Facts, Question as Wanted, SEEN_BELOW, Told};
 use find_proc::{Known, Proc, find};
+use kernel_calls::proc_error;
 use linux_steps::look_error;
 use std::alloc::Global;
 use system_calls::errors::{EAGAIN, ENOMEM};

@@ -1,0 +1,5 @@
+pub mod ChangeLemmas
+pub mod EntryLemmas
+pub mod GiveLemmas
+pub mod LookLemmas
+pub mod ResolveLemmas
