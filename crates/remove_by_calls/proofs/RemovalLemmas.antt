@@ -12,7 +12,7 @@ use Rattle.dialogue.proofs.HeldLemmas.{in_by, out_by}
 use Rattle.dialogue.proofs.HoldLemmas.{Goes, asks_then, both, choose, over, weak}
 use Rattle.remove_by_calls.specs.Answers.{met_of}
 use Rattle.remove_by_calls.specs.Promises.{Ends, RemovalsHold, ring}
-use Rattle.remove_by_calls.specs.Removal.{a_call, again, all_closed, at_root, begun, called, calls, crowded, go_on, in_place, inner, inner_closed, done, kept_one, outer_closed, pause_before, place_at, steps, tried, COUNT_MAX}
+use Rattle.remove_by_calls.specs.Removal.{a_call, again, all_closed, at_root, begun, call_at_root, call_in_place, called, calls, crowded, go_on, in_place, inner, inner_closed, done, kept_one, outer_closed, pause_before, place_at, steps, tried, COUNT_MAX}
 use Rattle.remove_by_calls.specs.Seen.{Seen, at_first, called_by, goes_on, is_deeper, watch}
 use Rattle.remove_by_calls.specs.declared.answers.Met.{Met}
 use Rattle.remove_by_calls.specs.declared.answers.Met.TheVariants.{Gone, Deeper, Bound, Crowded, Failed}
@@ -169,25 +169,25 @@ all_go : (may_retry : Bool) (r : Removal) (n spare : ℕ) (s : Seen) → Keeps (
     → Goes (watch may_retry) n s (all_closed r n) (Left 0 (n + spare) 1 s)
 unfolding all_closed
 all_go may_retry r zero spare s k room =
-    over (record { keeps = k; room = room; fewer = refl; waits = refl; met = refl })
+    over (record { keeps = k; room = omega (arith, room); fewer = refl; waits = refl; met = refl })
 all_go may_retry r (suc n) spare s k room =
-    asks_then n (Close (place_at r n))
+    weak (1 + n) (omega arith) (asks_then n (Close (place_at r n))
     (omega (arith, room), in_by (place_at r n) s.kept (ring r.outermost n) k.kept)
-    (λ a. weak n (omega arith) (all_go may_retry r n (suc spare) (closed_by s (place_at r n)) (record {
+    (λ a. all_go may_retry r n (suc spare) (closed_by s (place_at r n)) (record {
       outermost = k.outermost;
       fits = let fits = k.fits in omega (arith, fits);
       kept = out_by (place_at r n) s.kept (ring r.outermost n) k.kept;
       removed = k.removed;
       idle = k.idle;
       tries = k.tries;
-    }) (omega (arith, room)))
+    }) (omega (arith, room))))
     (λ t left h. let more = h.room in record {
       keeps = h.keeps;
       room = omega (arith, more);
       fewer = h.fewer;
       waits = h.waits;
       met = h.met;
-    }))
+    })
 
 -- ---- whether another try follows
 
@@ -265,6 +265,10 @@ goes_next : (may_retry : Bool) (r : Removal) (s : Seen) (met : Met) → Keeps r 
 goes_next may_retry r s met k room waits is goes begins =
     record { keeps = k; room = room; waits = waits; goes = ap (goes_on may_retry) is ∙ goes; begins = begins }
 
+above : (n : ℕ) → n ≢ 0 → 0 < n
+above zero some = absurd (some refl)
+above (suc n) some = omega arith
+
 over_comes : (may_retry : Bool) (r : Removal) (s : Seen) → Keeps r s → Room r s 0 0 → s.waits ≡ false → s.met ≡ Gone
     → Comes may_retry s (done may_retry r)
 over_comes may_retry r s k room waits met = by_case (r.kept == 0) (r.idle == 0) refl refl
@@ -281,13 +285,9 @@ over_comes may_retry r s k room waits met = by_case (r.kept == 0) (r.idle == 0) 
     by_case true false is at =
         let some = eqb-false r.idle 0 at in
         again_comes may_retry r s EAGAIN k room (eqb-true r.kept 0 is) waits
-        (inr (refl, (met, some_idle r.idle s.idle same some)))
+        (inr (refl, (met, subst (λ n. 0 < n) same (above r.idle some))))
     by_case false first is at =
         goes_next may_retry r s Gone k room waits met refl (λ none. absurd (eqb-false r.kept 0 is none))
-
-    some_idle : (n m : ℕ) → n ≡ m → n ≢ 0 → 0 < m
-    some_idle zero m is some = absurd (some refl)
-    some_idle (suc n) m is some = omega (arith, is)
 
 crowded_comes : (may_retry : Bool) (r : Removal) (s : Seen) (error : ℕ) → Keeps r s → Room r s 0 0 → s.waits ≡ false
     → s.met ≡ Crowded error → Comes may_retry s (crowded may_retry error r)
@@ -392,6 +392,9 @@ root_goes may_retry r s removed met h none few bound = by_met met bound
 
 -- ---- a call in a place
 
+below : (n : ℕ) → n ≤ 16 → n ≢ 16 → n < 16
+below n fits other = omega (arith, fits, other)
+
 place_goes : (may_retry : Bool) (r : Removal) (s : Seen) (removed : ℕ) (met : Met) → Next may_retry r s → 0 < r.kept
     → (met ≡ Bound → 0 < removed)
     → Goes (watch may_retry) 16 (called_by s false removed met) (in_place may_retry (called r removed) met)
@@ -433,9 +436,9 @@ place_goes may_retry r s removed met h some bound = by_met met bound
         let fewer = l.fewer in
         weak 1 (omega arith) (keep_goes may_retry left t l.keeps (omega (arith, more)) (omega (arith, fewer, fits, some))
         l.waits (ap (goes_on may_retry) l.met)) (λ u c is. is)))
-        (λ not_full. let less = eqb-false r.kept 16 not_full in
+        (λ not_full. let other = eqb-false r.kept 16 not_full in
         weak 1 (omega arith) (keep_goes may_retry (called r removed) (called_by s false removed Deeper) (keeps Deeper)
-        (omega (arith, deeper)) (below r.kept 16 fits less) refl refl) (λ u c is. is))
+        (omega (arith, deeper)) (below r.kept fits other) refl refl) (λ u c is. is))
     by_met Bound b =
         over (goes_next may_retry (called r removed) (called_by s false removed Bound) Bound (keeps Bound)
         (bound_room s.asked r.kept s.idle s.deeper s.removed removed (called_by s false removed Bound).idle (b refl)
@@ -454,9 +457,6 @@ place_goes may_retry r s removed met h some bound = by_met met bound
         over (again_comes may_retry left t error l.keeps (omega (arith, more, some)) l.fewer l.waits (inl (inr l.met)))))
         (λ u c is. is)
 
-    below : (n m : ℕ) → n ≤ m → n ≢ m → n < m
-    below n m at_most other = omega (arith, at_most, other)
-
 -- ---- a call, and what follows it
 
 pause_is : (idle : ℕ) → idle < 32 → (next_try idle true EAGAIN false).pause ≡ pause_after idle
@@ -464,7 +464,7 @@ pause_is idle few = ap (λ b. (trying idle b).pause) (lt-ltb idle 32 few)
 
 call_goes : (may_retry : Bool) (r : Removal) (s : Seen) → Next may_retry r s
     → Goes (watch may_retry) 17 s (a_call may_retry r) (Comes may_retry)
-unfolding a_call
+unfolding a_call call_at_root call_in_place
 call_goes may_retry r s h = choose (r.kept == 0) at_the_root in_a_place
   where
     room : Room r s 0 0
@@ -489,7 +489,7 @@ call_goes may_retry r s h = choose (r.kept == 0) at_the_root in_a_place
           lets = begins.1;
         })
         (λ a. weak 1 (omega arith)
-        (root_goes may_retry r s a.removed (met_of a) h none few (λ met. (met_bound a met).1.1)) (λ t c it. it))
+        (root_goes may_retry r s a.removed (met_of a) h none few (λ met. (met_bound a met).2)) (λ t c it. it))
 
     in_a_place : (r.kept == 0) ≡ false
         → Goes (watch may_retry) 17 s (and_then (asking steps (InPlace (inner r)))
@@ -502,11 +502,7 @@ call_goes may_retry r s h = choose (r.kept == 0) at_the_root in_a_place
           goes = h.goes;
           waits = h.waits;
         })
-        (λ a. place_goes may_retry r s a.removed (met_of a) h some (λ met. (met_bound a met).1.1))
-
-    above : (n : ℕ) → n ≢ 0 → 0 < n
-    above zero some = absurd (some refl)
-    above (suc n) some = omega arith
+        (λ a. place_goes may_retry r s a.removed (met_of a) h some (λ met. (met_bound a met).2))
 
 -- ---- a whole removal
 

@@ -113,12 +113,17 @@ in_place may_retry r (Failed error) = and_then (all_closed r r.kept) (λ left. e
 abbrev pub pause_before : Removal → ℕ
 pause_before r = (next_try r.idle true EAGAIN false).pause
 
+unfoldable pub call_at_root : Bool → Removal → Talk Came
+call_at_root may_retry r =
+    and_then (asking steps (AtRoot (pause_before r))) (λ a. at_root may_retry (called (tried r) a.removed) (met_of a))
+
+unfoldable pub call_in_place : Bool → Removal → Talk Came
+call_in_place may_retry r =
+    and_then (asking steps (InPlace (inner r))) (λ a. in_place may_retry (called r a.removed) (met_of a))
+
 -- where no place is kept, it is at the root
 unfoldable pub a_call : Bool → Removal → Talk Came
-a_call may_retry r =
-    if r.kept == 0
-    then and_then (asking steps (AtRoot (pause_before r))) (λ a. at_root may_retry (called (tried r) a.removed) (met_of a))
-    else and_then (asking steps (InPlace (inner r))) (λ a. in_place may_retry (called r a.removed) (met_of a))
+a_call may_retry r = if r.kept == 0 then call_at_root may_retry r else call_in_place may_retry r
 
 -- ---- a removal: one call after another
 

@@ -1,7 +1,7 @@
 //! One call of a removal, and what follows it, as a dialogue.
 ghost use Rattle.std.specs.Prelude.{◌≡◌};
 ghost use Rattle.dialogue.specs.Dialogue.{ran};
-ghost use Rattle.remove_by_calls.specs.Removal.{a_call, again, all_closed, at_root, begun, called, came_to, crowded, done, in_place, inner, inner_closed, kept_one, outer_closed, pause_before, place_at, tried};
+ghost use Rattle.remove_by_calls.specs.Removal.{a_call, again, all_closed, at_root, begun, call_at_root, call_in_place, called, came_to, crowded, done, in_place, inner, inner_closed, kept_one, outer_closed, pause_before, place_at, tried};
 
 use crate::answers::{Answer, Met, met_of};
 use crate::asking::{Asked, Question, ask};
@@ -214,6 +214,24 @@ fn pause_before(removal: &Removal) -> u32
     next_try(removal.idle, true, EAGAIN, false).pause
 }
 
+#[tactic(auto, using(dialogue::proofs::TalkLemmas::ran_then, dialogue::proofs::TalkLemmas::ran_ends), unfolding(crate::specs::Removal::call_at_root))]
+fn call_at_root(answers: &mut &[Answer], may_retry: bool, removal: &Removal) -> Asked<Came>
+    ensures { came_to result answers.new.now ≡ ran (call_at_root may_retry removal.now) answers.old.now }
+{
+    let a = ask(answers, Question::AtRoot(pause_before(removal)))?;
+    let now = called(tried(*removal), a.removed);
+    at_root(answers, may_retry, now, met_of(&a))
+}
+
+#[tactic(auto, using(dialogue::proofs::TalkLemmas::ran_then, dialogue::proofs::TalkLemmas::ran_ends), unfolding(crate::specs::Removal::call_in_place))]
+fn call_in_place(answers: &mut &[Answer], may_retry: bool, removal: &Removal) -> Asked<Came>
+    ensures { came_to result answers.new.now ≡ ran (call_in_place may_retry removal.now) answers.old.now }
+{
+    let a = ask(answers, Question::InPlace(inner(removal)))?;
+    let now = called(*removal, a.removed);
+    in_place(answers, may_retry, now, met_of(&a))
+}
+
 /// Begins a removal. Takes no memory.
 pub fn begin() -> Removal
     ensures { result ≡ begun }
@@ -243,11 +261,8 @@ pub fn a_call(answers: &mut &[Answer], may_retry: bool, removal: &Removal) -> As
     ensures { came_to result answers.new.now ≡ ran (a_call may_retry removal.now) answers.old.now }
 {
     if removal.kept == 0 {
-        let a = ask(answers, Question::AtRoot(pause_before(removal)))?;
-        let now = called(tried(*removal), a.removed);
-        return at_root(answers, may_retry, now, met_of(&a));
+        call_at_root(answers, may_retry, removal)
+    } else {
+        call_in_place(answers, may_retry, removal)
     }
-    let a = ask(answers, Question::InPlace(inner(removal)))?;
-    let now = called(*removal, a.removed);
-    in_place(answers, may_retry, now, met_of(&a))
 }
