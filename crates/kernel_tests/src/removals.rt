@@ -28,7 +28,7 @@ fn ended(removed: u64, error: u32) -> Answer {
     }
 }
 
-fn course(may_retry: bool) -> Course {
+fn begun_course(may_retry: bool) -> Course {
     Course {
         may_retry,
         removal: begin(),
@@ -63,7 +63,7 @@ impl Course {
 impl Room for Course {
     fn begun(_: Global, words: &'static str) -> Course {
         let (tries, places) = words.split_once(' ').unwrap_or(("", ""));
-        let mut removal = course(tries == "retry");
+        let mut removal = begun_course(tries == "retry");
         for _ in 0..number(places).unwrap_or(0) {
             let _ = removal.take("1 deeper");
             let _ = removal.take("0");
@@ -152,7 +152,7 @@ fn removes_by_calls(rt: HostRuntime) -> Result<(), AllocError> {
 
 #[test]
 fn makes_32_tries_in_a_row(rt: HostRuntime) -> Result<(), AllocError> {
-    let mut removal = course(true);
+    let mut removal = begun_course(true);
     for tries in 1..32 {
         assert!(rt; removal.hear(ended(0, EAGAIN)).is_some());
         let pause = next_try(tries, true, EAGAIN, false).pause;
