@@ -25,12 +25,7 @@ fn copy_of(alloc: Global, turns: &[u32]) -> Result<Vec<u32>, NoMemory>
 }
 
 // Whether a list can begin with these turns: a search that may go through no world only sees to that.
-fn may_begin(
-    alloc: Global,
-    scene: &Scene,
-    asked: &Asked,
-    begin: Vec<u32>,
-) -> Result<bool, NoMemory>
+fn may_begin(alloc: Global, scene: &Scene, asked: &Asked, begin: Vec<u32>) -> Result<bool, NoMemory>
     ensures { IfOk result (λ may. may ≡ false
         → IsBarred (opened_world scene.now.tree scene.now.plans.items scene.now.lines)
         (scope_asked asked.now) begin.items) }

@@ -6,7 +6,9 @@ ghost use Rattle.kernel_calls.specs.Entry.{closed_by, named_of};
 ghost use Rattle.kernel_calls.specs.Path.{at_of};
 
 use crate::change::{Change, Wanted, make_change};
-use crate::entry::{Behind, Dir, NOT_BEHIND, LastName, closes_of, closes_of_both, find_directory, leave};
+use crate::entry::{
+    Behind, Dir, LastName, NOT_BEHIND, closes_of, closes_of_both, find_directory, leave,
+};
 use crate::flags::{O_PATH, bit};
 use crate::look::{Below, Outcome, walk};
 use crate::steps;
@@ -208,7 +210,9 @@ fn rename_from<'n>(
         ≡ ran (rename_from known.old wanted.now from name.now (at_of at.now) (named_of to.entry) ends) answers.old.now }
 {
     match find_directory(answers, known, at, to.above)? {
-        Ok(dir) => rename_in(answers, known, wanted, from, name, dir, to.name, ends, behind),
+        Ok(dir) => rename_in(
+            answers, known, wanted, from, name, dir, to.name, ends, behind,
+        ),
         Err(why) => not_renamed(answers, from, why, ends, behind),
     }
 }
@@ -234,7 +238,9 @@ pub fn rename<'n>(
 {
     *behind = NOT_BEHIND;
     match find_directory(answers, known, at, from.above)? {
-        Ok(dir) => rename_from(answers, known, wanted, dir, from.name, other, to, ends, behind),
+        Ok(dir) => rename_from(
+            answers, known, wanted, dir, from.name, other, to, ends, behind,
+        ),
         Err(why) => Ok(why),
     }
 }

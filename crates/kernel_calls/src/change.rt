@@ -3,8 +3,8 @@ ghost use Rattle.std.specs.Prelude.{◌≡◌, ◌&&◌};
 ghost use Rattle.dialogue.specs.Dialogue.{asked_of, ran, ran_by};
 ghost use Rattle.kernel_calls.specs.Change.{changing_of, flags_of, give, given, is_made, is_opened, made_of, make, make_change, mode_of, opening, question_of};
 
-use crate::in_proc::{Act, by_proc, gives};
 use crate::flags::{NO_XDEV, O_CLOEXEC, O_PATH, RESOLVE_NO_XDEV, has};
+use crate::in_proc::{Act, by_proc, gives};
 use crate::look::{Outcome, forget};
 use crate::steps;
 use dialogue::{Answer, Asked, Question};
@@ -112,7 +112,12 @@ fn make<'n>(
         ≡ ran (make known.old wanted.now (changing_of change.now)) answers.old.now }
 {
     if is_linked(wanted, change.step) {
-        return by_proc(answers, known, wanted.fd, Act::Link(change.dir, change.name));
+        return by_proc(
+            answers,
+            known,
+            wanted.fd,
+            Act::Link(change.dir, change.name),
+        );
     }
     gives(answers, question_of(wanted, change, known.machine.nofollow))
 }

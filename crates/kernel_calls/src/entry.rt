@@ -106,13 +106,18 @@ pub fn find_directory<'n>(
     }
     let path = match above {
         Some(path) => path,
-        None => return Ok(Ok(Dir { fd: at.root, own: false })),
+        None => return Ok(Ok(Dir {
+            fd: at.root,
+            own: false,
+        })),
     };
     let how = O_PATH | known.machine.directory;
-    Ok(match walk(answers, known, &Below { path, ..*at }, how, 0)? {
-        Ok(fd) => Ok(Dir { fd, own: true }),
-        Err(why) => Err(why),
-    })
+    Ok(
+        match walk(answers, known, &Below { path, ..*at }, how, 0)? {
+            Ok(fd) => Ok(Dir { fd, own: true }),
+            Err(why) => Err(why),
+        },
+    )
 }
 
 /// Closes the directory, unless that is done behind the call's end.

@@ -126,11 +126,7 @@ pub fn look_up<'n>(
 // Of a path of names alone: whether one of them is missing, and no link's target.
 #[tactic(auto, using(dialogue::proofs::TalkLemmas::ran_then, dialogue::proofs::TalkLemmas::ran_ends), unfolding(crate::specs::Look::is_missing))]
 #[inline(never)]
-fn is_missing<'n>(
-    answers: &mut &[Answer],
-    known: &mut Known,
-    at: &Below<'n>,
-) -> Asked<'n, bool>
+fn is_missing<'n>(answers: &mut &[Answer], known: &mut Known, at: &Below<'n>) -> Asked<'n, bool>
     ensures { ran_by (λ r. record { value = r; known = known.new }) asked_of result answers.new.now
         ≡ ran (is_missing known.old (at_of at.now)) answers.old.now }
 {

@@ -116,7 +116,6 @@ pub fn front(text: &[u8], length: usize) -> &[u8]
 
 /// How long a text's first bytes are without the slashes at their end.
 #[inline(always)]
-pub(crate) fn unslashed(text: &[u8], count: usize) -> usize
-{
+pub(crate) fn unslashed(text: &[u8], count: usize) -> usize {
     before_slashes(front(text, count)).len()
 }

@@ -8,11 +8,8 @@ fn laws_are_at_hand() {
     make_through_links::calls_hold();
     make_through_links::links_are_followed_in_turn();
     open_partial::tries_hold();
-    remove_by_calls::places_are_kept_and_closed();
-    remove_by_calls::the_end_is_at_the_root();
-    remove_by_calls::why_it_fails();
+    remove_by_calls::removals_hold();
     remove_by_calls::what_is_busy_is_no_bound();
-    remove_by_calls::exchanges_are_few();
     list_directory::a_part_is_bounded();
     list_directory::all_levels_are_bounded();
     list_directory::listings_hold();

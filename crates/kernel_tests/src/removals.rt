@@ -1,8 +1,22 @@
 //! Which call comes next as a tree is removed by several, by answers that calls give.
-use crate::rows::{EAGAIN, Room, all_go, goes, name_of, number, word_of};
-use remove_by_calls::{AT_ROOT, Answer, ENDS, Removal, begin, next};
+use crate::rows::{EAGAIN, Room, all_go, goes, name_of, number};
+use remove_by_calls::{Answer, Asked, Came, Question, Removal, a_call, begin};
 use std::alloc::{AllocError, Global};
 use system_calls::next_try;
+
+// A call and what follows it have so many answers at most.
+const ANSWERS: usize = 17;
+
+#[derive(Clone, Copy)]
+struct Course {
+    may_retry: bool,
+    // Before the call under way, and what that and what followed it gave.
+    removal: Removal,
+    answers: [Answer; ANSWERS],
+    heard: usize,
+    // The end, if it has come.
+    end: Option<Came>,
+}
 
 // A call removed so many entries, and ended by this error or by none.
 fn ended(removed: u64, error: u32) -> Answer {
@@ -14,10 +28,42 @@ fn ended(removed: u64, error: u32) -> Answer {
     }
 }
 
-impl Room for Removal {
-    fn begun(_: Global, words: &'static str) -> Removal {
+fn begun_course(may_retry: bool) -> Course {
+    Course {
+        may_retry,
+        removal: begin(),
+        answers: [Answer::default(); ANSWERS],
+        heard: 0,
+        end: None,
+    }
+}
+
+impl Course {
+    fn now(&self) -> Asked<Came> {
+        let mut left = &self.answers[..self.heard.min(ANSWERS)];
+        a_call(&mut left, self.may_retry, &self.removal)
+    }
+
+    // Takes an answer, and begins the next call behind this one's end.
+    fn hear(&mut self, answer: Answer) -> Option<()> {
+        *self.answers.get_mut(self.heard)? = answer;
+        self.heard += 1;
+        match self.now() {
+            Ok(Came::Again(removal)) => {
+                self.removal = removal;
+                self.heard = 0;
+            }
+            Ok(end) => self.end = Some(end),
+            Err(_) => (),
+        }
+        Some(())
+    }
+}
+
+impl Room for Course {
+    fn begun(_: Global, words: &'static str) -> Course {
         let (tries, places) = words.split_once(' ').unwrap_or(("", ""));
-        let mut removal = begin(tries == "retry");
+        let mut removal = begun_course(tries == "retry");
         for _ in 0..number(places).unwrap_or(0) {
             let _ = removal.take("1 deeper");
             let _ = removal.take("0");
@@ -26,12 +72,15 @@ impl Room for Removal {
     }
 
     fn due(&self, alloc: Global) -> Result<String, AllocError> {
-        let word = word_of(self.next, "root in keep close ends fails");
-        match word {
-            "ends" => format!(in alloc; "ends {}", self.removed),
-            "fails" => format!(in alloc; "fails {}", name_of(self.error)),
-            _ if self.pause > 0 => format!(in alloc; "{word} {} after {}", self.place, self.pause),
-            _ => format!(in alloc; "{word} {}", self.place),
+        match self.now() {
+            Err(Question::AtRoot(0)) => format!(in alloc; "root 0"),
+            Err(Question::AtRoot(pause)) => format!(in alloc; "root 0 after {pause}"),
+            Err(Question::InPlace(place)) => format!(in alloc; "in {place}"),
+            Err(Question::Keep(place)) => format!(in alloc; "keep {place}"),
+            Err(Question::Close(place)) => format!(in alloc; "close {place}"),
+            Ok(Came::Removed(count)) => format!(in alloc; "ends {count}"),
+            Ok(Came::Fails(error)) => format!(in alloc; "fails {}", name_of(error)),
+            Ok(Came::Again(_)) => format!(in alloc; "again"),
         }
     }
 
@@ -42,18 +91,19 @@ impl Room for Removal {
         let (how, error) = why.split_once(' ').unwrap_or(("", why));
         let deeper = why == "deeper";
         let error = if deeper { 12 } else { number(error)? };
-        let answer = Answer {
+        self.hear(Answer {
             unmade: if deeper || how == "refused" { error } else { 0 },
             deeper,
             ..ended(removed.parse().ok()?, error)
-        };
-        *self = next(*self, &answer);
-        Some(())
+        })
     }
 
     // Where nothing comes any more, nothing changes.
     fn is_right(&mut self) -> bool {
-        self.next < ENDS || next(*self, &ended(5, 13)) == *self
+        match self.end {
+            Some(end) => self.hear(ended(5, 13)).is_none() || self.now() == Ok(end),
+            None => true,
+        }
     }
 }
 
@@ -97,16 +147,16 @@ retry 0: root 0 = 9223372036854775806 EBUSY; root 0 = 18446744073709551615; ends
 
 #[test]
 fn removes_by_calls(rt: HostRuntime) -> Result<(), AllocError> {
-    all_go::<Removal>(&rt, rt.alloc(), TALKS)
+    all_go::<Course>(&rt, rt.alloc(), TALKS)
 }
 
 #[test]
 fn makes_32_tries_in_a_row(rt: HostRuntime) -> Result<(), AllocError> {
-    let mut removal = begin(true);
+    let mut removal = begun_course(true);
     for tries in 1..32 {
-        removal = next(removal, &ended(0, EAGAIN));
+        assert!(rt; removal.hear(ended(0, EAGAIN)).is_some());
         let pause = next_try(tries, true, EAGAIN, false).pause;
-        assert!(rt; removal.next == AT_ROOT && removal.pause == pause);
+        assert!(rt; removal.now() == Err(Question::AtRoot(pause)));
     }
     let mut end = removal;
     goes(

@@ -1,24 +1,11 @@
 -- What a call met, and by which answer.
-use Rattle.std.proofs.Common.{◌≡◌, ℕ, ◌<◌, Bool, true, false, ◌&&◌, ◌||◌, if◌then◌else◌, inl, inr, refl, arith, nat_lt}
+use Rattle.std.proofs.Common.{◌≡◌, ℕ, ◌<◌, Bool, true, false, ◌&&◌, ◌||◌, if◌then◌else◌, refl, nat_lt}
 use Rattle.std.specs.Prelude.{◌==◌}
-use Rattle.std.proofs.lemmas.Bool.{and_parts, eqb-true, ltb-true, or_cases}
+use Rattle.std.proofs.lemmas.Bool.{and_parts, eqb-true, ltb-true}
 use Rattle.system_calls.specs.Errors.{EBUSY, ENFILE, EMFILE}
 use Rattle.remove_by_calls.specs.Answers.{is_bound, met_of}
 use Rattle.remove_by_calls.specs.declared.answers.Answer.{Answer}
 use Rattle.remove_by_calls.specs.declared.answers.Met.TheVariants.{Gone, Deeper, Bound, Crowded, Failed}
-
-deeper_in : (deeper none bound full : Bool) (error : ℕ)
-    → (if deeper then Deeper else (if none then Gone else
-    (if bound then Bound else (if full then Crowded error else Failed error)))) ≡ Deeper → deeper ≡ true
-deeper_in true none bound full error h = refl
-deeper_in false true bound full error h = absurd (cc)
-deeper_in false false true full error h = absurd (cc)
-deeper_in false false false true error h = absurd (cc)
-deeper_in false false false false error h = absurd (cc)
-
-pub met_deeper : (a : Answer) → met_of a ≡ Deeper → a.deeper ≡ true
-met_deeper a h = deeper_in a.deeper (a.error == 0) (is_bound a)
-    ((a.error == EMFILE) || (a.error == ENFILE)) a.error h
 
 bound_in : (deeper none bound full : Bool) (error : ℕ)
     → (if deeper then Deeper else (if none then Gone else
@@ -36,23 +23,3 @@ met_bound a h =
     let parts = and_parts (a.error == EBUSY) ((a.unmade == 0) && nat_lt 0 a.removed) all in
     let more = and_parts (a.unmade == 0) (nat_lt 0 a.removed) parts.1 in
     (eqb-true a.error EBUSY parts.0, eqb-true a.unmade 0 more.0, ltb-true 0 a.removed more.1)
-
-crowded_in : (deeper none bound full : Bool) (error given : ℕ)
-    → (if deeper then Deeper else (if none then Gone else
-    (if bound then Bound else (if full then Crowded error else Failed error)))) ≡ Crowded given
-    → (full ≡ true) × (error ≡ given)
-crowded_in true none bound full error given h = absurd (cc)
-crowded_in false true bound full error given h = absurd (cc)
-crowded_in false false true full error given h = absurd (cc)
-crowded_in false false false true error given h = (refl, cc)
-crowded_in false false false false error given h = absurd (cc)
-
--- its error isn't EAGAIN
-pub met_crowded : (a : Answer) (error : ℕ) → met_of a ≡ Crowded error → error ≡ 11 → ⊥
-met_crowded a error h is =
-    let parts = crowded_in a.deeper (a.error == 0) (is_bound a)
-    ((a.error == EMFILE) || (a.error == ENFILE)) a.error error h in
-    elim (or_cases (a.error == EMFILE) (a.error == ENFILE) parts.0) [
-      | inl one ↦ omega (arith, eqb-true a.error EMFILE one, parts.1, is)
-      | inr other ↦ omega (arith, eqb-true a.error ENFILE other, parts.1, is)
-    ]

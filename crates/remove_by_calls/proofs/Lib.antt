@@ -1,6 +1,3 @@
 pub mod AnswerLemmas
-pub mod HistoryLemmas
-pub mod ReadyLemmas
+pub mod RemovalLemmas
 pub mod RingLemmas
-pub mod StateLemmas
-pub mod CountLemmas

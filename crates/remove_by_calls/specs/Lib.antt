@@ -1,4 +1,4 @@
 pub mod Answers
-pub mod History
 pub mod Promises
 pub mod Removal
+pub mod Seen

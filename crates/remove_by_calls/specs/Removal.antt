@@ -1,63 +1,140 @@
--- What C keeps of a removal says where it stands after the exchanges that there were.
-use Rattle.std.specs.Prelude.{◌≡◌, ◌<◌, ◌≤◌, ℕ, zero, suc, ◌+◌, ◌-◌, ◌%◌, ◌^◌, ◌==◌, List, [], ◌∷◌, ◌⊎◌, Bool, if◌then◌else◌, min}
-use Rattle.remove_by_calls.specs.History.{idle_after, kept_after, last_answer, removed_after, ComesNext, Exchange, IsHistory}
+-- A call of a removal, and what follows it: what is asked next, by what the questions before gave.
+use Rattle.std.specs.Prelude.{ℕ, zero, suc, ◌+◌, ◌-◌, ◌%◌, ◌^◌, List, ◌==◌, Bool, true, false, if◌then◌else◌, nat_lt, min, Result}
+use Rattle.system_calls.specs.Errors.{EAGAIN}
+use Rattle.system_calls.specs.Tries.{next_try}
+use Rattle.dialogue.specs.Dialogue.{DialogueOf, Protocol, RanOf, and_then, asking, ends, protocol, ran_by_of}
+use Rattle.remove_by_calls.specs.Answers.{met_of}
 use Rattle.remove_by_calls.specs.declared.answers.Answer.{Answer}
-use Rattle.remove_by_calls.specs.declared.removal.Demand.{Demand}
-use Rattle.remove_by_calls.specs.declared.removal.Demand.TheVariants.{AtRoot, InPlace, Keep, Close, Ends, Fails}
+use Rattle.remove_by_calls.specs.declared.answers.Met.{Met}
+use Rattle.remove_by_calls.specs.declared.answers.Met.TheVariants.{Gone, Deeper, Bound, Crowded, Failed}
+use Rattle.remove_by_calls.specs.declared.asking.Question.{Question}
+use Rattle.remove_by_calls.specs.declared.asking.Question.TheVariants.{AtRoot, InPlace, Keep, Close}
+use Rattle.remove_by_calls.specs.declared.removal.Came.{Came}
+use Rattle.remove_by_calls.specs.declared.removal.Came.TheVariants.{Removed, Fails, Again}
 use Rattle.remove_by_calls.specs.declared.removal.Removal.{Removal}
-use Rattle.remove_by_calls.specs.declared.removal.TheConstants.{AT_ROOT, IN_PLACE, KEEP, CLOSE, ENDS}
 
-abbrev pub demand_of : Removal → Demand
-demand_of removal =
-    if removal.next == AT_ROOT then AtRoot
-    else (if removal.next == IN_PLACE then InPlace removal.place
-    else (if removal.next == KEEP then Keep removal.place
-    else (if removal.next == CLOSE then Close removal.place
-    else (if removal.next == ENDS then Ends else Fails removal.error))))
+-- ---- dialogues of calls and places
 
--- what was asked for, with what it gave
-abbrev pub exchange : Removal → Answer → Exchange
-exchange removal answer = record { demand = demand_of removal; answer = answer }
+-- each is asked once
+abbrev pub never : Question → Answer → Bool
+never q a = false
 
--- so many numbers of places from one on, the last first; 0 follows 15
-abbrev pub ring : ℕ → ℕ → List ℕ
-ring first zero = []
-ring first (suc count) = ((first + count) % 16) ∷ ring first count
+abbrev pub steps : Protocol
+steps = protocol never
+
+abbrev pub Talk : Type 0 → Type 0
+Talk E = DialogueOf steps E
+
+-- what code has come to
+abbrev pub came_to : {E : Type 0} → Result E Question → List Answer → RanOf steps E
+came_to r left = ran_by_of steps (λ x. x) (λ q. q) r left
+
+-- ---- what is kept of a removal
+
+-- a driver's table has so many places
+abbrev pub PLACES : ℕ
+PLACES = 16
+
+-- a count that a program can be given: 63 bits
+abbrev pub COUNT_MAX : ℕ
+COUNT_MAX = 2 ^ 63 - 1
+
+abbrev pub begun : Removal
+begun = record { removed = 0; idle = 0; outermost = 0; kept = 0 }
+
+-- the number of the place so many further in than the outermost one; 0 follows 15
+abbrev pub place_at : Removal → ℕ → ℕ
+place_at r further = (r.outermost + further) % PLACES
 
 abbrev pub inner : Removal → ℕ
-inner removal = (removal.outermost + removal.kept + 15) % 16
+inner r = place_at r (r.kept - 1)
 
--- its numbers are those of the exchanges that there were
-pub record Keeps (retries : Bool) (history : List Exchange) (removal : Removal) : Type 0 where
-  pub may_retry : removal.may_retry ≡ retries
-  pub last : removal.last ≡ last_answer history
-  pub removed : removal.removed ≡ min (removed_after history) (2 ^ 63 - 1)
-  pub idle : removal.idle ≡ idle_after history
-  pub kept : ring removal.outermost removal.kept ≡ kept_after history
+-- a call at the root is one more try
+abbrev pub tried : Removal → Removal
+tried r = record r { idle = min (r.idle + 1) (2 ^ 32 - 1) }
 
--- the limits of its numbers
-pub record Sized (removal : Removal) : Type 0 where
-  pub outermost : removal.outermost < 16
-  pub kept : removal.kept ≤ 16
-  pub idle : removal.idle ≤ 32
-  pub progress : 0 < removal.last.removed → removal.idle ≡ 0
+-- a call removed so many
+abbrev pub called : Removal → ℕ → Removal
+called r removed = record r {
+  removed = min (r.removed + removed) COUNT_MAX;
+  idle = if nat_lt 0 removed then 0 else r.idle;
+}
 
--- and the place that is kept or closed next
-pub record Fits (removal : Removal) : Type 0 where
-  pub sized : Sized removal
-  pub again : removal.next ≡ AT_ROOT → removal.idle < 32
-  pub keep : removal.next ≡ KEEP → (removal.kept < 16) × (removal.place ≡ (removal.outermost + removal.kept) % 16)
-  pub close : removal.next ≡ CLOSE
-      → (0 < removal.kept) × ((removal.place ≡ removal.outermost) ⊎ (removal.place ≡ inner removal))
+-- ---- places are kept and closed
 
--- only what comes next differs
-abbrev pub Same : Removal → Removal → Type 0
-Same removal result =
-    result ≡ record removal { next = result.next; place = result.place; pause = result.pause; error = result.error }
+unfoldable pub kept_one : Removal → Talk Came
+kept_one r =
+    and_then (asking steps (Keep (place_at r r.kept))) (λ _. ends (Again (record r { kept = min (r.kept + 1) 255 })))
 
--- the exchanges that there were are a history, and it is where that leads
-pub record IsAt (may_retry : Bool) (exchanges : List Exchange) (removal : Removal) : Type 0 where
-  pub history : IsHistory may_retry exchanges
-  pub keeps : Keeps may_retry exchanges removal
-  pub fits : Fits removal
-  pub due : ComesNext may_retry exchanges (demand_of removal) removal.pause
+unfoldable pub inner_closed : Removal → Talk Removal
+inner_closed r = and_then (asking steps (Close (inner r))) (λ _. ends (record r { kept = r.kept - 1 }))
+
+unfoldable pub outer_closed : Removal → Talk Removal
+outer_closed r =
+    and_then (asking steps (Close r.outermost))
+    (λ _. ends (record r { outermost = (r.outermost + 1) % PLACES; kept = r.kept - 1 }))
+
+-- so many, the innermost first
+unfoldable pub all_closed : Removal → ℕ → Talk Removal
+all_closed r zero = ends (record r { kept = 0 })
+all_closed r (suc left) = and_then (asking steps (Close (place_at r left))) (λ _. all_closed r left)
+
+-- ---- what follows a call
+
+-- an error ends it, unless another try is due
+abbrev pub again : Bool → Removal → ℕ → Came
+again may_retry r error = if (next_try r.idle may_retry error false).due then Again r else Fails error
+
+-- All places are done with, and what is above them is left. If nothing was removed, others were there before.
+abbrev pub done : Bool → Removal → Came
+done may_retry r = if r.kept == 0 then (if r.idle == 0 then Again r else again may_retry r EAGAIN) else Again r
+
+abbrev pub crowded : Bool → ℕ → Removal → Came
+crowded may_retry error r = if r.kept == 0 then again may_retry r error else Again r
+
+unfoldable pub at_root : Bool → Removal → Met → Talk Came
+at_root may_retry r Gone = ends (Removed r.removed)
+at_root may_retry r Deeper = kept_one r
+at_root may_retry r Bound = ends (Again r)
+at_root may_retry r (Crowded error) = ends (again may_retry r error)
+at_root may_retry r (Failed error) = ends (again may_retry r error)
+
+-- Where the table is full or no descriptor is left, the outermost place goes: a call at the root comes there again.
+unfoldable pub in_place : Bool → Removal → Met → Talk Came
+in_place may_retry r Gone = and_then (inner_closed r) (λ left. ends (done may_retry left))
+in_place may_retry r Deeper = if r.kept == PLACES then and_then (outer_closed r) kept_one else kept_one r
+in_place may_retry r Bound = ends (Again r)
+in_place may_retry r (Crowded error) = and_then (outer_closed r) (λ left. ends (crowded may_retry error left))
+in_place may_retry r (Failed error) = and_then (all_closed r r.kept) (λ left. ends (again may_retry left error))
+
+-- ---- a call, and what follows it
+
+-- the pause behind so many fruitless times
+abbrev pub pause_before : Removal → ℕ
+pause_before r = (next_try r.idle true EAGAIN false).pause
+
+unfoldable pub call_at_root : Bool → Removal → Talk Came
+call_at_root may_retry r =
+    and_then (asking steps (AtRoot (pause_before r))) (λ a. at_root may_retry (called (tried r) a.removed) (met_of a))
+
+unfoldable pub call_in_place : Bool → Removal → Talk Came
+call_in_place may_retry r =
+    and_then (asking steps (InPlace (inner r))) (λ a. in_place may_retry (called r a.removed) (met_of a))
+
+-- where no place is kept, it is at the root
+unfoldable pub a_call : Bool → Removal → Talk Came
+a_call may_retry r = if r.kept == 0 then call_at_root may_retry r else call_in_place may_retry r
+
+-- ---- a removal: one call after another
+
+abbrev pub go_on : (Removal → Talk Came) → Came → Talk Came
+go_on next (Again r) = next r
+go_on next other = ends other
+
+-- so many calls at most
+abbrev pub calls : Bool → ℕ → Removal → Talk Came
+calls may_retry zero r = ends (Again r)
+calls may_retry (suc n) r = and_then (a_call may_retry r) (go_on (calls may_retry n))
+
+abbrev pub removal : Bool → ℕ → Talk Came
+removal may_retry n = calls may_retry n begun

@@ -4,9 +4,8 @@ ghost use Rattle.remove_by_calls.specs.Answers.{met_of};
 
 use system_calls::errors::{EBUSY, EMFILE, ENFILE};
 
-/// What a call gave.
-#[repr(C)]
-#[derive(Clone, Copy, Debug, PartialEq, Eq)]
+/// What a call gave. Of a place that is kept or closed it isn't looked at.
+#[derive(Clone, Copy, Debug, Default, PartialEq, Eq)]
 pub struct Answer {
     /// So many entries were removed by it.
     pub removed: u64,

@@ -1,30 +1,12 @@
-//! How far a removal has come, and what comes next.
-ghost use Rattle.std.specs.Prelude.{◌≡◌, ◌<◌, ◌+◌, ◌-◌, ◌%◌, ◌^◌, ℕ, List, [], ◌∷◌, ◌==◌, true, false, if◌then◌else◌, nat_lt, min};
-ghost use Rattle.remove_by_calls.specs.Answers.{met_of};
-ghost use Rattle.remove_by_calls.specs.History.{after_call, after_close, again, all_closed, at_root, in_place, is_asked, one_closed, over, Exchange, IsDue};
-ghost use Rattle.remove_by_calls.specs.Removal.{demand_of, exchange, inner, ring, Fits, IsAt, Same, Sized};
+//! One call of a removal, and what follows it, as a dialogue.
+ghost use Rattle.std.specs.Prelude.{◌≡◌};
+ghost use Rattle.dialogue.specs.Dialogue.{ran};
+ghost use Rattle.remove_by_calls.specs.Removal.{a_call, again, all_closed, at_root, begun, call_at_root, call_in_place, called, came_to, crowded, done, in_place, inner, inner_closed, kept_one, outer_closed, pause_before, place_at, tried};
 
 use crate::answers::{Answer, Met, met_of};
+use crate::asking::{Asked, Question, ask};
 use system_calls::errors::EAGAIN;
 use system_calls::next_try;
-
-/// A call is made at the root.
-pub const AT_ROOT: u8 = 1;
-
-/// A call is made in a place.
-pub const IN_PLACE: u8 = 2;
-
-/// The place to which the last call came is kept.
-pub const KEEP: u8 = 3;
-
-/// A place is closed.
-pub const CLOSE: u8 = 4;
-
-/// Nothing comes: the entry is gone, and the reply is how many entries were removed.
-pub const ENDS: u8 = 5;
-
-/// Nothing comes: the reply is an error.
-pub const FAILS: u8 = 6;
 
 // A table has so many places.
 const PLACES: u8 = 16;
@@ -32,297 +14,228 @@ const PLACES: u8 = 16;
 // A count that a program can be given: of 63 bits.
 const COUNT_MAX: u64 = 0x7fff_ffff_ffff_ffff;
 
-/// What comes next, by the number of a place.
-#[derive(Clone, Copy, Debug, PartialEq, Eq)]
-pub enum Demand {
-    /// A call at the root.
-    AtRoot,
-    /// A call in that place.
-    InPlace(u8),
-    /// The place to which the last call came is kept there.
-    Keep(u8),
-    /// That place is closed.
-    Close(u8),
-    /// Nothing: the entry is gone.
-    Ends,
-    /// Nothing: it failed by this error.
-    Fails(u32),
-}
-
-/// How far a removal has come. The driver keeps it, beside a table of 16 places, with the numbers 0 to 15.
-#[repr(C)]
+/// How far a removal has come before a call. The driver keeps it, beside a table of 16 places, whose numbers are 0 to
+/// 15.
 #[derive(Clone, Copy, Debug, PartialEq, Eq)]
 pub struct Removal {
-    /// What the last call gave.
-    pub last: Answer,
     /// So many entries were removed, if they are fewer than 9,223,372,036,854,775,807.
     pub removed: u64,
-    /// So many nanoseconds are waited before what comes next.
-    pub pause: u32,
-    /// If it is FAILS, the number of the error (errno(3)).
-    pub error: u32,
     /// So many times in a row a call at the root, with those in places behind it, has removed nothing.
     pub idle: u32,
-    /// What comes next: AT_ROOT, IN_PLACE, KEEP or CLOSE; ENDS or FAILS.
-    pub next: u8,
-    /// Of IN_PLACE, KEEP and CLOSE: the number of the place.
-    pub place: u8,
     /// The number of the outermost place that is kept.
     pub outermost: u8,
     /// So many places are kept, with numbers that follow one another; 0 follows 15.
     pub kept: u8,
-    /// Where somebody comes in between, another try may be made.
-    pub may_retry: bool,
 }
 
-fn demand_of(removal: &Removal) -> Demand
-    ensures { result ≡ demand_of removal.now }
+/// What a call has come to, with what followed it.
+#[derive(Clone, Copy, Debug, PartialEq, Eq)]
+pub enum Came {
+    /// The entry is gone, and so many entries were removed in all.
+    Removed(u64),
+    /// It failed by this error (errno(3)).
+    Fails(u32),
+    /// Another call follows.
+    Again(Removal),
+}
+
+// ---- what is kept of a removal
+
+// The place so many further in than the outermost one.
+fn place_at(removal: &Removal, further: u8) -> u8
+    ensures { result ≡ place_at removal.now further }
 {
-    match removal.next {
-        AT_ROOT => Demand::AtRoot,
-        IN_PLACE => Demand::InPlace(removal.place),
-        KEEP => Demand::Keep(removal.place),
-        CLOSE => Demand::Close(removal.place),
-        ENDS => Demand::Ends,
-        _ => Demand::Fails(removal.error),
-    }
+    ((u32::from(removal.outermost) + u32::from(further)) % 16) as u8
 }
 
-// ---- numbers of places
-
-// The one behind the innermost place.
-fn behind(removal: &Removal) -> u8
-    ensures { result ≡ (removal.now.outermost + removal.now.kept) % 16 }
-{
-    ((u32::from(removal.outermost) + u32::from(removal.kept)) % 16) as u8
-}
-
-// The innermost place, where any is kept.
 fn inner(removal: &Removal) -> u8
     ensures { result ≡ inner removal.now }
 {
-    ((u32::from(removal.outermost) + u32::from(removal.kept) + 15) % 16) as u8
+    place_at(removal, removal.kept.saturating_sub(1))
 }
 
-// ---- what is kept of an exchange
-
-// A call was made, as one more try or not.
-fn called(removal: Removal, answer: &Answer, tries: u32) -> Removal
-    ensures { result ≡ record removal {
-      last = answer.now;
-      removed = min (removal.removed + answer.now.removed) (2 ^ 63 - 1);
-      idle = if nat_lt 0 answer.now.removed then 0 else min (removal.idle + tries) (2 ^ 32 - 1);
-    } }
+// A call at the root is one more try.
+fn tried(removal: Removal) -> Removal
+    ensures { result ≡ tried removal }
 {
     Removal {
-        last: *answer,
-        removed: removal
-            .removed
-            .saturating_add(answer.removed)
-            .min(COUNT_MAX),
-        idle: if answer.removed > 0 {
-            0
-        } else {
-            removal.idle.saturating_add(tries)
-        },
+        idle: removal.idle.saturating_add(1),
         ..removal
     }
 }
 
-fn kept_one(removal: Removal) -> Removal
-    ensures { result ≡ record removal { kept = min (removal.kept + 1) 255 } }
+// A call removed so many.
+fn called(removal: Removal, removed: u64) -> Removal
+    ensures { result ≡ called removal removed }
 {
     Removal {
+        removed: removal.removed.saturating_add(removed).min(COUNT_MAX),
+        idle: if removed > 0 { 0 } else { removal.idle },
+        ..removal
+    }
+}
+
+// ---- places are kept and closed
+
+#[tactic(auto, using(dialogue::proofs::TalkLemmas::ran_then, dialogue::proofs::TalkLemmas::ran_ends), unfolding(crate::specs::Removal::kept_one))]
+fn kept_one(answers: &mut &[Answer], removal: Removal) -> Asked<Came>
+    ensures { came_to result answers.new.now ≡ ran (kept_one removal) answers.old.now }
+{
+    ask(answers, Question::Keep(place_at(&removal, removal.kept)))?;
+    Ok(Came::Again(Removal {
         kept: removal.kept.saturating_add(1),
         ..removal
-    }
+    }))
 }
 
-fn closed_one(removal: Removal) -> Removal
-    ensures { result ≡ record removal {
-      outermost = if removal.place == removal.outermost then (removal.outermost + 1) % 16 else removal.outermost;
-      kept = removal.kept - 1;
-    } }
+#[tactic(auto, using(dialogue::proofs::TalkLemmas::ran_then, dialogue::proofs::TalkLemmas::ran_ends), unfolding(crate::specs::Removal::inner_closed))]
+fn inner_closed(answers: &mut &[Answer], removal: Removal) -> Asked<Removal>
+    ensures { came_to result answers.new.now ≡ ran (inner_closed removal) answers.old.now }
 {
-    Removal {
-        outermost: if removal.place == removal.outermost {
-            ((u32::from(removal.outermost) + 1) % 16) as u8
-        } else {
-            removal.outermost
-        },
+    ask(answers, Question::Close(inner(&removal)))?;
+    Ok(Removal {
         kept: removal.kept.saturating_sub(1),
         ..removal
-    }
+    })
 }
 
-// ---- what comes next
-
-fn asks(removal: Removal, next: u8, place: u8) -> Removal
-    ensures { result ≡ record removal { next = next; place = place; pause = 0; error = 0 } }
+#[tactic(auto, using(dialogue::proofs::TalkLemmas::ran_then, dialogue::proofs::TalkLemmas::ran_ends), unfolding(crate::specs::Removal::outer_closed))]
+fn outer_closed(answers: &mut &[Answer], removal: Removal) -> Asked<Removal>
+    ensures { came_to result answers.new.now ≡ ran (outer_closed removal) answers.old.now }
 {
-    Removal {
-        next,
-        place,
-        pause: 0,
-        error: 0,
+    ask(answers, Question::Close(removal.outermost))?;
+    Ok(Removal {
+        outermost: place_at(&removal, 1),
+        kept: removal.kept.saturating_sub(1),
         ..removal
-    }
+    })
 }
 
-fn again(removal: Removal, error: u32) -> Removal
-    ensures due { (kept : List ℕ) → IsDue kept (again removal.may_retry removal.idle error) (demand_of result)
-        result.pause }
-    ensures same { Same removal result }
-    ensures fits { Sized removal → Fits result }
+#[tactic(auto, using(dialogue::proofs::TalkLemmas::ran_then, dialogue::proofs::TalkLemmas::ran_ends), unfolding(crate::specs::Removal::all_closed))]
+fn all_closed(answers: &mut &[Answer], removal: Removal) -> Asked<Removal>
+    ensures { came_to result answers.new.now ≡ ran (all_closed removal removal.kept) answers.old.now }
 {
-    let next = next_try(removal.idle, removal.may_retry, error, false);
-    if next.due {
-        Removal {
-            pause: next.pause,
-            ..asks(removal, AT_ROOT, 0)
-        }
+    let mut left = removal.kept;
+    while left > 0 {
+        left -= 1;
+        ask(answers, Question::Close(place_at(&removal, left)))?;
+    }
+    Ok(Removal { kept: 0, ..removal })
+}
+
+// ---- what follows a call
+
+fn again(may_retry: bool, removal: Removal, error: u32) -> Came
+    ensures { result ≡ again may_retry removal error }
+{
+    if next_try(removal.idle, may_retry, error, false).due {
+        Came::Again(removal)
     } else {
-        Removal {
-            error,
-            ..asks(removal, FAILS, 0)
-        }
+        Came::Fails(error)
     }
 }
 
-fn over(removal: Removal) -> Removal
-    ensures due { (kept : List ℕ) → IsDue kept (over removal.may_retry removal.idle) (demand_of result) result.pause }
-    ensures same { Same removal result }
-    ensures fits { Sized removal → Fits result }
+fn done(may_retry: bool, removal: Removal) -> Came
+    ensures { result ≡ done may_retry removal }
 {
-    if removal.idle == 0 {
-        asks(removal, AT_ROOT, 0)
+    if removal.kept == 0 && removal.idle != 0 {
+        again(may_retry, removal, EAGAIN)
     } else {
-        again(removal, EAGAIN)
+        Came::Again(removal)
     }
 }
 
-fn at_root(removal: Removal) -> Removal
-    ensures due { IsDue [] (at_root removal.may_retry removal.idle (met_of removal.last)) (demand_of result)
-        result.pause }
-    ensures same { Same removal result }
-    ensures fits { Sized removal → removal.kept ≡ 0 → Fits result }
+fn crowded(may_retry: bool, error: u32, removal: Removal) -> Came
+    ensures { result ≡ crowded may_retry error removal }
 {
-    match met_of(&removal.last) {
-        Met::Gone => asks(removal, ENDS, 0),
-        Met::Deeper => asks(removal, KEEP, behind(&removal)),
-        Met::Bound => asks(removal, AT_ROOT, 0),
-        Met::Crowded(error) => again(removal, error),
-        Met::Failed(error) => again(removal, error),
+    if removal.kept == 0 {
+        again(may_retry, removal, error)
+    } else {
+        Came::Again(removal)
     }
 }
 
-fn in_place(removal: Removal) -> Removal
-    requires { 0 < removal.kept }
-    ensures due { Sized removal → IsDue (ring removal.outermost removal.kept)
-        (in_place (inner removal) (ring removal.outermost (removal.kept - 1)) (met_of removal.last)) (demand_of result)
-        result.pause }
-    ensures same { Same removal result }
-    ensures fits { Sized removal → Fits result }
+#[tactic(auto, using(dialogue::proofs::TalkLemmas::ran_then, dialogue::proofs::TalkLemmas::ran_ends), unfolding(crate::specs::Removal::at_root))]
+fn at_root(answers: &mut &[Answer], may_retry: bool, removal: Removal, met: Met) -> Asked<Came>
+    ensures { came_to result answers.new.now ≡ ran (at_root may_retry removal met) answers.old.now }
 {
-    match met_of(&removal.last) {
-        Met::Gone => asks(removal, CLOSE, inner(&removal)),
+    match met {
+        Met::Gone => Ok(Came::Removed(removal.removed)),
+        Met::Deeper => kept_one(answers, removal),
+        Met::Bound => Ok(Came::Again(removal)),
+        Met::Crowded(error) => Ok(again(may_retry, removal, error)),
+        Met::Failed(error) => Ok(again(may_retry, removal, error)),
+    }
+}
+
+#[tactic(auto, using(dialogue::proofs::TalkLemmas::ran_then, dialogue::proofs::TalkLemmas::ran_ends), unfolding(crate::specs::Removal::in_place))]
+fn in_place(answers: &mut &[Answer], may_retry: bool, removal: Removal, met: Met) -> Asked<Came>
+    ensures { came_to result answers.new.now ≡ ran (in_place may_retry removal met) answers.old.now }
+{
+    match met {
+        Met::Gone => {
+            let left = inner_closed(answers, removal)?;
+            Ok(done(may_retry, left))
+        }
         Met::Deeper => {
             if removal.kept == PLACES {
-                asks(removal, CLOSE, removal.outermost)
-            } else {
-                asks(removal, KEEP, behind(&removal))
+                let left = outer_closed(answers, removal)?;
+                return kept_one(answers, left);
             }
+            kept_one(answers, removal)
         }
-        Met::Bound => asks(removal, IN_PLACE, inner(&removal)),
-        Met::Crowded(_) => asks(removal, CLOSE, removal.outermost),
-        Met::Failed(_) => asks(removal, CLOSE, inner(&removal)),
+        Met::Bound => Ok(Came::Again(removal)),
+        Met::Crowded(error) => {
+            let left = outer_closed(answers, removal)?;
+            Ok(crowded(may_retry, error, left))
+        }
+        Met::Failed(error) => {
+            let left = all_closed(answers, removal)?;
+            Ok(again(may_retry, left, error))
+        }
     }
 }
 
-fn after_call(removal: Removal) -> Removal
-    ensures due { Sized removal → IsDue (ring removal.outermost removal.kept)
-        (after_call removal.may_retry removal.idle (ring removal.outermost removal.kept) (met_of removal.last))
-        (demand_of result) result.pause }
-    ensures same { Same removal result }
-    ensures fits { Sized removal → Fits result }
+// ---- a call, and what follows it
+
+fn pause_before(removal: &Removal) -> u32
+    ensures { result ≡ pause_before removal.now }
 {
-    if removal.kept == 0 {
-        at_root(removal)
-    } else {
-        in_place(removal)
-    }
+    next_try(removal.idle, true, EAGAIN, false).pause
 }
 
-fn all_closed(removal: Removal) -> Removal
-    ensures due { IsDue [] (all_closed removal.may_retry removal.idle (met_of removal.last)) (demand_of result)
-        result.pause }
-    ensures same { Same removal result }
-    ensures fits { Sized removal → removal.kept ≡ 0 → Fits result }
+#[tactic(auto, using(dialogue::proofs::TalkLemmas::ran_then, dialogue::proofs::TalkLemmas::ran_ends), unfolding(crate::specs::Removal::call_at_root))]
+fn call_at_root(answers: &mut &[Answer], may_retry: bool, removal: &Removal) -> Asked<Came>
+    ensures { came_to result answers.new.now ≡ ran (call_at_root may_retry removal.now) answers.old.now }
 {
-    match met_of(&removal.last) {
-        Met::Gone => over(removal),
-        Met::Deeper => asks(removal, KEEP, behind(&removal)),
-        Met::Bound => over(removal),
-        Met::Crowded(error) => again(removal, error),
-        Met::Failed(error) => again(removal, error),
-    }
+    let a = ask(answers, Question::AtRoot(pause_before(removal)))?;
+    let now = called(tried(*removal), a.removed);
+    at_root(answers, may_retry, now, met_of(&a))
 }
 
-fn one_closed(removal: Removal) -> Removal
-    requires { 0 < removal.kept }
-    ensures due { Sized removal → removal.kept < 16 → IsDue (ring removal.outermost removal.kept)
-        (one_closed (inner removal) (met_of removal.last)) (demand_of result) result.pause }
-    ensures same { Same removal result }
-    ensures fits { Sized removal → removal.kept < 16 → Fits result }
+#[tactic(auto, using(dialogue::proofs::TalkLemmas::ran_then, dialogue::proofs::TalkLemmas::ran_ends), unfolding(crate::specs::Removal::call_in_place))]
+fn call_in_place(answers: &mut &[Answer], may_retry: bool, removal: &Removal) -> Asked<Came>
+    ensures { came_to result answers.new.now ≡ ran (call_in_place may_retry removal.now) answers.old.now }
 {
-    match met_of(&removal.last) {
-        Met::Gone => asks(removal, IN_PLACE, inner(&removal)),
-        Met::Deeper => asks(removal, KEEP, behind(&removal)),
-        Met::Bound => asks(removal, IN_PLACE, inner(&removal)),
-        Met::Crowded(_) => asks(removal, IN_PLACE, inner(&removal)),
-        Met::Failed(_) => asks(removal, CLOSE, inner(&removal)),
-    }
+    let a = ask(answers, Question::InPlace(inner(removal)))?;
+    let now = called(*removal, a.removed);
+    in_place(answers, may_retry, now, met_of(&a))
 }
 
-fn after_close(removal: Removal) -> Removal
-    ensures due { Sized removal → removal.kept < 16 → IsDue (ring removal.outermost removal.kept)
-        (after_close removal.may_retry removal.idle (ring removal.outermost removal.kept) (met_of removal.last))
-        (demand_of result) result.pause }
-    ensures same { Same removal result }
-    ensures fits { Sized removal → removal.kept < 16 → Fits result }
-{
-    if removal.kept == 0 {
-        all_closed(removal)
-    } else {
-        one_closed(removal)
-    }
-}
-
-/// Begins a removal, which may be tried again or not if somebody comes in between. Takes no memory.
-pub fn begin(may_retry: bool) -> Removal
-    ensures { IsAt may_retry [] result }
+/// Begins a removal. Takes no memory.
+pub fn begin() -> Removal
+    ensures { result ≡ begun }
 {
     Removal {
-        last: Answer {
-            removed: 0,
-            error: 0,
-            unmade: 0,
-            deeper: false,
-        },
         removed: 0,
-        pause: 0,
-        error: 0,
         idle: 0,
-        next: AT_ROOT,
-        place: 0,
         outermost: 0,
         kept: 0,
-        may_retry,
     }
 }
 
-/// Takes what came of the last demand, and says what comes next. Of a call that is its answer. Of a place that was
-/// kept or closed it is not looked at. Where nothing comes any more, nothing changes. Takes no memory.
+/// A call of a removal, and what follows it: which may be tried again or not if somebody comes in between. Takes no
+/// memory.
 ///
 /// A call that came to a place is followed by one in this place. If a call in a place has removed what was there, the
 /// place is closed, and a call in the one around it follows. If no place is left, a call at the root follows, which
@@ -333,21 +246,13 @@ pub fn begin(may_retry: bool) -> Removal
 /// Any other error ends it, once each place is closed: the last call's own, or EAGAIN (11) if neither the last call at
 /// the root nor any in a place since has removed anything, though nothing failed. Where it may be tried again, EAGAIN
 /// doesn't end it, unless that came 32 times in a row.
-pub fn next(removal: Removal, answer: &Answer) -> Removal
-    ensures goes { (history : List Exchange) → IsAt removal.may_retry history removal
-        → is_asked (demand_of removal) ≡ true
-        → IsAt removal.may_retry (exchange removal answer.now ∷ history) result }
-    ensures over { is_asked (demand_of removal) ≡ false → result ≡ removal }
+#[tactic(auto, using(dialogue::proofs::TalkLemmas::ran_then, dialogue::proofs::TalkLemmas::ran_ends), unfolding(crate::specs::Removal::a_call))]
+pub fn a_call(answers: &mut &[Answer], may_retry: bool, removal: &Removal) -> Asked<Came>
+    ensures { came_to result answers.new.now ≡ ran (a_call may_retry removal.now) answers.old.now }
 {
-    match demand_of(&removal) {
-        Demand::AtRoot => after_call(called(removal, answer, 1)),
-        Demand::InPlace(_) => after_call(called(removal, answer, 0)),
-        Demand::Keep(_) => {
-            let kept = kept_one(removal);
-            asks(kept, IN_PLACE, inner(&kept))
-        }
-        Demand::Close(_) => after_close(closed_one(removal)),
-        Demand::Ends => removal,
-        Demand::Fails(_) => removal,
+    if removal.kept == 0 {
+        call_at_root(answers, may_retry, removal)
+    } else {
+        call_in_place(answers, may_retry, removal)
     }
 }

@@ -44,10 +44,7 @@ fn limits_of(
     Ok(Limits {
         states,
         turns,
-        scope: Scope {
-            cuts,
-            begin: first,
-        },
+        scope: Scope { cuts, begin: first },
     })
 }
 

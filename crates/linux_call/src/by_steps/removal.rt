@@ -4,7 +4,7 @@ use crate::by_steps::attempt::Attempt;
 use crate::by_steps::name::Name;
 use crate::by_steps::state::{Ended, Part, Stage, Steps};
 use dialogue::{Answer as Gave, Asked, Question, ask};
-use remove_by_calls::{AT_ROOT, Answer, CLOSE, ENDS, FAILS, IN_PLACE, KEEP, Removal, begin, next};
+use remove_by_calls::{Answer, Asked as AskedNext, Came, Question as Due, Removal, a_call, begin};
 use std::alloc::{AllocError, Global};
 use system_calls::errors::{EAGAIN, EBUSY, EIO};
 
@@ -12,6 +12,9 @@ use system_calls::errors::{EAGAIN, EBUSY, EIO};
 const MOVES: u32 = 12;
 
 const PLACES: usize = 16;
+
+// A call and what follows it have so many answers at most: the call's, and one for each place that is closed.
+const ANSWERS: usize = 17;
 
 /// Where a proved call went no deeper: an entry in this directory, from which another call goes on.
 #[derive(Clone, Copy)]
@@ -23,9 +26,11 @@ struct Place {
 /// A removal under way.
 #[derive(Drop)]
 pub(crate) struct Removing {
+    // How far it had come before the call under way; and what the call and what followed it gave.
     course: Removal,
-    // What the last call gave.
-    answer: Answer,
+    may_retry: bool,
+    answers: [Answer; ANSWERS],
+    count: usize,
     places: Vec<Place>,
     // The place of the last of the proved calls that one call is made of, if there were several; so many; and how
     // many entries they removed.
@@ -64,10 +69,11 @@ fn come_to(attempt: &Attempt, dir: u32) -> Place {
 
 impl Removing {
     pub(crate) fn begin(alloc: Global, may_retry: bool) -> Result<Removing, AllocError> {
-        let course = begin(may_retry);
         Ok(Removing {
-            course,
-            answer: course.last,
+            course: begin(),
+            may_retry,
+            answers: [Answer::default(); ANSWERS],
+            count: 0,
             places: Vec::from_elem(alloc, nowhere(), PLACES)?,
             here: nowhere(),
             moves: 0,
@@ -77,11 +83,17 @@ impl Removing {
         })
     }
 
-    fn place(&self) -> Place {
-        match self.places.get(self.course.place as usize) {
+    fn place(&self, number: u8) -> Place {
+        match self.places.get(usize::from(number)) {
             Some(place) => *place,
             None => nowhere(),
         }
+    }
+
+    // What the call under way has come to; or what is due.
+    fn now(&self) -> AskedNext<Came> {
+        let mut answers = &self.answers[..self.count.min(ANSWERS)];
+        a_call(&mut answers, self.may_retry, &self.course)
     }
 
     fn due<'s>(&self, answers: &mut &[Gave]) -> Asked<'s, Part> {
@@ -89,22 +101,34 @@ impl Removing {
             ask(answers, Question::Close(self.here.dir))?;
             return Ok(Part::Removed);
         }
-        if self.course.pause > 0 {
-            ask(answers, Question::Wait(self.course.pause))?;
-        }
-        if self.course.next == CLOSE {
-            ask(answers, Question::Close(self.place().dir))?;
+        match self.now() {
+            Err(Due::AtRoot(pause)) if pause > 0 => {
+                ask(answers, Question::Wait(pause))?;
+            }
+            Err(Due::Close(place)) => {
+                ask(answers, Question::Close(self.place(place).dir))?;
+            }
+            _ => (),
         }
         Ok(Part::Removed)
     }
 
+    // The answers are dropped where another call follows.
     fn go_on(&mut self, answer: Answer) -> Next {
-        self.answer = answer;
-        self.course = next(self.course, &answer);
-        match self.course.next {
-            ENDS => Next::Ends(self.course.removed),
-            FAILS => Next::Fails(self.course.error),
-            _ => Next::Demand,
+        if self.count >= ANSWERS {
+            return Next::Fails(EIO);
+        }
+        self.answers[self.count] = answer;
+        self.count += 1;
+        match self.now() {
+            Err(_) => Next::Demand,
+            Ok(Came::Removed(count)) => Next::Ends(count),
+            Ok(Came::Fails(error)) => Next::Fails(error),
+            Ok(Came::Again(course)) => {
+                self.course = course;
+                self.count = 0;
+                Next::Demand
+            }
         }
     }
 
@@ -156,9 +180,8 @@ impl Removing {
         Next::Run(root, within)
     }
 
-    fn keep(&mut self, attempt: &Attempt) {
-        let at = self.course.place as usize;
-        match (self.places.get_mut(at), attempt.deepest) {
+    fn keep(&mut self, number: u8, attempt: &Attempt) {
+        match (self.places.get_mut(usize::from(number)), attempt.deepest) {
             (Some(place), Some(dir)) => *place = come_to(attempt, dir),
             _ => (),
         }
@@ -170,14 +193,16 @@ impl Removing {
             self.closes = false;
             return self.move_on(attempt);
         }
-        let place = self.place();
-        match self.course.next {
-            AT_ROOT => return self.call(root, None),
-            IN_PLACE => return self.call(place.dir, Some(place.name)),
-            KEEP => self.keep(attempt),
+        match self.now() {
+            Err(Due::AtRoot(_)) => return self.call(root, None),
+            Err(Due::InPlace(number)) => {
+                let place = self.place(number);
+                return self.call(place.dir, Some(place.name));
+            }
+            Err(Due::Keep(number)) => self.keep(number, attempt),
             _ => (),
         }
-        self.go_on(self.answer)
+        self.go_on(Answer::default())
     }
 }
 
