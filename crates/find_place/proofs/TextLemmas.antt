@@ -11,7 +11,7 @@ use Rattle.path_text.specs.declared.name.TheConstants.{SLASH}
 use Rattle.path_text.specs.declared.path.TheConstants.{TEXT_MAX}
 use Rattle.system_calls.specs.Place.{behind, ends_as_gone, is_named, last_part, place_below, place_told}
 use Rattle.find_place.specs.Questions.{is_top}
-use Rattle.find_place.specs.Witness.{start_of, IsPart, NamesLieInTheText}
+use Rattle.find_place.specs.Witness.{IsPart, NamesLieInTheText}
 
 -- ---- a slash alone
 
