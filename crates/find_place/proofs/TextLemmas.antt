@@ -4,13 +4,14 @@ use Rattle.std.specs.List.{list_any}
 use Rattle.std.specs.Prelude.{codes}
 use Rattle.std.specs.Cmp.Lexicographic.{same_text}
 use Rattle.std.proofs.lemmas.Bool.{both_ways, cond-true, cond_both, and_parts, eqb-true, false_from_ne_true, false≢true, ltb-false, ltb-true, not-false, true≢false, or_left, or_right}
-use Rattle.std.proofs.lemmas.List.{length-drop}
+use Rattle.std.proofs.lemmas.List.{length-drop, take_all}
 use Rattle.path_text.specs.Name.{same_bytes}
 use Rattle.path_text.specs.Text.{begins_with_slash}
 use Rattle.path_text.specs.declared.name.TheConstants.{SLASH}
 use Rattle.path_text.specs.declared.path.TheConstants.{TEXT_MAX}
 use Rattle.system_calls.specs.Place.{behind, ends_as_gone, is_named, last_part, place_below, place_told}
 use Rattle.find_place.specs.Questions.{is_top}
+use Rattle.find_place.specs.Witness.{IsPart, NamesLieInTheText}
 
 -- ---- a slash alone
 
@@ -43,6 +44,81 @@ pub slash : (root path place : List ℕ) → place_told root path ≡ Some place
 slash root path place e top =
     cond_both (nat_lt TEXT_MAX (length path)) None (place_below root path) (λ o. o ≡ Some place → place ≡ SLASH ∷ [])
     (λ _ f. absurd cc) (λ _ f. below_slash_alone root path place f top) e
+
+-- ---- where it lies
+
+-- the path is a slash with what is behind it
+record Begins (path : List ℕ) : Type 0 where
+  rest : List ℕ
+  is : path ≡ SLASH ∷ rest
+
+begins : (path : List ℕ) → begins_with_slash path ≡ true → Begins path
+begins [] slash = absurd (false≢true slash)
+begins (b ∷ bs) slash = record { rest = bs; is = ap (λ x. x ∷ bs) (eqb-true b SLASH slash) }
+
+first_part : (path : List ℕ) → Begins path → IsPart path (SLASH ∷ []) 0 1
+first_part path b =
+    subst (λ (p : List ℕ). IsPart p (SLASH ∷ []) 0 1) (sym b.is) (record { within = omega arith; bytes = refl })
+
+last_bytes : (k : ℕ) (path place : List ℕ) → k ≤ length path → drop k path ≡ place
+    → IsPart path place (length path - length place) (length place)
+last_bytes k path place within is =
+    let size : length place ≡ length path - k = sym (ap length is) ∙ length-drop k path in
+    let at : length path - length place ≡ k = omega (arith, size, within) in
+    record {
+      within = omega (arith, size, within);
+      bytes = ap (λ n. take (length place) (drop n path)) at ∙ ap (take (length place)) is ∙ take_all (length place) place (omega arith);
+    }
+
+-- the place lies in the path, where it isn't the root's
+abbrev Lies : List ℕ → List ℕ → Type 0
+Lies path place = (k : ℕ) × (k ≤ length path) × (drop k path ≡ place)
+
+behind_lies : (k : ℕ) (path rest place : List ℕ) → drop k path ≡ rest → behind rest ≡ Some place → is_top place ≡ false
+    → Lies path place
+behind_lies k path [] place is e top =
+    let same : SLASH ∷ [] ≡ place = cc in
+    absurd (true≢false (ap is_top same ∙ top))
+behind_lies k path (b ∷ bs) place is e top =
+    cond_both (b == SLASH) (Some (b ∷ bs)) None (λ o. o ≡ Some place → Lies path place)
+    (λ slash f.
+    let same : b ∷ bs ≡ place = cc in
+    let size : suc (length bs) ≡ length path - k = sym (ap length is) ∙ length-drop k path in
+    (k, omega (arith, size), is ∙ same))
+    (λ _ f. absurd cc) e
+
+below_lies : (root path place : List ℕ) → place_below root path ≡ Some place → is_top place ≡ false → Lies path place
+below_lies root path place e top =
+    cond_both (not (begins_with_slash root && begins_with_slash path)) None _ (λ o. o ≡ Some place → Lies path place)
+    (λ _ f. absurd cc)
+    (λ begin. cond_both (same_bytes root (SLASH ∷ [])) (Some path) _ (λ o. o ≡ Some place → Lies path place)
+    (λ _ f. let same : path ≡ place = cc in (0, omega arith, same))
+    (λ _. cond_both (same_bytes (take (length root) path) root) (behind (drop (length root) path)) None
+    (λ o. o ≡ Some place → Lies path place) (λ _ f. behind_lies (length root) path (drop (length root) path) place refl f top)
+    (λ _ f. absurd cc))) e
+
+-- a place is told of a path that begins with a slash
+below_begins : (root path place : List ℕ) → place_below root path ≡ Some place → Begins path
+below_begins root path place e =
+    cond_both (not (begins_with_slash root && begins_with_slash path)) None _ (λ o. o ≡ Some place → Begins path)
+    (λ _ f. absurd cc)
+    (λ begin f. begins path (and_parts (begins_with_slash root) (begins_with_slash path) (not-false _ begin)).1) e
+
+told_below : (root path place : List ℕ) → place_told root path ≡ Some place → place_below root path ≡ Some place
+told_below root path place e =
+    cond_both (nat_lt TEXT_MAX (length path)) None (place_below root path)
+    (λ o. o ≡ Some place → place_below root path ≡ Some place) (λ _ f. absurd cc) (λ _ f. f) e
+
+top_lies : (path place : List ℕ) → Begins path → place ≡ SLASH ∷ [] → IsPart path place 0 (length place)
+top_lies path place b is = subst (λ (p : List ℕ). IsPart path p 0 (length p)) (sym is) (first_part path b)
+
+pub lies : NamesLieInTheText
+lies root path place e =
+    cond_both (is_top place) 0 (length path - length place) (λ n. IsPart path place n (length place))
+    (λ top. top_lies path place (below_begins root path place (told_below root path place e)) (slash root path place e top))
+    (λ below.
+    let at = below_lies root path place (told_below root path place e) below in
+    last_bytes at.0 path place at.1 at.2)
 
 -- ---- what is called deleted
 

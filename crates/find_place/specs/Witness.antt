@@ -1,5 +1,5 @@
 -- What the kernel has answered wherever a place is told: the argument of docs/HOST-WHY.md, "NameBelow is the crux".
-use Rattle.std.specs.Prelude.{◌≡◌, ◌⊎◌, ◌≤◌, ℕ, List, [], ◌∷◌, true, false, length, Some, Ok}
+use Rattle.std.specs.Prelude.{◌≡◌, ◌⊎◌, ◌+◌, ◌-◌, ◌≤◌, ℕ, List, [], ◌∷◌, true, false, if◌then◌else◌, length, take, drop, Some, Ok}
 use Rattle.path_text.specs.declared.path.TheConstants.{TEXT_MAX}
 use Rattle.system_calls.specs.Place.{ends_as_gone, is_named, place_told}
 use Rattle.system_calls.specs.Objects.{is_same_object}
@@ -86,3 +86,18 @@ abbrev pub QuestionsComeToAnEnd : Type 0
 QuestionsComeToAnEnd =
     ((facts : Facts) (es : List Exchange) → Talks (place facts) es (λ rest. Unit {0}) → length es ≤ 4)
     × ((facts : Facts) × (es : List Exchange) × Talks (place facts) es (λ rest. Unit {0}) × (length es ≡ 4))
+
+-- the names are the end of the text, or its first slash
+abbrev pub start_of : List ℕ → List ℕ → ℕ
+start_of text names = if is_top names then 0 else length text - length names
+
+-- the place is so many bytes of the text, from there on
+pub record IsPart (text place : List ℕ) (start size : ℕ) : Type 0 where
+  pub within : start + size ≤ length text
+  pub bytes : take size (drop start text) ≡ place
+
+-- The names of a place, and so of a look-up, lie in the object's text.
+abbrev pub NamesLieInTheText : Type 0
+NamesLieInTheText =
+    (root text names : List ℕ) → place_told root text ≡ Some names
+    → IsPart text names (start_of text names) (length names)

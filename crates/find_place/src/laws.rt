@@ -5,7 +5,7 @@ ghost use Rattle.find_place.specs.Again.{next_question};
 ghost use Rattle.find_place.specs.Held.{NamesAreLookedUpFirst, NamesAreToldByTheKernelsCheck, OnlyTheRootIsAtItself};
 ghost use Rattle.find_place.specs.Moments.{PlacesStood, PlacesWerePassed};
 ghost use Rattle.find_place.specs.Promises.{CallsHold};
-ghost use Rattle.find_place.specs.Witness.{AgreeingWitnessesAreTold, PlacesAreWitnessed, QuestionsComeToAnEnd};
+ghost use Rattle.find_place.specs.Witness.{AgreeingWitnessesAreTold, NamesLieInTheText, PlacesAreWitnessed, QuestionsComeToAnEnd};
 
 /// Whatever a kernel answers: where a place is told, the witnesses that the documentation names were asked in their
 /// order, and agree on this place.
@@ -22,6 +22,11 @@ pub fn agreeing_witnesses_are_told()
 /// No more than four questions are asked about one place, and four may be.
 pub fn questions_come_to_an_end()
     ensures { QuestionsComeToAnEnd }
+{}
+
+/// The names of a look-up and of a place are just so many bytes at the end of the object's text, or its first slash.
+pub fn names_lie_in_the_text()
+    ensures { NamesLieInTheText }
 {}
 
 /// What answers of Linux say of the file system, each at its moment, is a premise (proc(5), rmdir(2)). With it: where a

@@ -22,8 +22,9 @@ pub use held::{
 };
 pub use laws::{
     agreeing_witnesses_are_told, calls_hold, names_are_looked_up_first,
-    names_are_told_by_the_kernels_check, only_the_root_is_at_itself, places_are_witnessed,
-    places_stood, places_were_passed, questions_are_few, questions_come_to_an_end,
+    names_are_told_by_the_kernels_check, names_lie_in_the_text, only_the_root_is_at_itself,
+    places_are_witnessed, places_stood, places_were_passed, questions_are_few,
+    questions_come_to_an_end,
 };
 pub use places::{Facts, Told, place};
 pub use questions::{Answer, Asked, Question};

@@ -30,6 +30,7 @@ fn laws_are_at_hand() {
     find_place::places_stood();
     find_place::places_were_passed();
     find_place::agreeing_witnesses_are_told();
+    find_place::names_lie_in_the_text();
     find_place::questions_come_to_an_end();
     find_place::names_are_told_by_the_kernels_check();
     find_place::names_are_looked_up_first();

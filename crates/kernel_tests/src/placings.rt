@@ -1,6 +1,6 @@
 //! Conversations about an object's place: what a kernel answers, and to what it comes; and how often it is asked for.
 use crate::rows::{Room, all_go, letters, name_of, number};
-use find_place::{Answer, Facts, Question, ask_place, next_question, place};
+use find_place::{Answer, Asked, Facts, Question, Told, ask_place, next_question, place};
 use std::alloc::{AllocError, Global};
 use system_calls::Object;
 
@@ -33,6 +33,15 @@ fn with_names(alloc: Global, word: &str, names: &[u8]) -> Result<String, AllocEr
     format!(in alloc; "{word} {names}")
 }
 
+fn comes_to<'b>(answers: &'b [Answer<'b>], facts: &Facts, program: bool) -> Asked<'b, Told<'b>> {
+    let mut left = answers;
+    if program {
+        ask_place(&mut left)
+    } else {
+        place(&mut left, facts)
+    }
+}
+
 impl Room for Placing {
     fn begun(_: Global, words: &'static str) -> Placing {
         let (directory, seen) = (words.ends_with("directory"), words.starts_with("seen"));
@@ -45,13 +54,8 @@ impl Room for Placing {
     }
 
     fn due(&self, alloc: Global) -> Result<String, AllocError> {
-        let mut left = &self.answers[..self.count.min(8)];
-        let now = if self.program {
-            ask_place(&mut left)
-        } else {
-            place(&mut left, &self.facts)
-        };
-        let word = match now {
+        let left = &self.answers[..self.count.min(8)];
+        let word = match comes_to(left, &self.facts, self.program) {
             Ok(Ok(names)) if names.len() == 1 => "is the root",
             Ok(Ok(names)) => return with_names(alloc, "stands", names),
             Ok(Err(error)) => return format!(in alloc; "fails {}", name_of(error)),

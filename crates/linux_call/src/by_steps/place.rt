@@ -72,7 +72,7 @@ impl Steps {
         self.search.take(found, read);
         let (error, length) = match self.search.told() {
             None => return None,
-            Some(Ok(names)) => (0, names.len()),
+            Some(Ok(length)) => (0, length),
             Some(Err(error)) => (error, 0),
         };
         if self.course.next == call_course::Thing::Place {

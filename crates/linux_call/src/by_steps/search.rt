@@ -4,7 +4,7 @@ use crate::by_steps::there::{is_dead, may_be_dead};
 use crate::path::piece;
 use crate::walk::{RESOLVE_BENEATH, RESOLVE_NO_MAGICLINKS, RESOLVE_NO_SYMLINKS, opened};
 use dialogue::{Answer as Gave, Asked, Question, ask};
-use find_place::{Answer, BY_NAME, BY_ROOT, Facts, Question as Wanted, SEEN_BELOW, Told};
+use find_place::{Answer, BY_NAME, BY_ROOT, Facts, Question as Wanted, SEEN_BELOW};
 use find_proc::{Known, Proc, find};
 use kernel_calls::proc_error;
 use linux_steps::look_error;
@@ -47,6 +47,44 @@ const NOTHING_HEARD: Heard = Heard {
     start: 0,
     length: 0,
 };
+
+// What is asked next, or the end; of names, how long they are.
+#[derive(Clone, Copy)]
+enum Due {
+    Look,
+    Copy,
+    RootLink,
+    ObjectLink,
+    LookUp(usize),
+    LinkAgain,
+    Dead,
+    Removed,
+    Close,
+    Stands(usize),
+    Fails(u32),
+}
+
+fn due_behind<'b>(answers: &'b [Answer<'b>], facts: &Facts, asks: bool) -> Due {
+    let mut left = answers;
+    let now = if asks {
+        find_place::ask_place(&mut left)
+    } else {
+        find_place::place(&mut left, facts)
+    };
+    match now {
+        Err(Wanted::Look) => Due::Look,
+        Err(Wanted::Copy) => Due::Copy,
+        Err(Wanted::RootLink) => Due::RootLink,
+        Err(Wanted::ObjectLink) => Due::ObjectLink,
+        Err(Wanted::LookUp(names)) => Due::LookUp(names.len()),
+        Err(Wanted::LinkAgain) => Due::LinkAgain,
+        Err(Wanted::Dead) => Due::Dead,
+        Err(Wanted::Removed) => Due::Removed,
+        Err(Wanted::Close) => Due::Close,
+        Ok(Ok(names)) => Due::Stands(names.len()),
+        Ok(Err(error)) => Due::Fails(error),
+    }
+}
 
 fn failed(error: u32) -> Heard {
     Heard {
@@ -213,12 +251,8 @@ impl Search {
         }
     }
 
-    // What the first answers come to, so many of them; or the question that is due.
-    fn behind<'s>(
-        &'s self,
-        h: &[Heard; QUESTIONS],
-        count: usize,
-    ) -> find_place::Asked<'s, Told<'s>> {
+    // What the first answers come to, so many of them.
+    fn behind(&self, h: &[Heard; QUESTIONS], count: usize) -> Due {
         let answers = [
             self.answer(&h[0]),
             self.answer(&h[1]),
@@ -229,19 +263,25 @@ impl Search {
             self.answer(&h[6]),
             self.answer(&h[7]),
         ];
-        let mut left: &[Answer<'s>] = &answers;
         if count <= QUESTIONS {
-            left = &answers[..count];
-        }
-        if self.program.is_some() {
-            find_place::ask_place(&mut left)
+            due_behind(&answers[..count], &self.facts, self.program.is_some())
         } else {
-            find_place::place(&mut left, &self.facts)
+            due_behind(&answers, &self.facts, self.program.is_some())
         }
     }
 
-    fn now(&self) -> find_place::Asked<'_, Told<'_>> {
+    fn now(&self) -> Due {
         self.behind(&self.heard, self.count)
+    }
+
+    // So long are the names: a slash alone, or the end of the object's text.
+    fn names_of(&self, length: usize) -> &[u8] {
+        if length < 2 {
+            return b"/";
+        }
+        let text = self.heard[if self.program.is_some() { 3 } else { 1 }];
+        let end = text.start.saturating_add(text.length);
+        piece(self.texts.as_slice(), end.saturating_sub(length), length)
     }
 
     // Whether no place is told behind this answer.
@@ -250,7 +290,7 @@ impl Search {
         if self.count < QUESTIONS {
             heard[self.count] = answer;
         }
-        matches!(self.behind(&heard, self.count + 1), Ok(Err(_)))
+        matches!(self.behind(&heard, self.count + 1), Due::Fails(_))
     }
 
     // If what was found is the object, the call goes on with that, so that no step rests on the numbers that were
@@ -321,15 +361,15 @@ impl Search {
     ) -> Asked<'s, Found> {
         let held = self.held_fd();
         match self.now() {
-            Err(Wanted::Look) => self.look(answers),
-            Err(Wanted::Copy) => self.copy(answers),
-            Err(Wanted::RootLink) => read_link(answers, known, proc, self.root),
-            Err(Wanted::ObjectLink | Wanted::LinkAgain) => read_link(answers, known, proc, held),
-            Err(Wanted::LookUp(names)) => self.look_up(answers, known, names),
-            Err(Wanted::Dead) => Ok(Found::Said(said(may_be_dead(answers, held)?))),
-            Err(Wanted::Removed) => Ok(Found::Said(said(is_dead(answers, held)?))),
-            Err(Wanted::Close) => self.close(answers),
-            Ok(_) => Ok(Found::Said(failed(0))),
+            Due::Look => self.look(answers),
+            Due::Copy => self.copy(answers),
+            Due::RootLink => read_link(answers, known, proc, self.root),
+            Due::ObjectLink | Due::LinkAgain => read_link(answers, known, proc, held),
+            Due::LookUp(length) => self.look_up(answers, known, self.names_of(length)),
+            Due::Dead => Ok(Found::Said(said(may_be_dead(answers, held)?))),
+            Due::Removed => Ok(Found::Said(said(is_dead(answers, held)?))),
+            Due::Close => self.close(answers),
+            _ => Ok(Found::Said(failed(0))),
         }
     }
 
@@ -377,25 +417,29 @@ impl Search {
         self.hear(heard);
     }
 
-    /// The names, a slash before each, or a slash alone; or why they couldn't be found out. None: more is to be asked.
-    pub(crate) fn told(&self) -> Option<Told<'_>> {
-        self.now().ok()
+    /// How long the names are; or why they couldn't be found out. None: more is to be asked.
+    pub(crate) fn told(&self) -> Option<Result<usize, u32>> {
+        match self.now() {
+            Due::Stands(length) => Some(Ok(length)),
+            Due::Fails(error) => Some(Err(error)),
+            _ => None,
+        }
     }
 
     /// The object's slot, once the search is over.
     pub(crate) fn held(&self) -> Slot {
         let way = match self.now() {
-            Ok(Ok(names)) if names.len() == 1 => BY_ROOT,
+            Due::Stands(1) => BY_ROOT,
             _ if self.held.way == SEEN_BELOW => BY_NAME,
             _ => self.held.way,
         };
         Slot { way, ..self.held }
     }
 
-    /// The names, if they were found.
+    /// The names, if they were found: a slash before each, or a slash alone.
     pub(crate) fn names(&self) -> &[u8] {
         match self.now() {
-            Ok(Ok(names)) => names,
+            Due::Stands(length) => self.names_of(length),
             _ => b"",
         }
     }
