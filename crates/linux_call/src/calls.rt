@@ -25,6 +25,23 @@ fn look_up_by(follows: bool) -> u8 {
     if follows { RESOLVE } else { RESOLVE_NOFOLLOW }
 }
 
+/// Whether the mode or the device of what is made is none, or the way of a rename. The kernel takes 32 bits of a
+/// device's number: a C library may leave out the others, and make the node of another device.
+pub(crate) fn is_wrong(request: &Request) -> bool {
+    match request.what {
+        MKDIR => request.mode & !MODE_BITS != 0,
+        MAKE_NODE => {
+            let is_mode = request.mode & !(S_IFMT | MODE_BITS) == 0;
+            !is_mode || !is_node(request.mode, request.device) || request.device > 0xffff_ffff
+        }
+        RENAME => {
+            let way = request.how & !WHITEOUT;
+            way > EXCHANGE || (way == EXCHANGE && has(request.how, WHITEOUT))
+        }
+        _ => false,
+    }
+}
+
 impl Progress<'_> {
     /// Opens what a path means.
     #[inline(always)]
@@ -76,7 +93,15 @@ impl Progress<'_> {
     /// Makes an entry of this kind, by the request's mode.
     #[inline(always)]
     pub(crate) fn make_entry<'n>(&mut self, request: &Request, texts: Texts<'n>) -> Said<'n> {
+        if is_wrong(request) {
+            return Ok(refused(EINVAL));
+        }
         let asked = Request {
+            what: if request.what == MAKE_NODE {
+                MKFILE
+            } else {
+                request.what
+            },
             gives: has(request.flags, GIVE),
             flags: request.flags & !GIVE,
             ..*request
@@ -84,32 +109,10 @@ impl Progress<'_> {
         self.carry_out(&asked, texts)
     }
 
-    pub(crate) fn make_directory<'n>(&mut self, request: &Request, texts: Texts<'n>) -> Said<'n> {
-        if request.mode & !MODE_BITS != 0 {
-            return Ok(refused(EINVAL));
-        }
-        self.make_entry(request, texts)
-    }
-
-    /// Makes a file or a node. The kernel takes 32 bits of a device's number. A C library may leave out the others, and
-    /// make the node of another device.
-    pub(crate) fn make_node<'n>(&mut self, request: &Request, texts: Texts<'n>) -> Said<'n> {
-        let is_mode = request.mode & !(S_IFMT | MODE_BITS) == 0;
-        if !is_mode || !is_node(request.mode, request.device) || request.device > 0xffff_ffff {
-            return Ok(refused(EINVAL));
-        }
-        let asked = Request {
-            what: MKFILE,
-            ..*request
-        };
-        self.make_entry(&asked, texts)
-    }
-
     /// Renames an entry, in the way that HOW says.
     #[inline(always)]
     pub(crate) fn rename_entry<'n>(&mut self, request: &Request, texts: Texts<'n>) -> Said<'n> {
-        let mode = request.how & !WHITEOUT;
-        if mode > EXCHANGE || (mode == EXCHANGE && has(request.how, WHITEOUT)) {
+        if is_wrong(request) {
             return Ok(refused(EINVAL));
         }
         self.carry_out(request, texts)

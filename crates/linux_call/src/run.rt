@@ -44,11 +44,9 @@ impl Progress<'_> {
     pub(crate) fn run<'n>(&mut self, request: &Request, texts: Texts<'n>) -> Said<'n> {
         match request.what {
             RESOLVE => self.open(request, texts),
-            MKDIR => self.make_directory(request, texts),
-            SYMLINK => self.make_entry(request, texts),
+            MKDIR | SYMLINK | MAKE_NODE => self.make_entry(request, texts),
             UNLINK | RMDIR => self.carry_out(request, texts),
             RENAME => self.rename_entry(request, texts),
-            MAKE_NODE => self.make_node(request, texts),
             STATUS => self.status(request, texts),
             READ_LINK => self.read_link(request, texts),
             LINK => self.link(request, texts),

@@ -5,6 +5,7 @@
 ghost use Rattle.std.specs.Prelude.{◌≡◌, true, IsSome};
 
 use crate::by_steps::{Ended, Steps};
+use crate::calls::is_wrong;
 use crate::due::{Due, NAME, decimal, digits, due_of, end_of, lay};
 use crate::inner::{answer_of, fault_of};
 use crate::kept::{Kept, State};
@@ -15,7 +16,8 @@ use crate::several::{Part, Then, begin, keep_gave, next_call};
 use crate::walk::{Below, EXACT, NOFOLLOW, O_PATH, has};
 use crate::{open_at, steps};
 use dialogue::{Answer, Question};
-use kernel_calls::Closes;
+use kernel_calls::{Closes, named};
+use path_text::TEXT_MAX;
 use std::alloc::Global;
 use std::mem;
 use system_calls::Opening;
@@ -382,23 +384,53 @@ fn is_changed(state: &State, answers: &[Answer]) -> bool {
     state.changes && at < answers.len() && answers[at].error == 0
 }
 
+// The path of the directory that has the entry which a call changes, unless something is wrong with the call.
+#[inline(always)]
+fn entry_above<'n>(request: &Request, path: PathOf<'n>, second: PathOf<'_>) -> Option<PathOf<'n>> {
+    let is_other = match request.what {
+        SYMLINK => !second.text().is_empty() && second.text().len() <= TEXT_MAX,
+        RENAME => named(second, false).is_some(),
+        _ => true,
+    };
+    if !is_other || is_wrong(request) {
+        return None;
+    }
+    named(path, request.what == MKDIR || request.what == RMDIR)?.above
+}
+
 // Most calls begin with the look-up that `run` would ask for: that takes no more than this.
 #[inline(always)]
 fn look_up_first(
     request: &Request,
     opening: &Opening,
     first: &[u8],
+    second: &[u8],
     room: &mut [u8],
 ) -> Option<Due> {
     let machine = &request.known.machine;
-    let (flags, how, mode) = match request.what {
+    let whole = PathOf::new(first).front(request.length as usize);
+    let (flags, path, how, mode) = match request.what {
         RESOLVE if has(request.flags, NOFOLLOW) => {
-            (request.flags & !NOFOLLOW, O_PATH | machine.nofollow, 0)
+            (
+                request.flags & !NOFOLLOW,
+                whole,
+                O_PATH | machine.nofollow,
+                0,
+            )
         }
-        RESOLVE => (request.flags, O_PATH, 0),
+        RESOLVE => (request.flags, whole, O_PATH, 0),
         OPEN_AT if opening.error == 0 && opening.finds => {
             let how = open_at::how_of(machine, opening);
-            (request.flags, how, open_at::mode_of(request, opening))
+            (
+                request.flags,
+                whole,
+                how,
+                open_at::mode_of(request, opening),
+            )
+        }
+        MKDIR | SYMLINK | MAKE_NODE | UNLINK | RMDIR | RENAME => {
+            let above = entry_above(request, whole, PathOf::new(second))?;
+            (request.flags, above, O_PATH | machine.directory, 0)
         }
         _ => return None,
     };
@@ -408,7 +440,7 @@ fn look_up_first(
     let at = Below {
         root: request.root,
         flags,
-        path: PathOf::new(first).front(request.length as usize),
+        path,
         looked: false,
     };
     match Progress::new(&[], request.known, false).look_up(&at, how, mode) {
@@ -448,7 +480,7 @@ pub fn turn(
             state.opening = open_at::opening(request);
             state.course = open_at::first(request, &state.opening);
         }
-        if let Some(first_due) = look_up_first(request, &state.opening, first, room) {
+        if let Some(first_due) = look_up_first(request, &state.opening, first, second, room) {
             state.begun = true;
             state.looked = true;
             state.opens = is_reply(request, state);
