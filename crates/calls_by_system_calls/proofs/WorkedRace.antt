@@ -11,7 +11,7 @@ use Rattle.tree_model.specs.declared.step.Kind.TheVariants as kind
 use Rattle.tree_model.specs.History.{IsLegal, after_events}
 use Rattle.tree_model.specs.State.{child, object_at}
 use Rattle.tree_model.proofs.TreeTests.{IsState-from_test}
-use Rattle.dialogue.specs.Dialogue.{Talks, and_then, asking, calling, open_above, open_name, stats, stats_file_system}
+use Rattle.dialogue.specs.Dialogue.{Talks, and_then, asking, open_above, open_name, stats, stats_file_system}
 use Rattle.dialogue.specs.declared.calls.Answer.{Answer as Given}
 use Rattle.linux_steps.specs.Linux.{IsAbove, IsEntry, StatSays}
 use Rattle.linux_steps.specs.Steps.{by_file_system, by_path, open_step, opening, parent_step, there}

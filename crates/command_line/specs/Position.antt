@@ -36,7 +36,11 @@ levels_behind n b = if b == 91 || b == 123 then n + 1 else (if b == 93 || b == 1
 abbrev pub behind : Place → ℕ → Place
 behind place b =
     if place.in_string then
-    record { levels = place.levels; in_string = place.is_escaped || not (b == 34); is_escaped = not place.is_escaped && b == 92 }
+    record {
+      levels = place.levels;
+      in_string = place.is_escaped || not (b == 34);
+      is_escaped = not place.is_escaped && b == 92;
+    }
     else record { levels = levels_behind place.levels b; in_string = b == 34; is_escaped = false }
 
 -- the next element of a list, or member of an object: what stands behind the comma between (sections 4 and 5)

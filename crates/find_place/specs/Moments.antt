@@ -9,8 +9,8 @@ use Rattle.find_place.specs.declared.places.Facts.{Facts}
 
 -- One object and one root, moment by moment. The n-th answer of a conversation is of the moment n, which is in its
 -- system calls: of a text, that of its names; of a look-up, that at which statx(2) looks at what was found; of what is
--- asked again (link_again, is_dead), that at which the kernel looks whether it is gone. What others do comes between two
--- moments.
+-- asked again (link_again, is_dead), that at which the kernel looks whether it is gone. What others do comes between
+-- two moments.
 pub record World : Type 0 where
   -- these names led from the root to the object, all at this moment
   pub stands : ℕ → List ℕ → Bool

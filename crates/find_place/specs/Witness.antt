@@ -79,7 +79,8 @@ AreShort (e ∷ es) = (length (text_of e) ≤ TEXT_MAX) × AreShort es
 -- Agreeing answers are a conversation, and tell the place.
 abbrev pub AgreeingWitnessesAreTold : Type 0
 AgreeingWitnessesAreTold =
-    (facts : Facts) (es : List Exchange) (names : List ℕ) → AreShort es → IsWitnessed facts names es → Tells facts es names
+    (facts : Facts) (es : List Exchange) (names : List ℕ) → AreShort es → IsWitnessed facts names es
+    → Tells facts es names
 
 -- No conversation has more than four questions, and one has four.
 abbrev pub QuestionsComeToAnEnd : Type 0

@@ -233,7 +233,8 @@ pub fn rename<'n>(
 ) -> Asked<'n, Outcome>
     ensures { ran_by (λ r. ended known.new (closed_by behind.new.closes) r) asked_of
         result answers.new.now
-        ≡ ran (rename known.old (at_of at.now) (named_of from.entry) (at_of other.now) (named_of to.entry) wanted.now ends)
+        ≡ ran (rename known.old (at_of at.now) (named_of from.entry) (at_of other.now) (named_of to.entry)
+        wanted.now ends)
         answers.old.now }
 {
     *behind = NOT_BEHIND;

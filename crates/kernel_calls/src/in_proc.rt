@@ -138,7 +138,8 @@ fn done_in<'n>(
     fd: u32,
     act: Act<'n>,
 ) -> Asked<'n, Result<u32, u32>>
-    ensures { ran_by (λ x. x) asked_of result answers.new.now ≡ ran (done_in proc fd (act_of act.entry)) answers.old.now }
+    ensures { ran_by (λ x. x) asked_of result answers.new.now
+        ≡ ran (done_in proc fd (act_of act.entry)) answers.old.now }
 {
     let error = match gives(answers, question_of(act, proc, fd))? {
         Ok(value) => return Ok(Ok(value)),

@@ -8,7 +8,7 @@ use Rattle.remove_by_calls.specs.Answers.{met_of}
 use Rattle.remove_by_calls.specs.Removal.{PLACES, steps}
 use Rattle.remove_by_calls.specs.declared.answers.Answer.{Answer}
 use Rattle.remove_by_calls.specs.declared.answers.Met.{Met}
-use Rattle.remove_by_calls.specs.declared.answers.Met.TheVariants.{Gone, Deeper, Bound, Crowded, Failed}
+use Rattle.remove_by_calls.specs.declared.answers.Met.TheVariants.{Gone, Deeper, Failed}
 use Rattle.remove_by_calls.specs.declared.asking.Question.{Question}
 use Rattle.remove_by_calls.specs.declared.asking.Question.TheVariants.{AtRoot, InPlace, Keep, Close}
 

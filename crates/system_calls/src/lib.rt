@@ -4,8 +4,8 @@
 //! And what the kernel's texts say: where an object stands, by the path that a link in /proc tells, and which names the
 //! records of getdents64(2) have.
 //!
-//! Each function takes numbers or bytes as a program or a system call gave them. None of them makes a call. `sort_names`
-//! alone takes memory.
+//! Each function takes numbers or bytes as a program or a system call gave them. None of them makes a call. Only
+//! `sort_names` takes memory.
 #![tactic(auto)]
 
 mod entries;
