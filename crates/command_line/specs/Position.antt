@@ -1,5 +1,5 @@
 -- Where a script's text has what is refused (RFC 8259): what the text has from there on, and its line and column.
-use Rattle.std.specs.Prelude.{ℕ, zero, suc, ◌+◌, ◌-◌, ◌==◌, ◌||◌, ◌&&◌, not, List, [], ◌∷◌, length, take, Bool, true, false, if◌then◌else◌, Option, Some, None, option_map, option_and_then, codes}
+use Rattle.std.specs.Prelude.{ℕ, zero, suc, ◌+◌, ◌-◌, ◌==◌, ◌||◌, ◌&&◌, not, List, [], ◌∷◌, length, take, Bool, false, if◌then◌else◌, Option, Some, None, option_map, option_and_then, codes}
 use Rattle.std.specs.Option.{option_or}
 use Rattle.path_text.specs.Name.{same_bytes}
 use Rattle.scripts.specs.CallFaults as call_faults

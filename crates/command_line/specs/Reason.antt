@@ -1,5 +1,5 @@
 -- What is wrong with an entry, an actor or a call that is refused.
-use Rattle.std.specs.Prelude.{ℕ, ◌==◌, ◌||◌, ◌&&◌, not, List, [], ◌∷◌, length, Bool, true, false, if◌then◌else◌, is_some, is_none, Option, Some, None, option_map, option_and_then, codes}
+use Rattle.std.specs.Prelude.{ℕ, ◌==◌, ◌||◌, ◌&&◌, not, List, [], ◌∷◌, length, Bool, false, if◌then◌else◌, is_some, is_none, Option, Some, None, option_map, option_and_then, codes}
 use Rattle.std.specs.List.{list_any, slice_split}
 use Rattle.serde_json.specs.Data.{Data}
 use Rattle.serde_json.specs.Find.{get, at, as_str, as_array, as_object}

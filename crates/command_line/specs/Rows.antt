@@ -1,5 +1,5 @@
 -- The line of an entry that a property asks for: its directory's path, and its name.
-use Rattle.std.specs.Prelude.{ℕ, suc, ◌==◌, ◌||◌, ◌&&◌, not, List, [], ◌++◌, length, Bool, true, false, nat_eq, if◌then◌else◌, Option, Some, None, option_map, option_and_then, codes, decimal}
+use Rattle.std.specs.Prelude.{ℕ, suc, ◌==◌, ◌&&◌, not, List, [], ◌++◌, length, Bool, false, nat_eq, if◌then◌else◌, Option, Some, None, option_map, option_and_then, codes, decimal}
 use Rattle.std.specs.List.{list_any, starts_with}
 use Rattle.serde_json.specs.Data.{Data, Items, no_items, item}
 use Rattle.serde_json.specs.Find.{get, at, as_str, as_array}
