@@ -42,7 +42,7 @@ pub returns-in-None : goal.returns-in-None
 returns-in-None c =
     let bytes = option_map (λ (m : Bor (List ℕ)). m.now) in
     let by = λ (b : Bool). found_then c.args.key.now c.loop.rest.now c.key_of-name.result.now c.as_bytes.result.now (bytes c.loop.found) (bytes c.if-eq.found) b
-        c.key_of-name.ensures c.as_bytes.ensures.value in
+    c.key_of-name.ensures c.as_bytes.ensures.value in
     member_step (length c.args.object.now) c.loop.counter c.args.key.now c.loop.rest.now c.key_of-name.result.now (bytes c.loop.found) (bytes c.if-eq.found) _
     c.loop-test.true c.key_of-name.ensures (sym c.contains.ensures.value ∙ c.if-contains.false) c.in-None.ensures
     (elim c.if-eq.branch [ then-eq w ↦ by true (sym c.eq.ensures ∙ w.if-eq.true) (ap bytes w.found-is) | else-eq w ↦ by false (sym c.eq.ensures ∙ w.if-eq.false) (ap bytes w.found-is) ])
@@ -52,7 +52,7 @@ pub loop-preserved : goal.loop-preserved
 loop-preserved c =
     let bytes = option_map (λ (m : Bor (List ℕ)). m.now) in
     let by = λ (b : Bool). found_then c.args.key.now c.loop.rest.now c.key_of-name.result.now c.as_bytes.result.now (bytes c.loop.found) (bytes c.if-eq.found) b
-        c.key_of-name.ensures c.as_bytes.ensures.value in
+    c.key_of-name.ensures c.as_bytes.ensures.value in
     member_step (length c.args.object.now) c.loop.counter c.args.key.now c.loop.rest.now c.key_of-name.result.now (bytes c.loop.found) (bytes c.if-eq.found) _
     c.loop-test.true c.key_of-name.ensures (sym c.contains.ensures.value ∙ c.if-contains.false) c.in-Some.ensures
     (elim c.if-eq.branch [ then-eq w ↦ by true (sym c.eq.ensures ∙ w.if-eq.true) (ap bytes w.found-is) | else-eq w ↦ by false (sym c.eq.ensures ∙ w.if-eq.false) (ap bytes w.found-is) ])
