@@ -2,11 +2,13 @@
 #![tactic(auto)]
 
 #[cfg(test)]
+mod by_kernel;
+#[cfg(test)]
 mod c_paths;
 #[cfg(test)]
 mod callings;
 #[cfg(test)]
-mod kernel_calls;
+mod kernel_dialogues;
 #[cfg(test)]
 mod laws;
 #[cfg(test)]
