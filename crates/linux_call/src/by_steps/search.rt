@@ -287,10 +287,11 @@ impl Search {
     // Whether no place is told behind this answer.
     fn fails_behind(&self, answer: Heard) -> bool {
         let mut heard = self.heard;
-        if self.count < QUESTIONS {
-            heard[self.count] = answer;
+        let at = self.count;
+        if at < QUESTIONS {
+            heard[at] = answer;
         }
-        matches!(self.behind(&heard, self.count + 1), Due::Fails(_))
+        matches!(self.behind(&heard, at.saturating_add(1)), Due::Fails(_))
     }
 
     // If what was found is the object, the call goes on with that, so that no step rests on the numbers that were
