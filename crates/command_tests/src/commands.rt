@@ -97,14 +97,6 @@ explore --strict --cuts 1 = explore strict
 explore --never row file = explore of file
 explore --merge = merge";
 
-/// Adds words, one after another.
-fn add(out: &mut Output, words: &[&str]) -> Result<(), NoMemory> {
-    for word in words {
-        out.text(word)?;
-    }
-    Ok(())
-}
-
 /// The word where that is so, and else nothing.
 fn word_if(is_so: bool, word: &str) -> &str {
     if is_so { word } else { "" }
@@ -123,22 +115,22 @@ fn form_of(drawing: Drawing) -> &'static str {
 fn tell_request(out: &mut Output, request: Request) -> Result<(), NoMemory> {
     match request {
         Request::Walk(walk) => {
-            let beneath = word_if(walk.flags.beneath, " beneath");
-            let no_links = word_if(walk.flags.no_links, " no_links");
-            add(out, &["walk ", walk.path, beneath, no_links])
+            out.text("walk ")?;
+            out.text(walk.path)?;
+            out.text(word_if(walk.flags.beneath, " beneath"))?;
+            out.text(word_if(walk.flags.no_links, " no_links"))
         }
         Request::Replay(replaying) => {
-            let form = if replaying.json { " json" } else { " text" };
-            add(
-                out,
-                &["replay ", replaying.schedule.unwrap_or("script"), form],
-            )
+            out.text("replay ")?;
+            out.text(replaying.schedule.unwrap_or("script"))?;
+            out.text(if replaying.json { " json" } else { " text" })
         }
         Request::Draw(drawing) => {
-            let turns = drawing.schedule.unwrap_or("script");
+            out.text("draw ")?;
+            out.text(drawing.schedule.unwrap_or("script"))?;
+            out.text(form_of(drawing))?;
             let are_shown = drawing.closes == Closes::Shown;
-            let closes = if are_shown { " shown" } else { " hidden" };
-            add(out, &["draw ", turns, form_of(drawing), closes])
+            out.text(if are_shown { " shown" } else { " hidden" })
         }
         Request::Run(workers) => {
             out.text("run ")?;
@@ -159,7 +151,10 @@ fn tell(out: &mut Output, matches: &ArgMatches) -> Result<(), NoMemory> {
     }
     out.text(word_if(is_strict(matches), " strict"))?;
     match script_named(matches) {
-        Some(file) => add(out, &[" of ", file]),
+        Some(file) => {
+            out.text(" of ")?;
+            out.text(file)
+        }
         None => Ok(()),
     }
 }

@@ -88,8 +88,9 @@ impl Room for Placing {
             None if gave == "dead" || gave == "alive" => answer.yes = gave == "dead",
             None => answer.error = number(gave)?,
         }
-        *self.answers.get_mut(self.count)? = answer;
-        self.count += 1;
+        let at = self.count;
+        *self.answers.get_mut(at)? = answer;
+        self.count = at + 1;
         Some(())
     }
 }
