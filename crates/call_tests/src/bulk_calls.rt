@@ -6,11 +6,11 @@ ghost use Rattle.bulk_ops.specs.declared.turn.BulkTurn.{BulkTurn};
 ghost use Rattle.bulk_ops.specs.declared.turn.BulkTurn.TheVariants.{More};
 
 use bulk_ops::{BulkTurn, MkdirAll, RemoveAll};
+use event_log::Output;
 use fixtures::{answered, base_tree, names_of, root};
 use handles::Standing;
 use path_text::{Errno, Flags, NoMemory, Path, Rule};
 use std::alloc::Global;
-use step_text::Output;
 use tree_list::ListTree;
 use tree_model::{Actor, Answer, HandleNo, LentStep, StepOf, Tree};
 

@@ -8,6 +8,7 @@ ghost use Rattle.root_ops.specs.TurnView.{steps_to_come};
 use crate::copies::run_copies;
 use crate::passes::run_passing;
 use crate::requests::{asked, number};
+use event_log::Output;
 use fixtures::{PLAIN, answered, base_tree, column, cut, flags_of, names_of, root};
 use handles::Standing;
 use path_text::{Errno, Flags, NoMemory};
@@ -15,7 +16,6 @@ use root_ops::{Call, CallTurn, Op, Reply, Request, run_call};
 use std::alloc::Global;
 use std::test::*;
 use step_resolver::Root;
-use step_text::Output;
 use tree_model::{Actor, Answer, HandleNo, Tree};
 use tree_slab::SlabTree;
 

@@ -1,11 +1,11 @@
 //! Requests read from words: an operation's own word and its texts, or the line of a single step.
 //!
 //! A request has many kinds, and each place where one is dropped is long to prove: it is moved, or given to `drop`.
+use event_log::read_step;
 use fixtures::{PLAIN, cut};
 use path_text::{Bytes, Flags, NoMemory};
 use root_ops::{Op, Request};
 use std::alloc::Global;
-use step_text::read_step;
 use tree_model::Mode;
 
 /// The number that a word is, and of another word the greatest.

@@ -4,7 +4,7 @@ use Rattle.std.specs.List.{flat_map}
 use Rattle.serde_json.specs.Data.{Data}
 use Rattle.serde_json.specs.Find.{get, at}
 use Rattle.serde_json.specs.Written.{has_float, compact_text}
-use Rattle.step_text.specs.Output.{escaped_byte}
+use Rattle.event_log.specs.Output.{escaped_byte}
 use Rattle.command_line.specs.declared.entry.TheConstants.{ENTRY_MAX}
 use Rattle.scripts.specs.declared.fault.Cause.TheVariants.{Shape, Refused}
 use Rattle.scripts.specs.declared.fault.ScriptFault.{ScriptFault}

@@ -4,7 +4,7 @@ use Rattle.std.specs.List.{flat_map, list_all, starts_with}
 use Rattle.std.specs.Str.{IsUtf8}
 use Rattle.std.specs.Str.Lossy.{utf8_valid_len}
 use Rattle.scripts.specs.declared.fault.JsonFault.{JsonFault}
-use Rattle.step_text.specs.Output.{Gains}
+use Rattle.event_log.specs.Output.{Gains}
 use Rattle.command_line.specs.declared.no_json.TheConstants.{BEFORE_MAX, BEHIND_MAX}
 use Rattle.command_line.specs.Cut.{NEWLINE, front, lines_behind}
 use Rattle.command_line.specs.Entry.{printed_byte, printed}

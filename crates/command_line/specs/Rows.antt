@@ -4,7 +4,7 @@ use Rattle.std.specs.List.{list_any, starts_with}
 use Rattle.serde_json.specs.Data.{Data, Items, no_items, item}
 use Rattle.serde_json.specs.Find.{get, at, as_str, as_array}
 use Rattle.path_text.specs.Name.{same_bytes}
-use Rattle.step_text.specs.Words.{BLANK}
+use Rattle.event_log.specs.Words.{BLANK}
 use Rattle.command_line.specs.Cut.{front, behind, is_within}
 
 abbrev pub is_same : List ℕ → Option (List ℕ) → Bool

@@ -1,13 +1,13 @@
 //! What is told in the line after a fault: the limit that was met, and what helps.
 ghost use Rattle.std.specs.Prelude.{◌≡◌, ◌++◌, decimal};
-ghost use Rattle.step_text.specs.Output.{Gains};
+ghost use Rattle.event_log.specs.Output.{Gains};
 ghost use Rattle.command_line.specs.Advice.{memory_advice, states_advice, turn_advice, actor_advice, line_hint, line_advice, search_advice, explore_advice, advice_of};
 
 use crate::ending::Fault;
+use event_log::Output;
 use outcome_text::{ExploreFault, SearchFault};
 use path_text::NoMemory;
 use scripts::RunFault;
-use step_text::Output;
 
 /// The most megabytes that may be asked for.
 const MEMORY_MAX: u32 = 1_000_000;

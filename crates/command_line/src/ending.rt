@@ -4,10 +4,9 @@ ghost use Rattle.command_line.specs.Ending.{status_of, told_of, json_told_of, jo
 ghost use Rattle.command_line.specs.declared.ending.Fault.TheVariants.{Run};
 ghost use Rattle.scripts.specs.declared.fault.RunFault.TheVariants.{NoMemory as OutOfMemory};
 
-use draw_command::{DrawFault, JsonFault};
 use outcome_text::{ExploreFault, MergeFault, OptionFault};
 use path_text::NoMemory;
-use run_command::{JobsFault, ServiceFault};
+use script_commands::{DrawFault, JobsFault, JsonFault, ServiceFault};
 use scripts::RunFault;
 use std::alloc::AllocError;
 use thiserror::Error;

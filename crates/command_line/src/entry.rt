@@ -1,14 +1,14 @@
 //! What a script has where it is refused.
 ghost use Rattle.std.specs.Prelude.{◌≡◌, option_map, IfOk};
-ghost use Rattle.step_text.specs.Output.{Gains};
+ghost use Rattle.event_log.specs.Output.{Gains};
 ghost use Rattle.serde_json.specs.View.{view};
 ghost use Rattle.command_line.specs.Entry.{item_under, call_at, entry_of, printed_byte, printed, shown, IsShownOf, IsTold};
 
+use event_log::Output;
 use path_text::NoMemory;
 use scripts::{Cause, Loose, ScriptFault};
 use serde_json::Value;
 use std::alloc::Global;
-use step_text::Output;
 
 /// How many bytes of an entry are shown.
 pub const ENTRY_MAX: usize = 200;

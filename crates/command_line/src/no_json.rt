@@ -1,15 +1,15 @@
 //! Why a script is no JSON text, and where.
 ghost use Rattle.std.specs.Prelude.{◌≡◌, ◌++◌, option_map};
 ghost use Rattle.std.specs.List.{list_all};
-ghost use Rattle.step_text.specs.Output.{Gains};
+ghost use Rattle.event_log.specs.Output.{Gains};
 ghost use Rattle.command_line.specs.NoJson.{is_white, place_words, quoted, quoted_at, wrong, parts_at, last_of, first_of, blank_byte, blanks, plain_reason, not_utf8, IsTold, unexpected, excerpt, caret};
 
 use crate::advice::add_number;
 use crate::cut::line_at;
 use crate::entry::{add_byte, add_printed};
+use event_log::Output;
 use path_text::NoMemory;
 use scripts::JsonFault;
-use step_text::Output;
 
 /// How many bytes are shown before the one that is pointed to, and how many from this one on.
 pub const BEFORE_MAX: usize = 60;

@@ -4,10 +4,10 @@ ghost use Rattle.serde_json.specs.View.{view, items_view};
 ghost use Rattle.command_line.specs.Rows.{is_text, is_dir_at, node_among, node_at, row_line, can_be_named};
 
 use crate::cut::{cut, is_within};
+use event_log::Output;
 use path_text::NoMemory;
 use serde_json::Value;
 use std::alloc::Global;
-use step_text::Output;
 
 // Whether the element of an entry at that place is that text.
 fn is_text(entry: &Value, at: usize, text: &[u8]) -> bool

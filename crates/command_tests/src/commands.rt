@@ -4,14 +4,13 @@ use command_line::{
     Drawing, Fault, Request, Screen, asked, blamed, command, is_strict, order_of, script_named,
     status, style_of,
 };
-use draw_command::Form;
 use drawings::{Closes, Colours, Legend};
+use event_log::Output;
 use outcome_text::{ExploreFault, OptionFault, Options, SearchFault};
 use path_text::NoMemory;
-use run_command::ServiceFault;
+use script_commands::{Form, ServiceFault};
 use scripts::{RunFault, ScriptFault, TurnOrder};
 use std::alloc::Global;
-use step_text::Output;
 
 /// The fault of a search that gives nothing.
 pub fn searched(fault: SearchFault) -> Fault {

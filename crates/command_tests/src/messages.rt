@@ -4,12 +4,12 @@ use command_line::{
     Fault, add_caret, add_excerpt, add_no_json, advise, begun, can_be_named, entry_of, entry_text,
     position_of, reason_of, row_line,
 };
+use event_log::Output;
 use outcome_text::{ExploreFault, SearchFault};
 use path_text::Errno;
 use scripts::{CallFault, Cause, Field, JsonFault, Loose, ScriptFault};
 use serde_json::Value;
 use std::alloc::Global;
-use step_text::Output;
 
 /// Whether that is told in the line after a fault of a search that may go through so many states.
 fn is_advised(alloc: Global, fault: Fault, states: u64, line: &str, want: &str) -> bool {

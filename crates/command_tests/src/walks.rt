@@ -1,11 +1,11 @@
 //! Walks over the plain tree and over the indexed one that no script makes: to the deepest directory, and with few
 //! handles left.
+use event_log::Output;
 use fixtures::{PLAIN, base_tree, first_wrong, names_of, root};
 use handles::Standing;
 use path_text::{Errno, NoMemory, Path};
 use std::alloc::Global;
 use step_resolver::{Goal, Turn, Walk, advance};
-use step_text::Output;
 use tree_model::{Actor, HandleNo, StepOf, Tree};
 use tree_slab::SlabTree;
 

@@ -1,10 +1,9 @@
 //! What is written of a script: pictures, pages, reports as JSON and the replies to jobs; or why nothing is.
-use draw_command::{
-    DrawFault, Form, JsonFault, Style, draw, draw_page, grant_roots, json_limits_are_numbers,
-    replay_json, told_of,
-};
 use drawings::{Closes, PictureFault};
-use run_command::{JobsFault, run_jobs};
+use script_commands::{
+    DrawFault, Form, JobsFault, JsonFault, Style, draw, draw_page, grant_roots,
+    json_limits_are_numbers, replay_json, run_jobs, told_of,
+};
 use scripts::{ACTORS_MAX, RunFault, Script, ScriptFault, TurnOrder, read_scene};
 use std::alloc::Global;
 use std::sync::Wait;

@@ -1,8 +1,8 @@
 //! Sections of lines, told of the plain tree where the indexed ones tell the same.
 use crate::trees::{indexed, plain, tell};
+use event_log::Output;
 use path_text::{Errno, NoMemory};
 use std::alloc::Global;
-use step_text::Output;
 use tree_list::ListTree;
 use tree_model::{Snapshot, Tree};
 use tree_slab::SlabTree;

@@ -2,10 +2,10 @@
 ghost use Rattle.std.specs.Prelude.{IfOk};
 ghost use Rattle.tree_model.specs.Trees.{IsTree};
 
+use event_log::Output;
 use fixtures::{answered, base_tree, names_of};
 use path_text::{Errno, NoMemory};
 use std::alloc::Global;
-use step_text::Output;
 use tree_list::ListTree;
 use tree_model::{Actor, HandleNo, Tree};
 use tree_slab::SlabTree;

@@ -8,7 +8,7 @@ use Rattle.report_text.specs.Report.{numbered}
 use Rattle.tree_model.specs.declared.answer.Event.{Event}
 use Rattle.tree_model.specs.History.{after_event}
 use Rattle.tree_model.specs.State.{State}
-use Rattle.step_text.specs.Output.{escaped, Gains}
+use Rattle.event_log.specs.Output.{escaped, Gains}
 use Rattle.drawings.specs.declared.picture.Closes.{Closes}
 use Rattle.drawings.specs.declared.picture.Line.{Line}
 use Rattle.drawings.specs.Cells.{row_end, pieces}

@@ -6,7 +6,7 @@ use Rattle.std.proofs.lemmas.Bool.Decides.{nat_tests}
 use Rattle.std.proofs.lemmas.List.{length-append, length-replicate, length-take-le, length-drop, take-append-drop}
 use Rattle.std.proofs.lemmas.List.Elements.{All-cons, All-nil}
 use Rattle.std.proofs.lemmas.Fmt.{length-decimal-le}
-use Rattle.step_text.specs.Words.{BLANK}
+use Rattle.event_log.specs.Words.{BLANK}
 use Rattle.drawings.specs.declared.look.Colours.TheVariants.{Off}
 use Rattle.drawings.specs.declared.look.Legend.TheVariants as legend
 use Rattle.drawings.specs.declared.picture.Tone.{Tone}

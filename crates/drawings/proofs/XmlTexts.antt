@@ -4,7 +4,7 @@ use Rattle.std.specs.Prelude.{◌==◌, ◌&&◌, not, nat_lt, nat_le, if◌then
 use Rattle.std.proofs.lemmas.Bool.{eqb-false}
 use Rattle.std.proofs.lemmas.Bool.Decides.{nat_tests}
 use Rattle.std.proofs.lemmas.List.Elements.{All-head, All-tail}
-use Rattle.step_text.specs.Output.{hex_digit, escaped_byte}
+use Rattle.event_log.specs.Output.{hex_digit, escaped_byte}
 use Rattle.drawings.specs.DrawingLaws.{XmlTextIsPlain}
 use Rattle.drawings.specs.Svg.{xml_byte, xml_text}
 use Rattle.drawings.specs.Xml.{IsPlain, IsXmlText}

@@ -9,7 +9,7 @@ use Rattle.root_ops.specs.declared.op.Op.{Op}
 use Rattle.root_ops.specs.declared.op.Op.TheVariants as op
 use Rattle.tree_model.specs.StepWith.{StepWith}
 use Rattle.tree_model.specs.declared.step.StepOf.TheVariants.{Open, Dup, Parent, ReadLink, NameBelow, List as ListNames, Close, MakeDir, MakeFile, MakeLink, RemoveFile, RemoveDir, Rename}
-use Rattle.step_text.specs.Output.{escaped}
+use Rattle.event_log.specs.Output.{escaped}
 use Rattle.drawings.specs.Events.{mode_words}
 
 -- the actor's root, or what its call of that number opened

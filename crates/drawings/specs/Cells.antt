@@ -1,6 +1,6 @@
 -- What a place of a picture shows of a text.
 use Rattle.std.specs.Prelude.{ℕ, zero, suc, ◌-◌, ◌==◌, List, [], ◌∷◌, ◌++◌, length, take, drop, replicate, slice_get, nat_le, nat_lt, Bool, false, if◌then◌else◌, Option, Some, None, codes, decimal}
-use Rattle.step_text.specs.Words.{BLANK}
+use Rattle.event_log.specs.Words.{BLANK}
 
 -- the text, or what there is room for before a tilde
 abbrev pub cut : ℕ → List ℕ → List ℕ

@@ -11,7 +11,7 @@ use Rattle.tree_model.specs.declared.step.Mode.TheVariants.{Plain, NoReplace, Ex
 use Rattle.tree_model.specs.StepWith.{StepWith}
 use Rattle.tree_model.specs.declared.step.StepOf.TheVariants.{Open, Dup, Parent, ReadLink, NameBelow, List as ListNames, Close, MakeDir, MakeFile, MakeLink, RemoveFile, RemoveDir, Rename}
 use Rattle.tree_model.specs.State.{State}
-use Rattle.step_text.specs.Output.{kind_word, escaped}
+use Rattle.event_log.specs.Output.{kind_word, escaped}
 use Rattle.drawings.specs.Places.{way_of, place_words, entry_words}
 
 -- where an actor's handle leads, after a word

@@ -5,7 +5,7 @@ use Rattle.path_text.specs.Print.{printed}
 use Rattle.tree_model.specs.declared.inode.Inode.{Inode}
 use Rattle.tree_model.specs.State.{State, TOP, names_below}
 use Rattle.tree_model.specs.Steps.{held}
-use Rattle.step_text.specs.Output.{escaped}
+use Rattle.event_log.specs.Output.{escaped}
 
 -- the names from the top down to a node; None where it stands nowhere any more
 abbrev pub way_to : List Inode → ℕ → Option (List (List ℕ))

@@ -1,7 +1,7 @@
 -- A picture as SVG (Scalable Vector Graphics 1.1, W3C).
 use Rattle.std.specs.Prelude.{Bool, ℕ, zero, suc, ◌+◌, ◌-◌, ◌*◌, ◌==◌, List, [], ◌∷◌, ◌++◌, length, nat_le, nat_lt, if◌then◌else◌, is_some, codes, decimal}
 use Rattle.std.specs.List.{flat_map}
-use Rattle.step_text.specs.Output.{escaped_byte}
+use Rattle.event_log.specs.Output.{escaped_byte}
 use Rattle.report_text.specs.Report.{numbered}
 use Rattle.drawings.specs.declared.picture.Head.{Head}
 use Rattle.drawings.specs.declared.picture.Line.{Line}

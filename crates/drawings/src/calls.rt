@@ -1,15 +1,15 @@
 //! What an actor calls for, in the words that a script has for it.
 ghost use Rattle.std.specs.Prelude.{◌≡◌, map, IfOk};
-ghost use Rattle.step_text.specs.Output.{Gains};
+ghost use Rattle.event_log.specs.Output.{Gains};
 ghost use Rattle.drawings.specs.Calls.{with_ref, with_name, with_text, single_words, op_words, word_if, call_words, calls_of};
 
 use crate::events::mode_words;
+use event_log::Output;
 use path_text::{Bytes, Name, NoMemory};
 use race_core::{ActorPlan, Planned, Ref};
 use root_ops::Op;
 use std::alloc::Global;
 use std::marker::Model;
-use step_text::Output;
 use tree_model::StepOf;
 
 /// What an actor calls for, by the calls' numbers. Contracts see it as the list of the calls' words.

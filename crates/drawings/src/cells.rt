@@ -1,12 +1,12 @@
 //! What a place of a picture shows of a text.
 ghost use Rattle.std.specs.Prelude.{◌≡◌, ◌<◌, ◌≤◌, ◌^◌, length, replicate, IfOk, IfSome};
-ghost use Rattle.step_text.specs.Output.{Gains};
-ghost use Rattle.step_text.specs.Words.{BLANK};
+ghost use Rattle.event_log.specs.Output.{Gains};
+ghost use Rattle.event_log.specs.Words.{BLANK};
 ghost use Rattle.drawings.specs.Cells.{cut, fitted, to_right, is_blank, last_blank, row_end, mark_of, actor_name};
 
+use event_log::Output;
 use path_text::NoMemory;
 use std::alloc::Global;
-use step_text::Output;
 
 /// Adds so many blanks.
 pub(crate) fn blanks(out: &mut Output, count: usize) -> Result<(), NoMemory>

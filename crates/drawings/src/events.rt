@@ -1,13 +1,13 @@
 //! What an event did, told in the tree just before it.
 ghost use Rattle.std.specs.Prelude.{◌≡◌};
 ghost use Rattle.std.specs.List.{flat_map};
-ghost use Rattle.step_text.specs.Output.{Gains};
+ghost use Rattle.event_log.specs.Output.{Gains};
 ghost use Rattle.drawings.specs.Events.{with_place, with_entry, mode_words, spaced, step_text, verdict_words, answer_text, event_text};
 
 use crate::places::{add_entry, add_place, way_of};
+use event_log::Output;
 use path_text::{Name, Names, NoMemory};
 use std::alloc::Global;
-use step_text::Output;
 use tree_model::{Actor, Answer, Event, HandleNo, Mode, Snapshot, Step, StepOf};
 
 // Adds a word, and where an actor's handle leads.

@@ -1,17 +1,17 @@
 //! The heading: each actor's root, and how its calls ended.
 ghost use Rattle.std.specs.Prelude.{◌≡◌, ◌++◌, ◌<◌, ◌≤◌, [], length, slice_get, IfOk, OnOk};
 ghost use Rattle.std.specs.Option.{option_copied};
-ghost use Rattle.step_text.specs.Output.{Gains};
+ghost use Rattle.event_log.specs.Output.{Gains};
 ghost use Rattle.drawings.specs.Picture.{root_head, reply_tone, reply_text, call_head, call_heads, outcomes_at, actor_heads, heads_of};
 
 use crate::calls::CallWords;
 use crate::picture::{ACTORS_MAX, Head, Tone};
 use crate::places::{add_place, way_of};
+use event_log::Output;
 use path_text::NoMemory;
 use race_core::{Outcome, Outcomes};
 use report_text::reply_words;
 use std::alloc::Global;
-use step_text::Output;
 use tree_model::{Actor, HandleNo, Snapshot};
 
 // The line of an actor's root.

@@ -1,14 +1,14 @@
 //! Where what the other actors hold stands after an event, where it stands elsewhere than before.
 ghost use Rattle.std.specs.Prelude.{◌≡◌, ◌≤◌, ◌++◌, IfOk, OnOk};
-ghost use Rattle.step_text.specs.Output.{Gains};
+ghost use Rattle.event_log.specs.Output.{Gains};
 ghost use Rattle.drawings.specs.Notes.{newest_in, is_outside, now_words, outside_words, note_line, note_if_moved, note_of, notes_below};
 ghost use Rattle.drawings.specs.Places.{way_to, place_words};
 
 use crate::picture::{ACTORS_MAX, Line, Tone};
 use crate::places::{add_place, held, way_to};
+use event_log::Output;
 use path_text::{Names, NoMemory};
 use std::alloc::Global;
-use step_text::Output;
 use tree_list::is_within;
 use tree_model::{Actor, HandleNo, Inode, Node, OpenHandle, Snapshot, top};
 

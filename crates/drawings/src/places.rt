@@ -1,12 +1,12 @@
 //! Where what a step speaks of stands, by names from the top of the tree.
 ghost use Rattle.std.specs.Prelude.{◌≡◌, IfOk};
 ghost use Rattle.tree_model.specs.Steps.{held};
-ghost use Rattle.step_text.specs.Output.{Gains};
+ghost use Rattle.event_log.specs.Output.{Gains};
 ghost use Rattle.drawings.specs.Places.{way_to, way_of, place_words, entry_words};
 
+use event_log::Output;
 use path_text::{Name, Names, NoMemory};
 use std::alloc::Global;
-use step_text::Output;
 use tree_list::names_below;
 use tree_model::{Actor, HandleNo, Inode, Node, Snapshot, top};
 

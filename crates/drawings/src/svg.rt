@@ -1,6 +1,6 @@
 //! A picture as SVG (Scalable Vector Graphics 1.1, W3C).
 ghost use Rattle.std.specs.Prelude.{◌≡◌, ◌<◌, ◌≤◌, ◌+◌, length, All, OnOk, codes};
-ghost use Rattle.step_text.specs.Output.{Gains};
+ghost use Rattle.event_log.specs.Output.{Gains};
 ghost use Rattle.drawings.specs.declared.picture.Head.{Head as HeadValue};
 ghost use Rattle.drawings.specs.DrawingLaws.{AreBytes, IsLine};
 ghost use Rattle.drawings.specs.Xml.{IsDocument};
@@ -8,9 +8,9 @@ ghost use Rattle.drawings.specs.Svg.{tag, xml_byte, xml_text, tone_end, text_at,
 
 use crate::cells::{actor_name, cut, mark_of};
 use crate::picture::{ACTORS_MAX, Head, LINES_MAX, Line, Picture, Tone};
+use event_log::Output;
 use path_text::NoMemory;
 use std::alloc::Global;
-use step_text::Output;
 
 /// How many bytes of a line are shown.
 pub const SHOWN_MAX: usize = 55;

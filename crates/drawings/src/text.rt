@@ -1,7 +1,7 @@
 //! A picture as text.
 ghost use Rattle.std.specs.Prelude.{◌≡◌, ◌<◌, ◌≤◌, IfOk};
 ghost use Rattle.std.specs.List.{flat_map};
-ghost use Rattle.step_text.specs.Output.{Gains};
+ghost use Rattle.event_log.specs.Output.{Gains};
 ghost use Rattle.drawings.specs.declared.look.TheConstants.{COLUMNS_MIN};
 ghost use Rattle.drawings.specs.declared.look.Colours.TheVariants.{Off};
 ghost use Rattle.drawings.specs.Cells.{actor_name};
@@ -10,9 +10,9 @@ ghost use Rattle.drawings.specs.Text.{cell_width, tone_begin, tone_end, cell, no
 use crate::cells::{actor_name, cut, fitted, mark_of, row_end, to_right};
 use crate::look::{Colours, Legend, Look};
 use crate::picture::{ACTORS_MAX, Head, Line, Picture, Tone};
+use event_log::Output;
 use path_text::NoMemory;
 use std::alloc::Global;
-use step_text::Output;
 
 /// How wide the moment at the beginning of a line is.
 pub const MARK_COLUMNS: usize = 6;

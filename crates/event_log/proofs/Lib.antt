@@ -1,3 +1,5 @@
+pub mod Lines
+pub mod Escapes
 pub mod Again
 pub mod Pieces
 pub mod Placed

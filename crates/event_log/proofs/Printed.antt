@@ -7,9 +7,9 @@ use Rattle.path_text.specs.Print.{printed, after_slashes}
 use Rattle.tree_model.specs.declared.answer.Answer.{Answer}
 use Rattle.tree_model.specs.declared.answer.Answer.TheVariants.{Listed}
 use Rattle.tree_model.specs.declared.answer.Event.{Event}
-use Rattle.step_text.specs.Output.{escaped, escaped_byte, Gains}
-use Rattle.step_text.specs.Words.{after_blanks, line_of, step_words, answer_words, event_words}
-use Rattle.step_text.proofs.Lines.{listed_line}
+use Rattle.event_log.specs.Output.{escaped, escaped_byte, Gains}
+use Rattle.event_log.specs.Words.{after_blanks, line_of, step_words, answer_words, event_words}
+use Rattle.event_log.proofs.Lines.{listed_line}
 use Rattle.event_log.specs.Printed.{names_after}
 use Rattle.event_log.specs.Shapes.{first_piece, after_piece, pieces_read}
 use Rattle.event_log.proofs.Pieces.{length_pieces}

@@ -1,6 +1,6 @@
 -- Names written one after another.
 use Rattle.std.specs.Prelude.{ℕ, List, [], ◌∷◌, ◌++◌}
-use Rattle.step_text.specs.Output.{escaped}
+use Rattle.event_log.specs.Output.{escaped}
 
 -- a mark before each
 abbrev pub names_after : List ℕ → List (List ℕ) → List ℕ

@@ -2,13 +2,14 @@
 ghost use Rattle.std.specs.Prelude.{◌≡◌, ℕ, List, ◌≤◌, ◌<◌, suc, ◌+◌, ◌++◌, [], ◌∷◌, length, take, slice_get, Some, IsTrue, ◌↔◌, IfOk, IfSome, OnOk, OnErr, IsOk};
 ghost use Rattle.tree_model.specs.declared.answer.Answer.TheVariants.{Done as DoneAnswer};
 ghost use Rattle.tree_model.specs.declared.step.StepOf.TheVariants.{Close as CloseStep};
-ghost use Rattle.step_text.specs.Output.{Gains};
-ghost use Rattle.step_text.specs.Words.{event_words};
+ghost use Rattle.event_log.specs.Output.{Gains};
+ghost use Rattle.event_log.specs.Words.{event_words};
 ghost use Rattle.event_log.specs.Handles.{open_after};
 ghost use Rattle.event_log.specs.Records.{event_with, event_texts, events_read, texts_of, IsLog};
 ghost use Rattle.event_log.specs.Shapes.{step_texts, answer_texts};
 
 use crate::compare::{is_answer, is_step};
+use crate::output::Output;
 use crate::print::{write_answer, write_step};
 use crate::read::{after_step, back, lent_step, read_answer};
 use crate::shape::{AnswerShape, Record, StepShape};
@@ -16,7 +17,6 @@ use crate::write::{add_event, answer_len, step_len};
 use path_text::NoMemory;
 use std::alloc::Global;
 use std::marker::Model;
-use step_text::Output;
 use tree_model::{Actor, Answer, Event, HandleNo, LentStep};
 
 mod copy;

@@ -1,14 +1,15 @@
 //! What lies in the buffer, written as the words of a line in place.
 ghost use Rattle.path_text.specs.Print.{printed};
-ghost use Rattle.step_text.specs.Output.{Gains, escaped};
-ghost use Rattle.step_text.specs.Words.{line_of, step_words, answer_words};
+ghost use Rattle.event_log.specs.Output.{Gains, escaped};
+ghost use Rattle.event_log.specs.Words.{line_of, step_words, answer_words};
 ghost use Rattle.event_log.specs.Shapes.{step_read, answer_read, pieces_read, HasStepNames};
 ghost use Rattle.event_log.specs.Printed.{names_after};
 
+use crate::head::AnswerHead;
+use crate::output::Output;
 use crate::read::{after_piece, first_piece, front, lent_step};
 use crate::shape::{AnswerShape, StepShape};
 use path_text::NoMemory;
-use step_text::{AnswerHead, Output};
 
 /// Adds the step of that shape, whose names and text the bytes begin with. NoMemory where its room was refused.
 pub(crate) fn write_step(out: &mut Output, shape: &StepShape, bytes: &[u8]) -> Result<(), NoMemory>

@@ -7,18 +7,18 @@ ghost use Rattle.scripts.specs.Scenario.{said_by, said_for, IsPlayable};
 
 use crate::fault::ExplorePageFault;
 use crate::runs::runs_of;
-use draw_command::DrawFault;
 use drawings::ACTORS_MAX;
+use event_log::Output;
 use explore::{Progress, Scene};
 use explore_command::{Gauge, Waiter, survey_scene};
 use explore_parts::Asked;
 use outcome_text::{ExploreFault, Survey};
 use pages::runs_page;
 use path_text::NoMemory;
+use script_commands::DrawFault;
 use scripts::{RunFault, Scenario, Script, TurnOrder, read_scene};
 use std::alloc::Global;
 use std::io::Write;
-use step_text::Output;
 use tree_list::ListTree;
 
 // A page, and whether no property fails.

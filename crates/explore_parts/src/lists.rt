@@ -1,11 +1,11 @@
 //! Lists of numbers as JSON.
 ghost use Rattle.report_text.specs.Report.{numbered};
-ghost use Rattle.step_text.specs.Output.{Gains};
+ghost use Rattle.event_log.specs.Output.{Gains};
 ghost use Rattle.explore_parts.specs.Lists.{number_words, numbers_words, list_words, lists_words};
 
+use event_log::Output;
 use path_text::NoMemory;
 use report_text::json_words::comma;
-use step_text::Output;
 
 // Adds a number of a list by its place.
 fn number(out: &mut Output, at: usize, number: u64) -> Result<(), NoMemory>

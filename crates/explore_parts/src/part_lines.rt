@@ -1,18 +1,18 @@
 //! A part as a line of JSON.
 ghost use Rattle.std.specs.Prelude.{◌≡◌, IfOk};
 ghost use Rattle.report_text.specs.Report.{numbered};
-ghost use Rattle.step_text.specs.Output.{Gains};
+ghost use Rattle.event_log.specs.Output.{Gains};
 ghost use Rattle.explore_parts.specs.PartText.{cuts_words, flag_words, property_words, properties_words, subject_words, scope_words, wanted_words, question_words, count_words, texts_words, told_words, outcomes_words, turns_words, found_words, part_words, part_line};
 
 use crate::asked::Asked;
 use crate::lists::{lists, numbers};
 use crate::seal::seal;
+use event_log::Output;
 use outcome_text::{Part, Property, Told};
 use path_text::NoMemory;
 use report_text::json_words::{comma, text};
 use report_text::numbered;
 use std::alloc::Global;
-use step_text::Output;
 
 // Adds a bound on cuts, or `null` for none.
 fn cuts(out: &mut Output, cuts: Option<u64>) -> Result<(), NoMemory>

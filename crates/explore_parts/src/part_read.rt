@@ -10,11 +10,11 @@ ghost use Rattle.explore_parts.specs.declared.part_read.PartFault.TheVariants.{S
 ghost use Rattle.explore_parts.specs.Options.{IsUnsaid};
 ghost use Rattle.explore_parts.specs.PartRead.{SaysNumber, SaysActor, SaysText, ItemsSay, SaysList, SaysActors, Under, SaysTold, SaysPart, SaysProperty, SaysProperties, SaysQuestion, IsReading};
 
+use event_log::Output;
 use outcome_text::{Part, Property, Rule, Told, read_property, schedule_words};
 use path_text::NoMemory;
 use serde_json::Value;
 use std::alloc::{AllocError, Global};
-use step_text::Output;
 use thiserror::Error;
 
 /// Why a value is read as no part.

@@ -4,10 +4,10 @@ ghost use Rattle.path_text.specs.Name.{same_bytes};
 ghost use Rattle.explore_parts.specs.declared.seal.SealFault.TheVariants.{NoMemory as OutOfMemory};
 ghost use Rattle.explore_parts.specs.Seal.{sum_of, sealed, IsSealed, WhyNotSealed};
 
+use event_log::Output;
 use path_text::NoMemory;
 use sha2::{Digest, Sha256};
 use std::alloc::Global;
-use step_text::Output;
 use thiserror::Error;
 
 // What stands before a digest, and behind it.

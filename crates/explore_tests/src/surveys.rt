@@ -1,4 +1,5 @@
 //! Outcomes told in their order, schedules as words, and properties that no report can have a line for.
+use event_log::Output;
 use outcome_text::{
     Property, Rule, Told, all_hold, before_tail, first_untold, read_property, schedule_words,
     told_in_order,
@@ -7,7 +8,6 @@ use path_text::{Bytes, NoMemory};
 use scripts::RunFault;
 use search_tests::scenes::{MOVED_OUT, scene_of};
 use std::alloc::Global;
-use step_text::Output;
 
 fn output_of(alloc: Global, text: &str) -> Result<Output, NoMemory> {
     let mut out = Output::new(alloc);

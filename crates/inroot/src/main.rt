@@ -1,9 +1,9 @@
 //! The program: resolves paths below a root, over the tree that a script gives, replays, draws and explores scripts of
 //! calls that race, and lets workers make a script's calls.
 //!
-//! It hands the words of its command line to `command_line`, and the script and standard output to
-//! `walk_replay_command`, `draw_command`, `run_command`, `explore_command`, `explore_parts` and `explore_page_command`,
-//! where it is stated what a run writes; it ends with the status that `command_line` says of what happened.
+//! It hands the words of its command line to `command_line`, and the script and standard output to `script_commands`,
+//! `explore_command`, `explore_parts` and `explore_page_command`, where it is stated what a run writes; it ends with
+//! the status that `command_line` says of what happened.
 #![tactic(auto)]
 
 ghost use Rattle.std.specs.Prelude.{◌<◌, ◌≤◌};
@@ -19,14 +19,13 @@ use command_line::{
     Drawing, Fault, Request, Screen, Walking, asked, blamed, command, is_strict, order_of,
     script_named, status, style_of,
 };
-use draw_command::{Style, draw, draw_page, replay_json};
 use drawings::Closes;
 use explore_command::{explore_part, explore_script};
 use explore_page_command::{ExplorePageFault, explore_page};
 use explore_parts::{Asked, merge_parts, read_asked};
 use files::FilesRead;
 use reading::{number_rows, script_of, searched};
-use run_command::run_jobs;
+use script_commands::{Style, draw, draw_page, replay, replay_json, run_jobs, walk};
 use scripts::{RunFault, Script, TurnOrder, check_strictly};
 use std::alloc::Global;
 use std::io::IsTerminal;
@@ -37,7 +36,6 @@ use std::{env, io};
 use taken::Taken;
 use telling::{Told, tell};
 use waiting::Waiting;
-use walk_replay_command::{replay, walk};
 
 /// Tells help, the version or a usage fault, and how the program ends after it.
 fn told_by(rt: &HostRuntime, error: &clap::Error) -> Result<(), Fault> {

@@ -2,12 +2,12 @@
 use command_line::{
     Fault, add_caret, add_excerpt, add_no_json, advise, entry_text, position_of, reason_of,
 };
+use event_log::Output;
 use path_text::NoMemory;
 use scripts::{JsonFault, RunFault, Script, ScriptFault};
 use serde_json::Value;
 use std::alloc::Global;
 use std::io::{self, Write};
-use step_text::Output;
 
 /// What a fault is told by.
 #[derive(Drop)]

@@ -9,7 +9,7 @@ use Rattle.std.proofs.lemmas.List.{append-nil, append_assoc, take-append-drop}
 use Rattle.std.proofs.lemmas.Slice.Eq.{bytes_eq-Decides}
 use Rattle.path_text.specs.Name.{same_bytes}
 use Rattle.report_text.specs.Report.{reply_words}
-use Rattle.step_text.specs.Words.{BLANK}
+use Rattle.event_log.specs.Words.{BLANK}
 use Rattle.outcome_text.specs.Property.{is_blank, tells}
 use Rattle.outcome_text.specs.Tellable.{meets, reply_heads, reply_start, meets_reply, RepliesPass}
 use Rattle.outcome_text.proofs.Heads.{replies_have_heads}

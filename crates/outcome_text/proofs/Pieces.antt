@@ -2,7 +2,7 @@
 use Rattle.std.proofs.Common.{◌≡◌, ℕ, List, ◌++◌, ap, ◌∙◌}
 use Rattle.std.specs.Prelude.{Result, Ok, Err}
 use Rattle.std.proofs.lemmas.List.{append_assoc}
-use Rattle.step_text.specs.Output.{Gains}
+use Rattle.event_log.specs.Output.{Gains}
 
 pub four_added : {T E : Type 0} (a b c d old first second third new : List ℕ) (result : Result T E)
     → first ≡ old ++ a → second ≡ first ++ b → third ≡ second ++ c → Gains third new d result → Gains old new (a ++ (b ++ (c ++ d))) result

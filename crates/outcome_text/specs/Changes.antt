@@ -8,7 +8,7 @@ use Rattle.tree_model.specs.declared.row.Row.{Row}
 use Rattle.tree_model.specs.Entries.{with_some}
 use Rattle.tree_model.specs.Rows.{rows_in_order}
 use Rattle.tree_model.specs.State.{place_at, object_at, is_at}
-use Rattle.step_text.specs.Output.{escaped}
+use Rattle.event_log.specs.Output.{escaped}
 
 -- the entry is one of that tree
 abbrev pub stands : List Inode → Row → Bool

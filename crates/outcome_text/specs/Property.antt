@@ -3,7 +3,7 @@
 use Rattle.std.specs.Prelude.{ℕ, ◌-◌, ◌==◌, ◌||◌, ◌&&◌, not, List, Bool, true, false, length, slice_get, nat_eq, nat_le, codes, Option, Some, None}
 use Rattle.std.specs.List.{list_any, list_all, slice_split, starts_with}
 use Rattle.path_text.specs.Name.{same_bytes}
-use Rattle.step_text.specs.Words.{BLANK}
+use Rattle.event_log.specs.Words.{BLANK}
 use Rattle.outcome_text.specs.declared.property.Property.{Property}
 use Rattle.outcome_text.specs.declared.property.Rule.{Rule}
 use Rattle.outcome_text.specs.declared.property.Rule.TheVariants.{When, Never, Always}

@@ -8,7 +8,7 @@ use Rattle.race_core.specs.declared.plan.ActorPlan.{ActorPlan}
 use Rattle.race_core.specs.declared.plan.Planned.{Planned}
 use Rattle.race_core.specs.declared.report.Outcome.{Outcome}
 use Rattle.report_text.specs.Report.{reply_words}
-use Rattle.step_text.specs.Output.{fault_words}
+use Rattle.event_log.specs.Output.{fault_words}
 use Rattle.outcome_text.specs.declared.property.Property.{Property}
 use Rattle.outcome_text.specs.Property.{tells}
 

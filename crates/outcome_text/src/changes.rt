@@ -1,12 +1,12 @@
 //! What became of a tree's entries.
 ghost use Rattle.std.specs.Prelude.{◌≡◌};
 ghost use Rattle.std.specs.List.{flat_map};
-ghost use Rattle.step_text.specs.Output.{Gains};
+ghost use Rattle.event_log.specs.Output.{Gains};
 ghost use Rattle.outcome_text.specs.Changes.{stands, object_words, place_words, entry_words, change_words, changes_text};
 
+use event_log::Output;
 use path_text::NoMemory;
 use std::alloc::Global;
-use step_text::Output;
 use tree_model::{Inode, Object, Row, Snapshot, object_at, place_at};
 
 // Whether an entry is one of that tree.

@@ -1,7 +1,7 @@
 //! Conditions: which outcomes count, and how many lists come to them.
 ghost use Rattle.std.specs.Prelude.{◌≡◌};
 ghost use Rattle.std.specs.List.{list_any};
-ghost use Rattle.step_text.specs.Output.{Gains};
+ghost use Rattle.event_log.specs.Output.{Gains};
 ghost use Rattle.outcome_text.specs.Survey.{lists_where};
 ghost use Rattle.outcome_text.specs.Conditions.{is_met, counts, counted, lists_counted, lists_having, condition_text, conditions_text};
 ghost use Rattle.outcome_text.specs.Property.{is_condition};
@@ -9,8 +9,8 @@ ghost use Rattle.outcome_text.specs.Property.{is_condition};
 use crate::counts::{counted as add_counted, plus};
 use crate::property::Property;
 use crate::survey::Told;
+use event_log::Output;
 use path_text::NoMemory;
-use step_text::Output;
 
 // Whether an outcome has the line of a property, if that is a condition.
 fn is_met(told: &Told, property: &Property) -> bool

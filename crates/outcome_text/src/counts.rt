@@ -1,10 +1,10 @@
 //! Numbers of lists, exact below a bound.
 ghost use Rattle.std.specs.Prelude.{◌≡◌, ◌≤◌, ◌+◌, ◌++◌, min};
-ghost use Rattle.step_text.specs.Output.{Gains};
+ghost use Rattle.event_log.specs.Output.{Gains};
 ghost use Rattle.outcome_text.specs.Counts.{count_words};
 
+use event_log::Output;
 use path_text::NoMemory;
-use step_text::Output;
 
 /// Numbers of schedules are exact below this.
 pub const COUNT_MAX: u64 = 1_000_000_000_000_000_000;

@@ -1,14 +1,14 @@
 //! What is told of a report.
 ghost use Rattle.std.specs.Prelude.{◌≡◌};
-ghost use Rattle.step_text.specs.Output.{Gains};
+ghost use Rattle.event_log.specs.Output.{Gains};
 ghost use Rattle.outcome_text.specs.Outcome.{is_named, named_lines_of, named_lines, outside_line, outside_lines, named_outside_of, named_outside, outcome_lines, report_lines};
 
 use crate::changes::changes;
+use event_log::Output;
 use path_text::NoMemory;
 use race_core::{Outcome, Outcomes};
 use report_text::{held, numbered, replies, replies_of, rows};
 use std::alloc::Global;
-use step_text::Output;
 use tree_model::{Snapshot, Tree};
 
 // Whether an actor is one of those that are named.

@@ -7,9 +7,9 @@ use crate::conditions::{condition_lines, counted, lists_counted};
 use crate::order::in_order;
 use crate::property::Property;
 use crate::survey::{Told, all_hold, outcome_text};
+use event_log::Output;
 use path_text::NoMemory;
 use std::alloc::Global;
-use step_text::Output;
 
 /// The text of a survey, whether no property fails, and the outcomes that it tells of.
 #[derive(Debug, Drop)]

@@ -1,10 +1,10 @@
 //! How a list of turns is written as a schedule.
 ghost use Rattle.std.specs.Prelude.{◌≡◌, ◌≤◌, length, take};
-ghost use Rattle.step_text.specs.Output.{Gains};
+ghost use Rattle.event_log.specs.Output.{Gains};
 ghost use Rattle.outcome_text.specs.Schedule.{begins_to_rise, without_tail, turns_words, turns_text, schedule_words};
 
+use event_log::Output;
 use path_text::NoMemory;
-use step_text::Output;
 
 // Whether the first number isn't above the second, if there are two.
 fn begins_to_rise(list: &[u32]) -> bool

@@ -1,18 +1,18 @@
 //! The text of what a search found.
 ghost use Rattle.std.specs.Prelude.{◌≡◌, find};
 ghost use Rattle.std.specs.Option.{option_copied};
-ghost use Rattle.step_text.specs.Output.{Gains};
+ghost use Rattle.event_log.specs.Output.{Gains};
 ghost use Rattle.outcome_text.specs.Looks.{AreSums};
 ghost use Rattle.outcome_text.specs.Survey.{lists_breaking, breaks, witness_words, states_words, numbers_text, block_words, blocks_text, property_text, properties_text, holds, all_hold, outcome_text};
 
 use crate::counts::{counted, plus};
 use crate::looks::sums_of;
 use crate::property::Property;
+use event_log::Output;
 use path_text::NoMemory;
 use report_text::numbered;
 use std::alloc::Global;
 use std::collections::HashMap;
-use step_text::Output;
 
 /// An outcome as it is printed, and of how many lists of turns.
 #[derive(Debug, Drop)]

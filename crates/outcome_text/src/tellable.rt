@@ -4,11 +4,11 @@ ghost use Rattle.std.specs.List.{list_any};
 ghost use Rattle.outcome_text.specs.Tellable.{meets, reply_start, meets_reply, is_reply_of, is_reply, is_of_actor, is_count, can_be_told, first_untold};
 
 use crate::property::{Property, tells};
+use event_log::Output;
 use path_text::NoMemory;
 use race_core::{ActorPlan, Planned};
 use report_text::numbered;
 use std::alloc::Global;
-use step_text::Output;
 
 // Whether one of the two is the other's beginning, by words.
 fn meets(text: &[u8], start: &[u8]) -> bool

@@ -6,11 +6,11 @@ ghost use Rattle.outcome_text.specs.Telling.{IsLook, IsToldOf};
 use crate::outcome::{Ended, outcome_lines, report_lines};
 use crate::schedule::schedule_words;
 use crate::survey::Told;
+use event_log::Output;
 use node_numbering::renumber;
 use path_text::NoMemory;
 use race_core::Report;
 use std::alloc::Global;
-use step_text::Output;
 use tree_model::{Snapshot, Tree};
 
 /// An outcome as it was found.

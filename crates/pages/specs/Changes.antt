@@ -2,7 +2,7 @@
 use Rattle.std.specs.Prelude.{ℕ, ◌==◌, ◌&&◌, not, Bool, true, false, List, [], ◌∷◌, ◌++◌, if◌then◌else◌, Option, Some, None, slice_get, codes, decimal}
 use Rattle.path_text.specs.Name.{same_bytes}
 use Rattle.report_text.specs.Report.{numbered}
-use Rattle.step_text.specs.Output.{escaped, kind_word}
+use Rattle.event_log.specs.Output.{escaped, kind_word}
 use Rattle.tree_model.specs.declared.inode.Inode.{Inode}
 use Rattle.tree_model.specs.declared.inode.OpenHandle.{OpenHandle}
 use Rattle.tree_model.specs.declared.inode.Place.{Place}

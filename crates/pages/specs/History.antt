@@ -1,6 +1,6 @@
 -- The events of a run, each with what it changed.
 use Rattle.std.specs.Prelude.{ℕ, suc, List, [], ◌∷◌, ◌++◌, codes, decimal}
-use Rattle.step_text.specs.Words.{line_of, step_words, answer_words}
+use Rattle.event_log.specs.Words.{line_of, step_words, answer_words}
 use Rattle.tree_model.specs.declared.answer.Event.{Event}
 use Rattle.tree_model.specs.History.{after_event}
 use Rattle.tree_model.specs.State.{State}

@@ -2,14 +2,14 @@
 ghost use Rattle.std.specs.Prelude.{◌≡◌, ◌++◌, IfOk, OnOk};
 ghost use Rattle.std.specs.Option.{option_copied};
 ghost use Rattle.report_text.specs.Report.{numbered};
-ghost use Rattle.step_text.specs.Output.{Gains};
+ghost use Rattle.event_log.specs.Output.{Gains};
 ghost use Rattle.pages.specs.Changes.{same_place, has_moved, moved_one, moved, place_words, node_words, node_at, nodes_words, same_handle, has_changed, changed_one, changed, open_words, handle_words, handle_at, handles_words, changes_words};
 
+use event_log::Output;
 use path_text::NoMemory;
 use report_text::json_words::{comma, text};
 use report_text::numbered;
 use std::alloc::Global;
-use step_text::Output;
 use tree_model::{Inode, OpenHandle, Place, Snapshot};
 
 // Whether two places are one, or there is none.

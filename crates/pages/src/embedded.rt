@@ -1,9 +1,9 @@
 //! Texts within HTML, and JSON within its element `script`.
-ghost use Rattle.step_text.specs.Output.{Gains};
+ghost use Rattle.event_log.specs.Output.{Gains};
 ghost use Rattle.pages.specs.Page.{html_byte, html_text, script_byte, script_text};
 
+use event_log::Output;
 use path_text::NoMemory;
-use step_text::Output;
 
 // Adds a byte of a text of HTML.
 fn html_byte(out: &mut Output, byte: u8) -> Result<(), NoMemory>

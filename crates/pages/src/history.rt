@@ -1,17 +1,16 @@
 //! The events of a run, each with what it changed.
 ghost use Rattle.std.specs.Prelude.{◌≡◌, IfOk};
-ghost use Rattle.step_text.specs.Output.{Gains};
-ghost use Rattle.step_text.specs.Words.{line_of, step_words, answer_words};
+ghost use Rattle.event_log.specs.Output.{Gains};
+ghost use Rattle.event_log.specs.Words.{line_of, step_words, answer_words};
 ghost use Rattle.tree_model.specs.History.{after_event};
 ghost use Rattle.pages.specs.History.{step_part, answer_part, deed_words, event_words, events_from};
 
 use crate::changes::changes;
-use event_log::EventLog;
+use event_log::{EventLog, Output};
 use path_text::NoMemory;
 use report_text::json_words::{comma, text};
 use report_text::numbered;
 use std::alloc::Global;
-use step_text::Output;
 use tree_list::ListTree;
 use tree_model::{Event, Snapshot, Tree};
 

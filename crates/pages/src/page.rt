@@ -1,6 +1,6 @@
 //! A page that plays runs.
 ghost use Rattle.std.specs.List.{flat_map};
-ghost use Rattle.step_text.specs.Output.{Gains};
+ghost use Rattle.event_log.specs.Output.{Gains};
 ghost use Rattle.pages.specs.Page.{beginning, before_runs, before_report, before_picture, after_run, ending, text_part, report_part, picture_part, run_part, page_of};
 ghost use Rattle.pages.specs.Shown.{picture_json};
 
@@ -8,9 +8,9 @@ use crate::embedded::{html_text, script_text};
 use crate::fixed::{BEGINNING, END, PICTURE, REPORT, RUN_END, RUNS};
 use crate::picture::picture_json;
 use crate::played::Played;
+use event_log::Output;
 use path_text::NoMemory;
 use std::alloc::Global;
-use step_text::Output;
 
 // Adds what a page begins with.
 #[tactic(auto, unfolding(crate::specs::Page::beginning))]

@@ -1,14 +1,14 @@
 //! A picture as JSON.
 ghost use Rattle.std.specs.Prelude.{◌≡◌};
-ghost use Rattle.step_text.specs.Output.{Gains};
+ghost use Rattle.event_log.specs.Output.{Gains};
 ghost use Rattle.report_text.specs.Report.{numbered};
 ghost use Rattle.pages.specs.Shown.{tone_word, toned_words, head_words, moment_words, line_words, heads_words, lines_words, actors_part, heading_part, lines_part, picture_json};
 
 use drawings::{Head, Line, Picture, Tone};
+use event_log::Output;
 use path_text::NoMemory;
 use report_text::json_words::{comma, text};
 use report_text::numbered;
-use step_text::Output;
 
 // The word for how a text looks.
 fn tone_word(tone: Tone) -> &'static str

@@ -6,10 +6,9 @@ ghost use Rattle.pages.specs.Page.{played_of};
 
 use crate::report::report_json;
 use drawings::{CallWords, Closes, Picture, PictureFault};
-use event_log::EventLog;
+use event_log::{EventLog, Output};
 use race_core::Outcomes;
 use std::alloc::Global;
-use step_text::Output;
 use tree_list::ListTree;
 
 /// A run that a page plays.

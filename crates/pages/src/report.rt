@@ -1,17 +1,16 @@
 //! The report of a run as JSON.
-ghost use Rattle.step_text.specs.Output.{Gains};
+ghost use Rattle.event_log.specs.Output.{Gains};
 ghost use Rattle.report_text.specs.Report.{numbered};
 ghost use Rattle.pages.specs.Run.{reply_at, replies_at, replies_words, replies_part, opening_part, events_words, events_part, report_json};
 
 use crate::changes::changes;
 use crate::history::add_events;
-use event_log::EventLog;
+use event_log::{EventLog, Output};
 use path_text::NoMemory;
 use race_core::{Outcome, Outcomes};
 use report_text::json_words::{comma, text};
 use report_text::reply_words;
 use std::alloc::Global;
-use step_text::Output;
 use tree_list::ListTree;
 use tree_model::{Snapshot, Tree};
 

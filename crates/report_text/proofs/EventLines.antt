@@ -3,8 +3,8 @@ use Rattle.std.proofs.Common.{◌≡◌, ℕ, List, ◌++◌, ap, ◌∙◌}
 use Rattle.std.specs.Prelude.{Option, Some, None, IfSome, Result, Ok, Err, codes, decimal}
 use Rattle.std.proofs.lemmas.List.{append_assoc}
 use Rattle.tree_model.specs.declared.answer.Event.{Event}
-use Rattle.step_text.specs.Output.{Gains}
-use Rattle.step_text.specs.Words.{event_words}
+use Rattle.event_log.specs.Output.{Gains}
+use Rattle.event_log.specs.Words.{event_words}
 use Rattle.report_text.specs.Report.{event_line}
 
 -- its pieces, one after another, are the line

@@ -12,9 +12,9 @@ use Rattle.tree_model.specs.Entries.{with_some}
 use Rattle.tree_model.specs.Rows.{rows_in_order}
 use Rattle.tree_model.specs.State.{State, object_at}
 use Rattle.tree_model.specs.Steps.{held_count, kind_of}
-use Rattle.step_text.specs.Output.{escaped, kind_word, opened_words, fault_words}
-pub use Rattle.step_text.specs.Words.{event_words}
-use Rattle.step_text.specs.Words.{line_of, answer_words}
+use Rattle.event_log.specs.Output.{escaped, kind_word, opened_words, fault_words}
+pub use Rattle.event_log.specs.Words.{event_words}
+use Rattle.event_log.specs.Words.{line_of, answer_words}
 
 -- what each element comes to by its number, counted from k on, one after another
 abbrev pub numbered : {A B : Type 0} → (ℕ → A → List B) → ℕ → List A → List B

@@ -1,14 +1,13 @@
 //! The lines of events.
 ghost use Rattle.std.specs.Prelude.{◌<◌, length, IfSome, slice_get};
-ghost use Rattle.step_text.specs.Output.{Gains};
-ghost use Rattle.step_text.specs.Words.{event_words};
+ghost use Rattle.event_log.specs.Output.{Gains};
+ghost use Rattle.event_log.specs.Words.{event_words};
 ghost use Rattle.report_text.specs.Report.{event_line, event_lines};
 
 use crate::words::numbered;
-use event_log::EventLog;
+use event_log::{EventLog, Output};
 use path_text::NoMemory;
 use std::alloc::Global;
-use step_text::Output;
 use tree_model::Event;
 
 /// Adds what an event did, with no newline: `STEP = ANSWER`. NoMemory where its room was refused.

@@ -4,10 +4,10 @@ ghost use Rattle.std.specs.Char.{digit_char, encode_utf8};
 ghost use Rattle.std.specs.Str.{encode_utf8_all};
 ghost use Rattle.json.specs.Print.{escape_byte, escape};
 ghost use Rattle.report_text.specs.Json.{text_words, comma_words};
-ghost use Rattle.step_text.specs.Output.{Gains};
+ghost use Rattle.event_log.specs.Output.{Gains};
 
+use event_log::Output;
 use path_text::NoMemory;
-use step_text::Output;
 
 // A hexadecimal digit, in lower case.
 fn hex_digit(value: u8) -> u8

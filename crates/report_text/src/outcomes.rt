@@ -1,12 +1,12 @@
 //! The lines of how calls ended.
-ghost use Rattle.step_text.specs.Output.{Gains};
+ghost use Rattle.event_log.specs.Output.{Gains};
 ghost use Rattle.report_text.specs.Report.{reply_words, reply_line, actor_lines, reply_lines};
 
 use crate::words::numbered;
+use event_log::Output;
 use path_text::NoMemory;
 use race_core::{Outcome, Outcomes};
 use std::alloc::Global;
-use step_text::Output;
 
 /// Adds how a call ended, with no newline: `opened KIND NODE PATH`, `text TEXT`, `done`, `count N`, `stepped ANSWER`
 /// or `fault ENAME`. NoMemory where its room was refused.

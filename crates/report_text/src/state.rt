@@ -1,12 +1,12 @@
 //! The lines of a tree's entries and of its open handles.
 ghost use Rattle.std.specs.List.{flat_map};
-ghost use Rattle.step_text.specs.Output.{Gains};
+ghost use Rattle.event_log.specs.Output.{Gains};
 ghost use Rattle.report_text.specs.Report.{place_words, entry_line, row_line, row_lines, held_line, held_lines};
 
 use crate::words::numbered;
+use event_log::Output;
 use path_text::NoMemory;
 use std::alloc::Global;
-use step_text::Output;
 use tree_model::{Actor, Inode, Kind, Row, Snapshot, Tree, object_at};
 
 // Adds a row's directory, its name and its node.

@@ -1,14 +1,14 @@
 //! The whole text.
-ghost use Rattle.step_text.specs.Output.{Gains};
+ghost use Rattle.event_log.specs.Output.{Gains};
 ghost use Rattle.report_text.specs.Report.{report_text};
 
 use crate::history::events;
 use crate::outcomes::replies;
 use crate::state::{held, rows};
+use event_log::Output;
 use path_text::NoMemory;
 use race_core::Report;
 use std::alloc::Global;
-use step_text::Output;
 use tree_model::Tree;
 
 /// Adds the text of a report: a line for each event, then for each call, then for each entry of the tree, then for

@@ -1,6 +1,7 @@
 //! What the tests share: services over the base tree, and calls, whose replies are told as lines.
 //!
 //! A value of many parts is let go by `drop`, and not at the end of a body, where its parts would be proved one by one.
+use event_log::Output;
 use fixtures::{PLAIN, base_tree, names_of};
 use handles::Standing;
 use path_text::{Bytes, Errno, Names, NoMemory};
@@ -11,7 +12,6 @@ use std::sync::Wait;
 use std::sync::atomic::{AtomicU64, Ordering};
 use std::thread;
 use std::thread::Threads;
-use step_text::Output;
 use tree_list::ListTree;
 use tree_model::{Mode, Tree};
 use tree_slab::SlabTree;

@@ -1,5 +1,6 @@
 //! Jobs that are served by sessions on threads.
 use crate::calling::{On, comes, events_closed, held, opened, release, resolve, write_reply};
+use event_log::Output;
 use path_text::NoMemory;
 use root_ops::{Reply, Request};
 use sessions::{Gate, NoGate, Pause, Service, Session};
@@ -7,7 +8,6 @@ use std::alloc::Global;
 use std::sync::Wait;
 use std::sync::atomic::{AtomicU64, Ordering};
 use std::thread::Threads;
-use step_text::Output;
 use tree_list::ListTree;
 use workers::{ServeCause, ServeRefusal, Served, serve, workers_limit_is_a_number};
 

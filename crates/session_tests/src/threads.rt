@@ -1,6 +1,6 @@
 //! Four sessions on four threads, and whether the closed history tells of each reply.
 use crate::calling::{Base, On, Part, held, on_threads, opened, write_reply};
-use event_log::EventLog;
+use event_log::{EventLog, Output};
 use fixtures::names_of;
 use path_text::{Errno, Names, NoMemory};
 use root_ops::Reply;
@@ -12,7 +12,6 @@ use std::alloc::Global;
 use std::sync::atomic::{AtomicU64, Ordering};
 use std::sync::{Mutex, Wait};
 use std::thread::Threads;
-use step_text::Output;
 use tree_list::ListTree;
 use tree_model::{Actor, Answer, Event, HandleNo, Kind, Node, StepOf, Tree};
 use tree_slab::SlabTree;

@@ -1,3 +1,9 @@
+pub mod CacheKeys
+pub mod Lists
+pub mod Turns
+pub mod Finds
+pub mod Runs
+pub mod Kept
 pub mod Maps
 pub mod NameOrder
 pub mod EntryMaps

@@ -2,9 +2,9 @@
 use Rattle.std.proofs.Common.{◌≡◌, ℕ, Bool, List, length, Option, Some, sym, ap, subst, ◌∙◌, ⊎_elim}
 use Rattle.std.specs.Prelude.{Result, Ok, Err, OnOk, OnErr}
 use Rattle.path_text.specs.declared.errno.NoMemory.{NoMemory}
-use Rattle.dentry_cache.specs.Cache.{Cache, found, looked, noted, forgotten}
-use Rattle.dentry_cache.proofs.Keys.{key}
-use Rattle.dentry_cache.proofs.Finds.{found-looked, found-noted, found-forgotten}
+use Rattle.tree_slab.specs.Cache.{Cache, found, looked, noted, forgotten}
+use Rattle.tree_slab.proofs.CacheKeys.{key}
+use Rattle.tree_slab.proofs.Finds.{found-looked, found-noted, found-forgotten}
 use Rattle.tree_slab.specs.Cached.{IsTrueOf}
 use Rattle.tree_slab.specs.Directories.{entry_in, with_entry, SetsEntry, AddsNode}
 use Rattle.tree_slab.proofs.Agreement.{with_entry-cases}

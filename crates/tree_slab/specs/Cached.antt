@@ -1,6 +1,6 @@
 -- When what is remembered of the directories' entries is true.
 use Rattle.std.specs.Prelude.{◌≡◌, ℕ, List, Option, Some}
-use Rattle.dentry_cache.specs.Cache.{Cache, found}
+use Rattle.tree_slab.specs.Cache.{Cache, found}
 use Rattle.tree_slab.specs.Directories.{entry_in}
 
 -- what is remembered of an entry, a missing one too, is what its directory has

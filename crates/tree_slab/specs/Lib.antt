@@ -1,3 +1,5 @@
+pub mod Cache
+pub mod Calls
 pub mod Directories
 pub mod Index
 pub mod Counts

@@ -5,8 +5,8 @@ ghost use Rattle.std.specs.Cmp.Lexicographic.{slice_cmp};
 ghost use Rattle.std.specs.List.Sorted.{IsStrictlySortedBy};
 ghost use Rattle.tree_slab.specs.Directories.{has_map, entry_in, names_at, SetsEntry, AddsNode, LosesMap};
 
+use crate::cache::DentryCache;
 use crate::directories::Directories;
-use dentry_cache::DentryCache;
 use path_text::{LentName, Names, NoMemory};
 use std::alloc::Global;
 use std::marker::Model;

@@ -5,9 +5,9 @@ ghost use Rattle.tree_model.specs.Trees.{IsTree};
 ghost use Rattle.tree_list.specs.Build.{top_alone};
 ghost use Rattle.tree_slab.specs.Index.{is_standing_dir, HasEmptyMaps, HasParentMap, Links, IsIndexed};
 
+use crate::cache::DentryCache;
 use crate::cached::CachedDirectories;
 use crate::directories::Directories;
-use dentry_cache::DentryCache;
 use path_text::{Errno, LentName, Names, NoMemory};
 use std::alloc::Global;
 use std::marker::Model;

@@ -2,11 +2,11 @@
 ghost use Rattle.std.specs.Prelude.{◌≡◌, IfErr, MatchOption, MatchResult, Ok, OnOk, Err};
 ghost use Rattle.tree_model.specs.Trees.{IsState, IsTree};
 ghost use Rattle.tree_list.specs.Build.{adds_all, with_nodes, top_alone, IsFaultFrom};
-ghost use Rattle.dentry_cache.specs.Cache.{cap_fault};
+ghost use Rattle.tree_slab.specs.Cache.{cap_fault};
 
+use crate::cache::DentryCache;
 use crate::handles::Handles;
 use crate::nodes::Nodes;
-use dentry_cache::DentryCache;
 use path_text::{Errno, Names, NoMemory};
 use std::alloc::Global;
 use std::marker::Model;

@@ -1,10 +1,10 @@
 //! Caches, call by call.
 
-use dentry_cache::DentryCache;
 use path_text::{Errno, Name};
 use std::alloc::Global;
 use std::test::Fail;
 use tree_model::Node;
+use tree_slab::DentryCache;
 
 /// Calls: what is called, the directory, the name, and the node that is noted or found; `-` is no such entry, and `?`
 /// nothing remembered.

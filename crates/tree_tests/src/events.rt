@@ -1,11 +1,10 @@
 //! Logs of each step with each answer, there and back.
 use super::rows::{ANSWERS, STEPS, step_of, words_and_line};
-use event_log::EventLog;
+use event_log::{EventLog, Output};
 use fixtures::answer_of;
 use path_text::{Errno, LentBytes, Name, NoMemory};
 use std::alloc::Global;
 use std::test::Fail;
-use step_text::Output;
 use tree_model::{Actor, Answer, Event, HandleNo, StepOf};
 
 /// The event of a step and an answer, each answer to an actor of its own.

@@ -1,5 +1,6 @@
 //! What no contract says of paths: that their words mean what the standards say, on worked examples, and that each call
 //! can succeed.
+use event_log::Output;
 use fixtures::names_of;
 use path_text::{
     Bytes, Component, Errno, LentBytes, LentName, Name, Names, NoMemory, Part, Parts, Path, Rule,
@@ -8,7 +9,6 @@ use path_text::{
 use std::alloc::Global;
 use std::fmt;
 use std::test::Fail;
-use step_text::Output;
 
 /// A line has a call, a text and what the call tells of it: `CALL TEXT = ANSWER`.
 const SHORT: &str = "name  = EINVAL

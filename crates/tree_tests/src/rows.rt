@@ -1,7 +1,7 @@
 //! Steps and answers of each kind, and their lines.
+use event_log::read_step;
 use path_text::Errno;
 use std::alloc::Global;
-use step_text::read_step;
 use tree_model::Step;
 
 pub const STEPS: &str = "\

@@ -1,10 +1,10 @@
 //! Each form of a line, and the lines that are none.
 use super::rows::{ANSWERS, STEPS, words_and_line};
+use event_log::{Output, read_step};
 use fixtures::{answer_of, names_of};
 use path_text::{Errno, NoMemory};
 use std::alloc::Global;
 use std::test::Fail;
-use step_text::{Output, read_step};
 use tree_model::{Kind, Node};
 
 const OTHERS: [&str; 20] = [

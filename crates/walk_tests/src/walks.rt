@@ -5,12 +5,12 @@
 //! Its steps come each with the answer after an arrow: `=>` where the answer passes in place, `->` where it
 //! must be taken.
 use crate::words::{are_parts, goal_of};
+use event_log::Output;
 use fixtures::{answer_of, are_numbers, column, cut, flags_of, root};
 use handles::Standing;
 use path_text::{Errno, Path};
 use std::alloc::Global;
 use step_resolver::{Turn, Walk};
-use step_text::Output;
 use tree_model::Answer;
 
 // A walk, its steps, and its end: `more` where it goes on, and `opened dir 11 /a left b ..` where it is held at /a with

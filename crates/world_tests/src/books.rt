@@ -1,10 +1,9 @@
 //! Books: steps as lines of text, by tables.
-use event_log::EventLog;
+use event_log::{EventLog, Output, read_step};
 use fixtures::{cut, names_of, tree_of};
 use path_text::{Errno, NoMemory};
 use race_core::Book;
 use std::alloc::Global;
-use step_text::{Output, read_step};
 use tree_list::ListTree;
 use tree_model::{Actor, Answer, HandleNo, LentStep, StepOf, Tree};
 

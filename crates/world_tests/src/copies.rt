@@ -1,11 +1,11 @@
 //! Worlds that are copied in the midst of calls, and books.
 use crate::plans::{tree, turns, world_after};
 use crate::told::tell;
+use event_log::Output;
 use fixtures::column;
 use path_text::{Errno, NoMemory};
 use race_core::{Book, Report, World, WorldFault};
 use std::alloc::Global;
-use step_text::Output;
 use tree_list::ListTree;
 use tree_model::{Actor, HandleNo, StepOf};
 

@@ -1,6 +1,6 @@
 //! Runs as JSON, and pages of them. What `replay --json` and `draw --html` write is looked at by `checks/pages`.
 use drawings::{Closes, PictureFault, calls_of};
-use event_log::EventLog;
+use event_log::{EventLog, Output};
 use fixtures::tree_of;
 use pages::{
     BEGINNING, END, PICTURE, Played, REPORT, RUN_END, RUNS, embedded_text_opens_no_tag,
@@ -10,7 +10,6 @@ use path_text::{Errno, Name, Names, NoMemory};
 use race_core::{ActorPlan, Outcome, Outcomes, Plans};
 use std::alloc::Global;
 use std::test::Fail;
-use step_text::Output;
 use tree_list::ListTree;
 use tree_model::{Actor, Answer, HandleNo, Kind, Node, StepOf, Tree};
 

@@ -1,10 +1,10 @@
 //! Worlds after different turns that are the same but for the numbers of handles, and some that aren't.
 use crate::plans::{turns, world_after};
+use event_log::Output;
 use fixtures::column;
 use path_text::NoMemory;
 use race_core::{World, WorldFault};
 use std::alloc::Global;
-use step_text::Output;
 use tree_list::ListTree;
 
 // Tells the handles of actor 0, one by one.

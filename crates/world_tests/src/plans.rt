@@ -6,12 +6,12 @@
 ghost use Rattle.std.specs.Prelude.{IfOk};
 ghost use Rattle.tree_model.specs.Trees.{IsTree};
 
+use event_log::read_step;
 use fixtures::{BASE, PLAIN, cut, entries, entry, names_of};
 use path_text::{Bytes, Errno, Flags, NoMemory};
 use race_core::{ActorPlan, Planned, Plans, Ref, World, WorldFault};
 use root_ops::{Op, Request};
 use std::alloc::Global;
-use step_text::read_step;
 use tree_list::ListTree;
 use tree_model::{HandleNo, Step, StepOf};
 

@@ -1,9 +1,9 @@
 //! Texts and commas of JSON, by RFC 8259.
+use event_log::Output;
 use path_text::NoMemory;
 use report_text::json_words::{comma, text};
 use std::alloc::Global;
 use std::test::Fail;
-use step_text::Output;
 
 /// Bytes, and the text whose characters have these numbers. By section 7 a quote, a backslash and what is below 32 are
 /// escaped, and nothing else has to be.

@@ -4,11 +4,11 @@ ghost use Rattle.tree_model.specs.Steps.{takes_no_memory};
 
 use crate::plans::{plans, tree_with, turns};
 use crate::told::{ran, tell};
+use event_log::Output;
 use fixtures::{PLAIN, column};
 use path_text::{Errno, Names, NoMemory};
 use race_core::Report;
 use std::alloc::Global;
-use step_text::Output;
 use tree_list::ListTree;
 use tree_model::{Actor, Answer, HandleNo, LentStep, Snapshot, StepOf, Tree};
 

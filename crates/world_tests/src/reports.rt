@@ -1,12 +1,11 @@
 //! Lines of reports that no run of a script has, and what stands alone. Whole reports are outputs of `replay`.
-use event_log::EventLog;
+use event_log::{EventLog, Output};
 use fixtures::{names_of, tree_of};
 use path_text::{Errno, Name, Names, NoMemory};
 use race_core::{Outcome, Outcomes};
 use report_text::{event_words, events, held, replies, reply_words, rows, rows_have_lines};
 use std::alloc::Global;
 use std::test::Fail;
-use step_text::Output;
 use tree_list::ListTree;
 use tree_model::{Actor, Answer, Event, HandleNo, Kind, Node, StepOf, Tree};
 

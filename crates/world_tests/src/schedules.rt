@@ -1,12 +1,12 @@
 //! Every schedule of two actors, and turns one by one.
 use crate::plans::{plans, tree, world_after};
 use crate::told::{ran, tell_outcome};
+use event_log::Output;
 use fixtures::PLAIN;
 use path_text::{Errno, NoMemory};
 use race_core::{Report, WorldFault};
 use std::alloc::Global;
 use std::test::*;
-use step_text::Output;
 use tree_list::ListTree;
 
 // One digit of an interleaving for each turn.

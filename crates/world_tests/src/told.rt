@@ -1,9 +1,8 @@
 //! What is told of a world's report, as lines of text.
-use event_log::EventLog;
+use event_log::{EventLog, Output};
 use path_text::NoMemory;
 use race_core::{ActorPlan, Outcome, Outcomes, Report, World, WorldFault};
 use std::alloc::Global;
-use step_text::Output;
 use tree_model::{Actor, Tree};
 
 /// The report on a world of that room that was run by that schedule.

@@ -1,11 +1,11 @@
 //! Worlds: what is told of their reports, and the faults of their making and of their runs.
 use crate::plans::{plans, tree, turns};
 use crate::told::{begins, ran};
+use event_log::Output;
 use fixtures::{BENEATH, NO_LINKS, PLAIN, base_tree, column, names_of};
 use path_text::{Errno, Flags, NoMemory};
 use race_core::{ActorPlan, Plans, World, WorldFault};
 use std::alloc::Global;
-use step_text::Output;
 use tree_list::ListTree;
 use tree_model::{Row, Tree};
 use tree_slab::SlabTree;

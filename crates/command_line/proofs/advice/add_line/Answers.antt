@@ -1,6 +1,6 @@
 use Rattle.std.proofs.Common.{◌++◌, subst, List, ℕ}
 use Rattle.std.specs.Prelude.{codes}
-use Rattle.step_text.specs.Output.{Gains}
+use Rattle.event_log.specs.Output.{Gains}
 use Rattle.command_line.proofs.advice.add_line.Goals as goal
 
 -- the hint is the one that is added

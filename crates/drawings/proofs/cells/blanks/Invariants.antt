@@ -1,5 +1,5 @@
 use Rattle.std.proofs.Common.{◌≡◌, ◌++◌, replicate}
-use Rattle.step_text.specs.Words.{BLANK}
+use Rattle.event_log.specs.Words.{BLANK}
 use Rattle.drawings.proofs.cells.blanks.Given as goal
 
 -- so many blanks are written

@@ -1,6 +1,6 @@
 use Rattle.std.proofs.Common.{ℕ, List, subst}
 use Rattle.std.specs.Prelude.{codes}
-use Rattle.step_text.specs.Output.{Gains}
+use Rattle.event_log.specs.Output.{Gains}
 use Rattle.report_text.specs.Json.{text_words}
 use Rattle.explore_parts.specs.Lists.{numbers_words}
 use Rattle.explore_parts.specs.PartText.{subject_words}

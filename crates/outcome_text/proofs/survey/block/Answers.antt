@@ -1,6 +1,6 @@
 use Rattle.std.proofs.Common.{◌++◌, subst, List, ℕ}
 use Rattle.std.specs.Prelude.{codes, decimal}
-use Rattle.step_text.specs.Output.{Gains}
+use Rattle.event_log.specs.Output.{Gains}
 use Rattle.outcome_text.specs.Counts.{count_words}
 use Rattle.outcome_text.specs.Survey.{block_words, witness_words}
 use Rattle.outcome_text.proofs.Pieces.{four_added}

@@ -1,5 +1,5 @@
 use Rattle.std.proofs.Common.{◌≡◌, ◌∙◌, ◌++◌, ap, drop}
-use Rattle.step_text.specs.Words.{line_of, step_words, event_words}
+use Rattle.event_log.specs.Words.{line_of, step_words, event_words}
 use Rattle.event_log.specs.Records.{event_read, events_read}
 use Rattle.event_log.specs.Shapes.{step_read, step_rest}
 use Rattle.event_log.proofs.Placed.{found_in}

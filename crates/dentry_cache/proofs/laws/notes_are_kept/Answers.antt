@@ -1,5 +1,0 @@
-use Rattle.dentry_cache.proofs.Kept.{kept}
-use Rattle.dentry_cache.proofs.laws.notes_are_kept.Goals as goal
-
-pub returns : goal.returns
-returns c = λ cap since before d n x. kept d n x cap since before
