@@ -9,17 +9,17 @@ use Rattle.outcome_text.specs.declared.merging.MergeFault.{MergeFault}
 use Rattle.outcome_text.specs.declared.merging.MergeFault.TheVariants as merge
 use Rattle.command_line.specs.declared.ending.Fault.{Fault}
 use Rattle.command_line.specs.declared.ending.Fault.TheVariants.{Usage, NotUtf8, Schedule, AskedTurn, AskedTurns, BeginTurn, Width, Color, NoScript, NoRequest, Run, Options, PropertyFails, Explore, Merge, DrawActors, DrawLines, ReplayEvents, Service}
-use Rattle.script_commands.specs.declared.drawing.DrawFault.{DrawFault}
-use Rattle.script_commands.specs.declared.page.JsonFault.{JsonFault}
-use Rattle.script_commands.specs.declared.page.JsonFault.TheVariants as json
-use Rattle.script_commands.specs.declared.jobs.JobsFault.{JobsFault}
-use Rattle.script_commands.specs.declared.jobs.JobsFault.TheVariants as jobs
+use Rattle.run_command.specs.declared.drawing.DrawFault.{DrawFault}
+use Rattle.run_command.specs.declared.page.JsonFault.{JsonFault}
+use Rattle.run_command.specs.declared.page.JsonFault.TheVariants as json
+use Rattle.run_command.specs.declared.jobs.JobsFault.{JobsFault}
+use Rattle.run_command.specs.declared.jobs.JobsFault.TheVariants as jobs
 use Rattle.schedule_graph.specs.declared.fault.SearchFault.TheVariants.{NotBusy}
 use Rattle.scripts.specs.declared.turns.TurnOrder.{TurnOrder}
 use Rattle.scripts.specs.declared.turns.TurnOrder.TheVariants.{OfScript, Asked}
 use Rattle.scripts.specs.declared.turns.Turns.{Turns}
 use Rattle.scripts.specs.Turns.{SaysTurns}
-use Rattle.script_commands.specs.declared.drawing.DrawFault.TheVariants as drawing
+use Rattle.run_command.specs.declared.drawing.DrawFault.TheVariants as drawing
 use Rattle.outcome_text.specs.declared.asked.OptionFault.{OptionFault}
 use Rattle.outcome_text.specs.declared.asked.OptionFault.TheVariants as option
 use Rattle.outcome_text.specs.declared.fault.ExploreFault.{ExploreFault}

@@ -16,9 +16,9 @@ use Rattle.command_line.specs.declared.ending.Fault.{Fault}
 use Rattle.command_line.specs.declared.ending.Fault.TheVariants.{Width, Color}
 use Rattle.command_line.specs.declared.style.Screen.{Screen}
 use Rattle.command_line.specs.declared.style.TheConstants.{TERMINAL_COLUMNS}
-use Rattle.script_commands.specs.declared.drawing.Form.{Form}
-use Rattle.script_commands.specs.declared.drawing.Form.TheVariants.{Text, Svg}
-use Rattle.script_commands.specs.declared.drawing.Style.{Style}
+use Rattle.run_command.specs.declared.drawing.Form.{Form}
+use Rattle.run_command.specs.declared.drawing.Form.TheVariants.{Text, Svg}
+use Rattle.run_command.specs.declared.drawing.Style.{Style}
 
 -- the text says no number of columns that a picture may have
 abbrev pub IsNoWidth : List ℕ → Type 0

@@ -12,7 +12,7 @@ use clap::ArgMatches;
 use drawings::Closes;
 use outcome_text::Options;
 use path_text::Flags;
-use script_commands::WORKERS_MAX;
+use run_command::WORKERS_MAX;
 
 /// A path to walk, with these restrictions (openat2(2)).
 #[derive(Clone, Copy, Debug)]

@@ -6,7 +6,7 @@ ghost use Rattle.scripts.specs.declared.fault.RunFault.TheVariants.{NoMemory as 
 
 use outcome_text::{ExploreFault, MergeFault, OptionFault};
 use path_text::NoMemory;
-use script_commands::{DrawFault, JobsFault, JsonFault, ServiceFault};
+use run_command::{DrawFault, JobsFault, JsonFault, ServiceFault};
 use scripts::RunFault;
 use std::alloc::AllocError;
 use thiserror::Error;

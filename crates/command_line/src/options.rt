@@ -1,7 +1,7 @@
 //! The commands and their options, as clap takes them, and what help says of them.
 use clap::builder::ValueParser;
 use clap::{Arg, ArgAction, Command};
-use script_commands::WORKERS_MAX;
+use run_command::WORKERS_MAX;
 use std::alloc::{AllocError, Global};
 
 // The names of the commands, the ids of the path that `walk` takes and of the script's file, and the options by their

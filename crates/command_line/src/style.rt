@@ -6,7 +6,7 @@ ghost use Rattle.command_line.specs.Style.{IsWide, IsColumns, colours_by, IsColo
 use crate::commands::Drawing;
 use crate::ending::Fault;
 use drawings::{Closes, Colours, Columns, Legend, Look};
-use script_commands::{Form, Style};
+use run_command::{Form, Style};
 use scripts::number_of;
 
 /// What a picture is drawn on.

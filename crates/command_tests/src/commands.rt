@@ -8,7 +8,7 @@ use drawings::{Closes, Colours, Legend};
 use event_log::Output;
 use outcome_text::{ExploreFault, OptionFault, Options, SearchFault};
 use path_text::NoMemory;
-use script_commands::{Form, ServiceFault};
+use run_command::{Form, ServiceFault};
 use scripts::{RunFault, ScriptFault, TurnOrder};
 use std::alloc::Global;
 

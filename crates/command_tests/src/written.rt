@@ -1,6 +1,6 @@
 //! What is written of a script: pictures, pages, reports as JSON and the replies to jobs; or why nothing is.
 use drawings::{Closes, PictureFault};
-use script_commands::{
+use run_command::{
     DrawFault, Form, JobsFault, JsonFault, Style, draw, draw_page, grant_roots,
     json_limits_are_numbers, replay_json, run_jobs, told_of,
 };

@@ -10,8 +10,8 @@ use Rattle.scripts.specs.Scenario.{Said, IsPlayable}
 use Rattle.scripts.specs.Writing.{tree_of}
 use Rattle.tree_model.specs.declared.answer.Event.{Event}
 use Rattle.tree_model.specs.State.{State}
-use Rattle.script_commands.specs.Replay.{IsRunOf}
-use Rattle.script_commands.proofs.Replays.{said_roots}
+use Rattle.run_command.specs.Replay.{IsRunOf}
+use Rattle.run_command.proofs.Replays.{said_roots}
 
 -- the book has a line for each actor, so the world is made
 pub opened : (said : Said) → IsPlayable said → length said.plans ≤ said.lines

@@ -6,11 +6,11 @@ use Rattle.drawings.specs.declared.picture.PictureFault.{PictureFault}
 use Rattle.drawings.specs.declared.picture.PictureFault.TheVariants as picture_fault
 use Rattle.drawings.specs.Calls.{calls_of}
 use Rattle.drawings.specs.Picture.{drawn_of, IsPictureFault}
-use Rattle.script_commands.specs.declared.drawing.DrawFault.{DrawFault}
-use Rattle.script_commands.specs.declared.drawing.DrawFault.TheVariants.{Run, TooManyActors, TooManyLines}
-use Rattle.script_commands.specs.Drawing.{opened_by, told_of, IsNoDrawing}
-use Rattle.script_commands.proofs.Drawings.{opening, is_no_drawing}
-use Rattle.script_commands.proofs.Pages.{played_so}
+use Rattle.run_command.specs.declared.drawing.DrawFault.{DrawFault}
+use Rattle.run_command.specs.declared.drawing.DrawFault.TheVariants.{Run, TooManyActors, TooManyLines}
+use Rattle.run_command.specs.Drawing.{opened_by, told_of, IsNoDrawing}
+use Rattle.run_command.proofs.Drawings.{opening, is_no_drawing}
+use Rattle.run_command.proofs.Pages.{played_so}
 use Rattle.explore_page_command.specs.Played.{ArePlayed, IsPlayed, IsNoPlay, by_schedule_of}
 use Rattle.outcome_text.specs.declared.survey.Told.{Told}
 use Rattle.pages.specs.declared.played.Played.{Played}
@@ -21,7 +21,7 @@ use Rattle.scripts.specs.Scenario.{Said, IsPlayable}
 use Rattle.scripts.specs.Writing.{tree_of}
 use Rattle.tree_model.specs.declared.answer.Event.{Event}
 use Rattle.tree_model.specs.State.{State}
-use Rattle.script_commands.specs.Replay.{IsRunOf}
+use Rattle.run_command.specs.Replay.{IsRunOf}
 
 -- ---- one
 

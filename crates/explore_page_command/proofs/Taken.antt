@@ -23,7 +23,7 @@ use Rattle.race_core.specs.Worlds.{WorldView, first_beyond}
 use Rattle.scripts.specs.Scenario.{Said, IsPlayable}
 use Rattle.scripts.specs.Writing.{tree_of}
 use Rattle.tree_model.specs.State.{State}
-use Rattle.script_commands.proofs.Replays.{said_roots, length-seats_of}
+use Rattle.run_command.proofs.Replays.{said_roots, length-seats_of}
 
 -- ---- a list whose first number beyond is none
 

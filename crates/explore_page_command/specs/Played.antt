@@ -2,10 +2,10 @@
 use Rattle.std.specs.Prelude.{⊤, ◌≡◌, ◌<◌, ◌&&◌, ℕ, nat_lt, List, [], ◌∷◌, ◌++◌, length, take, if◌then◌else◌, All}
 use Rattle.drawings.specs.declared.picture.Closes.TheVariants.{Hidden}
 use Rattle.drawings.specs.declared.picture.TheConstants.{ACTORS_MAX}
-use Rattle.script_commands.specs.declared.drawing.DrawFault.{DrawFault}
-use Rattle.script_commands.specs.declared.drawing.DrawFault.TheVariants.{Run, TooManyActors, TooManyLines}
-use Rattle.script_commands.specs.Drawing.{HasManyLines}
-use Rattle.script_commands.specs.Page.{run_played}
+use Rattle.run_command.specs.declared.drawing.DrawFault.{DrawFault}
+use Rattle.run_command.specs.declared.drawing.DrawFault.TheVariants.{Run, TooManyActors, TooManyLines}
+use Rattle.run_command.specs.Drawing.{HasManyLines}
+use Rattle.run_command.specs.Page.{run_played}
 use Rattle.explore.specs.declared.worlds.scene.Scene.{Scene}
 use Rattle.explore_page_command.specs.declared.chosen.TheConstants.{PLAYED_MAX}
 use Rattle.outcome_text.specs.declared.survey.Told.{Told}
@@ -17,7 +17,7 @@ use Rattle.scripts.specs.Scenario.{Said, said_on}
 use Rattle.scripts.specs.Writing.{IsNoRun}
 use Rattle.tree_model.specs.declared.answer.Event.{Event}
 use Rattle.tree_model.specs.State.{State}
-use Rattle.script_commands.specs.Replay.{IsRunOf}
+use Rattle.run_command.specs.Replay.{IsRunOf}
 
 -- the first of the outcomes that have a block in the text
 abbrev pub chosen : List Told → List Told

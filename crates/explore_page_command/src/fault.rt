@@ -1,13 +1,13 @@
 //! Why there is no page of an exploration.
 ghost use Rattle.std.specs.Prelude.{◌≡◌};
-ghost use Rattle.script_commands.specs.declared.drawing.DrawFault.TheVariants as draw_fault;
+ghost use Rattle.run_command.specs.declared.drawing.DrawFault.TheVariants as draw_fault;
 ghost use Rattle.explore_page_command.specs.declared.fault.ExplorePageFault.TheVariants as page_fault;
 ghost use Rattle.outcome_text.specs.declared.fault.ExploreFault.TheVariants as explore_fault;
 ghost use Rattle.scripts.specs.declared.fault.RunFault.TheVariants.{NoMemory as OutOfMemory};
 
 use outcome_text::ExploreFault;
 use path_text::NoMemory;
-use script_commands::DrawFault;
+use run_command::DrawFault;
 use scripts::RunFault;
 use thiserror::Error;
 

@@ -15,7 +15,7 @@ use explore_parts::Asked;
 use outcome_text::{ExploreFault, Survey};
 use pages::runs_page;
 use path_text::NoMemory;
-use script_commands::DrawFault;
+use run_command::DrawFault;
 use scripts::{RunFault, Scenario, Script, TurnOrder, read_scene};
 use std::alloc::Global;
 use std::io::Write;

@@ -1,13 +1,13 @@
 //! The runs that lead to the outcomes that a page plays.
 ghost use Rattle.std.specs.Prelude.{◌≡◌, ◌≤◌, ◌++◌, ◌∷◌, [], length, map, Some, All, OnOk, MatchResult};
 ghost use Rattle.drawings.specs.Calls.{calls_of};
-ghost use Rattle.script_commands.specs.Drawing.{opened_by};
+ghost use Rattle.run_command.specs.Drawing.{opened_by};
 ghost use Rattle.race_core.specs.declared.report.WorldFault.TheVariants as world_fault;
 ghost use Rattle.race_core.specs.Opening.{granted};
 ghost use Rattle.scripts.specs.Scenario.{IsPlayable};
-ghost use Rattle.script_commands.specs.declared.drawing.DrawFault.TheVariants as draw_fault;
+ghost use Rattle.run_command.specs.declared.drawing.DrawFault.TheVariants as draw_fault;
 ghost use Rattle.scripts.specs.declared.fault.RunFault.TheVariants.{NoMemory as OutOfMemory};
-ghost use Rattle.script_commands.specs.Replay.{IsRunOf};
+ghost use Rattle.run_command.specs.Replay.{IsRunOf};
 ghost use Rattle.explore_page_command.specs.Played.{scene_said, AreTaken, chosen, by_schedule_of, IsPlayed, ArePlayed, IsNoPlay};
 
 use crate::chosen::chosen;
@@ -17,7 +17,7 @@ use outcome_text::{Told, before_tail};
 use pages::Played;
 use path_text::NoMemory;
 use race_core::{Report, WorldFault};
-use script_commands::{DrawFault, grant_roots, told_of};
+use run_command::{DrawFault, grant_roots, told_of};
 use scripts::RunFault;
 use std::alloc::Global;
 use tree_list::ListTree;

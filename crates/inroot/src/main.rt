@@ -1,7 +1,7 @@
 //! The program: resolves paths below a root, over the tree that a script gives, replays, draws and explores scripts of
 //! calls that race, and lets workers make a script's calls.
 //!
-//! It hands the words of its command line to `command_line`, and the script and standard output to `script_commands`,
+//! It hands the words of its command line to `command_line`, and the script and standard output to `run_command`,
 //! `explore_command`, `explore_parts` and `explore_page_command`, where it is stated what a run writes; it ends with
 //! the status that `command_line` says of what happened.
 #![tactic(auto)]
@@ -25,7 +25,7 @@ use explore_page_command::{ExplorePageFault, explore_page};
 use explore_parts::{Asked, merge_parts, read_asked};
 use files::FilesRead;
 use reading::{number_rows, script_of, searched};
-use script_commands::{Style, draw, draw_page, replay, replay_json, run_jobs, walk};
+use run_command::{Style, draw, draw_page, replay, replay_json, run_jobs, walk};
 use scripts::{RunFault, Script, TurnOrder, check_strictly};
 use std::alloc::Global;
 use std::io::IsTerminal;

@@ -10,7 +10,7 @@ use Rattle.scripts.specs.Input.{data_of}
 use Rattle.scripts.specs.Scenario.{Said, IsPlayable, said_for, scenario_of}
 use Rattle.scripts.specs.Writing.{tree_of}
 use Rattle.scripts.proofs.Playable.{passed_then, playable}
-use Rattle.script_commands.proofs.Replays.{said_roots}
+use Rattle.run_command.proofs.Replays.{said_roots}
 use Rattle.merge_laws.specs.Merged.{IsSeated, MergedPartsOfAScriptAreTheWhole}
 use Rattle.merge_laws.proofs.Merged.{merged_parts_are_the_whole}
 

@@ -3,7 +3,7 @@ use Rattle.std.specs.Prelude.{Ok}
 use Rattle.drawings.specs.declared.look.Colours.{Colours}
 use Rattle.drawings.specs.declared.look.Columns.{Columns}
 use Rattle.drawings.specs.declared.look.Legend.{Legend}
-use Rattle.script_commands.specs.declared.drawing.Form.{Form}
+use Rattle.run_command.specs.declared.drawing.Form.{Form}
 use Rattle.command_line.specs.declared.commands.Drawing.{Drawing}
 use Rattle.command_line.specs.declared.style.Screen.{Screen}
 use Rattle.command_line.specs.Style.{IsColumns, IsColours, legend_by, is_seen, form_by, IsStyle}

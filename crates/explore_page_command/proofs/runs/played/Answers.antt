@@ -2,7 +2,7 @@ use Rattle.std.proofs.Common.{◌≡◌, List, sym, ap, subst, ◌∙◌}
 use Rattle.std.specs.Prelude.{Some}
 use Rattle.drawings.specs.declared.picture.Closes.TheVariants.{Hidden}
 use Rattle.drawings.specs.Picture.{drawn_of, IsPictureFault}
-use Rattle.script_commands.specs.Drawing.{opened_by}
+use Rattle.run_command.specs.Drawing.{opened_by}
 use Rattle.outcome_text.specs.Schedule.{without_tail}
 use Rattle.pages.specs.Page.{played_of}
 use Rattle.race_core.specs.declared.report.Outcome.{Outcome}

@@ -5,7 +5,7 @@ use Rattle.race_core.specs.Worlds.{WorldView, RunsTo, RefusesRun}
 use Rattle.scripts.specs.Writing.{tree_of}
 use Rattle.explore_page_command.specs.Played.{scene_said, by_schedule_of}
 use Rattle.explore_page_command.proofs.Opened.{opened, run_of}
-use Rattle.script_commands.proofs.Replays.{stops_for_memory}
+use Rattle.run_command.proofs.Replays.{stops_for_memory}
 use Rattle.explore_page_command.proofs.runs.report_on.Goals as goal
 
 pub wanting-requires : goal.wanting-requires
