@@ -1,10 +1,10 @@
 -- What was noted stays at hand while fewer calls than the cap follow that don't change it.
-use Rattle.std.proofs.Common.{◌≡◌, ◌≤◌, ◌<◌, ℕ, zero, suc, Bool, true, false, cond, not, List, [], ◌∷◌, ◌++◌, length, take, filter, nat_eq, Option, Some, None, refl, sym, ap, ◌∙◌, arith}
+use Rattle.std.proofs.Common.{◌≡◌, ◌≤◌, ◌<◌, ℕ, zero, suc, Bool, true, false, cond, not, List, [], ◌∷◌, ◌++◌, length, take, filter, Option, Some, None, refl, sym, ap, ◌∙◌, arith}
 use Rattle.std.specs.List.{AllByRecursion}
 use Rattle.std.specs.Option.{option_map_or}
 use Rattle.std.specs.Map.{lookup}
 use Rattle.tree_slab.specs.Cache.{Cache, same_entry, found, others, looked, noted}
-use Rattle.tree_slab.specs.Calls.{Call, Look, Note, Forget, ForgetDir, cache_after, changes}
+use Rattle.tree_slab.specs.Calls.{Call, Look, Note, Forget, cache_after, changes}
 use Rattle.tree_slab.proofs.CacheKeys.{Key, same_entry-true, same_entry-refl, same_entry-flips}
 use Rattle.tree_slab.proofs.Lists.{Entry}
 use Rattle.tree_slab.proofs.Finds.{lookup-take}
@@ -53,7 +53,6 @@ same_cap most (Look d n ∷ before) = by (same_cap most before) (found (cache_af
     by rest (Some x) = rest
 same_cap most (Note d n x ∷ before) = same_cap most before
 same_cap most (Forget d n ∷ before) = same_cap most before
-same_cap most (ForgetDir d ∷ before) = same_cap most before
 
 module _ (d : ℕ) (n : List ℕ) (x : Option ℕ) where
   -- the entry is among so many of the first
@@ -85,9 +84,6 @@ module _ (d : ℕ) (n : List ℕ) (x : Option ℕ) where
   near most (Forget e m ∷ since) before leave fits =
       more_of_them (same_entry (d, n)) (suc (length since)) (others (cache_after most (since ++ Note d n x ∷ before)) e m) x
       (near_others (cache_after most (since ++ Note d n x ∷ before)) (suc (length since)) e m leave.0 (near most since before leave.1 (omega arith)))
-  near most (ForgetDir e ∷ since) before leave fits =
-      more_of_them (same_entry (d, n)) (suc (length since)) (filter (λ f. not (nat_eq f.0.0 e)) (cache_after most (since ++ Note d n x ∷ before)).entries) x
-      (moved_up (d, n) (λ k. not (nat_eq k.0 e)) (ap not leave.0) (suc (length since)) (cache_after most (since ++ Note d n x ∷ before)).entries x (near most since before leave.1 (omega arith)))
 
   pub kept : (most : ℕ) (since before : List Call) → AllByRecursion (λ call. changes call d n ≡ false) since → length since < most → found (cache_after most (since ++ Note d n x ∷ before)) d n ≡ Some x
   kept most since before leave fits = lookup-take (same_entry (d, n)) (suc (length since)) (cache_after most (since ++ Note d n x ∷ before)).entries x (near most since before leave fits)

@@ -1,6 +1,5 @@
 pub mod CacheKeys
 pub mod Lists
-pub mod Turns
 pub mod Finds
 pub mod Runs
 pub mod Kept

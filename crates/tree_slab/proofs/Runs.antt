@@ -1,15 +1,14 @@
 -- What is found after any calls was noted last; and no call makes a cache anything else.
-use Rattle.std.proofs.Common.{◌≡◌, ◌≤◌, ℕ, zero, suc, Bool, true, false, cond, not, List, [], ◌∷◌, length, take, filter, nat_eq, Option, Some, None, refl, sym, ap, ◌∙◌, arith}
+use Rattle.std.proofs.Common.{◌≡◌, ◌≤◌, ℕ, zero, suc, Bool, true, false, cond, not, List, [], ◌∷◌, length, take, filter, Option, Some, None, refl, sym, ap, ◌∙◌, arith}
 use Rattle.std.specs.List.{AllByRecursion, IsDistinct}
 use Rattle.std.specs.Option.{option_map_or}
 use Rattle.std.specs.Map.{keys_of, lookup}
 use Rattle.std.proofs.lemmas.Map.Keys.{IsDistinct-head, IsDistinct-tail, IsDistinct-cons}
 use Rattle.std.proofs.lemmas.Map.Made.{IsDistinct-keys_filter}
-use Rattle.std.proofs.lemmas.Map.Entries.{lookup-filter-keys}
 use Rattle.std.proofs.lemmas.List.{length-take}
 use Rattle.tree_slab.specs.Cache.{Cache, IsCache, same_entry, found, others, looked, noted}
-use Rattle.tree_slab.specs.Calls.{Call, Look, Note, Forget, ForgetDir, cache_after, last_noted}
-use Rattle.tree_slab.proofs.CacheKeys.{Key, same_entry-true}
+use Rattle.tree_slab.specs.Calls.{Call, Look, Note, Forget, cache_after, last_noted}
+use Rattle.tree_slab.proofs.CacheKeys.{Key}
 use Rattle.tree_slab.proofs.Lists.{Entry}
 use Rattle.tree_slab.proofs.Finds.{found-others, lookup-take, found-first, found-looked}
 
@@ -23,11 +22,6 @@ hits most (Note e m y ∷ before) d n x h =
     by rest true t = t
     by rest false t = rest t
 hits most (Forget e m ∷ before) d n x h = by (hits most before d n x) (same_entry (e, m) (d, n)) (sym (found-others (cache_after most before) e m d n (same_entry (e, m) (d, n)) refl) ∙ h)
-  where
-    by : (found (cache_after most before) d n ≡ Some x → last_noted d n before ≡ Some x) → (b : Bool) → cond (not b) (found (cache_after most before) d n) None ≡ Some x → cond b None (last_noted d n before) ≡ Some x
-    by rest true t = t
-    by rest false t = rest t
-hits most (ForgetDir e ∷ before) d n x h = by (hits most before d n x) (nat_eq d e) (sym (lookup-filter-keys (same_entry (d, n)) (λ k. not (nat_eq k.0 e)) (not (nat_eq d e)) (λ k t. ap (λ l. not (nat_eq l.0 e)) (sym (same_entry-true (d, n) k t))) (cache_after most before).entries) ∙ h)
   where
     by : (found (cache_after most before) d n ≡ Some x → last_noted d n before ≡ Some x) → (b : Bool) → cond (not b) (found (cache_after most before) d n) None ≡ Some x → cond b None (last_noted d n before) ≡ Some x
     by rest true t = t
@@ -106,4 +100,3 @@ caches most [] = record { distinct = none_distinct; bounded = omega arith }
 caches most (Look d n ∷ before) = kept-looked (cache_after most before) (caches most before) d n
 caches most (Note d n x ∷ before) = kept-noted (cache_after most before) (caches most before) d n x
 caches most (Forget d n ∷ before) = kept-filter (cache_after most before) (caches most before) (λ e. not (same_entry (d, n) e.0))
-caches most (ForgetDir d ∷ before) = kept-filter (cache_after most before) (caches most before) (λ e. not (nat_eq e.0.0 d))

@@ -50,7 +50,3 @@ noted c d n x = record { entries = take c.cap (((d, n), x) ∷ others c d n); ca
 
 abbrev pub forgotten : Cache → ℕ → List ℕ → Cache
 forgotten c d n = record { entries = others c d n; cap = c.cap }
-
--- nothing of that directory is remembered
-abbrev pub forgotten_dir : Cache → ℕ → Cache
-forgotten_dir c d = record { entries = filter (λ e. not (nat_eq e.0.0 d)) c.entries; cap = c.cap }

@@ -1,13 +1,12 @@
 -- What a cache finds is what its calls told last.
-use Rattle.std.specs.Prelude.{◌≡◌, ◌<◌, ℕ, Bool, false, if◌then◌else◌, nat_eq, List, [], ◌∷◌, ◌++◌, length, Option, Some, None}
+use Rattle.std.specs.Prelude.{◌≡◌, ◌<◌, ℕ, Bool, false, if◌then◌else◌, List, [], ◌∷◌, ◌++◌, length, Option, Some, None}
 use Rattle.std.specs.List.{AllByRecursion}
-use Rattle.tree_slab.specs.Cache.{Cache, IsCache, same_entry, empty, found, looked, noted, forgotten, forgotten_dir}
+use Rattle.tree_slab.specs.Cache.{Cache, IsCache, same_entry, empty, found, looked, noted, forgotten}
 
 pub data Call : Type 0 where
   Look : ℕ → List ℕ → Call
   Note : ℕ → List ℕ → Option ℕ → Call
   Forget : ℕ → List ℕ → Call
-  ForgetDir : ℕ → Call
 
 -- the cache after calls, the latest call first
 abbrev pub cache_after : ℕ → List Call → Cache
@@ -15,7 +14,6 @@ cache_after cap [] = empty cap
 cache_after cap (Look d n ∷ before) = looked (cache_after cap before) d n
 cache_after cap (Note d n x ∷ before) = noted (cache_after cap before) d n x
 cache_after cap (Forget d n ∷ before) = forgotten (cache_after cap before) d n
-cache_after cap (ForgetDir d ∷ before) = forgotten_dir (cache_after cap before) d
 
 -- what was noted last of an entry, and not forgotten since
 abbrev pub last_noted : ℕ → List ℕ → List Call → Option (Option ℕ)
@@ -23,7 +21,6 @@ last_noted d n [] = None
 last_noted d n (Look e m ∷ before) = last_noted d n before
 last_noted d n (Note e m x ∷ before) = if same_entry (e, m) (d, n) then Some x else last_noted d n before
 last_noted d n (Forget e m ∷ before) = if same_entry (e, m) (d, n) then None else last_noted d n before
-last_noted d n (ForgetDir e ∷ before) = if nat_eq d e then None else last_noted d n before
 
 -- whatever is found was noted last
 abbrev pub HitsAreNotedLast : Type 0
@@ -43,7 +40,6 @@ abbrev pub changes : Call → ℕ → List ℕ → Bool
 changes (Look e m) d n = false
 changes (Note e m x) d n = same_entry (e, m) (d, n)
 changes (Forget e m) d n = same_entry (e, m) (d, n)
-changes (ForgetDir e) d n = nat_eq d e
 
 -- what was noted is found while fewer calls than the cap follow, none of which may change it
 abbrev pub NotesAreKept : Type 0

@@ -1,7 +1,7 @@
 //! The cache and its calls.
-ghost use Rattle.std.specs.Prelude.{◌≡◌, ℕ, Option, List, ◌++◌, ◌∷◌, [], length, if◌then◌else◌, nat_eq, filter, not, IsOkAnd, OnOk, OnErr, IsSome, IsOk, MatchOption, MatchResult, Err};
+ghost use Rattle.std.specs.Prelude.{◌≡◌, length, IsOkAnd, OnOk, OnErr, IsSome, IsOk, MatchOption, MatchResult, Err};
 ghost use Rattle.std.specs.NonZero.{non_zero_usize_get};
-ghost use Rattle.tree_slab.specs.Cache.{Cache, IsCache, cap_fault, empty, found, looked, noted, forgotten, forgotten_dir};
+ghost use Rattle.tree_slab.specs.Cache.{Cache, IsCache, cap_fault, empty, found, looked, noted, forgotten};
 
 use crate::key::Key;
 use lru::LruCache;
@@ -39,37 +39,6 @@ fn checked_cap(cap: usize) -> Result<NonZeroUsize, Errno>
     match NonZeroUsize::new(cap) {
         Some(checked) if cap <= CAP_MAX => Ok(checked),
         _ => Err(Errno::Invalid),
-    }
-}
-
-// Takes the least recently used entry away where it is of that directory, and else makes it the first.
-fn turn_last(inner: &mut LruCache<Key, Option<Node>>, dir: Node)
-    ensures turned { (es : List ((ℕ × List ℕ) × Option ℕ)) (e : (ℕ × List ℕ) × Option ℕ)
-        → inner.old.entries ≡ es ++ e ∷ []
-        → inner.new.entries ≡ (if nat_eq e.0.0 dir then es else e ∷ es) }
-    ensures cap { inner.new.cap ≡ inner.old.cap }
-{
-    // Tells that no two keys are equal.
-    let _ = inner.len();
-    let Some((key, _)) = inner.peek_lru() else {
-        return;
-    };
-    if key.dir() == dir {
-        let _ = inner.pop_lru();
-    } else {
-        let key = key.copy();
-        inner.promote(&key);
-    }
-}
-
-// Takes away all entries of that directory. Each entry is turned once, so that the others end in their old order.
-fn turn_all(inner: &mut LruCache<Key, Option<Node>>, dir: Node)
-    ensures entries { inner.new.entries ≡ filter (λ e. not (nat_eq e.0.0 dir)) inner.old.entries }
-    ensures cap { inner.new.cap ≡ inner.old.cap }
-{
-    let count = inner.len();
-    for _turn in 0..count {
-        turn_last(inner, dir);
     }
 }
 
@@ -139,12 +108,5 @@ impl DentryCache {
         }
         self.sought.set(dir, name);
         let _ = self.inner.pop(&self.sought);
-    }
-
-    /// Forgets all entries of a directory. Takes no memory, and a time that grows with all that is remembered.
-    pub fn forget_dir(&mut self, dir: Node)
-        ensures { self.new ≡ forgotten_dir self.old dir }
-    {
-        turn_all(&mut self.inner, dir);
     }
 }

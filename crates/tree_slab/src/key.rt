@@ -68,13 +68,6 @@ impl Key {
         }
     }
 
-    /// The directory.
-    pub(crate) fn dir(&self) -> Node
-        ensures { result ≡ self.now.0 }
-    {
-        self.dir
-    }
-
     // The bytes of the name.
     fn bytes(&self) -> &[u8]
         ensures { result.now ≡ self.now.1 }

@@ -18,7 +18,7 @@ look 1 a ?
 forget 1 q
 look 1 q ?
 look 2 b 3
-dir 2
+forget 2 b
 look 2 b ?";
 
 /// At a cap of one each other entry that is noted pushes the one before out; a look-up of another doesn't.
@@ -35,7 +35,7 @@ look 2 b 5
 forget 1 b
 look 2 b 5";
 
-/// What was looked up last stays; the others of a directory go alone, and the rest keeps its order.
+/// What was looked up last stays, and the rest keeps its order.
 const THREE: &str = "note 1 a 2
 note 1 b 3
 note 2 a 4
@@ -44,10 +44,9 @@ note 3 c 5
 look 1 b ?
 look 1 a 2
 look 2 a 4
-dir 3
+forget 3 c
 look 3 c ?
 note 4 d -
-dir 7
 note 4 e -
 look 1 a ?
 look 2 a 4
@@ -93,12 +92,13 @@ fn is_answered(
 fn is_right(alloc: Global, cache: &mut DentryCache, line: &str) -> Result<bool, Errno> {
     let (call, rest) = line.split_once(' ').unwrap_or((line, ""));
     let (dir, rest) = rest.split_once(' ').unwrap_or((rest, ""));
-    let dir = Node::new(dir.parse().unwrap_or(0));
-    if rest.is_empty() {
-        cache.forget_dir(dir);
-        return Ok(call == "dir");
-    }
-    is_answered(alloc, cache, call, dir, rest)
+    is_answered(
+        alloc,
+        cache,
+        call,
+        Node::new(dir.parse().unwrap_or(0)),
+        rest,
+    )
 }
 
 /// The first line that finds something else, and how many entries are remembered then.
