@@ -2,22 +2,7 @@
 
 use call_course::{Answer, Asked, Facts, LAST, Taking, Thing, Tried, a_try, pause_before, take};
 use std::test::Fail;
-
-const EIO: u32 = 5;
-
-const EBADF: u32 = 9;
-
-const EAGAIN: u32 = 11;
-
-const ENOMEM: u32 = 12;
-
-const EACCES: u32 = 13;
-
-const ENOTDIR: u32 = 20;
-
-const EMFILE: u32 = 24;
-
-const ENOSYS: u32 = 38;
+use system_calls::errors::{EACCES, EAGAIN, EBADF, EIO, EMFILE, ENOMEM, ENOSYS, ENOTDIR};
 
 const NO_ANSWER: u32 = 1;
 

@@ -8,14 +8,7 @@ use kernel_calls::{
     opened as looked, parts, piece, proc_error, rename, resolve, steps, walk,
 };
 use std::process::Abort;
-
-const ENOENT: u32 = 2;
-
-const EAGAIN: u32 = 11;
-
-const EEXIST: u32 = 17;
-
-const ENOSYS: u32 = 38;
+use system_calls::errors::{EAGAIN, EEXIST, ENOENT, ENOSYS};
 
 const WANTED: Wanted = Wanted {
     device: 0,

@@ -1,36 +1,12 @@
 //! Calls by single steps, by answers that Linux gives.
-use crate::talks::{Talk, answers, begun, ends, has_read, nothing, reads, request};
+use crate::talks::{
+    CLAIM, CLOSE, DUPFD, FAILS, FSTATFS, GETDENTS, KEEP, MKDIRAT, OPENAT, OPENAT2, READLINKAT,
+    STATX, Talk, UNLINKAT, VALUE, answers, begun, ends, has_read, nothing, reads, request,
+};
 use dialogue::Answer;
 use find_proc::{Kept, Known};
 use linux_call::Request;
-
-const OPENAT2: u8 = 1;
-
-const OPENAT: u8 = 2;
-
-const STATX: u8 = 3;
-
-const FSTATFS: u8 = 4;
-
-const GETDENTS: u8 = 5;
-
-const READLINKAT: u8 = 6;
-
-const CLOSE: u8 = 7;
-
-const DUPFD: u8 = 9;
-
-const MKDIRAT: u8 = 10;
-
-const UNLINKAT: u8 = 14;
-
-const CLAIM: u8 = 26;
-
-const KEEP: u8 = 27;
-
-const VALUE: u8 = 32;
-
-const FAILS: u8 = 33;
+use system_calls::errors::{EAGAIN, EBUSY, EISDIR, ENOENT, ENOSYS, ENOTDIR, EXDEV};
 
 // The numbers of calls, and the flags INROOT_GIVE and INROOT_EXACT.
 const RESOLVE: u8 = 1;
@@ -46,20 +22,6 @@ const PLACE: u8 = 25;
 const GIVE: u32 = 256;
 
 const EXACT: u32 = 16384;
-
-const ENOENT: u32 = 2;
-
-const EAGAIN: u32 = 11;
-
-const EBUSY: u32 = 16;
-
-const EXDEV: u32 = 18;
-
-const ENOTDIR: u32 = 20;
-
-const EISDIR: u32 = 21;
-
-const ENOSYS: u32 = 38;
 
 const DIRECTORY: u16 = 0o040755;
 
@@ -132,8 +94,8 @@ fn a_file_is_found(rt: HostRuntime) {
         reads(READLINKAT, 20, "thread-self/fd/12", "/root/a/f"),
     ];
     let mut talk = by_steps(request(RESOLVE), b"/a/f");
-    let ended = ends(&rt, rt.alloc(), &mut talk, &lines);
-    assert_eq!(&rt; ended, (VALUE, 12));
+    let due = ends(&rt, rt.alloc(), &mut talk, &lines);
+    assert_eq!(&rt; (due.what, due.number), (VALUE, 12));
 }
 
 // One record of a directory: `x`.
@@ -155,8 +117,8 @@ fn a_tree_is_removed(rt: HostRuntime) {
         answers(CLOSE, 9, "", gave(0, 0)),
     ];
     let mut talk = by_steps(request(REMOVE_ALL), b"/t");
-    let ended = ends(&rt, rt.alloc(), &mut talk, &lines);
-    assert_eq!(&rt; ended, (VALUE, 2));
+    let due = ends(&rt, rt.alloc(), &mut talk, &lines);
+    assert_eq!(&rt; (due.what, due.number), (VALUE, 2));
 }
 
 #[test]
@@ -164,8 +126,8 @@ fn what_the_kernel_lacks_ends_a_call(rt: HostRuntime) {
     let mut talk = by_steps(request(RESOLVE), b"/a");
     talk.request.known.has_floor = false;
     let lines = [answers(OPENAT2, 0xffff_ffff, ".", gave(0, ENOSYS))];
-    let ended = ends(&rt, rt.alloc(), &mut talk, &lines);
-    assert_eq!(&rt; ended, (FAILS, ENOSYS as u64));
+    let due = ends(&rt, rt.alloc(), &mut talk, &lines);
+    assert_eq!(&rt; (due.what, due.number), (FAILS, ENOSYS as u64));
 }
 
 // The path is empty; and the root is no directory.
@@ -177,12 +139,12 @@ fn the_roots_error_comes_first(rt: HostRuntime) {
     };
     let there = [answers(STATX, 3, "", gave(0, 0))];
     let mut talk = begun(bare(request(OPEN_PARENT)), (b"/", b"/"));
-    let ended = ends(&rt, rt.alloc(), &mut talk, &there);
-    assert_eq!(&rt; ended, (FAILS, ENOENT as u64));
+    let due = ends(&rt, rt.alloc(), &mut talk, &there);
+    assert_eq!(&rt; (due.what, due.number), (FAILS, ENOENT as u64));
     let other = [answers(STATX, 3, "", file)];
     let mut talk = begun(bare(request(OPEN_PARENT)), (b"/", b"/"));
-    let ended = ends(&rt, rt.alloc(), &mut talk, &other);
-    assert_eq!(&rt; ended, (FAILS, ENOTDIR as u64));
+    let due = ends(&rt, rt.alloc(), &mut talk, &other);
+    assert_eq!(&rt; (due.what, due.number), (FAILS, ENOTDIR as u64));
 }
 
 // The kernel gives the walk up.
@@ -202,8 +164,8 @@ fn an_entry_is_made_and_given(rt: HostRuntime) {
     ];
     let mut talk = begun(bare(request(MKDIR)), (b"/a/d", b"/"));
     talk.request.flags = GIVE;
-    let ended = ends(&rt, rt.alloc(), &mut talk, &lines);
-    assert_eq!(&rt; ended, (VALUE, 11));
+    let due = ends(&rt, rt.alloc(), &mut talk, &lines);
+    assert_eq!(&rt; (due.what, due.number), (VALUE, 11));
 }
 
 #[test]
@@ -227,9 +189,9 @@ fn an_objects_place_is_told(rt: HostRuntime) {
     ];
     let mut talk = begun(bare(request(PLACE)), (b"/", b"/"));
     talk.request.size = 100;
-    let ended = ends(&rt, rt.alloc(), &mut talk, &lines);
-    assert_eq!(&rt; ended, (VALUE, 2));
-    assert!(&rt; has_read(&talk, "/a"), "{ended:?}");
+    let due = ends(&rt, rt.alloc(), &mut talk, &lines);
+    assert_eq!(&rt; (due.what, due.number), (VALUE, 2));
+    assert!(&rt; has_read(&talk, "/a"), "{due:?}");
 }
 
 #[test]
@@ -265,6 +227,6 @@ fn a_link_is_followed_and_left(rt: HostRuntime) {
         answers(CLOSE, 20, "", gave(0, 0)),
     ];
     let mut talk = by_steps(request(RESOLVE), b"/l");
-    let ended = ends(&rt, rt.alloc(), &mut talk, &lines);
-    assert_eq!(&rt; ended, (VALUE, 13));
+    let due = ends(&rt, rt.alloc(), &mut talk, &lines);
+    assert_eq!(&rt; (due.what, due.number), (VALUE, 13));
 }

@@ -1,4 +1,5 @@
 //! Single steps by answers that Linux gives, each as a dialogue; and how a change ends by what its system call gave.
+use crate::talks::nothing;
 use dialogue::{Answer, Asked, Question};
 use linux_steps::{
     Ended, LinkEntry, There, change_ended, dup_step, is_there, look_error, open_step, parent_step,
@@ -6,29 +7,10 @@ use linux_steps::{
 };
 use path_text::{Errno, LentBytes, LentName};
 use std::process::Abort;
+use system_calls::errors::{
+    EACCES, EAGAIN, EINTR, EINVAL, EIO, ELOOP, EMFILE, ENOENT, ENOSYS, ENOTDIR, EXDEV,
+};
 use tree_model::{HandleNo, Kind, LentStep, Mode, StepOf};
-
-const ENOENT: u32 = 2;
-
-const EINTR: u32 = 4;
-
-const EIO: u32 = 5;
-
-const EAGAIN: u32 = 11;
-
-const EACCES: u32 = 13;
-
-const EXDEV: u32 = 18;
-
-const ENOTDIR: u32 = 20;
-
-const EINVAL: u32 = 22;
-
-const EMFILE: u32 = 24;
-
-const ENOSYS: u32 = 38;
-
-const ELOOP: u32 = 40;
 
 // <linux/magic.h>
 const EXT4: u64 = 0xef53;
@@ -48,16 +30,12 @@ const KEEP_LINKS: [u64; 5] = [
 fn gave(value: u32, error: u32, links: u32, file_system: u64) -> Answer {
     Answer {
         file_system,
-        flags: 0,
-        device: 0,
-        inode: 0,
-        mount: 0,
-        node: 0,
         value,
         error,
         links,
         mode: 0o100644,
         has_mount: true,
+        ..nothing()
     }
 }
 

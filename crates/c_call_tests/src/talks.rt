@@ -8,6 +8,39 @@ use std::alloc::Global;
 use std::process::Abort;
 use system_calls::MachineFlags;
 
+// What may be due: a system call, another thing, or the end.
+pub(crate) const OPENAT2: u8 = 1;
+
+pub(crate) const OPENAT: u8 = 2;
+
+pub(crate) const STATX: u8 = 3;
+
+pub(crate) const FSTATFS: u8 = 4;
+
+pub(crate) const GETDENTS: u8 = 5;
+
+pub(crate) const READLINKAT: u8 = 6;
+
+pub(crate) const CLOSE: u8 = 7;
+
+pub(crate) const DUPFD: u8 = 9;
+
+pub(crate) const MKDIRAT: u8 = 10;
+
+pub(crate) const UNLINKAT: u8 = 14;
+
+pub(crate) const RENAMEAT2: u8 = 15;
+
+pub(crate) const CLAIM: u8 = 26;
+
+pub(crate) const KEEP: u8 = 27;
+
+pub(crate) const FSTAT: u8 = 30;
+
+pub(crate) const VALUE: u8 = 32;
+
+pub(crate) const FAILS: u8 = 33;
+
 pub(crate) fn nothing() -> Answer {
     Answer {
         file_system: 0,
@@ -174,29 +207,6 @@ fn set(talk: &mut Talk<'_>, at: u32, gave: Answer) {
     }
 }
 
-// Each of these is due by the answers before it: what it is, on which descriptor, by which text.
-pub(crate) fn asks(
-    rt: &impl Abort,
-    alloc: Global,
-    talk: &mut Talk<'_>,
-    wants: &[(u8, u32, &str)],
-    answers: &[Answer],
-) -> Due {
-    let mut state = State::empty(alloc);
-    let mut due = take(alloc, talk, &mut state);
-    for at in 0..wants.len() {
-        let (what, fd, text) = wants[at];
-        assert_eq!(rt; due.what, what);
-        assert_eq!(rt; due.fd, fd);
-        assert!(rt; is_at(talk, 0, text), "{due:?}");
-        if at < answers.len() {
-            set(talk, due.at, answers[at]);
-            due = take(alloc, talk, &mut state);
-        }
-    }
-    due
-}
-
 /// A system call that is due, by what and which text; what it gave, and what it read.
 #[derive(Clone, Copy)]
 pub(crate) struct Line {
@@ -232,13 +242,8 @@ fn give(talk: &mut Talk<'_>, at: u32, line: &Line) {
     }
 }
 
-/// Each line's system call is due by what those before it gave; then the end.
-pub(crate) fn ends(
-    rt: &impl Abort,
-    alloc: Global,
-    talk: &mut Talk<'_>,
-    lines: &[Line],
-) -> (u8, u64) {
+/// Each line's system call is due by what those before it gave; then what comes next.
+pub(crate) fn ends(rt: &impl Abort, alloc: Global, talk: &mut Talk<'_>, lines: &[Line]) -> Due {
     let mut state = State::empty(alloc);
     let mut due = take(alloc, talk, &mut state);
     for line in lines {
@@ -251,7 +256,7 @@ pub(crate) fn ends(
         give(talk, due.at, line);
         due = take(alloc, talk, &mut state);
     }
-    (due.what, due.number)
+    due
 }
 
 /// What was read last begins so.

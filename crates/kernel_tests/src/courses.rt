@@ -1,10 +1,11 @@
 //! Which call comes next as a file is opened, or made where it is missing, by answers that a kernel gives.
 use crate::openings::X86_64;
-use crate::rows::{EAGAIN, ROOM, Room, all_go, goes, laid, letters, name_of, number, shown};
+use crate::rows::{ROOM, Room, all_go, goes, laid, letters, name_of, number, shown};
 use open_or_make::{
     Asked, Came, Course, Outcome, Question, Request, begin, lay_link, pass, request_of,
 };
 use std::alloc::{AllocError, Global};
+use system_calls::errors::EAGAIN;
 use system_calls::{next_try, opening_of};
 
 // The outcomes of a pass, with the text that was read last.

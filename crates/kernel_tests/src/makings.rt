@@ -2,27 +2,12 @@
 use make_through_links::{Came, Making, Question, begin, pass};
 use open_or_make::{Outcome, front_length, joined_length, lay_link, rest_at};
 use std::test::Fail;
+use system_calls::errors::{
+    EACCES, EAGAIN, EEXIST, EINVAL, EISDIR, ELOOP, ENAMETOOLONG, ENOENT, ENOTDIR,
+};
 use system_calls::next_try;
 
 const ROOM: usize = 4096;
-
-const ENOENT: u32 = 2;
-
-const EAGAIN: u32 = 11;
-
-const EACCES: u32 = 13;
-
-const EEXIST: u32 = 17;
-
-const EISDIR: u32 = 21;
-
-const EINVAL: u32 = 22;
-
-const ENOTDIR: u32 = 20;
-
-const ENAMETOOLONG: u32 = 36;
-
-const ELOOP: u32 = 40;
 
 const OPENED: Outcome = Outcome {
     rest: 0,

@@ -1,6 +1,6 @@
 //! Which object an answer is about, of which kind it is, and what an error says; when a call is begun again.
-use crate::rows::EAGAIN;
 use std::test::Fail;
+use system_calls::errors::EAGAIN;
 use system_calls::{Object, is_elsewhere, is_node, is_same_object, kind_of, next_try};
 
 fn object(device: u64, inode: u64, mount: u64) -> Object {

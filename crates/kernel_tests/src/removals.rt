@@ -1,7 +1,8 @@
 //! Which call comes next as a tree is removed by several, by answers that calls give.
-use crate::rows::{EAGAIN, Room, all_go, goes, name_of, number};
+use crate::rows::{Room, all_go, goes, name_of, number};
 use remove_by_calls::{Answer, Asked, Came, Question, Removal, a_call, begin};
 use std::alloc::{AllocError, Global};
+use system_calls::errors::EAGAIN;
 use system_calls::next_try;
 
 // A call and what follows it have so many answers at most.

@@ -2,8 +2,7 @@
 use crate::rows::{Room, all_go, name_of, number};
 use open_partial::{Asked, Came, Outcome, Question, Search, a_try, begin, beginning, trial_of};
 use std::alloc::{AllocError, Global};
-
-const ENOENT: u32 = 2;
+use system_calls::errors::ENOENT;
 
 #[derive(Drop)]
 struct Path {
