@@ -4,7 +4,7 @@ use Rattle.std.specs.Cmp.Derive.{both_true}
 use Rattle.std.proofs.lemmas.Bool.{eq-eqb}
 use Rattle.path_text.specs.declared.path.TheConstants.{TEXT_MAX}
 use Rattle.system_calls.specs.Place.{ends_as_gone, is_named}
-use Rattle.find_place.specs.Place.{are_same, below_root, confirmed, is_there, looked_up, place, with_place}
+use Rattle.find_place.specs.Place.{below_root, confirmed, finds_object, is_there, looked_up, place, with_place}
 use Rattle.find_place.specs.Questions.{Exchange, is_dead, is_top, link_again, looks_up, object_link, root_link, text_of}
 use Rattle.find_place.specs.Witness.{AgreeingWitnessesAreTold, AreShort, FindsObject, IsConfirmed, IsThere}
 use Rattle.find_place.specs.declared.places.Facts.{Facts}
@@ -21,7 +21,7 @@ there_so facts p e size (inr is) =
     (if_not p (not facts.directory) _ _ (e ∷ []) (ap not is.1)
     (asks_so p is_dead _ e [] is.2 (ends_so p (not e.answer.yes) (ap not is.3))))
 
-finds_so : (facts : Facts) (p : List ℕ) (e : Exchange) → FindsObject p e → not (are_same e.answer (is_top p)) ≡ false
+finds_so : (facts : Facts) (p : List ℕ) (e : Exchange) → FindsObject p e → not (finds_object p e.answer) ≡ false
 finds_so facts p e finds = ap not (both_true (eq-eqb e.answer.error 0 finds.0.1) finds.1)
 
 not_seen : (seen top : Bool) → seen ≡ false → (seen && not top) ≡ false
@@ -40,7 +40,7 @@ confirms facts p [] short is =
 confirms facts p (e ∷ []) short (inl is) =
     if_not p (facts.seen && not (is_top p)) _ _ (e ∷ []) (at_top facts.seen (is_top p) is.0)
     (asks_so p (looks_up p) (looked_up facts p) e [] is.1.0.0
-    (if_not p (not (are_same e.answer (is_top p))) _ _ [] (finds_so facts p e is.1)
+    (if_not p (not (finds_object p e.answer)) _ _ [] (finds_so facts p e is.1)
     (if_so p (is_top p) _ _ [] is.0 (stands p))))
 confirms facts p (e ∷ []) short (inr is) =
     if_so p (facts.seen && not (is_top p)) _ _ (e ∷ []) (both_true is.0 (ap not is.1))
@@ -48,7 +48,7 @@ confirms facts p (e ∷ []) short (inr is) =
 confirms facts p (e ∷ last ∷ []) short is =
     if_not p (facts.seen && not (is_top p)) _ _ (e ∷ last ∷ []) (not_seen facts.seen (is_top p) is.0)
     (asks_so p (looks_up p) (looked_up facts p) e (last ∷ []) is.2.0.0
-    (if_not p (not (are_same e.answer (is_top p))) _ _ (last ∷ []) (finds_so facts p e is.2)
+    (if_not p (not (finds_object p e.answer)) _ _ (last ∷ []) (finds_so facts p e is.2)
     (if_not p (is_top p) _ _ (last ∷ []) is.1 (there_so facts p last short.1.0 is.3))))
 confirms facts p (e ∷ last ∷ more ∷ es) short is = absurd is
 

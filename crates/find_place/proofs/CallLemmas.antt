@@ -10,7 +10,7 @@ use Rattle.system_calls.specs.declared.objects.Object.{Object}
 use Rattle.dialogue.specs.Dialogue.{Talks, Whole, and_then, asking, asks, ends, without_signals}
 use Rattle.dialogue.specs.Holds.{AllMay, Holds, state_after}
 use Rattle.dialogue.proofs.HoldLemmas.{Goes, asks_then, both, choose, exchange, over}
-use Rattle.find_place.specs.Place.{are_same, ask_place, closing, confirmed, copied, facts_of, found, is_there, link, link_told, lost, looked_up, or_unfound, place, place_if, unfound, with_place, with_text}
+use Rattle.find_place.specs.Place.{ask_place, closing, confirmed, copied, facts_of, finds_object, found, is_there, link, link_told, lost, looked_up, or_unfound, place, place_if, unfound, with_place, with_text}
 use Rattle.find_place.specs.Promises.{CallsHold, Ends, IsAsked, IsTold, Seen, after, at_first, needs_open, watch}
 use Rattle.find_place.specs.Questions.{Asked, Exchange, Talk, Told, closes, copies, is_dead, is_removed, is_top, link_again, looks, looks_up, object_link, questions, root_link}
 use Rattle.find_place.specs.Witness.{QuestionsComeToAnEnd}
@@ -63,7 +63,7 @@ few_there n facts p =
 
 few_found : (facts : Facts) (p : List ℕ) (a : Answer) → Few 1 (looked_up facts p a)
 few_found facts p a =
-    few_either 1 (not (are_same a (is_top p))) _ _ (few_end 1 _)
+    few_either 1 (not (finds_object p a)) _ _ (few_end 1 _)
     (few_either 1 (is_top p) _ _ (few_end 1 _) (few_there 0 facts p))
 
 few_confirmed : (facts : Facts) (p : List ℕ) → Few 2 (confirmed facts p)

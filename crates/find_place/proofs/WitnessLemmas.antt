@@ -3,7 +3,7 @@ use Rattle.std.proofs.Common.{◌≡◌, ◌==◌, ◌&&◌, inl, inr, ℕ, Bool
 use Rattle.std.proofs.lemmas.Bool.{and_parts, both_ways, eqb-true, not-false, not-true}
 use Rattle.system_calls.specs.Objects.{is_same_object}
 use Rattle.system_calls.specs.Place.{ends_as_gone, is_named, place_told}
-use Rattle.find_place.specs.Place.{are_same, below_root, confirmed, is_there, look_up_error, looked_up, place}
+use Rattle.find_place.specs.Place.{below_root, confirmed, finds_object, is_there, look_up_error, looked_up, place}
 use Rattle.find_place.specs.Questions.{Exchange, is_dead, is_top, link_again, looks_up, object_link, root_link, text_of}
 use Rattle.find_place.specs.Witness.{FindsObject, IsAlive, IsConfirmed, IsThere, IsWitnessed, PlacesAreWitnessed}
 use Rattle.find_place.specs.declared.places.Facts.{Facts}
@@ -68,7 +68,7 @@ found_tells : (facts : Facts) (names p : List ℕ) (e : Exchange) (later : List 
     → (facts.seen && not (is_top p)) ≡ false → e.asked ≡ looks_up p → Comes names (looked_up facts p e.answer) later
     → Confirmed facts names p (e ∷ later)
 found_tells facts names p e later none is h =
-    elim (either names (not (are_same e.answer (is_top p))) _ _ later h) [
+    elim (either names (not (finds_object p e.answer)) _ _ later h) [
       | inl c ↦ absurd (no_end names (look_up_error e.answer.error) later c.1)
       | inr c ↦
           let b = and_parts (e.answer.error == 0) (is_same_object e.answer.held e.answer.found (is_top p)) (not-false _ c.0) in

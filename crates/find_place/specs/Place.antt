@@ -50,17 +50,16 @@ is_there facts place =
 
 -- ---- the look-up
 
--- both objects were looked at, and are the same: by the same mount, or by any
-abbrev pub are_same : Answer → Bool → Bool
-are_same a by_any_mount = (a.error == 0) && is_same_object a.held a.found by_any_mount
+-- Both objects were looked at, and are the same: device, inode and mount are. The root may be mounted over itself.
+abbrev pub finds_object : List ℕ → Answer → Bool
+finds_object place a = (a.error == 0) && is_same_object a.held a.found (is_top place)
 
 abbrev pub look_up_error : ℕ → ℕ
 look_up_error error = if (error == 0) || is_elsewhere error then EAGAIN else error
 
--- The object itself was found: device, inode and mount are the same. The root may be mounted over itself.
 abbrev pub looked_up : Facts → List ℕ → Answer → Talk Told
 looked_up facts place a =
-    if not (are_same a (is_top place)) then ends (Err (look_up_error a.error))
+    if not (finds_object place a) then ends (Err (look_up_error a.error))
     else (if is_top place then ends (Ok place) else is_there facts place)
 
 -- What was seen below the root isn't looked up again. A slash alone is the text of the root itself, and of what has

@@ -26,5 +26,5 @@ pub use laws::{
     places_are_witnessed, places_stood, places_were_passed, questions_are_few,
     questions_come_to_an_end,
 };
-pub use places::{Facts, Told, place};
+pub use places::{Facts, Told, finds_object, place};
 pub use questions::{Answer, Asked, Question};

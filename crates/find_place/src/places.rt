@@ -1,7 +1,7 @@
 //! At which names an object stands below a root, as a dialogue.
 ghost use Rattle.std.specs.Prelude.{◌≡◌};
 ghost use Rattle.dialogue.specs.Dialogue.{ran};
-ghost use Rattle.find_place.specs.Place.{are_same, confirmed, is_there, link, link_error, look_up_error, place};
+ghost use Rattle.find_place.specs.Place.{confirmed, finds_object, is_there, link, link_error, look_up_error, place};
 ghost use Rattle.find_place.specs.Questions.{asked_of, came_to, is_top, told_of};
 
 use crate::questions::{Answer, Asked, Question, ask};
@@ -80,11 +80,12 @@ fn is_there<'a>(answers: &mut &[Answer<'a>], facts: &Facts, place: &'a [u8]) -> 
     Ok(if dead.yes { Err(EAGAIN) } else { Ok(place) })
 }
 
-// The object itself was found: device, inode and mount are the same. The root may be mounted over itself.
-fn are_same(answer: &Answer<'_>, by_any_mount: bool) -> bool
-    ensures { result ≡ are_same answer.now by_any_mount }
+/// Whether the look-up of a place's names has found the object itself: device, inode and mount are the same. The root
+/// may be mounted over itself: of a slash alone any mount will do. Any other look-up ends in an error.
+pub fn finds_object(place: &[u8], answer: &Answer<'_>) -> bool
+    ensures { result ≡ finds_object place.now answer.now }
 {
-    answer.error == 0 && is_same_object(&answer.held, &answer.found, by_any_mount)
+    answer.error == 0 && is_same_object(&answer.held, &answer.found, is_top(place))
 }
 
 // Where the witnesses don't agree, neither says that it stood elsewhere at one moment.
@@ -112,7 +113,7 @@ fn confirmed<'a>(answers: &mut &[Answer<'a>], facts: &Facts, place: &'a [u8]) ->
         };
     }
     let look = ask(answers, Question::LookUp(place))?;
-    if !are_same(&look, is_top(place)) {
+    if !finds_object(place, &look) {
         return Ok(Err(look_up_error(look.error)));
     }
     if is_top(place) {

@@ -1,6 +1,8 @@
 //! Conversations about an object's place: what a kernel answers, and to what it comes; and how often it is asked for.
 use crate::rows::{Room, all_go, letters, name_of, number};
-use find_place::{Answer, Asked, Facts, Question, Told, ask_place, next_question, place};
+use find_place::{
+    Answer, Asked, Facts, Question, Told, ask_place, finds_object, next_question, place,
+};
 use std::alloc::{AllocError, Global};
 use system_calls::Object;
 
@@ -140,6 +142,19 @@ directory: root = reads /; text = bytes 4096; fails ENAMETOOLONG";
 #[test]
 fn witnesses_tell_a_place(rt: HostRuntime) -> Result<(), AllocError> {
     all_go::<Placing>(&rt, rt.alloc(), PLACES)
+}
+
+// The root may be mounted over itself.
+#[test]
+fn an_object_is_found_by_its_mount(rt: HostRuntime) {
+    let other = Object { mount: 4, ..OBJECT };
+    for (place, found, wanted) in [
+        (b"/a".as_slice(), OBJECT, true),
+        (b"/a".as_slice(), other, false),
+        (b"/".as_slice(), other, true),
+    ] {
+        assert_eq!(rt; finds_object(place, &Answer { found, ..FINE }), wanted);
+    }
 }
 
 const ASKINGS: &str = "\
