@@ -194,6 +194,40 @@ fn an_objects_place_is_told(rt: HostRuntime) {
     assert!(&rt; has_read(&talk, "/a"), "{due:?}");
 }
 
+// Another one has come to its names since its text was read.
+#[test]
+fn a_removed_directory_is_asked_itself(rt: HostRuntime) {
+    let other = Answer {
+        inode: 8,
+        ..gave(0, 0)
+    };
+    let removed = Answer {
+        links: 0,
+        ..gave(0, 0)
+    };
+    let lines = [
+        answers(STATX, 5, "", gave(0, 0)),
+        answers(DUPFD, 5, "", gave(6, 0)),
+        answers(OPENAT, 0xffff_ff9c, "/proc", gave(20, 0)),
+        answers(FSTATFS, 20, "", gave(0, 0)),
+        answers(STATX, 20, "", gave(0, 0)),
+        answers(CLAIM, 0, "", gave(0, EBUSY)),
+        reads(READLINKAT, 20, "thread-self/fd/3", "/root"),
+        reads(READLINKAT, 20, "thread-self/fd/6", "/root/a"),
+        answers(OPENAT2, 3, "a", gave(12, 0)),
+        answers(STATX, 6, "", gave(0, 0)),
+        answers(STATX, 12, "", other),
+        answers(CLOSE, 12, "", gave(0, 0)),
+        answers(STATX, 6, "", removed),
+        answers(CLOSE, 6, "", gave(0, 0)),
+        answers(CLOSE, 20, "", gave(0, 0)),
+        answers(STATX, 3, "", gave(0, 0)),
+    ];
+    let mut talk = begun(bare(request(PLACE)), (b"/", b"/"));
+    let ended = ends(&rt, rt.alloc(), &mut talk, &lines);
+    assert_eq!(&rt; ended, (FAILS, ENOENT as u64));
+}
+
 #[test]
 fn a_link_is_followed_and_left(rt: HostRuntime) {
     let link = Answer {

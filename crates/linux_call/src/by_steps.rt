@@ -19,6 +19,7 @@ mod step;
 mod talk;
 mod there;
 mod tries;
+mod witnesses;
 mod work;
 
 pub(crate) use state::{Ended, Part, Steps};

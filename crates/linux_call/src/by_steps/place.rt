@@ -1,9 +1,12 @@
 //! At which names below the root an object stands: as a walk asks, and as a program does.
-use crate::by_steps::search::{Found, look_first};
-use crate::by_steps::slots::ROOT;
+use crate::by_steps::search::Found;
+use crate::by_steps::slots::{ROOT, Slot};
 use crate::by_steps::state::{Ended, Part, Stage, Steps};
+use crate::by_steps::witnesses::look_up;
 use dialogue::{Answer as Gave, Asked};
-use find_place::{ASK, AT_ROOT, Held, LOOK_UP, SEEN_BELOW, before_questions, behind_look_up};
+use find_place::{
+    ASK, AT_ROOT, BY_NAME, Held, LOOK_UP, SEEN_BELOW, before_questions, behind_look_up,
+};
 use find_proc::Known;
 use std::alloc::Global;
 
@@ -32,7 +35,7 @@ impl Steps {
             Some(names) if first == LOOK_UP => {
                 let root = handles.fd(ROOT);
                 let fd = handles.fd(handle);
-                let found = look_first(answers, known, root, fd, names)?;
+                let found = look_up(answers, known, root, fd, names)?.opened;
                 Ok(Part::Before(behind_look_up(&held, found.is_some()), found))
             }
             _ => Ok(Part::Before(first, None)),
@@ -49,7 +52,7 @@ impl Steps {
             self.attempt.handles.set(handle, slot);
         }
         if next == ASK {
-            self.search.begin(self.attempt.handles.fd(ROOT), slot);
+            self.search.begin(self.attempt.handles.fd(ROOT), slot, None);
             self.stage = Stage::Place;
             return;
         }
@@ -66,8 +69,8 @@ impl Steps {
         found: Found,
         read: &mut [u8],
     ) -> Option<Ended> {
-        if let Found::Link(_, Some(proc)) = found {
-            self.attempt.proc = Some(proc);
+        if let Found::Link(link) = found {
+            self.attempt.proc = link.proc;
         }
         self.search.take(found, read);
         let (error, length) = match self.search.told() {
@@ -98,7 +101,8 @@ impl Steps {
 
     /// A program asks: the object isn't looked at yet.
     pub(crate) fn begin_to_ask(&mut self) {
-        self.search.begin_for(self.root, self.request.fd);
+        let unheld = Slot::new(None, 0, BY_NAME);
+        self.search.begin(self.root, unheld, Some(self.request.fd));
         self.stage = Stage::Place;
     }
 }
