@@ -3,3 +3,4 @@ pub mod EntryLemmas
 pub mod GiveLemmas
 pub mod LookLemmas
 pub mod ResolveLemmas
+mod NamedLemmas

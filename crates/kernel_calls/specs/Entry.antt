@@ -1,9 +1,13 @@
 -- An entry: the directory that has it, and its name.
-use Rattle.std.specs.Prelude.{ℕ, List, [], ◌∷◌, ◌==◌, Bool, true, false, not, ◌&&◌, if◌then◌else◌, bit_or, Option, Some, None, Result, Ok, Err}
+use Rattle.std.specs.Prelude.{◌≡◌, ◌≢◌, ℕ, List, [], ◌∷◌, ◌==◌, Bool, true, false, not, ◌&&◌, if◌then◌else◌, bit_or, Option, Some, None, Result, Ok, Err}
 use Rattle.path_text.specs.Text.{begins_with_slash}
+use Rattle.path_text.specs.declared.path.Split.{Split}
 use Rattle.system_calls.specs.OpenFlags.{O_PATH}
 use Rattle.dialogue.specs.Dialogue.{Dialogue, and_then, calling, closes, ends}
 use Rattle.find_proc.specs.declared.asks.Known.{Known}
+use Rattle.root_ops.specs.Acts.{IsEntry}
+use Rattle.kernel_walks.specs.Behind.{IsDirectoryText}
+use Rattle.kernel_walks.specs.Split.{rule_of}
 use Rattle.kernel_calls.specs.Flags.{BENEATH, has}
 use Rattle.kernel_calls.specs.Look.{Came, came_to, walk}
 use Rattle.kernel_calls.specs.Path.{At, text_in}
@@ -27,6 +31,27 @@ slashed_of None = None
 
 abbrev pub named_of : LastName → EntryAt
 named_of n = record { above = slashed_of n.above; name = n.name.now }
+
+-- None exactly if no part stands before the name: the entry is in the root itself. Else a path with just those parts.
+abbrev pub IsAbove : Split → Option (List ℕ) → Type 0
+IsAbove split None = split.dir.parts ≡ []
+IsAbove split (Some slashed) = (split.dir.parts ≢ []) × IsDirectoryText (text_in slashed) split
+
+-- A path is its directory's path, and its last name, behind which slashes may stand if they are taken away
+-- (path_resolution(7); POSIX.1, 4.13 Pathname Resolution).
+pub record IsDivided (text : List ℕ) (takes_slash : Bool) (n : EntryAt) : Type 0 where
+  pub split : Split
+  pub entry : IsEntry text (rule_of takes_slash) split
+  pub name : n.name ≡ split.name
+  pub above : IsAbove split n.above
+
+-- it has no last name
+abbrev pub IsNameless : List ℕ → Bool → Type 0
+IsNameless text takes_slash = (split : Split) → IsEntry text (rule_of takes_slash) split → ⊥
+
+abbrev pub IsNamed : List ℕ → Bool → Option LastName → Type 0
+IsNamed text takes_slash (Some n) = IsDivided text takes_slash (named_of n)
+IsNamed text takes_slash None = IsNameless text takes_slash
 
 -- ---- its directory
 

@@ -1,9 +1,12 @@
 //! An entry: the directory that has it, and its name.
-ghost use Rattle.std.specs.Prelude.{◌≡◌, ◌++◌, drop, MatchOption};
+ghost use Rattle.std.specs.Prelude.{◌≡◌, ◌++◌, MatchOption};
+ghost use Rattle.path_text.specs.declared.path.Split.{Split};
 ghost use Rattle.dialogue.specs.Dialogue.{asked_of, ran, ran_by};
-ghost use Rattle.kernel_walks.specs.Split.{IsParted};
-ghost use Rattle.kernel_calls.specs.Entry.{closed_by, find_directory, leave, own_of, slashed_of};
-ghost use Rattle.kernel_calls.specs.Path.{at_of};
+ghost use Rattle.root_ops.specs.Acts.{IsEntry};
+ghost use Rattle.root_ops.specs.CallHistory.{IsPath};
+ghost use Rattle.kernel_walks.specs.Split.{IsPartedAt, rule_of};
+ghost use Rattle.kernel_calls.specs.Entry.{IsAbove, IsNamed, IsNameless, closed_by, find_directory, leave, own_of, slashed_of};
+ghost use Rattle.kernel_calls.specs.Path.{at_of, text_in};
 
 use crate::flags::{BENEATH, O_PATH, has};
 use crate::look::{Below, Outcome, walk};
@@ -58,8 +61,9 @@ pub const NOT_BEHIND: Behind = Behind {
 /// Where a path's last name stands in it.
 #[inline(always)]
 pub fn parts(path: PathOf<'_>, takes_slash: bool) -> Option<Parted>
-    ensures { MatchOption result (Unit {0})
-        (λ parted. IsParted (drop 1 path.entry.slashed.now) takes_slash parted × (parted.error ≡ 0)) }
+    ensures { MatchOption result (IsNameless (text_in path.entry.slashed.now) takes_slash)
+        (λ parted. (split : Split) × IsEntry (text_in path.entry.slashed.now) (rule_of takes_slash) split
+        × IsPartedAt (text_in path.entry.slashed.now) split parted) }
 {
     let parted = split(path.text(), takes_slash);
     if parted.error == 0 {
@@ -70,7 +74,10 @@ pub fn parts(path: PathOf<'_>, takes_slash: bool) -> Option<Parted>
 }
 
 #[inline(always)]
-fn above<'n>(path: PathOf<'n>, parted: &Parted) -> Option<PathOf<'n>> {
+fn above<'n>(path: PathOf<'n>, parted: &Parted) -> Option<PathOf<'n>>
+    ensures { (split : Split) → IsPath (text_in path.entry.slashed.now)
+        → IsPartedAt (text_in path.entry.slashed.now) split parted.now → IsAbove split (slashed_of result) }
+{
     let end = unslashed(path.text(), parted.name);
     if end == 0 {
         None
@@ -81,7 +88,9 @@ fn above<'n>(path: PathOf<'n>, parted: &Parted) -> Option<PathOf<'n>> {
 
 /// Divides a path; one without a last name isn't divided.
 #[inline(always)]
-pub fn named<'n>(path: PathOf<'n>, takes_slash: bool) -> Option<LastName<'n>> {
+pub fn named<'n>(path: PathOf<'n>, takes_slash: bool) -> Option<LastName<'n>>
+    ensures { IsNamed (text_in path.entry.slashed.now) takes_slash result }
+{
     let parted = parts(path, takes_slash)?;
     Some(LastName {
         above: above(path, &parted),

@@ -1,5 +1,6 @@
 //! The texts of a request.
-ghost use Rattle.std.specs.Prelude.{◌≡◌, ◌+◌, take, drop};
+ghost use Rattle.std.specs.Prelude.{◌≡◌, ◌≤◌, ◌+◌, false, length, take, drop};
+ghost use Rattle.path_text.specs.Text.{ends_with_slash, pieces};
 ghost use Rattle.kernel_calls.specs.Path.{place_in};
 
 use path_text::{SLASH, before_slashes};
@@ -116,6 +117,10 @@ pub fn front(text: &[u8], length: usize) -> &[u8]
 
 /// How long a text's first bytes are without the slashes at their end.
 #[inline(always)]
-pub(crate) fn unslashed(text: &[u8], count: usize) -> usize {
+pub(crate) fn unslashed(text: &[u8], count: usize) -> usize
+    ensures pieces { pieces (take result text.now) ≡ pieces (take count text.now) }
+    ensures last { ends_with_slash (take result text.now) ≡ false }
+    ensures within { result ≤ length (take count text.now) }
+{
     before_slashes(front(text, count)).len()
 }
