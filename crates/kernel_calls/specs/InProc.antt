@@ -120,17 +120,15 @@ tried_told k proc fd (Err error) = failed_in k proc fd error
 unfoldable pub tried_in : Known → ℕ → ℕ → Doing → Dialogue Tried
 tried_in k proc fd act = and_then (done_in proc fd act) (tried_told k proc fd)
 
-abbrev pub closing : Proc → Tried → Dialogue Tried
-closing proc tried = if proc.own then and_then (calling (closes proc.fd)) (λ _. ends tried) else ends tried
-
--- a /proc of the call's own is closed
-unfoldable pub done_by : Known → Proc → ℕ → Doing → Dialogue Tried
-done_by k proc fd act = and_then (tried_in k proc.fd fd act) (closing proc)
-
 -- ---- by a /proc that is found
 
+-- a /proc of the call's own is closed
+abbrev pub closing : Known → Proc → Tried → Dialogue (Came Tried)
+closing k proc tried =
+    if proc.own then and_then (calling (closes proc.fd)) (λ _. ends (came_to k tried)) else ends (came_to k tried)
+
 abbrev pub with_proc : Known → ℕ → Doing → Result Proc ℕ → Dialogue (Came Tried)
-with_proc k fd act (Ok proc) = and_then (done_by k proc fd act) (λ tried. ends (came_to k tried))
+with_proc k fd act (Ok proc) = and_then (tried_in k proc.fd fd act) (closing k proc)
 with_proc k fd act (Err error) = ends (came_to k (Err error, false))
 
 abbrev pub found_told : Known → ℕ → Doing → Found → Dialogue (Came Tried)

@@ -1,10 +1,10 @@
 //! What is done to an object by its link in /proc, if the kernel takes no descriptor that only names it.
 ghost use Rattle.std.specs.Prelude.{◌≡◌};
 ghost use Rattle.dialogue.specs.Dialogue.{asked_of, ran, ran_by};
-ghost use Rattle.kernel_calls.specs.InProc.{act_by, act_of, act_twice, by_proc, done_by, done_in, error_or_none, failed_in, from_top, gives, tried_in, is_at_top, is_unknown, object_of, proc_error, question_of};
+ghost use Rattle.kernel_calls.specs.InProc.{act_by, act_of, act_twice, by_proc, done_in, error_or_none, failed_in, from_top, gives, tried_in, is_at_top, is_unknown, object_of, proc_error, question_of};
 
 use dialogue::{Answer, Asked, Question, ask};
-use find_proc::{AT_FDCWD, Known, Proc, find, is_lost};
+use find_proc::{AT_FDCWD, Known, find, is_lost};
 use linux_steps::look_error;
 use system_calls::errors::{EACCES, EBADF, ENOENT, ENOSYS, ENOTDIR, EPERM};
 use system_calls::{Object, is_same_object};
@@ -187,25 +187,7 @@ fn tried_in<'n>(
     }
 }
 
-#[tactic(auto, using(dialogue::proofs::TalkLemmas::ran_then, dialogue::proofs::TalkLemmas::ran_ends), unfolding(crate::specs::InProc::done_by))]
-fn done_by<'n>(
-    answers: &mut &[Answer],
-    known: &Known,
-    proc: Proc,
-    fd: u32,
-    act: Act<'n>,
-) -> Asked<'n, (Result<u32, u32>, bool)>
-    ensures { ran_by (λ x. x) asked_of result answers.new.now
-        ≡ ran (done_by known.now proc fd (act_of act.entry)) answers.old.now }
-{
-    let done = tried_in(answers, known, proc.fd, fd, act)?;
-    if proc.own {
-        ask(answers, Question::Close(proc.fd))?;
-    }
-    Ok(done)
-}
-
-// By a /proc that is at hand, or SURELY by one that was checked.
+// By a /proc that is at hand, or SURELY by one that was checked. One of the call's own is closed.
 #[tactic(auto, using(dialogue::proofs::TalkLemmas::ran_then, dialogue::proofs::TalkLemmas::ran_ends), unfolding(crate::specs::InProc::act_by))]
 fn act_by<'n>(
     answers: &mut &[Answer],
@@ -217,10 +199,15 @@ fn act_by<'n>(
     ensures { ran_by (λ r. record { value = r; known = known.new }) asked_of result answers.new.now
         ≡ ran (act_by known.old fd (act_of act.entry) surely) answers.old.now }
 {
-    match find(answers, known, surely)? {
-        Ok(proc) => done_by(answers, known, proc, fd, act),
-        Err(error) => Ok((Err(error), false)),
+    let proc = match find(answers, known, surely)? {
+        Ok(proc) => proc,
+        Err(error) => return Ok((Err(error), false)),
+    };
+    let done = tried_in(answers, known, proc.fd, fd, act)?;
+    if proc.own {
+        ask(answers, Question::Close(proc.fd))?;
     }
+    Ok(done)
 }
 
 // The same once more by one that was checked, if somebody closed the program's.
