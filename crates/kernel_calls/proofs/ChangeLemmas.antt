@@ -17,7 +17,7 @@ use Rattle.kernel_calls.specs.Change.{Changing, flags_of, give, give_by, given, 
 use Rattle.kernel_calls.specs.Flags.{NEW, NO_XDEV, has}
 use Rattle.kernel_calls.specs.Look.{Came, came_to}
 use Rattle.kernel_calls.specs.Path.{At}
-use Rattle.kernel_calls.specs.Promises.{Replies, handed}
+use Rattle.kernel_calls.specs.Promises.{IsFailing, Replies, handed}
 use Rattle.kernel_calls.specs.Seen.{Changes, Gives, Held, IsAt, IsDirectory, IsNew, IsNewBy, May, MayLook, MayOpen, Seen, Wish, changed, fds, gets, made_after, opened_after, opens_after, seen_by, watch}
 use Rattle.kernel_calls.specs.declared.change.Wanted.{Wanted}
 use Rattle.kernel_calls.specs.declared.look.Outcome.{Outcome}
@@ -26,6 +26,7 @@ use Rattle.kernel_calls.proofs.LookLemmas.{forgets}
 
 -- no change was made, no look-up has failed, and the directory is the entry's
 pub record Ready (w : Wish) (s : Seen) (dir : ℕ) (name : List ℕ) : Type 0 where
+  pub unlinked : w.how.linked ≡ false
   pub first : s.change ≡ None
   pub found : s.why ≡ 0
   pub at : IsAt w.look s.held w.place dir name
@@ -33,22 +34,22 @@ pub record Ready (w : Wish) (s : Seen) (dir : ℕ) (name : List ℕ) : Type 0 wh
 changes : (w : Wish) (s : Seen) (step dir : ℕ) (name : List ℕ) → Ready w s dir name → (w.step == step) ≡ true
     → Changes w s step dir name
 changes w s step dir name h is =
-    record { first = h.first; found = h.found; kind = eqb-true w.step step is; at = h.at }
+    record { unlinked = h.unlinked; first = h.first; found = h.found; kind = eqb-true w.step step is; at = h.at }
 
-abbrev change_of : Wish → ℕ → List ℕ → ℕ → List ℕ → Changing
+abbrev pub change_of : Wish → ℕ → List ℕ → ℕ → List ℕ → Changing
 change_of w dir name other text = record { step = w.step; dir = dir; name = name; other = other; text = text }
 
 -- ---- the one system call
 
 -- what the change gave
-abbrev GaveBy : Answer → Result ℕ ℕ → Type 0
+abbrev pub GaveBy : Answer → Result ℕ ℕ → Type 0
 GaveBy made (Ok value) = made.error ≡ 0
 GaveBy made (Err error) = (error ≡ made.error) × (error ≢ 0)
 
-record Plain (s t : Seen) (r : Result ℕ ℕ) : Type 0 where
-  made : Answer
-  is : t ≡ changed s made
-  gave : GaveBy made r
+pub record Plain (s t : Seen) (r : Result ℕ ℕ) : Type 0 where
+  pub made : Answer
+  pub is : t ≡ changed s made
+  pub gave : GaveBy made r
 
 abbrev FileBy : Seen → SystemCall → Answer → Seen → Result ℕ ℕ → Type 0
 FileBy s q made t (Ok value) = t ≡ changed (gets s q value) made
@@ -63,7 +64,7 @@ gave_so : (a : Answer) (b : Bool) → (a.error == 0) ≡ b → GaveBy a (if b th
 gave_so a true is = eqb-true a.error 0 is
 gave_so a false is = (refl, not_zero a.error is)
 
-plain : (w : Wish) (s : Seen) (q : SystemCall) → May w s q → ((a : Answer) → seen_by s q a ≡ changed s a)
+pub plain : (w : Wish) (s : Seen) (q : SystemCall) → May w s q → ((a : Answer) → seen_by w s q a ≡ changed s a)
     → Goes (watch w) 1 s (gives q) (Plain s)
 unfolding gives
 plain w s q may is =
@@ -77,7 +78,7 @@ file_so : (w : Wish) (s : Seen) (q : SystemCall) (a : Answer) (b : Bool) → (a.
 file_so w s q a true is = over (record { made = a; is = refl; gave = gave_so a true is })
 file_so w s q a false is = over (record { made = a; is = refl; gave = gave_so a false is })
 
-file : (w : Wish) (s : Seen) (q : SystemCall) → May w s q → ((a : Answer) → seen_by s q a ≡ made_after s q a)
+file : (w : Wish) (s : Seen) (q : SystemCall) → May w s q → ((a : Answer) → seen_by w s q a ≡ made_after s q a)
     → Goes (watch w) 1 s (gives q) (FileMade s q)
 unfolding gives
 file w s q may is =
@@ -144,8 +145,8 @@ asks_file w s dir name other nofollow text h opens_now =
     (λ _. picks _ _ (is_opened w.how w.step)
     (λ _. file w s q
     (subst (λ o. MayOpen w s o dir name (flags_of w.how nofollow) (without_kind w.how.mode)) (sym h.first)
-    (changes w s 9 dir name h nine, new_flags w.how nofollow, refl))
-    (λ a. ap (λ o. opens_after o s q a) h.first))
+    (inl (changes w s 9 dir name h nine, new_flags w.how nofollow, refl)))
+    (λ a. ap (λ o. opens_after o w.how.linked s q a) h.first ∙ ap (λ l. opens_after None l s q a) h.unlinked))
     (λ unhanded. absurd (false≢true (sym unhanded ∙ opens_now))))
 
 -- ---- what was made is given
@@ -155,7 +156,7 @@ more_open : (d : ℕ) (held : List Held) (x : Held) (at : At) (above : Option (L
 more_open d held x at None dir is = is
 more_open d held x at (Some path) dir is = inr is
 
-more_at : (w : Wish) (held : List Held) (x : Held) (dir : ℕ) (name : List ℕ) → IsAt w.look held w.place dir name
+pub more_at : (w : Wish) (held : List Held) (x : Held) (dir : ℕ) (name : List ℕ) → IsAt w.look held w.place dir name
     → IsAt w.look (x ∷ held) w.place dir name
 more_at w held x dir name h =
     record { there = more_open w.look held x w.place.at w.place.entry.above dir h.there; named = h.named }
@@ -170,15 +171,15 @@ may_open : (w : Wish) (t : Seen) (made : Answer) (dir : ℕ) (name : List ℕ) (
     → t.change ≡ Some made → Gives w t made dir name
     → May w t (opening (change_of w dir name other text) stays nofollow)
 may_open w t made dir name other text nofollow true is h =
-    subst (λ o. MayLook w t o dir name nofollow 1) (sym is) h
+    subst (λ o. MayLook w t o dir name nofollow 1) (sym is) (inl h)
 may_open w t made dir name other text nofollow false is h =
-    subst (λ o. MayOpen w t o dir name (bit_or (bit_or O_PATH O_CLOEXEC) nofollow) 0) (sym is) h
+    subst (λ o. MayOpen w t o dir name (bit_or (bit_or O_PATH O_CLOEXEC) nofollow) 0) (sym is) (inl h)
 
 opens_it : (w : Wish) (t : Seen) (made : Answer) (c : Changing) (nofollow : ℕ) (stays : Bool)
     → t.change ≡ Some made
-    → (a : Answer) → seen_by t (opening c stays nofollow) a ≡ opened_after t (opening c stays nofollow) a
+    → (a : Answer) → seen_by w t (opening c stays nofollow) a ≡ opened_after t (opening c stays nofollow) a
 opens_it w t made c nofollow true is a = refl
-opens_it w t made c nofollow false is a = ap (λ o. opens_after o t (opening c false nofollow) a) is
+opens_it w t made c nofollow false is a = ap (λ o. opens_after o w.how.linked t (opening c false nofollow) a) is
 
 abbrev Gave : List ℕ → Seen → Seen → Came (Result ℕ ℕ) → Type 0
 Gave xs s t c = Leaves xs s t c.value
@@ -192,10 +193,10 @@ not_gives w xs s t k stays (Err error) h =
     (λ u now is. over (subst (λ v. Leaves xs s v (Err error)) (sym is.0) h)))
     (λ _. over h)
 
-gives_it : (w : Wish) (t : Seen) (k : Known) (xs : List ℕ) (made : Answer) (dir : ℕ) (name : List ℕ) (other : ℕ)
+pub gives_it : (w : Wish) (t : Seen) (k : Known) (xs : List ℕ) (made : Answer) (dir : ℕ) (name : List ℕ) (other : ℕ)
     (text read : List ℕ) (fd : Option ℕ)
     → t.change ≡ Some made → Gives w t made dir name
-    → IsTold (made_of w.how w.step fd) (fds t.held) → fds t.held ≡ held_first (made_of w.how w.step fd) ++ xs
+    → IsTold w (made_of w.how w.step fd) (fds t.held) → fds t.held ≡ held_first (made_of w.how w.step fd) ++ xs
     → Goes (watch w) 6 t (give k w.how (change_of w dir name other text) fd read) (Gave xs t)
 unfolding give
 gives_it w t k xs made dir name other text read fd is h told held =
@@ -207,7 +208,12 @@ gives_it w t k xs made dir name other text read fd is h told held =
     (opens_it w t made c k.machine.nofollow stays is) told held)
     (λ u r l. not_gives w xs t u k stays r l)
 
-gave_reply : (w : Wish) (xs : List ℕ) (s t : Seen) (made : Answer) (now : Known) (r : Result ℕ ℕ)
+fails_giving : (linked : Bool) (w : Wish) (change : Option Answer) (made : Answer) (error : ℕ) → change ≡ Some made
+    → made.error ≡ 0 → error ≢ 0 → IsFailing linked w change error 15
+fails_giving true w change made error is none some = (some, inr (refl, made, is, none))
+fails_giving false w change made error is none some = (made, is, (some, inr (refl, none)))
+
+pub gave_reply : (w : Wish) (xs : List ℕ) (s t : Seen) (made : Answer) (now : Known) (r : Result ℕ ℕ)
     → w.how.gives ≡ true → s.change ≡ Some made → made.error ≡ 0 → Leaves xs s t r
     → Done w xs t (came_to now (give_by r))
 gave_reply w xs s t made now (Ok fd) gives is none l =
@@ -217,7 +223,7 @@ gave_reply w xs s t made now (Ok fd) gives is none l =
       replies = (made, l.change ∙ is, none, λ unhanded. absurd (false≢true (sym unhanded ∙ opens_now)));
     }
 gave_reply w xs s t made now (Err error) gives is none l =
-    record { held = l.held; replies = (made, l.change ∙ is, (l.some, inr (refl, none))) }
+    record { held = l.held; replies = fails_giving w.how.linked w t.change made error (l.change ∙ is) none l.some }
 
 opened_hands : (m l o g r : Bool) → (m && (not l && (o || (g && r)))) ≡ true → not g ≡ true → (g || (m && o)) ≡ true
 opened_hands true false true false r is ungiven = refl
@@ -235,7 +241,7 @@ plain_hands true false true false r unlinked is ungiven = absurd (false≢true (
 plain_hands true false false false r unlinked is ungiven = refl
 plain_hands false l o false r unlinked is ungiven = refl
 
-gives_yes : (g : Bool) → not g ≡ false → g ≡ true
+pub gives_yes : (g : Bool) → not g ≡ false → g ≡ true
 gives_yes true is = refl
 gives_yes false is = absurd (false≢true (sym is))
 
@@ -259,7 +265,7 @@ given_plain w s k made dir name other text read h unlinked unopened none =
     let is = ap (λ b. if b then Name w.how.fd else Entry (mode_of w.how w.step) w.how.device) unlinked in
     both 6 0
     (gives_it w t k (fds s.held) made dir name other text read None refl
-    (record { gives = opens_now; done = none; at = h.at }) (subst (λ m. IsTold m (fds s.held)) (sym is) tt)
+    (record { gives = opens_now; done = none; at = h.at }) (subst (λ m. IsTold w m (fds s.held)) (sym is) tt)
     (ap (λ m. held_first m ++ fds s.held) (sym is)))
     (λ u c l. over (gave_reply w (fds s.held) t u made c.known c.value opens_now refl none l)))
 
@@ -288,7 +294,7 @@ given_file w s k made q fd dir name other text read h opened none =
 -- ---- the change
 
 -- how it is made if no descriptor's object gets another name
-abbrev made_alone : Known → Wish → Changing → Dialogue (Came (Result ℕ ℕ))
+abbrev pub made_alone : Known → Wish → Changing → Dialogue (Came (Result ℕ ℕ))
 made_alone k w c = and_then (gives (question_of w.how c k.machine.nofollow)) (λ r. ends (came_to k r))
 
 plain_told : (w : Wish) (s t : Seen) (k : Known) (dir : ℕ) (name : List ℕ) (other : ℕ) (text read : List ℕ)
@@ -304,7 +310,12 @@ plain_told w s t k dir name other text read (Ok value) h unlinked unopened p =
 plain_told w s t k dir name other text read (Err error) h unlinked unopened p =
     subst (λ u. Goes (watch w) 6 u (make_by w.how (change_of w dir name other text) read k (Err error))
     (Done w (fds s.held))) (sym p.is)
-    (over (record { held = refl; replies = (p.made, refl, (p.gave.1, inl (refl, p.gave.0))) }))
+    (over (record {
+      held = refl;
+      replies =
+          subst (λ l. IsFailing l w (Some p.made) error w.step) (sym h.unlinked)
+          (p.made, refl, (p.gave.1, inl (refl, p.gave.0)));
+    }))
 
 file_told : (w : Wish) (s t : Seen) (k : Known) (q : SystemCall) (dir : ℕ) (name : List ℕ) (other : ℕ)
     (text read : List ℕ) (r : Result ℕ ℕ)
@@ -319,7 +330,12 @@ file_told w s t k q dir name other text read (Ok value) h opens_now p =
 file_told w s t k q dir name other text read (Err error) h opens_now p =
     subst (λ u. Goes (watch w) 6 u (make_by w.how (change_of w dir name other text) read k (Err error))
     (Done w (fds s.held))) (sym p.is)
-    (over (record { held = refl; replies = (p.made, refl, (p.gave.1, inl (refl, p.gave.0))) }))
+    (over (record {
+      held = refl;
+      replies =
+          subst (λ l. IsFailing l w (Some p.made) error w.step) (sym h.unlinked)
+          (p.made, refl, (p.gave.1, inl (refl, p.gave.0)));
+    }))
 
 makes_by : (w : Wish) (s : Seen) (k : Known) (dir : ℕ) (name : List ℕ) (other : ℕ) (text read : List ℕ) (b : Bool)
     → is_opened w.how w.step ≡ b → Ready w s dir name → w.how.linked ≡ false

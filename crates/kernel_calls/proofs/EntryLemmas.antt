@@ -1,5 +1,5 @@
 -- How a call on an entry ends.
-use Rattle.std.proofs.Common.{◌≡◌, inl, inr, ℕ, List, [], ◌∷◌, ◌++◌, Bool, true, false, not, ◌&&◌, ◌||◌, if◌then◌else◌, Result, Ok, Err, refl, sym, ap, subst, ◌∙◌, arith}
+use Rattle.std.proofs.Common.{◌≡◌, inl, inr, ℕ, ◌+◌, List, [], ◌∷◌, ◌++◌, Bool, true, false, not, ◌&&◌, ◌||◌, if◌then◌else◌, Result, Ok, Err, refl, sym, ap, subst, ◌∙◌, arith}
 use Rattle.std.specs.Prelude.{◌==◌, ◌≤◌, bit_or, nat_lt, length, Option, Some, None}
 use Rattle.path_text.specs.Text.{is_empty}
 use Rattle.path_text.specs.declared.path.TheConstants.{TEXT_MAX}
@@ -11,10 +11,11 @@ use Rattle.dialogue.proofs.HeldLemmas.{first_in, second_in, without_first, witho
 use Rattle.dialogue.proofs.HoldLemmas.{Goes, asks_then, both, choose, over, weak}
 use Rattle.find_proc.specs.Asks.{AT_FDCWD, NO_DIRECTORY, NO_MAGICLINKS, SAME, has_floor, has_number, is_short}
 use Rattle.find_proc.specs.declared.asks.Known.{Known}
-use Rattle.kernel_calls.specs.Calls.{behind_of, change_entry, change_in, change_told, ended, from_by, is_plain, is_steps, left, not_renamed, plain_told, rename, rename_from, rename_in, rename_to, rename_told}
+use Rattle.kernel_calls.specs.Calls.{behind_of, change_entry, change_in, change_told, changing, ended, from_by, is_plain, is_steps, left, not_renamed, plain_told, rename, rename_from, rename_in, rename_to, rename_told}
+use Rattle.kernel_calls.specs.Change.{make_change}
 use Rattle.kernel_calls.specs.Entry.{leave, own_of}
 use Rattle.kernel_calls.specs.Flags.{MAKE_LINK}
-use Rattle.kernel_calls.specs.Look.{Came}
+use Rattle.kernel_calls.specs.Look.{Came, unsure}
 use Rattle.kernel_calls.specs.Path.{At, text_in}
 use Rattle.kernel_calls.specs.Promises.{CallEnds, EntriesHold, RenamesHold, Replies, for_entry, for_rename, handed, hands_out}
 use Rattle.kernel_calls.specs.Seen.{Finds, Held, IsAt, IsDirectory, IsLookUp, IsOpen, May, MayLook, Place, Seen, Wish, at_first, below_bits, fds, watch}
@@ -23,16 +24,17 @@ use Rattle.kernel_calls.specs.declared.entry.Dir.{Dir}
 use Rattle.kernel_calls.specs.declared.look.Outcome.{Outcome}
 use Rattle.kernel_calls.specs.declared.look.Outcome.TheVariants.{Value, Fails, FailsAt, Steps}
 use Rattle.kernel_calls.proofs.ChangeLemmas.{Done, Last, makes}
-use Rattle.kernel_calls.proofs.LookLemmas.{FoundBy, Tells, Unfound, finds, shut_fds}
+use Rattle.kernel_calls.proofs.LookLemmas.{FoundBy, Reached, Tells, Unfound, finds, shut_fds}
 
 -- ---- whether the kernel has what is needed
 
-floor : (w : Wish) (s : Seen) (k : Known) → s.change ≡ None → Goes (watch w) 3 s (has_floor k) (λ t is. t ≡ s)
+pub floor : (w : Wish) (s : Seen) (k : Known)
+    → May w s (look_up NO_DIRECTORY SAME k.machine.directory NO_MAGICLINKS)
+    → Goes (watch w) 3 s (has_floor k) (λ t is. t ≡ s)
 unfolding has_floor
-floor w s k none =
+floor w s k may =
     choose k.has_floor (λ _. over refl)
-    (λ _. asks_then 2 (look_up NO_DIRECTORY SAME k.machine.directory NO_MAGICLINKS)
-    (subst (λ o. MayLook w s o NO_DIRECTORY SAME k.machine.directory NO_MAGICLINKS) (sym none) (inl refl))
+    (λ _. asks_then 2 (look_up NO_DIRECTORY SAME k.machine.directory NO_MAGICLINKS) may
     (λ a. choose (not (a.error == EBADF) && not (is_short a.error)) (λ _. over refl)
     (λ _. asks_then 1 (stats AT_FDCWD) (inl refl)
     (λ b. choose (has_number b && (a.error == EBADF)) (λ _. asks_then 0 (knows true) tt (λ _. over refl))
@@ -43,7 +45,9 @@ plain : (w : Wish) (s : Seen) (k : Known) (gives : Bool) (step : ℕ) (text : Li
 unfolding is_plain
 plain w s k gives step text none =
     choose ((step == MAKE_LINK) && (is_empty text || nat_lt TEXT_MAX (length text))) (λ _. over refl)
-    (λ _. choose (not gives) (λ _. over refl) (λ _. floor w s k none))
+    (λ _. choose (not gives) (λ _. over refl)
+    (λ _. floor w s k
+    (subst (λ o. MayLook w s o NO_DIRECTORY SAME k.machine.directory NO_MAGICLINKS) (sym none) (inl refl))))
 
 -- ---- how an outcome is told
 
@@ -178,45 +182,56 @@ no_rename : (w : Wish) (s : Seen) (dir : ℕ) (name : List ℕ) (other : ℕ) (t
 no_rename w s dir name other text low high no8 no9 no10 no11 no12 =
     absurd (grind (arith, low, high, no8, no9, no10, no11, no12))
 
-changes_in : (k now : Known) (p : Place) (how : Wanted) (step : ℕ) (text read : List ℕ) (is_last : Bool) (t : Seen)
-    (r : Result Dir Outcome)
-    → how.linked ≡ false → 8 ≤ step → step ≤ 12
+-- how a change goes in a directory that was found
+abbrev pub Makes : ℕ → Known → Place → Wanted → ℕ → List ℕ → List ℕ → Type 0
+Makes m k p how step text read =
+    (t : Seen) (now : Known) → unsure now ≡ unsure k → (dir : Dir)
+    → Reached (bit_or O_PATH k.machine.directory) p.at p.entry.above at_first t dir
+    → Goes (watch (for_entry k p how step text)) m t
+    (make_change now how (changing step dir.fd p.entry.name text) read)
+    (Done (for_entry k p how step text) (fds t.held))
+
+changes_in : (m : ℕ) (k now : Known) (p : Place) (how : Wanted) (step : ℕ) (text read : List ℕ) (is_last : Bool)
+    (t : Seen) (r : Result Dir Outcome)
+    → Makes m k p how step text read → unsure now ≡ unsure k
     → FoundBy (bit_or O_PATH k.machine.directory) p.at p.entry.above at_first t r
-    → Goes (watch (for_entry k p how step text)) 8 t (change_in p.entry how step text read is_last now r)
+    → Goes (watch (for_entry k p how step text)) (m + 1) t (change_in p.entry how step text read is_last now r)
     (CallEnds (for_entry k p how step text))
-changes_in k now p how step text read is_last t (Ok dir) unlinked low high h =
+changes_in m k now p how step text read is_last t (Ok dir) goes same h =
     let w = for_entry k p how step text in
-    both 7 1
-    (makes w t now dir.fd p.entry.name 0 text read
-    (record { first = h.change; found = h.why; at = record { there = h.is; named = refl } }) unlinked (λ _. refl)
-    (no_rename w t dir.fd p.entry.name 0 text low high))
+    both m 1 (goes t now same dir h)
     (λ u c d. ends_entry w u dir.fd dir.own is_last c
     (record {
       held = d.held ∙ ap (λ xs. handed w c.value ++ xs) (h.held ∙ nothing_after [] dir.own dir.fd);
       replies = d.replies;
     }))
-changes_in k now p how step text read is_last t (Err why) unlinked low high h =
+changes_in m k now p how step text read is_last t (Err why) goes same h =
     over (unfound_ends (for_entry k p how step text) at_first t now [] why h refl refl)
 
-entry_goes : (k : Known) (p : Place) (how : Wanted) (step : ℕ) (text read : List ℕ) (is_last : Bool)
-    → how.linked ≡ false → 8 ≤ step → step ≤ 12
-    → Goes (watch (for_entry k p how step text)) 16 at_first
+pub entry_goes : (m : ℕ) (k : Known) (p : Place) (how : Wanted) (step : ℕ) (text read : List ℕ) (is_last : Bool)
+    → Makes m k p how step text read
+    → Goes (watch (for_entry k p how step text)) (3 + (5 + (m + 1))) at_first
     (change_entry k p.at p.entry how step text read is_last) (CallEnds (for_entry k p how step text))
 unfolding change_entry
-entry_goes k p how step text read is_last unlinked low high =
+entry_goes m k p how step text read is_last goes =
     let w = for_entry k p how step text in
-    both 3 13 (plain w at_first k how.gives step text refl)
+    both 3 (5 + (m + 1)) (plain w at_first k how.gives step text refl)
     (λ t is same. subst
-    (λ u. Goes (watch w) 13 u (plain_told k p.at p.entry how step text read is_last is) (CallEnds w)) (sym same)
+    (λ u. Goes (watch w) (5 + (m + 1)) u (plain_told k p.at p.entry how step text read is_last is) (CallEnds w))
+    (sym same)
     (choose (not is) (λ _. over (record { held = refl; replies = refl }))
-    (λ _. both 5 8
+    (λ _. both 5 (m + 1)
     (finds w at_first k p.at p.entry.above
     (refl, refl, λ q is. seeks_place w at_first p.at p.entry.above q refl (refl, inl is) is))
-    (λ u c h. changes_in k c.known p how step text read is_last u c.value unlinked low high h.by))))
+    (λ u c h. changes_in m k c.known p how step text read is_last u c.value goes h.machine h.by))))
 
 pub entries-hold : EntriesHold
 entries-hold k p how step text read is_last unlinked low high =
-    (entry_goes k p how step text read is_last unlinked low high).each
+    let w = for_entry k p how step text in
+    (entry_goes 7 k p how step text read is_last
+    (λ t now _ dir h. makes w t now dir.fd p.entry.name 0 text read
+    (record { unlinked = unlinked; first = h.change; found = h.why; at = record { there = h.is; named = refl } })
+    unlinked (λ _. refl) (no_rename w t dir.fd p.entry.name 0 text low high))).each
 
 -- ---- an entry is renamed
 
@@ -330,9 +345,9 @@ renames_to k now p new how is_last s t from (Ok to) unlinked unhanded f h =
     let here : IsAt w.look t.held p from.fd p.entry.name = record { there = there; named = refl } in
     both 7 2
     (makes w t now from.fd p.entry.name to.fd new.entry.name []
-    (record { first = h.change ∙ f.first; found = h.why; at = here }) unlinked (λ ten. absurd cc)
+    (record { unlinked = unlinked; first = h.change ∙ f.first; found = h.why; at = here }) unlinked (λ ten. absurd cc)
     (λ _ _ _ _ _. (
-      record { first = h.change ∙ f.first; found = h.why; kind = refl; at = here },
+      record { unlinked = unlinked; first = h.change ∙ f.first; found = h.why; kind = refl; at = here },
       record { there = h.is; named = refl },
       refl,
     )))
@@ -345,14 +360,14 @@ renames_to k now p new how is_last s t from (Err why) unlinked unhanded f h =
     weak 1 (omega arith) (not_renames (for_rename k p new how) s t now from why is_last h f.first f.held) (λ u e x. x)
 
 renames_from : (k now : Known) (p new : Place) (how : Wanted) (is_last : Bool) (s : Seen) (r : Result Dir Outcome)
-    → how.linked ≡ false → hands_out (for_rename k p new how) ≡ false → now.machine ≡ k.machine
+    → how.linked ≡ false → hands_out (for_rename k p new how) ≡ false → unsure now ≡ unsure k
     → FoundBy (bit_or O_PATH k.machine.directory) p.at p.entry.above at_first s r
     → Goes (watch (for_rename k p new how)) 14 s (from_by how p.entry.name new.at new.entry is_last now r)
     (CallEnds (for_rename k p new how))
 unfolding rename_from
 renames_from k now p new how is_last s (Ok from) unlinked unhanded machine h =
     let w = for_rename k p new how in
-    let d = ap (λ m. bit_or O_PATH m.directory) machine in
+    let d = ap (λ x. bit_or O_PATH x.machine.directory) machine in
     let f : From w p s from = record {
       held = h.held ∙ nothing_after [] from.own from.fd;
       first = h.change;

@@ -1,5 +1,5 @@
 -- What a call leaves behind that opens the entry which it has made.
-use Rattle.std.proofs.Common.{◌≡◌, ◌≢◌, inr, ℕ, List, ◌∷◌, ◌++◌, Bool, true, false, not, ◌||◌, if◌then◌else◌, Result, Ok, Err, refl, sym, ap, subst, ◌∙◌, arith}
+use Rattle.std.proofs.Common.{◌≡◌, ◌≢◌, inl, inr, ℕ, List, ◌∷◌, ◌++◌, Bool, true, false, not, ◌||◌, if◌then◌else◌, Result, Ok, Err, refl, sym, ap, subst, ◌∙◌, arith}
 use Rattle.std.specs.Prelude.{◌==◌}
 use Rattle.system_calls.specs.Held.{without}
 use Rattle.system_calls.specs.Objects.{S_IFLNK, format}
@@ -34,11 +34,11 @@ bad_or : (error : ℕ) (same bad : Bool) → not (error == 0) ≡ bad → IsSome
 bad_or error same true is = bad_some error is
 bad_or error same false is = one_some same
 
-compares : (w : Wish) (s : Seen) (about : Answer) (other : ℕ) → is_in other (fds s.held) ≡ true
+compares : (w : Wish) (s : Seen) (about : Answer) (other : ℕ) → May w s (stats other)
     → Goes (watch w) 1 s (compared about other) (Looked s)
 unfolding compared
-compares w s about other held =
-    asks_then 0 (stats other) (inr held)
+compares w s about other may =
+    asks_then 0 (stats other) may
     (λ a. over
     (refl, bad_or (look_error a) _ (not (look_error a == 0)) refl))
 
@@ -50,25 +50,25 @@ reads w s fd text read held =
     (λ a. over
     (refl, bad_or a.error _ (not (a.error == 0)) refl))
 
--- the descriptor that tells whether it is the one is open
-abbrev pub IsTold : Made → List ℕ → Type 0
-IsTold (Name other) held = ⊥
-IsTold (File other) held = is_in other held ≡ true
-IsTold (Entry mode device) held = Unit {0}
+-- the descriptor that tells whether it is the one is open, or is that of the object which has another name
+abbrev pub IsTold : Wish → Made → List ℕ → Type 0
+IsTold w (Name other) held = (w.how.linked ≡ true) × (other ≡ w.how.fd)
+IsTold w (File other) held = is_in other held ≡ true
+IsTold w (Entry mode device) held = Unit {0}
 
 identifies : (w : Wish) (s : Seen) (fd : ℕ) (made : Made) (text read : List ℕ) (a : Answer)
-    → is_in fd (fds s.held) ≡ true → IsTold made (fds s.held)
+    → is_in fd (fds s.held) ≡ true → IsTold w made (fds s.held)
     → Goes (watch w) 1 s (identified fd made text read a) (Looked s)
-identifies w s fd (Name other) text read a held told = absurd told
-identifies w s fd (File other) text read a held told = compares w s a other told
+identifies w s fd (Name other) text read a held told = compares w s a other (inr (inr (told.0, inl told.1)))
+identifies w s fd (File other) text read a held told = compares w s a other (inr (inl told))
 identifies w s fd (Entry mode device) text read a held told =
     choose (format mode == S_IFLNK) (λ _. reads w s fd text read held) (λ _. over (refl, tt))
 
 sees : (w : Wish) (s : Seen) (fd : ℕ) (made : Made) (text read : List ℕ) → is_in fd (fds s.held) ≡ true
-    → IsTold made (fds s.held) → Goes (watch w) 2 s (seen fd made text read) (Looked s)
+    → IsTold w made (fds s.held) → Goes (watch w) 2 s (seen fd made text read) (Looked s)
 unfolding seen
 sees w s fd made text read held told =
-    asks_then 1 (stats fd) (inr held)
+    asks_then 1 (stats fd) (inr (inl held))
     (λ a. choose (not (look_error a == 0)) (λ bad. over (refl, bad_some (look_error a) bad))
     (λ _. choose (not (is_of_kind made a.mode a.node)) (λ _. over (refl, λ none. absurd cc))
     (λ _. identifies w s fd made text read a held told)))
@@ -98,17 +98,17 @@ gives_so w s t fd xs (Err error) held change some =
 open_some : (error : ℕ) → error ≢ 0 → open_error error ≢ 0
 open_some error some none = absurd (grind (arith, some, none))
 
-told_more : (made : Made) (fd : ℕ) (xs : List ℕ) → IsTold made xs → IsTold made (fd ∷ xs)
-told_more (Name other) fd xs told = told
-told_more (File other) fd xs told = by_case (fd == other)
+told_more : (w : Wish) (made : Made) (fd : ℕ) (xs : List ℕ) → IsTold w made xs → IsTold w made (fd ∷ xs)
+told_more w (Name other) fd xs told = told
+told_more w (File other) fd xs told = by_case (fd == other)
   where
     by_case : (b : Bool) → (b || is_in other xs) ≡ true
     by_case true = refl
     by_case false = told
-told_more (Entry mode device) fd xs told = tt
+told_more w (Entry mode device) fd xs told = tt
 
 opens_so : (w : Wish) (s : Seen) (q : SystemCall) (made : Made) (text read : List ℕ) (a : Answer) (b : Bool)
-    → (a.error == 0) ≡ b → IsTold made (fds s.held)
+    → (a.error == 0) ≡ b → IsTold w made (fds s.held)
     → Goes (watch w) 3 (if b then gets s q a.value else record s { why = a.error })
     (if not b then ends (Err (open_error a.error))
     else and_then (seen a.value made text read) (seen_then a.value)) (Leaves (fds s.held) s)
@@ -117,12 +117,12 @@ opens_so w s q made text read a false is told =
 opens_so w s q made text read a true is told =
     let t = gets s q a.value in
     both 2 1
-    (sees w t a.value made text read (first_in a.value (fds s.held)) (told_more made a.value (fds s.held) told))
+    (sees w t a.value made text read (first_in a.value (fds s.held)) (told_more w made a.value (fds s.held) told))
     (λ u r h. subst (λ v. Goes (watch w) 1 v (seen_then a.value r) (Leaves (fds s.held) s)) (sym h.0)
     (gives_so w s t a.value (fds s.held) r refl refl h.1))
 
 opens : (w : Wish) (s : Seen) (q : SystemCall) (made : Made) (text read : List ℕ) → May w s q
-    → ((a : Answer) → seen_by s q a ≡ opened_after s q a) → IsTold made (fds s.held)
+    → ((a : Answer) → seen_by w s q a ≡ opened_after s q a) → IsTold w made (fds s.held)
     → Goes (watch w) 4 s (opened q made text read) (Leaves (fds s.held) s)
 unfolding opened
 opens w s q made text read may is told =
@@ -143,7 +143,7 @@ closes_made w s t (File fd) xs (Err error) h =
     shuts w s t fd (fd ∷ xs) xs (Err error) h.held (first_in fd xs) (without_first fd xs) h.change h.some
 
 pub gives_entry : (w : Wish) (s : Seen) (q : SystemCall) (made : Made) (text read xs : List ℕ) → May w s q
-    → ((a : Answer) → seen_by s q a ≡ opened_after s q a) → IsTold made (fds s.held)
+    → ((a : Answer) → seen_by w s q a ≡ opened_after s q a) → IsTold w made (fds s.held)
     → fds s.held ≡ held_first made ++ xs
     → Goes (watch w) 5 s (give q made text read) (Leaves xs s)
 unfolding give

@@ -15,7 +15,7 @@ use Rattle.find_proc.specs.declared.asks.Known.{Known}
 use Rattle.kernel_walks.specs.AtOnce.{misses_at_once}
 use Rattle.kernel_calls.specs.Entry.{directory_at, directory_by, find_directory, own_of}
 use Rattle.kernel_calls.specs.Flags.{BENEATH, OPEN, has, resolve_of}
-use Rattle.kernel_calls.specs.Look.{Came, came_to, forget, is_filtered, is_missing, look_up as looking_up, may_walk, missing_by, opened, opened_told, walk, walk_by, walk_failed}
+use Rattle.kernel_calls.specs.Look.{Came, came_to, forget, is_filtered, is_missing, look_up as looking_up, may_walk, missing_by, opened, opened_told, unsure, walk, walk_by, walk_failed}
 use Rattle.kernel_calls.specs.Path.{At, place_in, text_in}
 use Rattle.kernel_calls.specs.Seen.{Held, IsDirectory, IsLookUp, IsOpen, May, MayLook, Seen, Wish, below_bits, fds, gets, looks, opened_after, seen_by, shut, watch}
 use Rattle.kernel_calls.specs.declared.entry.Dir.{Dir}
@@ -71,7 +71,7 @@ shut_fds fd (h ∷ hs) = by_case (h.fd == fd) (shut_fds fd hs)
 -- ---- openat2(2)
 
 pub forgets : (w : Wish) (s : Seen) (k : Known) (error : ℕ)
-    → Goes (watch w) 1 s (forget k error) (λ t now. (t ≡ s) × (now.machine ≡ k.machine))
+    → Goes (watch w) 1 s (forget k error) (λ t now. (t ≡ s) × (unsure now ≡ unsure k))
 unfolding forget
 forgets w s k error =
     choose (is_filtered error)
@@ -83,7 +83,7 @@ GotBy s q t (Ok fd) = t ≡ gets s q fd
 GotBy s q t (Err error) = t ≡ record s { why = error }
 
 record Got (k : Known) (s : Seen) (q : SystemCall) (t : Seen) (c : Came (Result ℕ ℕ)) : Type 0 where
-  machine : c.known.machine ≡ k.machine
+  machine : unsure c.known ≡ unsure k
   by : GotBy s q t c.value
 
 opened_so : (w : Wish) (s : Seen) (k : Known) (q : SystemCall) (a : Answer) (b : Bool)
@@ -95,7 +95,7 @@ opened_so w s k q a false =
     both 1 0 (forgets w (record s { why = a.error }) k a.error) (λ t now h. over (record { machine = h.1; by = h.0 }))
 
 opens : (w : Wish) (s : Seen) (k : Known) (q : SystemCall) → May w s q
-    → ((a : Answer) → seen_by s q a ≡ opened_after s q a) → Goes (watch w) 2 s (opened k q) (Got k s q)
+    → ((a : Answer) → seen_by w s q a ≡ opened_after s q a) → Goes (watch w) 2 s (opened k q) (Got k s q)
 unfolding opened
 opens w s k q may is =
     asks_then 1 q may
@@ -108,12 +108,12 @@ abbrev miss : At → SystemCall
 miss at = look_up at.root (text_in at.slashed) O_PATH (bit_or (resolve_of at.flags) 4)
 
 record Missed (k : Known) (s t : Seen) (c : Came Bool) : Type 0 where
-  machine : c.known.machine ≡ k.machine
+  machine : unsure c.known ≡ unsure k
   held : t.held ≡ s.held
   change : t.change ≡ s.change
   why : c.value ≡ true → t.why ≡ ENOENT
 
-missed_by : (w : Wish) (s t : Seen) (k now : Known) (q : SystemCall) (r : Result ℕ ℕ) → now.machine ≡ k.machine
+missed_by : (w : Wish) (s t : Seen) (k now : Known) (q : SystemCall) (r : Result ℕ ℕ) → unsure now ≡ unsure k
     → GotBy s q t r → Goes (watch w) 1 t (missing_by now r) (Missed k s)
 missed_by w s t k now q (Ok fd) machine is =
     subst (λ u. Goes (watch w) 1 u (missing_by now (Ok fd)) (Missed k s)) (sym is)
@@ -159,7 +159,7 @@ WalkedBy s q t (Ok fd) = t ≡ gets s q fd
 WalkedBy s q t (Err why) = Unfound s t why
 
 pub record Walked (k : Known) (s : Seen) (q : SystemCall) (t : Seen) (c : Came (Result ℕ Outcome)) : Type 0 where
-  pub machine : c.known.machine ≡ k.machine
+  pub machine : unsure c.known ≡ unsure k
   pub by : WalkedBy s q t c.value
 
 missing_so : (t : Seen) (b : Bool) → (b ≡ true → t.why ≡ ENOENT) → Tells t (if b then Fails ENOENT OPEN else Steps)
@@ -169,7 +169,7 @@ missing_so t false why = tt
 abbrev MayMiss : Wish → Seen → At → Type 0
 MayMiss w s at = May w (record s { why = ENOENT }) (miss at)
 
-walk_fails : (w : Wish) (s : Seen) (k now : Known) (at : At) (q : SystemCall) (error : ℕ) → now.machine ≡ k.machine
+walk_fails : (w : Wish) (s : Seen) (k now : Known) (at : At) (q : SystemCall) (error : ℕ) → unsure now ≡ unsure k
     → MayMiss w s at → Goes (watch w) 3 (record s { why = error }) (walk_failed at now error) (Walked k s q)
 walk_fails w s k now at q error machine may =
     choose (error == EINTR)
@@ -190,7 +190,7 @@ walk_fails w s k now at q error machine may =
     (λ _. over (record { machine = machine; by = record { held = refl; change = refl; tells = tt } })))
 
 walked_by : (w : Wish) (s t : Seen) (k now : Known) (at : At) (q : SystemCall) (r : Result ℕ ℕ)
-    → now.machine ≡ k.machine → GotBy s q t r → MayMiss w s at
+    → unsure now ≡ unsure k → GotBy s q t r → MayMiss w s at
     → Goes (watch w) 3 t (walk_by at now r) (Walked k s q)
 walked_by w s t k now at q (Ok fd) machine is may = over (record { machine = machine; by = is })
 walked_by w s t k now at q (Err error) machine is may =
@@ -262,11 +262,11 @@ FoundBy d at above s t (Err why) = Unfound s t why
 
 pub record Found (k : Known) (at : At) (above : Option (List ℕ)) (s t : Seen)
     (c : Came (Result Dir Outcome)) : Type 0 where
-  pub machine : c.known.machine ≡ k.machine
+  pub machine : unsure c.known ≡ unsure k
   pub by : FoundBy (way k) at above s t c.value
 
 found_so : (s t : Seen) (k now : Known) (at : At) (path : List ℕ) (r : Result ℕ Outcome)
-    → now.machine ≡ k.machine → s.why ≡ 0
+    → unsure now ≡ unsure k → s.why ≡ 0
     → WalkedBy s (looks (way k) at path) t r
     → Found k at (Some path) s t (directory_by now r)
 found_so s t k now at path (Ok fd) machine none is =

@@ -29,7 +29,7 @@ kinds : (w : Wish) (at : At) (fd : ℕ)
     → Goes (watch w) 2 (gets at_first (looks w.look at at.slashed) fd) (with_kind fd) (PathEnds w.look at true)
 unfolding with_kind
 kinds w at fd =
-    asks_then 1 (stats fd) (inr (first_in fd []))
+    asks_then 1 (stats fd) (inr (inl (first_in fd [])))
     (λ a. choose (not (look_error a == 0))
     (λ _. asks_then 0 (closes fd) (first_in fd []) (λ b. over (rw (same fd) refl)))
     (λ _. over (fd, refl, (kind_of a.mode, refl))))

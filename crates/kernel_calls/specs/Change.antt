@@ -1,8 +1,8 @@
 -- The one system call of a change, and a descriptor of what it made.
-use Rattle.std.specs.Prelude.{ℕ, ◌-◌, List, ◌==◌, Bool, true, false, not, ◌&&◌, ◌||◌, if◌then◌else◌, bit_and, bit_or, Option, Some, None, Result, Ok, Err}
+use Rattle.std.specs.Prelude.{ℕ, List, ◌==◌, Bool, true, false, not, ◌&&◌, ◌||◌, if◌then◌else◌, bit_and, bit_or, Option, Some, None, Result, Ok, Err}
 use Rattle.system_calls.specs.Objects.{S_IFDIR, S_IFLNK, S_IFREG, format}
 use Rattle.system_calls.specs.OpenFlags.{O_CLOEXEC, O_PATH}
-use Rattle.dialogue.specs.Dialogue.{Dialogue, SystemCall, and_then, calling, ends, look_up, makes_directory, makes_link, makes_node, opens, removes, renames}
+use Rattle.dialogue.specs.Dialogue.{Dialogue, SystemCall, and_then, ends, look_up, makes_directory, makes_link, makes_node, opens, removes, renames}
 use Rattle.find_proc.specs.declared.asks.Known.{Known}
 use Rattle.give_entry.specs.Giving as giving
 use Rattle.give_entry.specs.declared.giving.Made.{Made}

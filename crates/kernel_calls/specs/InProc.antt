@@ -1,5 +1,5 @@
 -- What is done to an object by its link in /proc.
-use Rattle.std.specs.Prelude.{ℕ, List, [], ◌∷◌, ◌==◌, Bool, true, false, not, ◌&&◌, ◌||◌, if◌then◌else◌, Result, Ok, Err}
+use Rattle.std.specs.Prelude.{ℕ, List, ◌==◌, Bool, true, false, not, ◌&&◌, ◌||◌, if◌then◌else◌, Result, Ok, Err}
 use Rattle.system_calls.specs.Errors.{EACCES, EBADF, ENOENT, ENOSYS, ENOTDIR, EPERM}
 use Rattle.system_calls.specs.Objects.{is_same_object}
 use Rattle.system_calls.specs.declared.objects.Object.{Object}

@@ -1,5 +1,5 @@
 -- One look-up by the kernel, which walks a path as a whole.
-use Rattle.std.specs.Prelude.{ℕ, List, ◌==◌, Bool, true, false, not, ◌&&◌, ◌||◌, if◌then◌else◌, bit_or, Result, Ok, Err}
+use Rattle.std.specs.Prelude.{ℕ, List, ◌==◌, Bool, false, not, ◌&&◌, ◌||◌, if◌then◌else◌, bit_or, Result, Ok, Err}
 use Rattle.std.specs.List.{list_all}
 use Rattle.path_text.specs.declared.flags.Flags.{Flags}
 use Rattle.path_text.specs.declared.name.TheConstants.{SLASH}

@@ -1,12 +1,13 @@
 -- What holds of whole conversations.
-use Rattle.std.specs.Prelude.{◌≡◌, ◌≢◌, ◌≤◌, ◌⊎◌, ℕ, ◌+◌, ◌*◌, ◌^◌, ◌++◌, List, [], ◌∷◌, ◌==◌, Bool, true, false, not, ◌&&◌, ◌||◌, if◌then◌else◌, bit_or, Some, None}
+use Rattle.std.specs.Prelude.{◌≡◌, ◌≢◌, ◌≤◌, ◌⊎◌, ℕ, ◌+◌, ◌*◌, ◌^◌, ◌++◌, List, [], ◌∷◌, ◌==◌, Bool, true, false, not, ◌&&◌, ◌||◌, if◌then◌else◌, bit_or, Option, Some, None}
 use Rattle.dialogue.specs.Dialogue.{O_PATH}
 use Rattle.dialogue.specs.Holds.{EachHolds}
 use Rattle.dialogue.specs.declared.calls.Answer.{Answer}
 use Rattle.find_proc.specs.declared.asks.Known.{Known}
 use Rattle.kernel_calls.specs.Calls.{Ended, change_entry, rename, resolve}
+use Rattle.kernel_calls.specs.Change.{is_made}
 use Rattle.kernel_calls.specs.Path.{At}
-use Rattle.kernel_calls.specs.Seen.{Place, Seen, Wish, at_first, fds, looks, watch}
+use Rattle.kernel_calls.specs.Seen.{IsUnmade, Place, Seen, Wish, at_first, fds, looks, watch}
 use Rattle.kernel_calls.specs.declared.change.Wanted.{Wanted}
 use Rattle.kernel_calls.specs.declared.look.Outcome.{Outcome}
 use Rattle.kernel_calls.specs.declared.look.Outcome.TheVariants.{Value, Fails, FailsAt, Steps}
@@ -28,13 +29,20 @@ abbrev pub IsWhy : Wish → Answer → ℕ → ℕ → Type 0
 IsWhy w made error step =
     (error ≢ 0) × (((step ≡ w.step) × (error ≡ made.error)) ⊎ ((step ≡ 15) × (made.error ≡ 0)))
 
+-- of a call that gives an object another name also that of finding /proc, or of the object's link there
+abbrev pub IsFailing : Bool → Wish → Option Answer → ℕ → ℕ → Type 0
+IsFailing false w change error step = (made : Answer) × (change ≡ Some made) × IsWhy w made error step
+IsFailing true w change error step =
+    (error ≢ 0) × (((step ≡ w.step) × IsUnmade change)
+    ⊎ ((step ≡ 15) × (made : Answer) × (change ≡ Some made) × (made.error ≡ 0)))
+
 -- The change was made if the reply has no error. Single steps make the call only if no change was made. Else the error
 -- is that of the look-up which failed, or of the change.
 abbrev pub Replies : Wish → Seen → Outcome → Type 0
 Replies w t (Value value) =
     (made : Answer) × (t.change ≡ Some made) × (made.error ≡ 0) × (hands_out w ≡ false → value ≡ 0)
 Replies w t (Fails error step) = (t.change ≡ None) × (error ≡ t.why) × (error ≢ 0)
-Replies w t (FailsAt error step) = (made : Answer) × (t.change ≡ Some made) × IsWhy w made error step
+Replies w t (FailsAt error step) = IsFailing w.how.linked w t.change error step
 Replies w t Steps = t.change ≡ None
 
 -- Beside the reply's descriptor just those are open that are closed behind the call's end.
@@ -72,6 +80,7 @@ for_path k at follows directory =
       how = nothing;
       text = [];
       new = None;
+      kept = k.kept;
     }
 
 abbrev pub PathsHold : Type 0
@@ -81,7 +90,15 @@ PathsHold = (k : Known) (at : At) (follows directory asks : Bool)
 
 abbrev pub for_entry : Known → Place → Wanted → ℕ → List ℕ → Wish
 for_entry k place how step text =
-    record { look = bit_or O_PATH k.machine.directory; place = place; step = step; how = how; text = text; new = None }
+    record {
+      look = bit_or O_PATH k.machine.directory;
+      place = place;
+      step = step;
+      how = how;
+      text = text;
+      new = None;
+      kept = k.kept;
+    }
 
 -- mkdir, mknod, symlink, unlink and rmdir: the steps 8 to 12 of inroot.h
 abbrev pub EntriesHold : Type 0
@@ -90,9 +107,15 @@ EntriesHold = (k : Known) (p : Place) (how : Wanted) (step : ℕ) (text read : L
     → EachHolds (watch (for_entry k p how step text)) 16 at_first
     (change_entry k p.at p.entry how step text read is_last) (CallEnds (for_entry k p how step text))
 
+-- an object gets another name, which isn't opened as it is made: the steps 9 and 10
+abbrev pub LinksHold : Type 0
+LinksHold = (k : Known) (p : Place) (how : Wanted) (step : ℕ) (text read : List ℕ) (is_last : Bool)
+    → how.linked ≡ true → how.opens ≡ false → is_made step ≡ true
+    → EachHolds (watch (for_entry k p how step text)) 58 at_first
+    (change_entry k p.at p.entry how step text read is_last) (CallEnds (for_entry k p how step text))
+
 abbrev pub for_rename : Known → Place → Place → Wanted → Wish
-for_rename k place new how =
-    record { look = bit_or O_PATH k.machine.directory; place = place; step = 13; how = how; text = []; new = Some new }
+for_rename k place new how = record (for_entry k place how 13 []) { new = Some new }
 
 abbrev pub RenamesHold : Type 0
 RenamesHold = (k : Known) (p new : Place) (how : Wanted) (is_last : Bool)

@@ -1,10 +1,12 @@
 -- What the exchanges of a call on an entry come to, except signals: what is open, and by which system call; whether a
 -- look-up has failed; and the change.
-use Rattle.std.specs.Prelude.{◌≡◌, ◌⊎◌, ℕ, ◌+◌, List, [], ◌∷◌, ◌==◌, Bool, true, false, if◌then◌else◌, bit_and, Option, Some, None}
+use Rattle.std.specs.Prelude.{◌≡◌, ◌≢◌, ◌⊎◌, ℕ, ◌+◌, List, [], ◌∷◌, ◌==◌, Bool, true, false, if◌then◌else◌, bit_and, Option, Some, None}
 use Rattle.system_calls.specs.Errors.{ENOENT}
-use Rattle.dialogue.specs.Dialogue.{SystemCall, O_PATH, closes, knows, look_up, makes_directory, makes_link, makes_node, opens, reads_link, removes, renames, stats}
+use Rattle.dialogue.specs.Dialogue.{SystemCall, O_PATH, asks_open, claims, closes, copies_above, keeps, knows, links, look_up, makes_directory, makes_link, makes_node, opens, reads_link, reads_object_link, removes, renames, stats, stats_file_system}
 use Rattle.dialogue.specs.Holds.{Watch, is_in}
 use Rattle.dialogue.specs.declared.calls.Answer.{Answer}
+use Rattle.find_proc.specs.Find.{AT_PROC}
+use Rattle.find_proc.specs.declared.asks.Kept.{Kept}
 use Rattle.kernel_calls.specs.Entry.{EntryAt}
 use Rattle.kernel_calls.specs.Path.{At, text_in}
 use Rattle.kernel_calls.specs.declared.change.Wanted.{Wanted}
@@ -27,6 +29,8 @@ pub record Wish : Type 0 where
   pub text : List ℕ
   -- the other entry of a rename
   pub new : Option Place
+  -- the /proc that the program keeps
+  pub kept : Kept
 
 -- ---- what is seen
 
@@ -42,9 +46,11 @@ pub record Seen : Type 0 where
   pub why : ℕ
   -- what the change gave, if one was made
   pub change : Option Answer
+  -- the /proc that the call found for the program
+  pub program : Option ℕ
 
 abbrev pub at_first : Seen
-at_first = record { held = []; why = 0; change = None }
+at_first = record { held = []; why = 0; change = None; program = None }
 
 abbrev pub fds : List Held → List ℕ
 fds [] = []
@@ -73,26 +79,31 @@ changed s a = record s { change = Some a }
 abbrev pub made_after : Seen → SystemCall → Answer → Seen
 made_after s q a = if a.error == 0 then changed (gets s q a.value) a else changed s a
 
--- open(2): the first makes a file (O_CREAT), and is the change; one behind a change opens what was made
-abbrev pub opens_after : Option Answer → Seen → SystemCall → Answer → Seen
-opens_after None s q a = made_after s q a
-opens_after (Some made) s q a = opened_after s q a
+-- open(2): the first makes a file (O_CREAT), and is the change, but of a call that gives an object another name; one
+-- behind a change opens what was made
+abbrev pub opens_after : Option Answer → Bool → Seen → SystemCall → Answer → Seen
+opens_after (Some made) linked s q a = opened_after s q a
+opens_after None true s q a = opened_after s q a
+opens_after None false s q a = made_after s q a
 
 -- openat2(2) with RESOLVE_NO_MAGICLINKS alone asks whether the kernel has it, in no directory (EBADF): it opens nothing
 abbrev pub NO_MAGICLINKS : ℕ
 NO_MAGICLINKS = 2
 
-abbrev pub seen_by : Seen → SystemCall → Answer → Seen
-seen_by s (look_up dir path flags resolve) a =
+abbrev pub seen_by : Wish → Seen → SystemCall → Answer → Seen
+seen_by w s (look_up dir path flags resolve) a =
     if resolve == NO_MAGICLINKS then s else opened_after s (look_up dir path flags resolve) a
-seen_by s (opens dir path flags mode) a = opens_after s.change s (opens dir path flags mode) a
-seen_by s (closes fd) a = record s { held = shut fd s.held }
-seen_by s (makes_directory dir name mode) a = changed s a
-seen_by s (makes_node dir name mode device) a = changed s a
-seen_by s (makes_link dir name text) a = changed s a
-seen_by s (removes dir name directory) a = changed s a
-seen_by s (renames from name to new flags) a = changed s a
-seen_by s _ a = s
+seen_by w s (opens dir path flags mode) a = opens_after s.change w.how.linked s (opens dir path flags mode) a
+seen_by w s (closes fd) a = record s { held = shut fd s.held }
+seen_by w s (makes_directory dir name mode) a = changed s a
+seen_by w s (makes_node dir name mode device) a = changed s a
+seen_by w s (makes_link dir name text) a = changed s a
+seen_by w s (removes dir name directory) a = changed s a
+seen_by w s (renames from name to new flags) a = changed s a
+seen_by w s (copies_above fd) a = opened_after s (copies_above fd) a
+seen_by w s (keeps fd device inode mount handed_in) a = record s { held = shut fd s.held; program = Some fd }
+seen_by w s (links proc fd dir name) a = changed s a
+seen_by w s _ a = s
 
 -- ---- where each system call may come
 
@@ -125,8 +136,9 @@ pub record IsAt (flags : ℕ) (held : List Held) (p : Place) (dir : ℕ) (name :
   pub there : IsDirectory flags held p.at p.entry.above dir
   pub named : name ≡ p.entry.name
 
--- The one change, by the entry's directory and name. No look-up has failed.
+-- The one change, by the entry's directory and name, if no object gets another name. No look-up has failed.
 pub record Changes (w : Wish) (s : Seen) (step dir : ℕ) (name : List ℕ) : Type 0 where
+  pub unlinked : w.how.linked ≡ false
   pub first : s.change ≡ None
   pub found : s.why ≡ 0
   pub kind : w.step ≡ step
@@ -152,7 +164,49 @@ abbrev pub MayLook : Wish → Seen → Option Answer → ℕ → List ℕ → �
 MayLook w s None dir path how resolve =
     (resolve ≡ NO_MAGICLINKS) ⊎ (Finds w s (look_up dir path how resolve)
     ⊎ ((s.why ≡ ENOENT) × (how ≡ O_PATH) × (bit_and resolve 4 ≡ 4)))
-MayLook w s (Some made) dir path how resolve = Gives w s made dir path
+MayLook w s (Some made) dir path how resolve =
+    Gives w s made dir path ⊎ ((w.how.linked ≡ true) × (resolve ≡ NO_MAGICLINKS))
+
+-- openat(2): the current directory, in which statx(2) is asked for numbers of mounts
+abbrev pub HERE : ℕ
+HERE = 4294967196
+
+-- no object has got another name yet: linkat(2) wasn't made, or failed
+abbrev pub IsUnmade : Option Answer → Type 0
+IsUnmade None = Unit {0}
+IsUnmade (Some made) = made.error ≢ 0
+
+-- /proc is named (O_PATH), or its number copied
+abbrev pub IsOfProc : SystemCall → Type 0
+IsOfProc (opens dir path flags mode) = (dir ≡ HERE) × (path ≡ AT_PROC) × (bit_and flags O_PATH ≡ O_PATH)
+IsOfProc (copies_above fd) = Unit {0}
+IsOfProc _ = ⊥
+
+abbrev pub OpensProc : Wish → Seen → SystemCall → Type 0
+OpensProc w s q = (w.how.linked ≡ true) × IsUnmade s.change × IsOfProc q
+
+-- it is open, and was opened so
+pub record IsNewProc (held : List Held) (fd : ℕ) : Type 0 where
+  pub by : SystemCall
+  pub is : IsOfProc by
+  pub open_now : IsOpen (record { fd = fd; by = by }) held
+
+-- the program's: it had one, or this call has found one for it
+abbrev pub IsProgram : Wish → Seen → ℕ → Type 0
+IsProgram w s fd = ((w.kept.there ≡ true) × (fd ≡ w.kept.fd)) ⊎ (s.program ≡ Some fd)
+
+abbrev pub IsProc : Wish → Seen → ℕ → Type 0
+IsProc w s fd = IsProgram w s fd ⊎ IsNewProc s.held fd
+
+-- The object gets its other name through its link in /proc (linkat(2), AT_SYMLINK_FOLLOW), in the entry's directory.
+-- A second one comes only behind one that failed. No look-up has failed.
+pub record Links (w : Wish) (s : Seen) (proc fd dir : ℕ) (name : List ℕ) : Type 0 where
+  pub linked : w.how.linked ≡ true
+  pub unmade : IsUnmade s.change
+  pub found : s.why ≡ 0
+  pub object : fd ≡ w.how.fd
+  pub proc_is : IsProc w s proc
+  pub at : IsAt w.look s.held w.place dir name
 
 -- the caller's own flags, if the call opens the file; else O_CREAT, O_EXCL, O_NOCTTY and O_CLOEXEC at least: a file
 -- that is there isn't taken for a new one
@@ -166,18 +220,17 @@ IsNew how flags = IsNewBy how.opens how.how flags
 -- S_IFMT of inode(7) is 61440: the mode has the other bits of the caller's
 abbrev pub MayOpen : Wish → Seen → Option Answer → ℕ → List ℕ → ℕ → ℕ → Type 0
 MayOpen w s None dir name flags mode =
-    Changes w s 9 dir name × IsNew w.how flags × (mode ≡ bit_and w.how.mode 4294905855)
-MayOpen w s (Some made) dir name flags mode = Gives w s made dir name
-
--- openat(2): the current directory, in which statx(2) is asked for numbers of mounts
-abbrev pub HERE : ℕ
-HERE = 4294967196
+    (Changes w s 9 dir name × IsNew w.how flags × (mode ≡ bit_and w.how.mode 4294905855))
+    ⊎ OpensProc w s (opens dir name flags mode)
+MayOpen w s (Some made) dir name flags mode = Gives w s made dir name ⊎ OpensProc w s (opens dir name flags mode)
 
 -- What is looked at, read or closed is open then. No other system calls are made.
 abbrev pub May : Wish → Seen → SystemCall → Type 0
 May w s (look_up dir path how resolve) = MayLook w s s.change dir path how resolve
 May w s (opens dir name flags mode) = MayOpen w s s.change dir name flags mode
-May w s (stats fd) = (fd ≡ HERE) ⊎ (is_in fd (fds s.held) ≡ true)
+May w s (stats fd) =
+    (fd ≡ HERE) ⊎ ((is_in fd (fds s.held) ≡ true)
+    ⊎ ((w.how.linked ≡ true) × ((fd ≡ w.how.fd) ⊎ IsProgram w s fd)))
 May w s (reads_link fd) = is_in fd (fds s.held) ≡ true
 May w s (closes fd) = is_in fd (fds s.held) ≡ true
 May w s (knows known) = Unit {0}
@@ -188,7 +241,15 @@ May w s (makes_link dir name text) = Changes w s 10 dir name × (text ≡ w.text
 May w s (removes dir name directory) = Changes w s (if directory then 12 else 11) dir name
 May w s (renames from name to new flags) =
     Changes w s 13 from name × IsAtNew w.look s.held w.new to new × (flags ≡ w.how.how)
+-- an object's other name: which /proc it is; and which object
+May w s (stats_file_system fd) = (w.how.linked ≡ true) × (is_in fd (fds s.held) ≡ true)
+May w s (copies_above fd) = (w.how.linked ≡ true) × IsNewProc s.held fd
+May w s (claims handed_in) = (w.how.linked ≡ true) × (handed_in ≡ false)
+May w s (keeps fd device inode mount handed_in) = (w.how.linked ≡ true) × IsNewProc s.held fd
+May w s (links proc fd dir name) = Links w s proc fd dir name
+May w s (reads_object_link proc fd) = (w.how.linked ≡ true) × (fd ≡ w.how.fd) × IsProc w s proc
+May w s (asks_open fd) = (w.how.linked ≡ true) × (fd ≡ w.how.fd)
 May w s _ = ⊥
 
 abbrev pub watch : Wish → Watch Seen
-watch w = record { by = λ s x. seen_by s x.asked x.answer; May = May w }
+watch w = record { by = λ s x. seen_by w s x.asked x.answer; May = May w }

@@ -1,5 +1,5 @@
 //! What holds of every conversation: laws, each the contract of a function without a body.
-ghost use Rattle.kernel_calls.specs.Promises.{EntriesHold, PathsHold, RenamesHold};
+ghost use Rattle.kernel_calls.specs.Promises.{EntriesHold, LinksHold, PathsHold, RenamesHold};
 
 /// What a path means is opened by one look-up of the whole path from the root, by RESOLVE_IN_ROOT or RESOLVE_BENEATH
 /// and RESOLVE_NO_MAGICLINKS, and by the call's flags of open(2). The reply is its descriptor, which alone is open in
@@ -25,4 +25,11 @@ pub fn entries_are_changed_where_they_stand()
 /// The same of a rename: both directories were opened by look-ups of just their paths, and are open, or are the root.
 pub fn entries_are_renamed_where_they_stand()
     ensures { RenamesHold }
+{}
+
+/// The same of a call that gives a descriptor's object another name. One linkat(2) makes the name, and a second is made
+/// only behind one that failed; each by the entry's name and directory, through the object's link in a /proc: the
+/// program's, or one that the call has opened at /proc by O_PATH. There are 58 exchanges at most, except for signals.
+pub fn objects_are_linked_where_entries_stand()
+    ensures { LinksHold }
 {}

@@ -23,7 +23,7 @@ pub use entry::{
 pub use in_proc::{Act, by_proc, gives, proc_error};
 pub use laws::{
     entries_are_changed_where_they_stand, entries_are_renamed_where_they_stand,
-    paths_are_looked_up_as_a_whole,
+    objects_are_linked_where_entries_stand, paths_are_looked_up_as_a_whole,
 };
 pub use look::{Below, Outcome, forget, look_up, openat2, opened, walk};
 pub use path::{PathOf, front, piece};
