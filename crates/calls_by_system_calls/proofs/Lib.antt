@@ -16,3 +16,6 @@ mod BySystemCalls
 mod Places
 mod WorkedRace
 mod WorkedChange
+mod Noted
+mod WholeCalls
+mod WholeRenames

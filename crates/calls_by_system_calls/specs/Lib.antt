@@ -10,3 +10,5 @@ pub mod SeenBelow
 pub mod Places
 pub mod WorkedRace
 pub mod WorkedChange
+pub mod SystemCalls
+pub mod WholeCalls

@@ -5,11 +5,15 @@ ghost use Rattle.calls_by_system_calls.specs.Joined.{CallsTellBySystemCalls};
 ghost use Rattle.calls_by_system_calls.specs.Places.{AskedPlacesStood};
 ghost use Rattle.calls_by_system_calls.specs.Refusals.{StepsAreRefusedSo};
 ghost use Rattle.calls_by_system_calls.specs.SeenBelow.{ResolvesSeenBelowBySystemCalls};
+ghost use Rattle.calls_by_system_calls.specs.WholeCalls.{EntriesAreChangedBySystemCalls, EntriesAreRenamedBySystemCalls};
 ghost use Rattle.calls_by_system_calls.specs.WorkedChange.{MkdirIsMade};
 ghost use Rattle.calls_by_system_calls.specs.WorkedRace.{RaceIsMade};
 
 use find_place::places_stood;
-use kernel_walks::{fails_at_once_tell, resolves_seen_below};
+use kernel_walks::{
+    directories_are_looked_up, fails_at_once_tell, kernel_walks_tell, renames_are_looked_up,
+    resolves_seen_below,
+};
 use root_ops::calls_tell_by_any_numbers;
 
 /// Of no history, from what `Call::start`, `take` and `pass` of `root_ops` say alone, whatever the answers are: each
@@ -75,6 +79,28 @@ pub fn seen_below_by_system_calls()
     ensures { ResolvesSeenBelowBySystemCalls }
 {
     resolves_seen_below();
+}
+
+/// A whole call that makes or removes an entry, whose directory the kernel looks up as a whole: the system calls that
+/// `change_entry` of `kernel_calls` asks for, and what each answer says of the call's own lines in a history
+/// (openat2(2), mkdirat(2), mknodat(2), openat(2), symlinkat(2), unlinkat(2), close(2); the table of
+/// `specs/SystemCalls.antt`). In each legal history with these lines the call tells what `kernel_walks_tell` says: the
+/// directory was reached by the path's parts and stood below the root at the kernel's check, and one own event changes
+/// entries, there.
+pub fn entries_are_changed_by_system_calls()
+    ensures { EntriesAreChangedBySystemCalls }
+{
+    kernel_walks_tell();
+    directories_are_looked_up();
+}
+
+/// The same of a rename (renameat2(2)), both of whose directories the kernel looks up, one after the other: one own event
+/// renames the entry, from the one directory to the other.
+pub fn entries_are_renamed_by_system_calls()
+    ensures { EntriesAreRenamedBySystemCalls }
+{
+    kernel_walks_tell();
+    renames_are_looked_up();
 }
 
 /// Where a conversation of `find_place` told a place, and its names are the answer to a NameBelow, this answer was

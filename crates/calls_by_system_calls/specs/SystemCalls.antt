@@ -1,0 +1,165 @@
+-- What a system call and its answer say of the lines of the call that made it: a table with a row for each system call
+-- of a call whose path the kernel walks (kernel_calls), each with its manual page. Of what is in no row, and of a
+-- look-up that isn't made below the call's root, nothing is supposed.
+use Rattle.std.specs.Prelude.{◌≡◌, ◌≢◌, ℕ, List, [], ◌∷◌, ◌++◌, Bool, true, false, not, if◌then◌else◌, bit_and}
+use Rattle.path_text.specs.declared.errno.Errno.TheVariants.{NoMemory}
+use Rattle.tree_model.specs.declared.answer.Answer.TheVariants as answers
+use Rattle.tree_model.specs.declared.step.Mode.{Mode}
+use Rattle.tree_model.specs.declared.step.Mode.TheVariants as modes
+use Rattle.tree_model.specs.declared.step.StepOf.TheVariants as steps
+use Rattle.tree_model.specs.StepWith.{StepWith}
+use Rattle.system_calls.specs.OpenFlags.{O_PATH}
+use Rattle.system_calls.specs.declared.opening.MachineFlags.{MachineFlags}
+use Rattle.dialogue.specs.Dialogue.{Exchange, SystemCall, closes, knows, look_up, makes_directory, makes_link, makes_node, opens, removes, renames, stats}
+use Rattle.dialogue.specs.declared.calls.Answer.{Answer}
+use Rattle.linux_steps.specs.Changes.{change_ended}
+use Rattle.linux_steps.specs.declared.ended.Ended.{Ended}
+use Rattle.linux_steps.specs.declared.ended.Ended.TheVariants as ended
+use Rattle.step_resolver.specs.Order.{Handle, Line, answered, not_made}
+use Rattle.root_ops.specs.declared.aim.Change.{Change}
+use Rattle.root_ops.specs.declared.aim.Change.TheVariants as changes
+use Rattle.root_ops.specs.declared.below.Below.{Below}
+use Rattle.root_ops.specs.declared.op.Op.{Op}
+use Rattle.root_ops.specs.declared.op.Op.TheVariants.{Resolve, ResolveNoFollow}
+use Rattle.root_ops.specs.declared.reply.Reply.{Reply}
+use Rattle.root_ops.specs.declared.reply.Reply.TheVariants as replies
+use Rattle.root_ops.specs.Order.{change_step, opened, starts, ends, LeadsTo}
+use Rattle.kernel_calls.specs.Flags.{has}
+use Rattle.kernel_walks.specs.Behind.{asks_below}
+
+-- The descriptor of the call's root; which handle of the history each other descriptor is; and the machine's flags of
+-- open(2).
+pub record Descriptors : Type 0 where
+  pub root : ℕ
+  pub handle : ℕ → ℕ
+  pub machine : MachineFlags
+
+-- ---- openat2(2)
+
+-- The path is walked below the root: `..` and links stay in it (RESOLVE_IN_ROOT, 16) or fail where they lead out
+-- (RESOLVE_BENEATH, 8); no link is followed, if the call says so (RESOLVE_NO_SYMLINKS, 4).
+pub record IsBelow (below : Below) (d : Descriptors) (dir resolve : ℕ) : Type 0 where
+  pub root : dir ≡ d.root
+  pub in_root : has resolve 16 ≡ not below.flags.beneath
+  pub beneath : has resolve 8 ≡ below.flags.beneath
+  pub no_links : has resolve 4 ≡ below.flags.no_links
+
+-- path_resolution(7): the kernel goes as a resolve of this path does. Some lines lead that up to the question where its
+-- object stands; being told the names passed, it replies that the object was opened. The kernel says that the object
+-- is below the root, and not at which names: the history has whatever names. The descriptor is a number that was free.
+pub record WalksTo (below : Below) (d : Descriptors) (op : Op) (fd : ℕ) (lines : List Line) : Type 0 where
+  pub before : List Line
+  pub object : Handle
+  pub told : List (List ℕ)
+  pub names : List (List ℕ)
+  pub others : List (List ℕ)
+  pub leads : LeadsTo below (starts below true op) (before ++ asks_below below object told ∷ [])
+      (ends (opened object names))
+  pub all : lines ≡ before ++ asks_below below object others ∷ []
+  pub free : fd ≢ d.root
+  pub is : d.handle fd ≡ object.number
+
+-- open(2), O_NOFOLLOW
+abbrev pub resolves : Bool → List ℕ → Op
+resolves no_follow path = if no_follow then ResolveNoFollow path else Resolve path
+
+-- a look-up that failed has no lines
+pub record LookUpSays (below : Below) (d : Descriptors) (dir : ℕ) (path : List ℕ) (how resolve : ℕ) (a : Answer)
+    (lines : List Line) : Type 0 where
+  pub opened : a.error ≡ 0 → IsBelow below d dir resolve
+      → WalksTo below d (resolves (has how d.machine.nofollow) path) a.value lines
+  pub failed : a.error ≢ 0 → lines ≡ []
+
+-- ---- changes
+
+-- A step that ends so. Where the model has no word for an error, the step counts as not made for want of memory.
+abbrev pub line_of : StepWith ℕ → Ended → Line
+line_of step ended.Done = answered step answers.Done
+line_of step (ended.Refused error) = answered step (answers.Refused error)
+line_of step end = not_made NoMemory
+
+-- the reply, which is that step's answer
+abbrev pub reply_of : Ended → Reply
+reply_of ended.Done = replies.Done
+reply_of (ended.Refused error) = replies.Fault error
+reply_of end = replies.Fault NoMemory
+
+abbrev pub change_line : Change → List ℕ → ℕ → ℕ → Line
+change_line change name error h =
+    line_of (change_step change h name) (change_ended (change_step change h name) false error)
+
+abbrev pub close_line : ℕ → Line
+close_line h = answered (steps.Close h) answers.Done
+
+-- In the root itself the step goes by another handle on it, as that of a walk along no parts does (dup(2)). That one is
+-- asked where it stands, and closed behind the step.
+pub record InRoot (below : Below) (line : ℕ → Line) (lines : List Line) : Type 0 where
+  pub other : Handle
+  pub others : List (List ℕ)
+  pub all : lines ≡ answered (steps.Dup below.root.handle) (answers.Opened other.number other.node other.kind)
+      ∷ asks_below below other others ∷ line other.number ∷ close_line other.number ∷ []
+
+-- by the directory's handle, else
+pub record ChangeSays (below : Below) (d : Descriptors) (dir : ℕ) (line : ℕ → Line) (lines : List Line) : Type 0 where
+  pub in_directory : dir ≢ d.root → lines ≡ line (d.handle dir) ∷ []
+  pub in_root : dir ≡ d.root → InRoot below line lines
+
+-- open(2): a file is made, or there is one by that name (O_CREAT, 64, and O_EXCL, 128); O_PATH would make none
+abbrev pub IsNewFile : ℕ → Type 0
+IsNewFile flags = (bit_and flags 192 ≡ 192) × (has flags O_PATH ≡ false)
+
+-- RENAME_NOREPLACE, RENAME_EXCHANGE
+abbrev pub rename_flags : Mode → ℕ
+rename_flags modes.Plain = 0
+rename_flags modes.NoReplace = 1
+rename_flags modes.Exchange = 2
+
+abbrev pub rename_line : List ℕ → List ℕ → Mode → ℕ → ℕ → ℕ → Line
+rename_line name new mode error h k =
+    let step = steps.Rename h name k new mode in line_of step (change_ended step false error)
+
+-- of a rename in the root itself nothing is supposed
+abbrev pub RenameSays : Descriptors → ℕ → List ℕ → ℕ → List ℕ → ℕ → ℕ → List Line → Type 0
+RenameSays d from name to new flags error lines = (mode : Mode) → flags ≡ rename_flags mode → from ≢ d.root
+    → to ≢ d.root → lines ≡ rename_line name new mode error (d.handle from) (d.handle to) ∷ []
+
+-- ---- the table
+
+abbrev pub Says : Below → Descriptors → SystemCall → Answer → List Line → Type 0
+Says below d (look_up dir path how resolve) a lines = LookUpSays below d dir path how resolve a lines
+-- mkdirat(2)
+Says below d (makes_directory dir name mode) a lines =
+    ChangeSays below d dir (change_line changes.MakeDir name a.error) lines
+-- mknodat(2)
+Says below d (makes_node dir name mode device) a lines =
+    ChangeSays below d dir (change_line changes.MakeFile name a.error) lines
+Says below d (opens dir name flags mode) a lines =
+    IsNewFile flags → ChangeSays below d dir (change_line changes.MakeFile name a.error) lines
+-- symlinkat(2)
+Says below d (makes_link dir name text) a lines =
+    ChangeSays below d dir (change_line (changes.MakeLink text) name a.error) lines
+-- unlinkat(2), without AT_REMOVEDIR and with it
+Says below d (removes dir name false) a lines =
+    ChangeSays below d dir (change_line changes.RemoveFile name a.error) lines
+Says below d (removes dir name true) a lines =
+    ChangeSays below d dir (change_line changes.RemoveDir name a.error) lines
+-- renameat2(2)
+Says below d (renames from name to new flags) a lines = RenameSays d from name to new flags a.error lines
+-- close(2), whatever it gives
+Says below d (closes fd) a lines = lines ≡ close_line (d.handle fd) ∷ []
+-- statx(2), of a kind alone; and no system call, but what the thread knows of the kernel
+Says below d (stats fd) a lines = lines ≡ []
+Says below d (knows known) a lines = lines ≡ []
+Says below d q a lines = Unit {0}
+
+-- ---- one after another
+
+abbrev pub StandFor : Below → Descriptors → List Exchange → List Line → Type 0
+StandFor below d [] lines = lines ≡ []
+StandFor below d (x ∷ xs) lines = (own rest : List Line) × Says below d x.asked x.answer own × StandFor below d xs rest
+    × (lines ≡ own ++ rest)
+
+-- what is closed behind the call's end
+abbrev pub closed : Descriptors → List ℕ → List Line
+closed d [] = []
+closed d (fd ∷ fds) = close_line (d.handle fd) ∷ closed d fds
