@@ -19,3 +19,5 @@ mod WorkedChange
 mod Noted
 mod WholeCalls
 mod WholeRenames
+mod WholePaths
+mod WorkedWhole

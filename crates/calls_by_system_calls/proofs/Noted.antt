@@ -5,20 +5,23 @@ use Rattle.std.proofs.lemmas.Bool.{eqb-true}
 use Rattle.path_text.specs.Text.{begins_with_slash, is_empty}
 use Rattle.path_text.specs.declared.path.TheConstants.{TEXT_MAX}
 use Rattle.system_calls.specs.Errors.{EINTR, ENOENT}
+use Rattle.system_calls.specs.Objects.{kind_of}
 use Rattle.system_calls.specs.OpenFlags.{O_CLOEXEC, O_PATH}
-use Rattle.dialogue.specs.Dialogue.{Dialogue, Exchange, SystemCall, and_then, calling, closes, ends, knows, look_up, open_path, Whole, without_signals}
+use Rattle.dialogue.specs.Dialogue.{Dialogue, Exchange, SystemCall, and_then, calling, closes, ends, knows, look_up, open_path, stats, Whole, without_signals}
 use Rattle.dialogue.specs.Holds.{Watch, state_after}
 use Rattle.dialogue.specs.declared.calls.Answer.{Answer}
 use Rattle.dialogue.proofs.HoldLemmas.{Goes, asks_then, both, choose, exchange, over, weak}
 use Rattle.find_proc.specs.declared.asks.Known.{Known}
+use Rattle.linux_steps.specs.Steps.{look_error}
 use Rattle.kernel_walks.specs.AtOnce.{misses_at_once}
-use Rattle.kernel_calls.specs.Calls.{Ended, Left, behind_of, change_entry, change_in, changing, ended, from_by, is_plain, is_steps, not_renamed, plain_told, rename, rename_from, rename_in, rename_to, renaming}
+use Rattle.kernel_calls.specs.Calls.{Ended, Left, behind_of, change_entry, change_in, changing, ended, from_by, is_plain, is_steps, not_renamed, plain_told, rename, rename_from, rename_in, rename_to, renaming, resolve, resolve_by, with_kind}
 use Rattle.kernel_calls.specs.Change.{Changing, given, is_made, made_by, make, make_by, make_change, question_of}
 use Rattle.kernel_calls.specs.Entry.{EntryAt, directory_at, directory_by, find_directory, leave, own_of}
-use Rattle.kernel_calls.specs.Flags.{BENEATH, MAKE_LINK, OPEN, has, resolve_of}
+use Rattle.kernel_calls.specs.Flags.{BENEATH, MAKE_LINK, OPEN, bit, has, resolve_of}
 use Rattle.kernel_calls.specs.InProc.{gives}
 use Rattle.kernel_calls.specs.Look.{Came, came_to, forget, is_filtered, is_missing, look_up as looking_up, may_walk, missing_by, opened, opened_told, walk, walk_by, walk_failed}
 use Rattle.kernel_calls.specs.Path.{At, place_in, text_in}
+use Rattle.kernel_calls.specs.Promises.{IsReply}
 use Rattle.kernel_calls.specs.declared.change.Wanted.{Wanted}
 use Rattle.kernel_calls.specs.declared.entry.Dir.{Dir}
 use Rattle.kernel_calls.specs.declared.look.Outcome.{Outcome}
@@ -381,3 +384,64 @@ module _ (k : Known) (at : At) (entry : EntryAt) (other : At) (new : EntryAt) (w
       → Ends (without_signals es) e
   renamed es e whole =
       subst (λ s. Ends s e) (all_noted [] (without_signals es)) (rename_goes.each es e whole).ends
+
+-- ---- what a path means
+
+abbrev pub Behind : Bool → List Exchange → ℕ → List Exchange → Type 0
+Behind true s fd t = (a : Answer) × (t ≡ s ++ exchange (stats fd) a ∷ [])
+Behind false s fd t = t ≡ s
+
+-- the look-up of the whole path, and the question for the kind
+pub record Opens (at : At) (how : ℕ) (asks : Bool) (s : List Exchange) (value : ℕ) : Type 0 where
+  pub fd : ℕ
+  pub first : List Exchange
+  pub got : GotBy [] (seeks at at.slashed how) first fd
+  pub behind : Behind asks first fd s
+  pub is_reply : IsReply asks fd value
+
+abbrev pub ResolveShape : At → ℕ → Bool → List Exchange → Outcome → Type 0
+ResolveShape at how asks s (Value value) = Opens at how asks s value
+ResolveShape at how asks s other = Unit {0}
+
+-- by flags of open(2)
+abbrev pub how_of : Known → Bool → Bool → ℕ
+how_of k follows directory =
+    bit_or (bit_or O_PATH (bit (not follows) k.machine.nofollow)) (bit directory k.machine.directory)
+
+told_kind : (at : At) (how fd : ℕ) (s : List Exchange) → GotBy [] (seeks at at.slashed how) s fd
+    → Goes noted 2 s (with_kind fd) (ResolveShape at how true)
+unfolding with_kind
+told_kind at how fd s h =
+    asks_then 1 (stats fd) tt
+    (λ a. choose (not (look_error a == 0)) (λ _. asks_then 0 (closes fd) tt (λ b. over tt))
+    (λ _. over (record { fd = fd; first = s; got = h; behind = (a, refl); is_reply = (kind_of a.mode, refl) })))
+
+told_asked : (k now : Known) (at : At) (how : ℕ) (asks : Bool) (s : List Exchange) (r : Result ℕ Outcome)
+    → Walked [] (seeks at at.slashed how) k s now r
+    → Goes noted 2 s (resolve_by asks now r) (λ t c. ResolveShape at how asks t c.value)
+told_asked k now at how asks s (Err why) h = over (nothing_told why h)
+  where
+    nothing_told : (o : Outcome) → IsNoChange o → ResolveShape at how asks s o
+    nothing_told (Value value) none = absurd none
+    nothing_told (Fails error step) none = tt
+    nothing_told (FailsAt error step) none = tt
+    nothing_told Steps none = tt
+told_asked k now at how true s (Ok fd) h =
+    both 2 0 (told_kind at how fd s h.0) (λ t o is. over is)
+told_asked k now at how false s (Ok fd) h =
+    over (record { fd = fd; first = s; got = h.0; behind = refl; is_reply = refl })
+
+resolve_goes : (k : Known) (at : At) (follows directory asks : Bool) → has (how_of k follows directory) O_PATH ≡ true
+    → Goes noted 7 [] (resolve k at follows directory asks)
+    (λ s c. ResolveShape at (how_of k follows directory) asks s c.value)
+unfolding resolve
+resolve_goes k at follows directory asks path =
+    both 5 2 (walks [] k at (how_of k follows directory) path)
+    (λ t c h. told_asked k c.known at (how_of k follows directory) asks t c.value h)
+
+pub resolved : (k : Known) (at : At) (follows directory asks : Bool) → has (how_of k follows directory) O_PATH ≡ true
+    → (es : List Exchange) (c : Came Outcome) → Whole (resolve k at follows directory asks) es c
+    → ResolveShape at (how_of k follows directory) asks (without_signals es) c.value
+resolved k at follows directory asks path es c whole =
+    subst (λ s. ResolveShape at (how_of k follows directory) asks s c.value) (all_noted [] (without_signals es))
+    ((resolve_goes k at follows directory asks path).each es c whole).ends

@@ -96,21 +96,28 @@ machine_bits m (on_x86_64_large is) = subst MachineBits (sym is) (record { path 
 machine_bits m (on_arm64 is) = subst MachineBits (sym is) (record { path = refl; follows = refl })
 machine_bits m (on_arm64_large is) = subst MachineBits (sym is) (record { path = refl; follows = refl })
 
--- a directory's look-up, as kernel_calls asks for it, is in the table
-pub walks_to : (below : Below) (d : Descriptors) (k : Known) (at : At) → IsBelowRoot below d at → IsOn d k
-    → (path : List ℕ) (a : Answer) (own : List Line) → a.error ≡ 0 → Says below d (seeks at path (way k)) a own
-    → WalksTo below d (Resolve (text_in path)) a.value own
-walks_to below d k at is on path a own done says =
+-- a look-up, as kernel_calls asks for it, is in the table
+pub walks_by : (below : Below) (d : Descriptors) (k : Known) (at : At) → IsBelowRoot below d at → IsOn d k
+    → (how : ℕ) (no_follow : Bool) → has how k.machine.nofollow ≡ no_follow
+    → (path : List ℕ) (a : Answer) (own : List Line) → a.error ≡ 0 → Says below d (seeks at path how) a own
+    → WalksTo below d (resolves no_follow (text_in path)) a.value own
+walks_by below d k at is on how no_follow stays path a own done says =
     let b = bits at.flags in
-    let m = machine_bits k.machine on.0 in
     subst (λ t. WalksTo below d (resolves t (text_in path)) a.value own)
-    (ap (λ (x : MachineFlags). has (way k) x.nofollow) on.1 ∙ m.follows)
+    (ap (λ (x : MachineFlags). has how x.nofollow) on.1 ∙ stays)
     (says.opened done (record {
       root = is.root;
       in_root = b.in_root ∙ ap not is.beneath;
       beneath = b.beneath_is ∙ is.beneath;
       no_links = b.no_links ∙ is.no_links;
     }))
+
+-- that of a directory
+pub walks_to : (below : Below) (d : Descriptors) (k : Known) (at : At) → IsBelowRoot below d at → IsOn d k
+    → (path : List ℕ) (a : Answer) (own : List Line) → a.error ≡ 0 → Says below d (seeks at path (way k)) a own
+    → WalksTo below d (Resolve (text_in path)) a.value own
+walks_to below d k at is on =
+    walks_by below d k at is on (way k) false (machine_bits k.machine on.0).follows
 
 -- ---- the step of a change
 

@@ -12,3 +12,4 @@ pub mod WorkedRace
 pub mod WorkedChange
 pub mod SystemCalls
 pub mod WholeCalls
+pub mod WorkedWhole

@@ -1,17 +1,19 @@
 -- A whole call whose path the kernel walks, joined to the tree: the system calls that kernel_calls asks for make what
 -- kernel_walks says of the operation. mkdir(2), mknod(2), symlink(2), unlink(2), rmdir(2), renameat2(2).
-use Rattle.std.specs.Prelude.{◌≡◌, ◌≢◌, ℕ, List, [], ◌++◌, Bool, true, false, Option, Some, None}
+use Rattle.std.specs.Prelude.{◌≡◌, ◌≢◌, ℕ, List, [], ◌++◌, Bool, true, false, not, if◌then◌else◌, Option, Some, None}
 use Rattle.path_text.specs.declared.path.Rule.{Rule}
 use Rattle.path_text.specs.declared.path.Rule.TheVariants.{Drop}
 use Rattle.path_text.specs.declared.path.Split.{Split}
 use Rattle.tree_model.specs.declared.step.Mode.{Mode}
 use Rattle.tree_model.specs.declared.step.StepOf.TheVariants as steps
 use Rattle.tree_model.specs.StepWith.{StepWith}
+use Rattle.path_text.specs.Text.{reading_of}
 use Rattle.system_calls.specs.OpenFlags.{IsOfMachine}
 use Rattle.dialogue.specs.Dialogue.{Exchange, Whole, without_signals}
 use Rattle.find_proc.specs.declared.asks.Known.{Known}
 use Rattle.linux_steps.specs.Changes.{change_ended}
-use Rattle.step_resolver.specs.Order.{Line}
+use Rattle.walk_plan.specs.declared.goal.Goal.TheVariants.{Follow, NoFollow}
+use Rattle.step_resolver.specs.Order.{Handle, Line}
 use Rattle.root_ops.specs.declared.aim.Change.{Change}
 use Rattle.root_ops.specs.declared.aim.Change.TheVariants as changes
 use Rattle.root_ops.specs.declared.below.Below.{Below}
@@ -19,19 +21,22 @@ use Rattle.root_ops.specs.declared.op.Op.{Op}
 use Rattle.root_ops.specs.declared.op.Op.TheVariants.{Rename}
 use Rattle.root_ops.specs.declared.reply.Reply.{Reply}
 use Rattle.root_ops.specs.declared.reply.Reply.TheVariants.{Done}
-use Rattle.root_ops.specs.Acts.{IsEntry}
+use Rattle.root_ops.specs.Acts.{IsEntry, along}
 use Rattle.root_ops.specs.CallHistory.{CallInHistory, IsCallInHistory}
 use Rattle.root_ops.specs.Order.{change_step, renaming_of}
-use Rattle.kernel_calls.specs.Calls.{Ended, change_entry, rename}
+use Rattle.kernel_calls.specs.Calls.{Ended, change_entry, rename, resolve}
 use Rattle.kernel_calls.specs.Entry.{EntryAt}
 use Rattle.kernel_calls.specs.Flags.{BENEATH, MAKE_DIR, MAKE_FILE, MAKE_LINK, NO_LINKS, REMOVE_DIR, REMOVE_FILE, has}
+use Rattle.kernel_calls.specs.Look.{Came}
 use Rattle.kernel_calls.specs.Path.{At, text_in}
+use Rattle.kernel_calls.specs.Promises.{IsReply}
 use Rattle.kernel_calls.specs.declared.change.Wanted.{Wanted}
 use Rattle.kernel_calls.specs.declared.look.Outcome.{Outcome}
 use Rattle.kernel_calls.specs.declared.look.Outcome.TheVariants.{Value, Fails, FailsAt, Steps}
 use Rattle.kernel_walks.specs.Behind.{IsChangeOf, IsDirectoryText}
+use Rattle.kernel_walks.specs.SeenBelow.{SeenBelow}
 use Rattle.kernel_walks.specs.Tells.{TellsAsSeen}
-use Rattle.calls_by_system_calls.specs.SystemCalls.{Descriptors, IsNewFile, StandFor, closed, rename_flags, reply_of}
+use Rattle.calls_by_system_calls.specs.SystemCalls.{Descriptors, IsNewFile, StandFor, closed, rename_flags, reply_of, resolves}
 
 -- ---- what is asked for
 
@@ -150,3 +155,35 @@ abbrev pub EntriesAreRenamedBySystemCalls : Type 0
 EntriesAreRenamedBySystemCalls = (c : CallInHistory) (d : Descriptors) (call : RenameCall c.below d c.op) (reply : Reply)
     → HasLines c d call.exchanges call.end → RepliesBy (steps.Rename 0 [] 0 [] call.mode) call.end.outcome reply
     → c.room ≡ true → IsCallInHistory c → TellsAsSeen c reply
+
+-- ---- what a path means
+
+-- A call that opens what a path means: through a link at its end or not; a directory alone; with its kind.
+pub record PathCall (below : Below) (d : Descriptors) (op : Op) : Type 0 where
+  pub at : At
+  pub is_below : IsBelowRoot below d at
+  pub follows : Bool
+  pub directory : Bool
+  pub asks : Bool
+  pub is_op : op ≡ resolves (not follows) (text_in at.slashed)
+  pub known : Known
+  pub is_on : IsOn d known
+  pub exchanges : List Exchange
+  pub end : Came Outcome
+  pub whole : Whole (resolve known at follows directory asks) exchanges end
+
+-- The descriptor in the reply is a handle on what was reached by the path's parts, and stood below the root at the
+-- kernel's check.
+pub record OpensSeen (c : CallInHistory) (d : Descriptors) (call : PathCall c.below d c.op) (value : ℕ) : Type 0 where
+  pub fd : ℕ
+  pub is_reply : IsReply call.asks fd value
+  pub object : Handle
+  pub is : d.handle fd ≡ object.number
+  pub names : List (List ℕ)
+  pub seen : SeenBelow (along c (if call.follows then Follow else NoFollow) (reading_of (text_in call.at.slashed)))
+      object names
+
+abbrev pub PathsAreOpenedBySystemCalls : Type 0
+PathsAreOpenedBySystemCalls = (c : CallInHistory) (d : Descriptors) (call : PathCall c.below d c.op) (value : ℕ)
+    → call.end.value ≡ Value value → StandFor c.below d (without_signals call.exchanges) c.lines → IsCallInHistory c
+    → OpensSeen c d call value

@@ -5,9 +5,10 @@ ghost use Rattle.calls_by_system_calls.specs.Joined.{CallsTellBySystemCalls};
 ghost use Rattle.calls_by_system_calls.specs.Places.{AskedPlacesStood};
 ghost use Rattle.calls_by_system_calls.specs.Refusals.{StepsAreRefusedSo};
 ghost use Rattle.calls_by_system_calls.specs.SeenBelow.{ResolvesSeenBelowBySystemCalls};
-ghost use Rattle.calls_by_system_calls.specs.WholeCalls.{EntriesAreChangedBySystemCalls, EntriesAreRenamedBySystemCalls};
+ghost use Rattle.calls_by_system_calls.specs.WholeCalls.{EntriesAreChangedBySystemCalls, EntriesAreRenamedBySystemCalls, PathsAreOpenedBySystemCalls};
 ghost use Rattle.calls_by_system_calls.specs.WorkedChange.{MkdirIsMade};
 ghost use Rattle.calls_by_system_calls.specs.WorkedRace.{RaceIsMade};
+ghost use Rattle.calls_by_system_calls.specs.WorkedWhole.{WholeMkdirIsMade};
 
 use find_place::places_stood;
 use kernel_walks::{
@@ -103,6 +104,14 @@ pub fn entries_are_renamed_by_system_calls()
     renames_are_looked_up();
 }
 
+/// A whole call that opens what a path means, by the same table: the object was reached by the path's parts and stood
+/// below the root at the kernel's check (`resolves_seen_below`), and the reply's descriptor is a handle on it.
+pub fn paths_are_opened_by_system_calls()
+    ensures { PathsAreOpenedBySystemCalls }
+{
+    resolves_seen_below();
+}
+
 /// Where a conversation of `find_place` told a place, and its names are the answer to a NameBelow, this answer was
 /// so at the moment of one of its system calls (getcwd(2), proc(5), openat2(2), statx(2)). Of what the kernel had seen
 /// below the root right before it is supposed that it isn't removed.
@@ -122,4 +131,10 @@ pub fn worked_race_is_made()
 /// two of the call's system calls.
 pub fn worked_change_is_made()
     ensures { MkdirIsMade }
+{}
+
+/// The same of a whole call, by `entries_are_changed_by_system_calls`: a directory is made by three system calls, in one
+/// that the kernel looked up, and that another moves out of the root before the second.
+pub fn worked_whole_is_made()
+    ensures { WholeMkdirIsMade }
 {}
