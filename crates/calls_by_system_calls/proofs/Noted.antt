@@ -7,7 +7,7 @@ use Rattle.path_text.specs.declared.path.TheConstants.{TEXT_MAX}
 use Rattle.system_calls.specs.Errors.{EINTR, ENOENT}
 use Rattle.system_calls.specs.Objects.{kind_of}
 use Rattle.system_calls.specs.OpenFlags.{O_CLOEXEC, O_PATH}
-use Rattle.dialogue.specs.Dialogue.{Dialogue, Exchange, SystemCall, and_then, calling, closes, ends, knows, look_up, open_path, stats, Whole, without_signals}
+use Rattle.dialogue.specs.Dialogue.{Dialogue, Exchange, SystemCall, again, and_then, calling, closes, ends, knows, look_up, open_path, stats, Whole, without_signals}
 use Rattle.dialogue.specs.Holds.{Watch, state_after}
 use Rattle.dialogue.specs.declared.calls.Answer.{Answer}
 use Rattle.dialogue.proofs.HoldLemmas.{Goes, asks_then, both, choose, exchange, over, weak}
@@ -19,7 +19,7 @@ use Rattle.kernel_calls.specs.Change.{Changing, given, is_made, made_by, make, m
 use Rattle.kernel_calls.specs.Entry.{EntryAt, directory_at, directory_by, find_directory, leave, own_of}
 use Rattle.kernel_calls.specs.Flags.{BENEATH, MAKE_LINK, OPEN, bit, has, resolve_of}
 use Rattle.kernel_calls.specs.InProc.{gives}
-use Rattle.kernel_calls.specs.Look.{Came, came_to, forget, is_filtered, is_missing, look_up as looking_up, may_walk, missing_by, opened, opened_told, walk, walk_by, walk_failed}
+use Rattle.kernel_calls.specs.Look.{Came, came_to, forget, is_filtered, is_missing, look_up as looking_up, may_walk, missing_by, missing_told, is_missing_told, opened, opened_told, walk, walk_by, walk_failed}
 use Rattle.kernel_calls.specs.Path.{At, place_in, text_in}
 use Rattle.kernel_calls.specs.Promises.{IsReply}
 use Rattle.kernel_calls.specs.declared.change.Wanted.{Wanted}
@@ -45,70 +45,127 @@ all_noted s (x ∷ xs) = all_noted (s ++ x ∷ []) xs ∙ note_one s x xs
 
 -- ---- a look-up
 
-forgets : (s : List Exchange) (k : Known) (error : ℕ) → Goes noted 1 s (forget k error) (λ t now. Unit {0})
+forgets : (s : List Exchange) (k : Known) (error : ℕ)
+    → Goes noted 1 s (forget k error) (λ t now. is_filtered error ≡ false → t ≡ s)
 unfolding forget
 forgets s k error =
     choose (is_filtered error)
-    (λ _. choose k.has_floor (λ _. asks_then 0 (knows false) tt (λ a. over tt)) (λ _. over tt))
-    (λ _. over tt)
+    (λ yes. choose k.has_floor (λ _. asks_then 0 (knows false) tt (λ a. over (λ none. absurd (true≢false (sym yes ∙ none)))))
+    (λ _. over (λ none. refl)))
+    (λ _. over (λ none. refl))
 
 -- it is noted, and was answered by this descriptor
 abbrev pub GotBy : List Exchange → SystemCall → List Exchange → ℕ → Type 0
 GotBy s q t fd = (a : Answer) × (t ≡ s ++ exchange q a ∷ []) × (a.error ≡ 0) × (a.value ≡ fd)
 
--- what is known stays
+-- what is known stays; or the error is the look-up's, or 0 where the kernel may not walk the path
 abbrev Got : List Exchange → SystemCall → Known → List Exchange → Known → Result ℕ ℕ → Type 0
 Got s q k t now (Ok fd) = GotBy s q t fd × (now ≡ k)
-Got s q k t now (Err error) = Unit {0}
+Got s q k t now (Err error) =
+    ((a : Answer) × (a.error ≡ error) × (is_filtered error ≡ false → t ≡ s ++ exchange q a ∷ [])) ⊎ (error ≡ 0)
 
 got : (s : List Exchange) (k : Known) (q : SystemCall) (a : Answer)
     → Goes noted 1 (s ++ exchange q a ∷ []) (opened_told k a) (λ t c. Got s q k t c.known c.value)
 got s k q a =
     choose (a.error == 0) (λ none. over ((a, refl, eqb-true a.error 0 none, refl), refl))
-    (λ _. both 1 0 (forgets (s ++ exchange q a ∷ []) k a.error) (λ t now _. over tt))
+    (λ _. both 1 0 (forgets (s ++ exchange q a ∷ []) k a.error) (λ t now is. over (inl (a, refl, is))))
 
 opens : (s : List Exchange) (k : Known) (q : SystemCall)
     → Goes noted 2 s (opened k q) (λ t c. Got s q k t c.known c.value)
 unfolding opened
 opens s k q = asks_then 1 q tt (λ a. got s k q a)
 
-missed : (s : List Exchange) (now : Known) (r : Result ℕ ℕ) → Goes noted 1 s (missing_by now r) (λ t c. Unit {0})
-missed s now (Ok fd) = asks_then 0 (closes fd) tt (λ a. over tt)
-missed s now (Err error) = over tt
+-- the look-up that asks whether a name is missing
+abbrev pub seeks_missing : At → SystemCall
+seeks_missing at = look_up at.root (text_in at.slashed) O_PATH (bit_or (resolve_of at.flags) 4)
 
-misses : (s : List Exchange) (k : Known) (at : At) → Goes noted 3 s (is_missing k at) (λ t c. Unit {0})
+abbrev pub may_miss : At → Bool
+may_miss at = misses_at_once (has at.flags BENEATH) (text_in at.slashed) (place_in at.slashed)
+
+-- it found one missing
+abbrev Missed : List Exchange → At → List Exchange → Bool → Type 0
+Missed s at t b = b ≡ true → (a : Answer) × (t ≡ s ++ exchange (seeks_missing at) a ∷ []) × (a.error ≡ ENOENT)
+    × (may_miss at ≡ true)
+
+missed : (s t : List Exchange) (k now : Known) (at : At) (r : Result ℕ ℕ) → may_miss at ≡ true
+    → Got s (seeks_missing at) k t now r → Goes noted 1 t (missing_by now r) (λ u c. Missed s at u c.value)
+missed s t k now at (Ok fd) may h = asks_then 0 (closes fd) tt (λ a. over (λ yes. absurd (true≢false (sym yes))))
+missed s t k now at (Err error) may (inl h) =
+    over (λ yes.
+        let e = eqb-true error ENOENT yes in
+        (h.0, h.2 (ap is_filtered e), h.1 ∙ e, may))
+missed s t k now at (Err error) may (inr none) =
+    over (λ yes. absurd (true≢false (sym yes ∙ ap (λ n. n == ENOENT) none)))
+
+misses : (s : List Exchange) (k : Known) (at : At) → Goes noted 3 s (is_missing k at) (λ t c. Missed s at t c.value)
 unfolding is_missing
 misses s k at =
-    choose (not (misses_at_once (has at.flags BENEATH) (text_in at.slashed) (place_in at.slashed))) (λ _. over tt)
-    (λ _. both 2 1 (opens s k (look_up at.root (text_in at.slashed) O_PATH (bit_or (resolve_of at.flags) 4)))
-    (λ t c _. missed t c.known c.value))
+    by_case (may_miss at) refl
+  where
+    by_case : (b : Bool) → may_miss at ≡ b
+        → Goes noted 3 s (if not b then ends (came_to k false)
+        else and_then (opened k (seeks_missing at)) missing_told) (λ t c. Missed s at t c.value)
+    by_case false may = over (λ yes. absurd (true≢false (sym yes)))
+    by_case true may =
+        both 2 1 (opens s k (seeks_missing at)) (λ t c h. missed s t k c.known at c.value may h)
 
--- the call ends without a change
+-- It failed: a signal came; or a name was missing, by two look-ups.
+pub data Failed (s : List Exchange) (q : SystemCall) (at : At) (t : List Exchange) (error : ℕ) : Type 0 where
+  by_signal : (a : Answer) → t ≡ s ++ exchange q a ∷ [] → a.error ≡ EINTR → Failed s q at t error
+  by_missing : (a b : Answer) → t ≡ (s ++ exchange q a ∷ []) ++ exchange (seeks_missing at) b ∷ []
+      → b.error ≡ ENOENT → may_miss at ≡ true → error ≡ ENOENT → Failed s q at t error
+
+-- so the call ends without a change
+abbrev Unfound : List Exchange → SystemCall → At → List Exchange → Outcome → Type 0
+Unfound s q at t (Value value) = ⊥
+Unfound s q at t (Fails error step) = Failed s q at t error
+Unfound s q at t (FailsAt error step) = ⊥
+Unfound s q at t Steps = Unit {0}
+
 abbrev pub IsNoChange : Outcome → Type 0
 IsNoChange (Value value) = ⊥
 IsNoChange (Fails error step) = Unit {0}
 IsNoChange (FailsAt error step) = ⊥
 IsNoChange Steps = Unit {0}
 
-abbrev Walked : List Exchange → SystemCall → Known → List Exchange → Known → Result ℕ Outcome → Type 0
-Walked s q k t now (Ok fd) = GotBy s q t fd × (now ≡ k)
-Walked s q k t now (Err why) = IsNoChange why
+no_change : (s : List Exchange) (q : SystemCall) (at : At) (t : List Exchange) (why : Outcome) → Unfound s q at t why
+    → IsNoChange why
+no_change s q at t (Value value) h = h
+no_change s q at t (Fails error step) h = tt
+no_change s q at t (FailsAt error step) h = h
+no_change s q at t Steps h = tt
 
-missing_so : (b : Bool) → IsNoChange (if b then Fails ENOENT OPEN else Steps)
-missing_so true = tt
-missing_so false = tt
+abbrev Walked : List Exchange → SystemCall → Known → At → List Exchange → Known → Result ℕ Outcome → Type 0
+Walked s q k at t now (Ok fd) = GotBy s q t fd × (now ≡ k)
+Walked s q k at t now (Err why) = Unfound s q at t why
 
-walk_fails : (s t : List Exchange) (k now : Known) (at : At) (q : SystemCall) (error : ℕ)
-    → Goes noted 3 t (walk_failed at now error) (λ u c. Walked s q k u c.known c.value)
-walk_fails s t k now at q error =
-    choose (error == EINTR) (λ _. over tt)
-    (λ _. choose (error == ENOENT) (λ _. both 3 0 (misses t now at) (λ u c _. over (missing_so c.value)))
+missing_so : (s : List Exchange) (q : SystemCall) (at : At) (a : Answer) (t : List Exchange) (b : Bool)
+    → Missed (s ++ exchange q a ∷ []) at t b → Unfound s q at t (if b then Fails ENOENT OPEN else Steps)
+missing_so s q at a t true h =
+    let m = h refl in
+    by_missing a m.0 m.1 m.2 m.3 refl
+missing_so s q at a t false h = tt
+
+walk_fails : (s t : List Exchange) (k now : Known) (at : At) (q : SystemCall) (error : ℕ) → Got s q k t now (Err error)
+    → Goes noted 3 t (walk_failed at now error) (λ u c. Walked s q k at u c.known c.value)
+walk_fails s t k now at q error (inl h) =
+    choose (error == EINTR)
+    (λ is.
+        let e = eqb-true error EINTR is in
+        over (by_signal h.0 (h.2 (ap is_filtered e)) (h.1 ∙ e)))
+    (λ _. choose (error == ENOENT)
+    (λ is. subst (λ z. Goes noted 3 z (and_then (is_missing now at) is_missing_told)
+    (λ u c. Walked s q k at u c.known c.value)) (sym (h.2 (ap is_filtered (eqb-true error ENOENT is))))
+    (both 3 0 (misses (s ++ exchange q h.0 ∷ []) now at) (λ u c m. over (missing_so s q at h.0 u c.value m))))
     (λ _. over tt))
+walk_fails s t k now at q error (inr none) =
+    choose (error == EINTR) (λ is. absurd (true≢false (sym is ∙ ap (λ n. n == EINTR) none)))
+    (λ _. choose (error == ENOENT) (λ is. absurd (true≢false (sym is ∙ ap (λ n. n == ENOENT) none))) (λ _. over tt))
 
 walked_by : (s t : List Exchange) (k now : Known) (at : At) (q : SystemCall) (r : Result ℕ ℕ) → Got s q k t now r
-    → Goes noted 3 t (walk_by at now r) (λ u c. Walked s q k u c.known c.value)
+    → Goes noted 3 t (walk_by at now r) (λ u c. Walked s q k at u c.known c.value)
 walked_by s t k now at q (Ok fd) h = over h
-walked_by s t k now at q (Err error) h = walk_fails s t k now at q error
+walked_by s t k now at q (Err error) h = walk_fails s t k now at q error h
 
 -- by O_PATH
 abbrev pub seeks : At → List ℕ → ℕ → SystemCall
@@ -118,7 +175,7 @@ looks : (s : List Exchange) (k : Known) (at : At) (how : ℕ) → has how O_PATH
     → Goes noted 2 s (looking_up k at how 0) (λ t c. Got s (seeks at at.slashed how) k t c.known c.value)
 unfolding looking_up
 looks s k at how path =
-    choose (not at.looked && not (may_walk at)) (λ _. over tt)
+    choose (not at.looked && not (may_walk at)) (λ _. over (inr refl))
     (λ _. subst
     (λ b. Goes noted 2 s (opened k (if b then seeks at at.slashed how
     else open_path at.root (text_in at.slashed) (bit_or how O_CLOEXEC) 0 (resolve_of at.flags)))
@@ -126,7 +183,7 @@ looks s k at how path =
     (opens s k (seeks at at.slashed how)))
 
 walks : (s : List Exchange) (k : Known) (at : At) (how : ℕ) → has how O_PATH ≡ true
-    → Goes noted 5 s (walk k at how 0) (λ t c. Walked s (seeks at at.slashed how) k t c.known c.value)
+    → Goes noted 5 s (walk k at how 0) (λ t c. Walked s (seeks at at.slashed how) k at t c.known c.value)
 unfolding walk
 walks s k at how path =
     both 2 3 (looks s k at how path)
@@ -151,10 +208,11 @@ Found s k at above t now (Ok dir) = Directory s k at above t dir × (now ≡ k)
 Found s k at above t now (Err why) = IsNoChange why
 
 found_by : (s t : List Exchange) (k now : Known) (at : At) (path : List ℕ) (r : Result ℕ Outcome)
-    → Walked s (seeks at path (way k)) k t now r
+    → Walked s (seeks at path (way k)) k (record at { slashed = path }) t now r
     → Found s k at (Some path) t (directory_by now r).known (directory_by now r).value
 found_by s t k now at path (Ok fd) h = ((h.0, refl), h.1)
-found_by s t k now at path (Err why) h = h
+found_by s t k now at path (Err why) h =
+    no_change s (seeks at path (way k)) (record at { slashed = path }) t why h
 
 found_at : (s : List Exchange) (k : Known) (at : At) (above : Option (List ℕ)) → has (way k) O_PATH ≡ true
     → is_out at ≡ false → Goes noted 5 s (directory_at k at above) (λ t c. Found s k at above t c.known c.value)
@@ -401,7 +459,9 @@ pub record Opens (at : At) (how : ℕ) (asks : Bool) (s : List Exchange) (value 
 
 abbrev pub ResolveShape : At → ℕ → Bool → List Exchange → Outcome → Type 0
 ResolveShape at how asks s (Value value) = Opens at how asks s value
-ResolveShape at how asks s other = Unit {0}
+ResolveShape at how asks s (Fails error step) = Failed [] (seeks at at.slashed how) at s error
+ResolveShape at how asks s (FailsAt error step) = ⊥
+ResolveShape at how asks s Steps = Unit {0}
 
 -- by flags of open(2)
 abbrev pub how_of : Known → Bool → Bool → ℕ
@@ -417,15 +477,15 @@ told_kind at how fd s h =
     (λ _. over (record { fd = fd; first = s; got = h; behind = (a, refl); is_reply = (kind_of a.mode, refl) })))
 
 told_asked : (k now : Known) (at : At) (how : ℕ) (asks : Bool) (s : List Exchange) (r : Result ℕ Outcome)
-    → Walked [] (seeks at at.slashed how) k s now r
+    → Walked [] (seeks at at.slashed how) k at s now r
     → Goes noted 2 s (resolve_by asks now r) (λ t c. ResolveShape at how asks t c.value)
-told_asked k now at how asks s (Err why) h = over (nothing_told why h)
+told_asked k now at how asks s (Err why) h = over (unfound_told why h)
   where
-    nothing_told : (o : Outcome) → IsNoChange o → ResolveShape at how asks s o
-    nothing_told (Value value) none = absurd none
-    nothing_told (Fails error step) none = tt
-    nothing_told (FailsAt error step) none = tt
-    nothing_told Steps none = tt
+    unfound_told : (o : Outcome) → Unfound [] (seeks at at.slashed how) at s o → ResolveShape at how asks s o
+    unfound_told (Value value) u = absurd u
+    unfound_told (Fails error step) u = u
+    unfound_told (FailsAt error step) u = u
+    unfound_told Steps u = u
 told_asked k now at how true s (Ok fd) h =
     both 2 0 (told_kind at how fd s h.0) (λ t o is. over is)
 told_asked k now at how false s (Ok fd) h =
@@ -445,3 +505,18 @@ pub resolved : (k : Known) (at : At) (follows directory asks : Bool) → has (ho
 resolved k at follows directory asks path es c whole =
     subst (λ s. ResolveShape at (how_of k follows directory) asks s c.value) (all_noted [] (without_signals es))
     ((resolve_goes k at follows directory asks path).each es c whole).ends
+
+-- ---- signals are left out
+
+abbrev pub NoSignals : List Exchange → Type 0
+NoSignals [] = Unit {0}
+NoSignals (x ∷ xs) = (again x.asked x.answer ≡ false) × NoSignals xs
+
+unsignalled : (x : Exchange) (es : List Exchange) (b : Bool) → again x.asked x.answer ≡ b
+    → NoSignals (without_signals es) → NoSignals (if b then without_signals es else x ∷ without_signals es)
+unsignalled x es true is rest = rest
+unsignalled x es false is rest = (is, rest)
+
+pub no_signals : (es : List Exchange) → NoSignals (without_signals es)
+no_signals [] = tt
+no_signals (x ∷ es) = unsignalled x es (again x.asked x.answer) refl (no_signals es)

@@ -1,28 +1,33 @@
 -- The lines of a call that opens what a path means lead the resolve to what was opened.
-use Rattle.std.proofs.Common.{◌≡◌, ℕ, List, [], ◌∷◌, ◌++◌, Bool, true, false, not, if◌then◌else◌, refl, sym, ap, subst, ◌∙◌}
-use Rattle.std.specs.Prelude.{bit_or}
+use Rattle.std.proofs.Common.{◌≡◌, ℕ, List, [], ◌∷◌, ◌++◌, Bool, true, false, not, if◌then◌else◌, refl, sym, ap, subst, ◌∙◌, true≢false}
+use Rattle.std.specs.Prelude.{◌==◌, ◌&&◌, bit_and, bit_or}
 use Rattle.path_text.specs.Text.{reading_of}
+use Rattle.path_text.specs.declared.errno.Errno.TheVariants.{NotFound}
+use Rattle.system_calls.specs.Errors.{EINTR, ENOENT}
 use Rattle.system_calls.specs.OpenFlags.{IsOfMachine, O_PATH, arm64, on_arm64, on_arm64_large, on_x86_64, on_x86_64_large, x86_64}
 use Rattle.system_calls.specs.declared.opening.MachineFlags.{MachineFlags}
-use Rattle.dialogue.specs.Dialogue.{Exchange, SystemCall, stats, without_signals}
+use Rattle.dialogue.specs.Dialogue.{Exchange, SystemCall, again, is_look, stats, without_signals}
 use Rattle.dialogue.proofs.HoldLemmas.{exchange}
 use Rattle.dialogue.specs.declared.calls.Answer.{Answer}
 use Rattle.walk_plan.specs.declared.goal.Goal.{Goal}
 use Rattle.walk_plan.specs.declared.goal.Goal.TheVariants.{Follow, NoFollow}
 use Rattle.step_resolver.specs.Order.{Line}
 use Rattle.root_ops.specs.declared.op.Op.{Op}
+use Rattle.root_ops.specs.declared.reply.Reply.TheVariants.{Fault}
 use Rattle.root_ops.specs.CallHistory.{CallInHistory, IsCallInHistory}
+use Rattle.root_ops.specs.EachCall.{CallTells}
 use Rattle.root_ops.specs.Order.{ends, opened, starts, LeadsTo}
-use Rattle.kernel_calls.specs.Flags.{bit, has}
-use Rattle.kernel_calls.specs.Path.{text_in}
+use Rattle.kernel_calls.specs.Flags.{bit, has, resolve_of}
+use Rattle.kernel_calls.specs.Path.{place_in, text_in}
 use Rattle.kernel_calls.specs.Promises.{IsReply}
 use Rattle.kernel_calls.specs.declared.look.Outcome.{Outcome}
 use Rattle.kernel_calls.specs.declared.look.Outcome.TheVariants.{Value}
+use Rattle.kernel_walks.specs.AtOnce.{FailsAtOnceTell, misses_at_once}
 use Rattle.kernel_walks.specs.Behind.{asks_below}
 use Rattle.kernel_walks.specs.Resolves.{IsResolve, ResolvesSeenBelow}
-use Rattle.calls_by_system_calls.specs.SystemCalls.{Descriptors, Says, StandFor, WalksTo, resolves}
-use Rattle.calls_by_system_calls.specs.WholeCalls.{OpensSeen, PathCall, PathsAreOpenedBySystemCalls}
-use Rattle.calls_by_system_calls.proofs.Noted.{Behind, Opens, ResolveShape, how_of, resolved, seeks}
+use Rattle.calls_by_system_calls.specs.SystemCalls.{Descriptors, MissSays, Says, StandFor, WalksTo, resolves}
+use Rattle.calls_by_system_calls.specs.WholeCalls.{OpensSeen, PathCall, PathsAreMissedBySystemCalls, PathsAreOpenedBySystemCalls}
+use Rattle.calls_by_system_calls.proofs.Noted.{Behind, Failed, NoSignals, Opens, ResolveShape, by_missing, by_signal, how_of, may_miss, no_signals, resolved, seeks, seeks_missing}
 use Rattle.calls_by_system_calls.proofs.WholeCalls.{ends_here, walks_by}
 
 -- O_PATH, O_NOFOLLOW and O_DIRECTORY are apart
@@ -119,3 +124,71 @@ paths_are_opened seen c d call value is stands in_history =
     (without_signals call.exchanges)) is
     (resolved call.known call.at call.follows call.directory call.asks b.path call.exchanges call.end call.whole))
     stands
+
+-- ---- a name is missing
+
+-- RESOLVE_NO_SYMLINKS is added
+no_symlinks_by : (beneath links mount : Bool)
+    → has (bit_or (bit_or (bit_or (bit_or 2 (if not beneath then 8 else 16)) (if not links then 4 else 0))
+    (if not mount then 1 else 0)) 4) 4 ≡ true
+no_symlinks_by true true true = refl
+no_symlinks_by true true false = refl
+no_symlinks_by true false true = refl
+no_symlinks_by true false false = refl
+no_symlinks_by false true true = refl
+no_symlinks_by false true false = refl
+no_symlinks_by false false true = refl
+no_symlinks_by false false false = refl
+
+no_symlinks : (flags : ℕ) → has (bit_or (resolve_of flags) 4) 4 ≡ true
+no_symlinks flags = no_symlinks_by (bit_and flags 1 == 0) (bit_and flags 2 == 0) (bit_and flags 128 == 0)
+
+same_end : (before : List Exchange) (x y z : Exchange) → before ++ x ∷ [] ≡ y ∷ z ∷ [] → x ≡ z
+same_end [] x y z e = absurd cc
+same_end (b ∷ []) x y z e = cc (e)
+same_end (b ∷ c ∷ before) x y z e = absurd (longer before x z (cc (e)))
+  where
+    longer : (before : List Exchange) (x z : Exchange) → c ∷ (before ++ x ∷ []) ≡ z ∷ [] → ⊥
+    longer [] x z e = cc (e)
+    longer (b ∷ before) x z e = cc (e)
+
+never_again : (q : SystemCall) (a : Answer) → is_look q ≡ true → a.error ≡ EINTR → again q a ≡ false → ⊥
+never_again q a look signal no_more =
+    true≢false (sym (ap (λ b. b && (a.error == EINTR)) look ∙ ap (λ n. n == EINTR) signal) ∙ no_more)
+
+module _ (tell : FailsAtOnceTell) (c : CallInHistory) (d : Descriptors) (call : PathCall c.below d c.op)
+    (room : c.room ≡ true) (in_history : IsCallInHistory c) where
+  by_last : (b : Answer) (last : Exchange) → last ≡ exchange (seeks_missing call.at) b → b.error ≡ ENOENT
+      → may_miss call.at ≡ true → MissSays c.below d last.asked last.answer c.lines → CallTells c (Fault NotFound)
+  by_last b last is enoent may says =
+      let m = subst (λ x. MissSays c.below d x.asked x.answer c.lines) is says (place_in call.at.slashed)
+      call.is_below.root (no_symlinks call.at.flags) enoent
+      (subst (λ t. misses_at_once t (text_in call.at.slashed) (place_in call.at.slashed) ≡ true) call.is_below.beneath
+      may) in
+      (tell c (if call.follows then Follow else NoFollow) (text_in call.at.slashed) (place_in call.at.slashed) m.passed
+      m.name m.rest (is_resolve call.follows c.op (text_in call.at.slashed) call.is_op)
+      (subst (λ t. misses_at_once t (text_in call.at.slashed) (place_in call.at.slashed) ≡ true) call.is_below.beneath
+      may) m.names room m.all).1 in_history
+
+  by_failed : (error : ℕ) (before : List Exchange) (last : Exchange) (s : List Exchange) → NoSignals s
+      → s ≡ before ++ last ∷ [] → MissSays c.below d last.asked last.answer c.lines
+      → Failed [] (seeks call.at call.at.slashed (how_of call.known call.follows call.directory)) call.at s error
+      → (error ≡ ENOENT) × CallTells c (Fault NotFound)
+  by_failed error before last s quiet all says (by_signal a is signal) =
+      absurd (never_again (seeks call.at call.at.slashed (how_of call.known call.follows call.directory)) a refl signal
+      (subst NoSignals is quiet).0)
+  by_failed error before last s quiet all says (by_missing a b is enoent may error_is) = (
+    error_is,
+    by_last b last (same_end before last
+        (exchange (seeks call.at call.at.slashed (how_of call.known call.follows call.directory)) a)
+        (exchange (seeks_missing call.at) b) (sym all ∙ is)) enoent may says,
+  )
+
+pub paths_are_missed : FailsAtOnceTell → PathsAreMissedBySystemCalls
+paths_are_missed tell c d call error step is before last all says room in_history =
+    let b = path_bits call.follows call.directory call.known.machine call.is_on.0 in
+    by_failed tell c d call room in_history error before last (without_signals call.exchanges)
+    (no_signals call.exchanges) all says
+    (subst (ResolveShape call.at (how_of call.known call.follows call.directory) call.asks
+    (without_signals call.exchanges)) is
+    (resolved call.known call.at call.follows call.directory call.asks b.path call.exchanges call.end call.whole))

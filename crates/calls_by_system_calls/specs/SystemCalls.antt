@@ -1,13 +1,15 @@
 -- What a system call and its answer say of the lines of the call that made it: a table with a row for each system call
 -- of a call whose path the kernel walks (kernel_calls), each with its manual page. Of what is in no row, and of a
 -- look-up that isn't made below the call's root, nothing is supposed.
-use Rattle.std.specs.Prelude.{◌≡◌, ◌≢◌, ℕ, List, [], ◌∷◌, ◌++◌, Bool, true, false, not, if◌then◌else◌, bit_and}
+use Rattle.std.specs.Prelude.{◌≡◌, ◌≢◌, ℕ, List, [], ◌∷◌, ◌++◌, Bool, true, false, not, if◌then◌else◌, bit_and, Some}
 use Rattle.path_text.specs.declared.errno.Errno.TheVariants.{NoMemory}
 use Rattle.tree_model.specs.declared.answer.Answer.TheVariants as answers
 use Rattle.tree_model.specs.declared.step.Mode.{Mode}
 use Rattle.tree_model.specs.declared.step.Mode.TheVariants as modes
 use Rattle.tree_model.specs.declared.step.StepOf.TheVariants as steps
 use Rattle.tree_model.specs.StepWith.{StepWith}
+use Rattle.path_text.specs.Print.{names_read}
+use Rattle.system_calls.specs.Errors.{ENOENT}
 use Rattle.system_calls.specs.OpenFlags.{O_PATH}
 use Rattle.system_calls.specs.declared.opening.MachineFlags.{MachineFlags}
 use Rattle.dialogue.specs.Dialogue.{Exchange, SystemCall, closes, knows, look_up, makes_directory, makes_link, makes_node, opens, removes, renames, stats}
@@ -25,6 +27,7 @@ use Rattle.root_ops.specs.declared.reply.Reply.{Reply}
 use Rattle.root_ops.specs.declared.reply.Reply.TheVariants as replies
 use Rattle.root_ops.specs.Order.{change_step, opened, starts, ends, LeadsTo}
 use Rattle.kernel_calls.specs.Flags.{has}
+use Rattle.kernel_walks.specs.AtOnce.{Passed, lines_missing, misses_at_once, names_to}
 use Rattle.kernel_walks.specs.Behind.{asks_below}
 
 -- The descriptor of the call's root; which handle of the history each other descriptor is; and the machine's flags of
@@ -69,6 +72,20 @@ pub record LookUpSays (below : Below) (d : Descriptors) (dir : ℕ) (path : List
   pub opened : a.error ≡ 0 → IsBelow below d dir resolve
       → WalksTo below d (resolves (has how d.machine.nofollow) path) a.value lines
   pub failed : a.error ≢ 0 → lines ≡ []
+
+-- RESOLVE_NO_SYMLINKS (4), ENOENT: each name of a path of names alone was opened in the directory before it, up to one
+-- that was missing there. This is for the last look-up of a call.
+pub record Misses (below : Below) (place : List ℕ) (lines : List Line) : Type 0 where
+  pub passed : List Passed
+  pub name : List ℕ
+  pub rest : List (List ℕ)
+  pub names : names_read place ≡ Some (names_to passed name rest)
+  pub all : lines ≡ lines_missing below.root.handle passed name
+
+abbrev pub MissSays : Below → Descriptors → SystemCall → Answer → List Line → Type 0
+MissSays below d (look_up dir path how resolve) a lines = (place : List ℕ) → dir ≡ d.root → has resolve 4 ≡ true
+    → a.error ≡ ENOENT → misses_at_once below.flags.beneath path place ≡ true → Misses below place lines
+MissSays below d q a lines = Unit {0}
 
 -- ---- changes
 

@@ -1,6 +1,6 @@
 -- A whole call whose path the kernel walks, joined to the tree: the system calls that kernel_calls asks for make what
 -- kernel_walks says of the operation. mkdir(2), mknod(2), symlink(2), unlink(2), rmdir(2), renameat2(2).
-use Rattle.std.specs.Prelude.{◌≡◌, ◌≢◌, ℕ, List, [], ◌++◌, Bool, true, false, not, if◌then◌else◌, Option, Some, None}
+use Rattle.std.specs.Prelude.{◌≡◌, ◌≢◌, ℕ, List, [], ◌∷◌, ◌++◌, Bool, true, false, not, if◌then◌else◌, Option, Some, None}
 use Rattle.path_text.specs.declared.path.Rule.{Rule}
 use Rattle.path_text.specs.declared.path.Rule.TheVariants.{Drop}
 use Rattle.path_text.specs.declared.path.Split.{Split}
@@ -8,6 +8,8 @@ use Rattle.tree_model.specs.declared.step.Mode.{Mode}
 use Rattle.tree_model.specs.declared.step.StepOf.TheVariants as steps
 use Rattle.tree_model.specs.StepWith.{StepWith}
 use Rattle.path_text.specs.Text.{reading_of}
+use Rattle.path_text.specs.declared.errno.Errno.TheVariants.{NotFound}
+use Rattle.system_calls.specs.Errors.{ENOENT}
 use Rattle.system_calls.specs.OpenFlags.{IsOfMachine}
 use Rattle.dialogue.specs.Dialogue.{Exchange, Whole, without_signals}
 use Rattle.find_proc.specs.declared.asks.Known.{Known}
@@ -20,9 +22,10 @@ use Rattle.root_ops.specs.declared.below.Below.{Below}
 use Rattle.root_ops.specs.declared.op.Op.{Op}
 use Rattle.root_ops.specs.declared.op.Op.TheVariants.{Rename}
 use Rattle.root_ops.specs.declared.reply.Reply.{Reply}
-use Rattle.root_ops.specs.declared.reply.Reply.TheVariants.{Done}
+use Rattle.root_ops.specs.declared.reply.Reply.TheVariants.{Done, Fault}
 use Rattle.root_ops.specs.Acts.{IsEntry, along}
 use Rattle.root_ops.specs.CallHistory.{CallInHistory, IsCallInHistory}
+use Rattle.root_ops.specs.EachCall.{CallTells}
 use Rattle.root_ops.specs.Order.{change_step, renaming_of}
 use Rattle.kernel_calls.specs.Calls.{Ended, change_entry, rename, resolve}
 use Rattle.kernel_calls.specs.Entry.{EntryAt}
@@ -36,7 +39,7 @@ use Rattle.kernel_calls.specs.declared.look.Outcome.TheVariants.{Value, Fails, F
 use Rattle.kernel_walks.specs.Behind.{IsChangeOf, IsDirectoryText}
 use Rattle.kernel_walks.specs.SeenBelow.{SeenBelow}
 use Rattle.kernel_walks.specs.Tells.{TellsAsSeen}
-use Rattle.calls_by_system_calls.specs.SystemCalls.{Descriptors, IsNewFile, StandFor, closed, rename_flags, reply_of, resolves}
+use Rattle.calls_by_system_calls.specs.SystemCalls.{Descriptors, IsNewFile, MissSays, StandFor, closed, rename_flags, reply_of, resolves}
 
 -- ---- what is asked for
 
@@ -187,3 +190,10 @@ abbrev pub PathsAreOpenedBySystemCalls : Type 0
 PathsAreOpenedBySystemCalls = (c : CallInHistory) (d : Descriptors) (call : PathCall c.below d c.op) (value : ℕ)
     → call.end.value ≡ Value value → StandFor c.below d (without_signals call.exchanges) c.lines → IsCallInHistory c
     → OpensSeen c d call value
+
+-- Or it fails for a name that is missing: its lines are those of its last look-up, which found none by that name.
+abbrev pub PathsAreMissedBySystemCalls : Type 0
+PathsAreMissedBySystemCalls = (c : CallInHistory) (d : Descriptors) (call : PathCall c.below d c.op) (error step : ℕ)
+    → call.end.value ≡ Fails error step → (before : List Exchange) (last : Exchange)
+    → without_signals call.exchanges ≡ before ++ last ∷ [] → MissSays c.below d last.asked last.answer c.lines
+    → c.room ≡ true → IsCallInHistory c → (error ≡ ENOENT) × CallTells c (Fault NotFound)

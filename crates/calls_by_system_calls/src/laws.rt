@@ -5,7 +5,7 @@ ghost use Rattle.calls_by_system_calls.specs.Joined.{CallsTellBySystemCalls};
 ghost use Rattle.calls_by_system_calls.specs.Places.{AskedPlacesStood};
 ghost use Rattle.calls_by_system_calls.specs.Refusals.{StepsAreRefusedSo};
 ghost use Rattle.calls_by_system_calls.specs.SeenBelow.{ResolvesSeenBelowBySystemCalls};
-ghost use Rattle.calls_by_system_calls.specs.WholeCalls.{EntriesAreChangedBySystemCalls, EntriesAreRenamedBySystemCalls, PathsAreOpenedBySystemCalls};
+ghost use Rattle.calls_by_system_calls.specs.WholeCalls.{EntriesAreChangedBySystemCalls, EntriesAreRenamedBySystemCalls, PathsAreMissedBySystemCalls, PathsAreOpenedBySystemCalls};
 ghost use Rattle.calls_by_system_calls.specs.WorkedChange.{MkdirIsMade};
 ghost use Rattle.calls_by_system_calls.specs.WorkedRace.{RaceIsMade};
 ghost use Rattle.calls_by_system_calls.specs.WorkedWhole.{WholeMkdirIsMade};
@@ -110,6 +110,14 @@ pub fn paths_are_opened_by_system_calls()
     ensures { PathsAreOpenedBySystemCalls }
 {
     resolves_seen_below();
+}
+
+/// The same of one that fails by ENOENT: its last look-up follows no link (RESOLVE_NO_SYMLINKS), and found a name of the
+/// path missing (path_resolution(7)). The call tells what each call tells (`fails_at_once_tell`).
+pub fn paths_are_missed_by_system_calls()
+    ensures { PathsAreMissedBySystemCalls }
+{
+    fails_at_once_tell();
 }
 
 /// Where a conversation of `find_place` told a place, and its names are the answer to a NameBelow, this answer was
