@@ -92,8 +92,8 @@ missed : (s t : List Exchange) (k now : Known) (at : At) (r : Result ℕ ℕ) �
 missed s t k now at (Ok fd) may h = asks_then 0 (closes fd) tt (λ a. over (λ yes. absurd (true≢false (sym yes))))
 missed s t k now at (Err error) may (inl h) =
     over (λ yes.
-        let e = eqb-true error ENOENT yes in
-        (h.0, h.2 (ap is_filtered e), h.1 ∙ e, may))
+    let e = eqb-true error ENOENT yes in
+    (h.0, h.2 (ap is_filtered e), h.1 ∙ e, may))
 missed s t k now at (Err error) may (inr none) =
     over (λ yes. absurd (true≢false (sym yes ∙ ap (λ n. n == ENOENT) none)))
 
@@ -151,8 +151,8 @@ walk_fails : (s t : List Exchange) (k now : Known) (at : At) (q : SystemCall) (e
 walk_fails s t k now at q error (inl h) =
     choose (error == EINTR)
     (λ is.
-        let e = eqb-true error EINTR is in
-        over (by_signal h.0 (h.2 (ap is_filtered e)) (h.1 ∙ e)))
+    let e = eqb-true error EINTR is in
+    over (by_signal h.0 (h.2 (ap is_filtered e)) (h.1 ∙ e)))
     (λ _. choose (error == ENOENT)
     (λ is. subst (λ z. Goes noted 3 z (and_then (is_missing now at) is_missing_told)
     (λ u c. Walked s q k at u c.known c.value)) (sym (h.2 (ap is_filtered (eqb-true error ENOENT is))))
