@@ -21,3 +21,4 @@ mod WholeCalls
 mod WholeRenames
 mod WholePaths
 mod WorkedWhole
+mod WholeMissing

@@ -116,7 +116,7 @@ pub data Failed (s : List Exchange) (q : SystemCall) (at : At) (t : List Exchang
       → b.error ≡ ENOENT → may_miss at ≡ true → error ≡ ENOENT → Failed s q at t error
 
 -- so the call ends without a change
-abbrev Unfound : List Exchange → SystemCall → At → List Exchange → Outcome → Type 0
+abbrev pub Unfound : List Exchange → SystemCall → At → List Exchange → Outcome → Type 0
 Unfound s q at t (Value value) = ⊥
 Unfound s q at t (Fails error step) = Failed s q at t error
 Unfound s q at t (FailsAt error step) = ⊥
@@ -203,16 +203,31 @@ abbrev pub Directory : List Exchange → Known → At → Option (List ℕ) → 
 Directory s k at None t dir = (t ≡ s) × (dir ≡ record { fd = at.root; own = false }) × (is_out at ≡ false)
 Directory s k at (Some path) t dir = GotBy s (seeks at path (way k)) t dir.fd × (dir.own ≡ true)
 
+-- or it wasn't found
+abbrev pub Lacks : List Exchange → Known → At → Option (List ℕ) → List Exchange → Outcome → Type 0
+Lacks s k at None t why = why ≡ Steps
+Lacks s k at (Some path) t why = Unfound s (seeks at path (way k)) (record at { slashed = path }) t why
+
+by_steps : (s : List Exchange) (k : Known) (at : At) (above : Option (List ℕ)) (t : List Exchange)
+    → Lacks s k at above t Steps
+by_steps s k at None t = refl
+by_steps s k at (Some path) t = tt
+
+pub lacks_change : (s : List Exchange) (k : Known) (at : At) (above : Option (List ℕ)) (t : List Exchange)
+    (why : Outcome) → Lacks s k at above t why → IsNoChange why
+lacks_change s k at None t why is = subst IsNoChange (sym is) tt
+lacks_change s k at (Some path) t why h =
+    no_change s (seeks at path (way k)) (record at { slashed = path }) t why h
+
 abbrev pub Found : List Exchange → Known → At → Option (List ℕ) → List Exchange → Known → Result Dir Outcome → Type 0
 Found s k at above t now (Ok dir) = Directory s k at above t dir × (now ≡ k)
-Found s k at above t now (Err why) = IsNoChange why
+Found s k at above t now (Err why) = Lacks s k at above t why
 
 found_by : (s t : List Exchange) (k now : Known) (at : At) (path : List ℕ) (r : Result ℕ Outcome)
     → Walked s (seeks at path (way k)) k (record at { slashed = path }) t now r
     → Found s k at (Some path) t (directory_by now r).known (directory_by now r).value
 found_by s t k now at path (Ok fd) h = ((h.0, refl), h.1)
-found_by s t k now at path (Err why) h =
-    no_change s (seeks at path (way k)) (record at { slashed = path }) t why h
+found_by s t k now at path (Err why) h = h
 
 found_at : (s : List Exchange) (k : Known) (at : At) (above : Option (List ℕ)) → has (way k) O_PATH ≡ true
     → is_out at ≡ false → Goes noted 5 s (directory_at k at above) (λ t c. Found s k at above t c.known c.value)
@@ -224,7 +239,8 @@ found_at s k at (Some slashed) path inside =
 pub finds : (s : List Exchange) (k : Known) (at : At) (above : Option (List ℕ)) → has (way k) O_PATH ≡ true
     → Goes noted 5 s (find_directory k at above) (λ t c. Found s k at above t c.known c.value)
 unfolding find_directory
-finds s k at above path = choose (is_out at) (λ _. over tt) (λ inside. found_at s k at above path inside)
+finds s k at above path =
+    choose (is_out at) (λ _. over (by_steps s k at above s)) (λ inside. found_at s k at above path inside)
 
 -- ---- the change
 
@@ -320,7 +336,8 @@ pub record Makes (k : Known) (at : At) (entry : EntryAt) (w : Wanted) (step : �
   pub behind : e.closes ≡ behind_of is_last (own_of dir)
 
 abbrev pub Shape : Known → At → EntryAt → Wanted → ℕ → List ℕ → Bool → List Exchange → Ended → Type 0
-Shape k at entry w step text is_last s e = IsNoChange e.outcome ⊎ Makes k at entry w step text is_last s e
+Shape k at entry w step text is_last s e =
+    Lacks [] k at entry.above s e.outcome ⊎ Makes k at entry w step text is_last s e
 
 plain : (k : Known) (gives : Bool) (step : ℕ) (text : List ℕ) → gives ≡ false
     → Goes noted 0 [] (is_plain k gives step text) (λ t is. t ≡ [])
@@ -355,7 +372,7 @@ module _ (k : Known) (at : At) (entry : EntryAt) (w : Wanted) (step : ℕ) (text
       (λ t is same. subst
       (λ u. Goes noted 7 u (plain_told k at entry w step text read is_last is) (Shape k at entry w step text is_last))
       (sym same)
-      (choose (not is) (λ _. over (inl tt))
+      (choose (not is) (λ _. over (inl (by_steps [] k at entry.above [])))
       (λ _. both 5 2 (finds [] k at entry.above path) (λ u c h. changed_in u c.known c.value h))))
 
   pub shaped : (es : List Exchange) (e : Ended) → Whole (change_entry k at entry w step text read is_last) es e
@@ -403,7 +420,8 @@ module _ (k : Known) (at : At) (entry : EntryAt) (other : At) (new : EntryAt) (w
       → Directory [] k at entry.above s from → Found s k other new.above t now r
       → Goes noted 3 t (rename_to w from entry.name new.name is_last now r) Ends
   unfolding rename_in
-  renamed_to s t now from (Err why) f h = weak 1 (omega arith) (unfound t now from why h) (λ u e x. x)
+  renamed_to s t now from (Err why) f h =
+      weak 1 (omega arith) (unfound t now from why (lacks_change s k other new.above t why h)) (λ u e x. x)
   renamed_to s t now from (Ok to) f h =
       both 1 2 (changes t now w (renaming from entry.name to new.name) [] unlinked none)
       (λ u c d. both 1 1 (leaves u to is_last)
@@ -427,7 +445,7 @@ module _ (k : Known) (at : At) (entry : EntryAt) (other : At) (new : EntryAt) (w
   renamed_from : (s : List Exchange) (now : Known) (r : Result Dir Outcome) → Found [] k at entry.above s now r
       → Goes noted 8 s (from_by w entry.name other new is_last now r) Ends
   unfolding rename_from
-  renamed_from s now (Err why) h = over (inl h)
+  renamed_from s now (Err why) h = over (inl (lacks_change [] k at entry.above s why h))
   renamed_from s now (Ok from) h =
       subst (λ n. Goes noted 8 s (from_by w entry.name other new is_last n (Ok from)) Ends) (sym h.1)
       (both 5 3 (finds s k other new.above path)

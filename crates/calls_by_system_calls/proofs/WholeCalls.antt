@@ -60,7 +60,7 @@ use Rattle.kernel_walks.specs.Tells.{KernelWalksTell, TellsAsSeen}
 use Rattle.kernel_walks.specs.Told.{as_it_was, as_passed, AreTold}
 use Rattle.calls_by_system_calls.specs.SystemCalls.{Descriptors, IsBelow, IsNewFile, WalksTo, LookUpSays, InRoot, ChangeSays, Says, StandFor, change_line, close_line, closed, line_of, reply_of, resolves}
 use Rattle.calls_by_system_calls.specs.WholeCalls.{Asks, EntriesAreChangedBySystemCalls, EntryCall, IsAbove, IsBelowRoot, IsOn, RepliesBy}
-use Rattle.calls_by_system_calls.proofs.Noted.{Closed, Directory, IsNoChange, IsOutcome, Makes, Shape, is_out, seeks, shaped, way}
+use Rattle.calls_by_system_calls.proofs.Noted.{Closed, Directory, IsNoChange, IsOutcome, Makes, Shape, is_out, lacks_change, seeks, shaped, way}
 
 -- ---- flags
 
@@ -226,7 +226,7 @@ starts_so below (RemoveFile path) rule change text is =
 starts_so below (RemoveDir path) rule change text is = by_rule below rule Drop change changes.RemoveDir text path is
 starts_so below op rule change text is = absurd is
 
-walks_so : (below : Below) (op : Op) (rule : Rule) (change : Change) (text : List ℕ) (split : Split)
+pub walks_so : (below : Below) (op : Op) (rule : Rule) (change : Change) (text : List ℕ) (split : Split)
     → IsChangeOf op rule change text → IsEntry text rule split
     → starts below true op ≡ walks below (Changes change split.name) split.dir
 walks_so below op rule change text split is entry =
@@ -476,7 +476,8 @@ module _ (tells : KernelWalksTell) (looked_up : DirectoriesAreLookedUp) (c : Cal
   by_shape : (s : List Exchange) (lines : List Line)
       → Shape call.known call.at call.entry call.how call.step call.text call.is_last s call.end
       → StandFor c.below d s lines → c.lines ≡ lines ++ closed d call.end.closes → TellsAsSeen c reply
-  by_shape s lines (inl none) stands all = absurd (no_reply call.end.outcome none by)
+  by_shape s lines (inl none) stands all = absurd (no_reply call.end.outcome
+      (lacks_change [] call.known call.at call.entry.above s call.end.outcome none) by)
   by_shape s lines (inr m) stands all =
       by_above call.entry.above s m lines call.is_at.above m.finds stands all
 

@@ -12,21 +12,22 @@ use Rattle.dialogue.specs.declared.calls.Answer.{Answer}
 use Rattle.walk_plan.specs.declared.goal.Goal.{Goal}
 use Rattle.walk_plan.specs.declared.goal.Goal.TheVariants.{Follow, NoFollow}
 use Rattle.step_resolver.specs.Order.{Line}
+use Rattle.root_ops.specs.declared.below.Below.{Below}
 use Rattle.root_ops.specs.declared.op.Op.{Op}
 use Rattle.root_ops.specs.declared.reply.Reply.TheVariants.{Fault}
 use Rattle.root_ops.specs.CallHistory.{CallInHistory, IsCallInHistory}
 use Rattle.root_ops.specs.EachCall.{CallTells}
 use Rattle.root_ops.specs.Order.{ends, opened, starts, LeadsTo}
 use Rattle.kernel_calls.specs.Flags.{bit, has, resolve_of}
-use Rattle.kernel_calls.specs.Path.{place_in, text_in}
+use Rattle.kernel_calls.specs.Path.{At, place_in, text_in}
 use Rattle.kernel_calls.specs.Promises.{IsReply}
 use Rattle.kernel_calls.specs.declared.look.Outcome.{Outcome}
 use Rattle.kernel_calls.specs.declared.look.Outcome.TheVariants.{Value}
 use Rattle.kernel_walks.specs.AtOnce.{FailsAtOnceTell, misses_at_once}
 use Rattle.kernel_walks.specs.Behind.{asks_below}
 use Rattle.kernel_walks.specs.Resolves.{IsResolve, ResolvesSeenBelow}
-use Rattle.calls_by_system_calls.specs.SystemCalls.{Descriptors, MissSays, Says, StandFor, WalksTo, resolves}
-use Rattle.calls_by_system_calls.specs.WholeCalls.{OpensSeen, PathCall, PathsAreMissedBySystemCalls, PathsAreOpenedBySystemCalls}
+use Rattle.calls_by_system_calls.specs.SystemCalls.{Descriptors, MissSays, Misses, Says, StandFor, WalksTo, resolves}
+use Rattle.calls_by_system_calls.specs.WholeCalls.{IsBelowRoot, OpensSeen, PathCall, PathsAreMissedBySystemCalls, PathsAreOpenedBySystemCalls}
 use Rattle.calls_by_system_calls.proofs.Noted.{Behind, Failed, NoSignals, Opens, ResolveShape, by_missing, by_signal, how_of, may_miss, no_signals, resolved, seeks, seeks_missing}
 use Rattle.calls_by_system_calls.proofs.WholeCalls.{ends_here, walks_by}
 
@@ -156,39 +157,39 @@ never_again : (q : SystemCall) (a : Answer) → is_look q ≡ true → a.error �
 never_again q a look signal no_more =
     true≢false (sym (ap (λ b. b && (a.error == EINTR)) look ∙ ap (λ n. n == EINTR) signal) ∙ no_more)
 
-module _ (tell : FailsAtOnceTell) (c : CallInHistory) (d : Descriptors) (call : PathCall c.below d c.op)
-    (room : c.room ≡ true) (in_history : IsCallInHistory c) where
-  by_last : (b : Answer) (last : Exchange) → last ≡ exchange (seeks_missing call.at) b → b.error ≡ ENOENT
-      → may_miss call.at ≡ true → MissSays c.below d last.asked last.answer c.lines → CallTells c (Fault NotFound)
-  by_last b last is enoent may says =
-      let m = subst (λ x. MissSays c.below d x.asked x.answer c.lines) is says (place_in call.at.slashed)
-      call.is_below.root (no_symlinks call.at.flags) enoent
-      (subst (λ t. misses_at_once t (text_in call.at.slashed) (place_in call.at.slashed) ≡ true) call.is_below.beneath
-      may) in
-      (tell c (if call.follows then Follow else NoFollow) (text_in call.at.slashed) (place_in call.at.slashed) m.passed
-      m.name m.rest (is_resolve call.follows c.op (text_in call.at.slashed) call.is_op)
-      (subst (λ t. misses_at_once t (text_in call.at.slashed) (place_in call.at.slashed) ≡ true) call.is_below.beneath
-      may) m.names room m.all).1 in_history
+-- a call's last look-up found a name missing
+pub record Missed (below : Below) (at : At) (error : ℕ) (lines : List Line) : Type 0 where
+  pub is : error ≡ ENOENT
+  pub at_once : misses_at_once below.flags.beneath (text_in at.slashed) (place_in at.slashed) ≡ true
+  pub misses : Misses below (place_in at.slashed) lines
 
-  by_failed : (error : ℕ) (before : List Exchange) (last : Exchange) (s : List Exchange) → NoSignals s
-      → s ≡ before ++ last ∷ [] → MissSays c.below d last.asked last.answer c.lines
-      → Failed [] (seeks call.at call.at.slashed (how_of call.known call.follows call.directory)) call.at s error
-      → (error ≡ ENOENT) × CallTells c (Fault NotFound)
-  by_failed error before last s quiet all says (by_signal a is signal) =
-      absurd (never_again (seeks call.at call.at.slashed (how_of call.known call.follows call.directory)) a refl signal
-      (subst NoSignals is quiet).0)
-  by_failed error before last s quiet all says (by_missing a b is enoent may error_is) = (
-    error_is,
-    by_last b last (same_end before last
-        (exchange (seeks call.at call.at.slashed (how_of call.known call.follows call.directory)) a)
-        (exchange (seeks_missing call.at) b) (sym all ∙ is)) enoent may says,
-  )
+pub missed : (below : Below) (d : Descriptors) (at : At) (path : List ℕ) (how : ℕ) (lines : List Line)
+    → IsBelowRoot below d at → (error : ℕ) (before : List Exchange) (last : Exchange) (s : List Exchange)
+    → NoSignals s → s ≡ before ++ last ∷ [] → MissSays below d last.asked last.answer lines
+    → Failed [] (seeks at path how) at s error → Missed below at error lines
+missed below d at path how lines is error before last s quiet all says (by_signal a is_one signal) =
+    absurd (never_again (seeks at path how) a refl signal (subst NoSignals is_one quiet).0)
+missed below d at path how lines is error before last s quiet all says (by_missing a b are enoent may error_is) =
+    let at_once = subst (λ t. misses_at_once t (text_in at.slashed) (place_in at.slashed) ≡ true) is.beneath may in
+    let last_is = same_end before last (exchange (seeks at path how) a) (exchange (seeks_missing at) b) (sym all ∙ are) in
+    record {
+      is = error_is;
+      at_once = at_once;
+      misses = subst (λ x. MissSays below d x.asked x.answer lines) last_is says (place_in at.slashed) is.root
+          (no_symlinks at.flags) enoent at_once;
+    }
 
 pub paths_are_missed : FailsAtOnceTell → PathsAreMissedBySystemCalls
-paths_are_missed tell c d call error step is before last all says room in_history =
+paths_are_missed tell c d call error step is last room in_history =
+    let how = how_of call.known call.follows call.directory in
+    let path = text_in call.at.slashed in
     let b = path_bits call.follows call.directory call.known.machine call.is_on.0 in
-    by_failed tell c d call room in_history error before last (without_signals call.exchanges)
-    (no_signals call.exchanges) all says
-    (subst (ResolveShape call.at (how_of call.known call.follows call.directory) call.asks
-    (without_signals call.exchanges)) is
-    (resolved call.known call.at call.follows call.directory call.asks b.path call.exchanges call.end call.whole))
+    let m = missed c.below d call.at call.at.slashed how c.lines call.is_below error last.before last.last
+    (without_signals call.exchanges) (no_signals call.exchanges) last.all last.says
+    (subst (ResolveShape call.at how call.asks (without_signals call.exchanges)) is
+    (resolved call.known call.at call.follows call.directory call.asks b.path call.exchanges call.end call.whole)) in (
+      m.is,
+      (tell c (if call.follows then Follow else NoFollow) path (place_in call.at.slashed) m.misses.passed
+          m.misses.name m.misses.rest (is_resolve call.follows c.op path call.is_op) m.at_once m.misses.names room
+          m.misses.all).1 in_history,
+    )

@@ -7,7 +7,7 @@ use Rattle.path_text.specs.declared.path.Split.{Split}
 use Rattle.tree_model.specs.declared.step.Mode.{Mode}
 use Rattle.tree_model.specs.declared.step.StepOf.TheVariants as steps
 use Rattle.tree_model.specs.StepWith.{StepWith}
-use Rattle.path_text.specs.Text.{reading_of}
+use Rattle.path_text.specs.Text.{has_final_slash, reading_of}
 use Rattle.path_text.specs.declared.errno.Errno.TheVariants.{NotFound}
 use Rattle.system_calls.specs.Errors.{ENOENT}
 use Rattle.system_calls.specs.OpenFlags.{IsOfMachine}
@@ -116,11 +116,26 @@ pub record HasLines (c : CallInHistory) (d : Descriptors) (exchanges : List Exch
   pub stand : StandFor c.below d (without_signals exchanges) lines
   pub all : c.lines ≡ lines ++ closed d end.closes
 
+-- they are those of its last exchange, which found a name missing
+pub record LastMisses (c : CallInHistory) (d : Descriptors) (exchanges : List Exchange) : Type 0 where
+  pub before : List Exchange
+  pub last : Exchange
+  pub all : without_signals exchanges ≡ before ++ last ∷ []
+  pub says : MissSays c.below d last.asked last.answer c.lines
+
 -- In each legal history with these lines the call tells what kernel_walks says.
 abbrev pub EntriesAreChangedBySystemCalls : Type 0
 EntriesAreChangedBySystemCalls = (c : CallInHistory) (d : Descriptors) (call : EntryCall c.below d c.op) (reply : Reply)
     → HasLines c d call.exchanges call.end → RepliesBy (change_step call.change 0 []) call.end.outcome reply
     → c.room ≡ true → IsCallInHistory c → TellsAsSeen c reply
+
+-- Or the directory wasn't found, since a name of its path is missing, and no slash stands at its end: the call's lines
+-- are those of its last look-up, which found none by that name.
+abbrev pub EntriesAreMissedBySystemCalls : Type 0
+EntriesAreMissedBySystemCalls = (c : CallInHistory) (d : Descriptors) (call : EntryCall c.below d c.op)
+    (slashed : List ℕ) (error step : ℕ) → call.entry.above ≡ Some slashed → has_final_slash (text_in slashed) ≡ false
+    → call.end.outcome ≡ Fails error step → LastMisses c d call.exchanges → c.room ≡ true → IsCallInHistory c
+    → (error ≡ ENOENT) × TellsAsSeen c (Fault NotFound)
 
 -- ---- a rename
 
@@ -191,9 +206,8 @@ PathsAreOpenedBySystemCalls = (c : CallInHistory) (d : Descriptors) (call : Path
     → call.end.value ≡ Value value → StandFor c.below d (without_signals call.exchanges) c.lines → IsCallInHistory c
     → OpensSeen c d call value
 
--- Or it fails for a name that is missing: its lines are those of its last look-up, which found none by that name.
+-- Or it fails for a name that is missing.
 abbrev pub PathsAreMissedBySystemCalls : Type 0
 PathsAreMissedBySystemCalls = (c : CallInHistory) (d : Descriptors) (call : PathCall c.below d c.op) (error step : ℕ)
-    → call.end.value ≡ Fails error step → (before : List Exchange) (last : Exchange)
-    → without_signals call.exchanges ≡ before ++ last ∷ [] → MissSays c.below d last.asked last.answer c.lines
-    → c.room ≡ true → IsCallInHistory c → (error ≡ ENOENT) × CallTells c (Fault NotFound)
+    → call.end.value ≡ Fails error step → LastMisses c d call.exchanges → c.room ≡ true → IsCallInHistory c
+    → (error ≡ ENOENT) × CallTells c (Fault NotFound)

@@ -5,7 +5,7 @@ ghost use Rattle.calls_by_system_calls.specs.Joined.{CallsTellBySystemCalls};
 ghost use Rattle.calls_by_system_calls.specs.Places.{AskedPlacesStood};
 ghost use Rattle.calls_by_system_calls.specs.Refusals.{StepsAreRefusedSo};
 ghost use Rattle.calls_by_system_calls.specs.SeenBelow.{ResolvesSeenBelowBySystemCalls};
-ghost use Rattle.calls_by_system_calls.specs.WholeCalls.{EntriesAreChangedBySystemCalls, EntriesAreRenamedBySystemCalls, PathsAreMissedBySystemCalls, PathsAreOpenedBySystemCalls};
+ghost use Rattle.calls_by_system_calls.specs.WholeCalls.{EntriesAreChangedBySystemCalls, EntriesAreMissedBySystemCalls, EntriesAreRenamedBySystemCalls, PathsAreMissedBySystemCalls, PathsAreOpenedBySystemCalls};
 ghost use Rattle.calls_by_system_calls.specs.WorkedChange.{MkdirIsMade};
 ghost use Rattle.calls_by_system_calls.specs.WorkedRace.{RaceIsMade};
 ghost use Rattle.calls_by_system_calls.specs.WorkedWhole.{WholeMkdirIsMade};
@@ -93,6 +93,15 @@ pub fn entries_are_changed_by_system_calls()
 {
     kernel_walks_tell();
     directories_are_looked_up();
+}
+
+/// One that fails for its directory, of whose path a name is missing, as its last look-up found (openat2(2),
+/// RESOLVE_NO_SYMLINKS): it tells what a call tells whose walk fails by ENOENT.
+pub fn entries_are_missed_by_system_calls()
+    ensures { EntriesAreMissedBySystemCalls }
+{
+    kernel_walks_tell();
+    fails_at_once_tell();
 }
 
 /// The same of a rename (renameat2(2)), both of whose directories the kernel looks up, one after the other: one own event
