@@ -1,8 +1,8 @@
 -- The lines of a call whose path the kernel walks lead its operation to the reply.
-use Rattle.std.proofs.Common.{◌≡◌, ◌≢◌, inl, inr, ℕ, List, [], ◌∷◌, ◌++◌, Bool, true, false, not, if◌then◌else◌, Result, Ok, Err, refl, sym, ap, subst, ◌∙◌, true≢false}
-use Rattle.std.specs.Prelude.{◌==◌, ◌&&◌, ◌||◌, bit_and, bit_or, nat_lt, length, reverse, Option, Some, None}
+use Rattle.std.proofs.Common.{◌≡◌, inl, inr, ℕ, List, [], ◌∷◌, ◌++◌, Bool, true, false, not, if◌then◌else◌, Result, Ok, Err, refl, sym, ap, subst, ◌∙◌, true≢false}
+use Rattle.std.specs.Prelude.{◌==◌, ◌&&◌, ◌||◌, bit_and, bit_or, nat_lt, length, Option, Some, None}
 use Rattle.path_text.specs.declared.errno.Errno.{Errno}
-use Rattle.path_text.specs.declared.errno.Errno.TheVariants.{CrossRoot, NoMemory, NotDir, TooLong}
+use Rattle.path_text.specs.declared.errno.Errno.TheVariants.{CrossRoot, NotDir, TooLong}
 use Rattle.path_text.specs.declared.name.TheConstants.{NAME_MAX}
 use Rattle.path_text.specs.declared.part.Part.{Part}
 use Rattle.path_text.specs.declared.part.Part.TheVariants.{Cur, Up, Named}
@@ -11,7 +11,7 @@ use Rattle.path_text.specs.declared.path.Rule.TheVariants.{Drop, Refuse}
 use Rattle.path_text.specs.declared.path.Split.{Split}
 use Rattle.path_text.specs.Reading.{Reading}
 use Rattle.path_text.specs.Split.{split_of, split_at, last_part, parts_without_slash, refuses_slash, dir_of}
-use Rattle.path_text.specs.Text.{begins_with_slash, reading_of, text_fault}
+use Rattle.path_text.specs.Text.{begins_with_slash, reading_of}
 use Rattle.tree_model.specs.declared.answer.Answer.TheVariants as answers
 use Rattle.tree_model.specs.declared.step.StepOf.TheVariants as steps
 use Rattle.tree_model.specs.StepWith.{StepWith}
@@ -25,12 +25,10 @@ use Rattle.linux_steps.specs.Changes.{change_ended}
 use Rattle.linux_steps.specs.declared.ended.Ended.{Ended}
 use Rattle.linux_steps.specs.declared.ended.Ended.TheVariants as ended
 use Rattle.walk_plan.specs.Plan.{leads_out}
-use Rattle.walk_plan.specs.declared.goal.Goal.TheVariants.{Follow}
-use Rattle.step_resolver.specs.Asked.{AskedPart, asked, follows}
+use Rattle.step_resolver.specs.Asked.{asked, follows}
 use Rattle.step_resolver.specs.Meaning.{LINKS_MAX}
 use Rattle.step_resolver.specs.Order.{Handle, Line, answered, not_made, has_room, answer_of, duping, ending}
 use Rattle.step_resolver.specs.Order as walk
-use Rattle.step_resolver.specs.View.{way_from}
 use Rattle.root_ops.specs.declared.aim.Aim.{Aim}
 use Rattle.root_ops.specs.declared.aim.Aim.TheVariants.{Changes}
 use Rattle.root_ops.specs.declared.aim.Change.{Change}
@@ -38,27 +36,26 @@ use Rattle.root_ops.specs.declared.aim.Change.TheVariants as changes
 use Rattle.root_ops.specs.declared.aim.Wanted.TheVariants as wants
 use Rattle.root_ops.specs.declared.below.Below.{Below}
 use Rattle.root_ops.specs.declared.op.Op.{Op}
-use Rattle.root_ops.specs.declared.op.Op.TheVariants.{Resolve, ResolveNoFollow, CreateFile, CreateDir, CreateLink, RemoveFile, RemoveDir}
+use Rattle.root_ops.specs.declared.op.Op.TheVariants.{Resolve, CreateFile, CreateDir, CreateLink, RemoveFile, RemoveDir}
 use Rattle.root_ops.specs.declared.reply.Reply.{Reply as Told}
-use Rattle.root_ops.specs.declared.reply.Reply.TheVariants as replies
 use Rattle.root_ops.specs.Acts.{IsEntry}
 use Rattle.root_ops.specs.CallHistory.{CallInHistory, IsCallInHistory}
-use Rattle.root_ops.specs.Order.{Reply, CallTurn, acting, change_step, closing, ends, gives, in_directory, more, on_entry, opened, reply_to, starts, unless_fault, walked, walking, walks, way_of, LeadsTo}
+use Rattle.root_ops.specs.Order.{acting, change_step, ends, in_directory, more, on_entry, reply_to, starts, unless_fault, walked, walking, walks, way_of, LeadsTo}
 use Rattle.root_ops.specs.View.{reply_view}
 use Rattle.find_proc.specs.declared.asks.Known.{Known}
-use Rattle.kernel_calls.specs.Calls.{Ended as CallEnded, behind_of, changing}
-use Rattle.kernel_calls.specs.Change.{Changing, flags_of, is_opened, question_of, without_kind}
-use Rattle.kernel_calls.specs.Entry.{EntryAt, own_of}
+use Rattle.kernel_calls.specs.Calls.{behind_of, changing}
+use Rattle.kernel_calls.specs.Change.{flags_of, is_opened, question_of, without_kind}
+use Rattle.kernel_calls.specs.Entry.{own_of}
 use Rattle.kernel_calls.specs.Flags.{BENEATH, MAKE_FILE, NEW, NO_LINKS, has, resolve_of}
 use Rattle.kernel_calls.specs.Path.{At, text_in}
 use Rattle.kernel_calls.specs.declared.change.Wanted.{Wanted}
 use Rattle.kernel_calls.specs.declared.entry.Dir.{Dir}
 use Rattle.kernel_calls.specs.declared.look.Outcome.{Outcome}
 use Rattle.kernel_calls.specs.declared.look.Outcome.TheVariants.{Value, Fails, FailsAt, Steps}
-use Rattle.kernel_walks.specs.Behind.{IsChangeOf, IsLineOf, IsDirectoryText, asks_below, with_lines, IsChangedBehind, DirectoriesAreLookedUp}
+use Rattle.kernel_walks.specs.Behind.{IsChangeOf, IsLineOf, IsDirectoryText, asks_below, with_lines, DirectoriesAreLookedUp}
 use Rattle.kernel_walks.specs.Tells.{KernelWalksTell, TellsAsSeen}
 use Rattle.kernel_walks.specs.Told.{as_it_was, as_passed, AreTold}
-use Rattle.calls_by_system_calls.specs.SystemCalls.{Descriptors, IsBelow, IsNewFile, WalksTo, LookUpSays, InRoot, ChangeSays, Says, StandFor, change_line, close_line, closed, line_of, reply_of, resolves}
+use Rattle.calls_by_system_calls.specs.SystemCalls.{Descriptors, IsNewFile, WalksTo, InRoot, ChangeSays, Says, StandFor, change_line, close_line, closed, line_of, reply_of, resolves}
 use Rattle.calls_by_system_calls.specs.WholeCalls.{Asks, EntriesAreChangedBySystemCalls, EntryCall, IsAbove, IsBelowRoot, IsOn, RepliesBy}
 use Rattle.calls_by_system_calls.proofs.Noted.{Closed, Directory, IsNoChange, IsOutcome, Makes, Shape, is_out, lacks_change, seeks, shaped, way}
 

@@ -1,14 +1,14 @@
 -- A call on an entry whose directory's path has a missing name: its walk fails so.
-use Rattle.std.proofs.Common.{◌≡◌, inl, inr, ℕ, List, [], ◌∷◌, ◌++◌, Bool, true, false, if◌then◌else◌, refl, sym, ap, subst, ◌∙◌}
-use Rattle.std.specs.Prelude.{Option, Some, None}
+use Rattle.std.proofs.Common.{◌≡◌, inl, inr, ℕ, List, [], ◌∷◌, Bool, true, false, if◌then◌else◌, refl, sym, ap, subst, ◌∙◌}
+use Rattle.std.specs.Prelude.{Option, Some}
 use Rattle.path_text.specs.declared.errno.Errno.{Errno}
 use Rattle.path_text.specs.declared.errno.Errno.TheVariants.{CrossRoot, NotFound}
 use Rattle.path_text.specs.declared.part.Part.{Part}
 use Rattle.path_text.specs.Reading.{Reading}
 use Rattle.path_text.specs.Split.{before_last}
-use Rattle.path_text.specs.Text.{has_final_slash, reading_of, text_fault}
+use Rattle.path_text.specs.Text.{has_final_slash, reading_of}
 use Rattle.system_calls.specs.Errors.{ENOENT}
-use Rattle.dialogue.specs.Dialogue.{Exchange, without_signals}
+use Rattle.dialogue.specs.Dialogue.{without_signals}
 use Rattle.walk_plan.specs.Plan.{leads_out}
 use Rattle.walk_plan.specs.declared.goal.Goal.TheVariants.{Follow}
 use Rattle.step_machine.specs.Machine.{taken}
@@ -26,7 +26,6 @@ use Rattle.root_ops.specs.CallHistory.{CallInHistory, IsCallInHistory}
 use Rattle.root_ops.specs.Order.{CallTurn, calls, ends, fault, starts, unless_fault, walked, walks, way_of, LeadsTo}
 use Rattle.root_ops.specs.Order as call_turn
 use Rattle.kernel_calls.specs.Path.{place_in, text_in}
-use Rattle.kernel_calls.specs.declared.look.Outcome.{Outcome}
 use Rattle.kernel_calls.specs.declared.look.Outcome.TheVariants.{Fails}
 use Rattle.kernel_walks.specs.AtOnce.{FailsAtOnceTell}
 use Rattle.kernel_walks.specs.Behind.{IsDirectoryText}
@@ -34,7 +33,7 @@ use Rattle.kernel_walks.specs.Tells.{KernelWalksTell, TellsAsSeen}
 use Rattle.kernel_walks.specs.Told.{as_it_was, AreTold}
 use Rattle.calls_by_system_calls.specs.SystemCalls.{Descriptors}
 use Rattle.calls_by_system_calls.specs.WholeCalls.{EntriesAreMissedBySystemCalls, EntryCall, IsAbove, LastMisses}
-use Rattle.calls_by_system_calls.proofs.Noted.{IsOutcome, Lacks, Makes, Shape, no_signals, shaped, way}
+use Rattle.calls_by_system_calls.proofs.Noted.{IsOutcome, Lacks, Shape, no_signals, shaped, way}
 use Rattle.calls_by_system_calls.proofs.WholeCalls.{machine_bits, walks_so}
 use Rattle.calls_by_system_calls.proofs.WholePaths.{Missed, missed}
 

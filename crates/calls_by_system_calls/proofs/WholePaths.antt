@@ -1,34 +1,27 @@
 -- The lines of a call that opens what a path means lead the resolve to what was opened.
 use Rattle.std.proofs.Common.{◌≡◌, ℕ, List, [], ◌∷◌, ◌++◌, Bool, true, false, not, if◌then◌else◌, refl, sym, ap, subst, ◌∙◌, true≢false}
 use Rattle.std.specs.Prelude.{◌==◌, ◌&&◌, bit_and, bit_or}
-use Rattle.path_text.specs.Text.{reading_of}
-use Rattle.path_text.specs.declared.errno.Errno.TheVariants.{NotFound}
 use Rattle.system_calls.specs.Errors.{EINTR, ENOENT}
 use Rattle.system_calls.specs.OpenFlags.{IsOfMachine, O_PATH, arm64, on_arm64, on_arm64_large, on_x86_64, on_x86_64_large, x86_64}
 use Rattle.system_calls.specs.declared.opening.MachineFlags.{MachineFlags}
 use Rattle.dialogue.specs.Dialogue.{Exchange, SystemCall, again, is_look, stats, without_signals}
 use Rattle.dialogue.proofs.HoldLemmas.{exchange}
 use Rattle.dialogue.specs.declared.calls.Answer.{Answer}
-use Rattle.walk_plan.specs.declared.goal.Goal.{Goal}
 use Rattle.walk_plan.specs.declared.goal.Goal.TheVariants.{Follow, NoFollow}
 use Rattle.step_resolver.specs.Order.{Line}
 use Rattle.root_ops.specs.declared.below.Below.{Below}
 use Rattle.root_ops.specs.declared.op.Op.{Op}
-use Rattle.root_ops.specs.declared.reply.Reply.TheVariants.{Fault}
 use Rattle.root_ops.specs.CallHistory.{CallInHistory, IsCallInHistory}
-use Rattle.root_ops.specs.EachCall.{CallTells}
 use Rattle.root_ops.specs.Order.{ends, opened, starts, LeadsTo}
 use Rattle.kernel_calls.specs.Flags.{bit, has, resolve_of}
 use Rattle.kernel_calls.specs.Path.{At, place_in, text_in}
 use Rattle.kernel_calls.specs.Promises.{IsReply}
-use Rattle.kernel_calls.specs.declared.look.Outcome.{Outcome}
-use Rattle.kernel_calls.specs.declared.look.Outcome.TheVariants.{Value}
 use Rattle.kernel_walks.specs.AtOnce.{FailsAtOnceTell, misses_at_once}
 use Rattle.kernel_walks.specs.Behind.{asks_below}
 use Rattle.kernel_walks.specs.Resolves.{IsResolve, ResolvesSeenBelow}
 use Rattle.calls_by_system_calls.specs.SystemCalls.{Descriptors, MissSays, Misses, Says, StandFor, WalksTo, resolves}
 use Rattle.calls_by_system_calls.specs.WholeCalls.{IsBelowRoot, OpensSeen, PathCall, PathsAreMissedBySystemCalls, PathsAreOpenedBySystemCalls}
-use Rattle.calls_by_system_calls.proofs.Noted.{Behind, Failed, NoSignals, Opens, ResolveShape, by_missing, by_signal, how_of, may_miss, no_signals, resolved, seeks, seeks_missing}
+use Rattle.calls_by_system_calls.proofs.Noted.{Behind, Failed, NoSignals, Opens, ResolveShape, by_missing, by_signal, how_of, no_signals, resolved, seeks, seeks_missing}
 use Rattle.calls_by_system_calls.proofs.WholeCalls.{ends_here, walks_by}
 
 -- O_PATH, O_NOFOLLOW and O_DIRECTORY are apart

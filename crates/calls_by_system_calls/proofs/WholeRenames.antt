@@ -1,26 +1,22 @@
 -- The lines of a rename whose paths the kernel walks lead the operation to its reply.
 use Rattle.std.proofs.Common.{◌≡◌, ◌≢◌, inl, inr, ℕ, List, [], ◌∷◌, ◌++◌, Bool, true, false, not, ◌&&◌, refl, sym, ap, subst, ◌∙◌}
 use Rattle.std.specs.Prelude.{Option, Some, None}
-use Rattle.path_text.specs.declared.path.Split.{Split}
-use Rattle.tree_model.specs.declared.step.Mode.{Mode}
 use Rattle.tree_model.specs.declared.step.StepOf.TheVariants as steps
-use Rattle.tree_model.specs.StepWith.{StepWith}
 use Rattle.dialogue.specs.Dialogue.{Exchange, closes, without_signals}
 use Rattle.dialogue.specs.declared.calls.Answer.{Answer}
 use Rattle.dialogue.proofs.HoldLemmas.{exchange}
 use Rattle.linux_steps.specs.Changes.{change_ended}
-use Rattle.step_resolver.specs.Order.{Line, answer_of}
-use Rattle.root_ops.specs.declared.aim.Wanted.TheVariants as wants
+use Rattle.step_resolver.specs.Order.{Line}
 use Rattle.root_ops.specs.declared.op.Op.{Op}
 use Rattle.root_ops.specs.declared.op.Op.TheVariants.{Resolve, Rename}
 use Rattle.root_ops.specs.declared.reply.Reply.{Reply as Told}
 use Rattle.root_ops.specs.CallHistory.{CallInHistory, IsCallInHistory}
-use Rattle.root_ops.specs.Order.{Reply, ends, reply_to, starts, LeadsTo}
+use Rattle.root_ops.specs.Order.{ends, starts, LeadsTo}
 use Rattle.root_ops.specs.View.{reply_view}
 use Rattle.kernel_calls.specs.Calls.{behind_of, renaming}
 use Rattle.kernel_calls.specs.Change.{question_of}
-use Rattle.kernel_calls.specs.Entry.{EntryAt, own_of}
-use Rattle.kernel_calls.specs.Path.{At, text_in}
+use Rattle.kernel_calls.specs.Entry.{own_of}
+use Rattle.kernel_calls.specs.Path.{text_in}
 use Rattle.kernel_calls.specs.declared.entry.Dir.{Dir}
 use Rattle.kernel_calls.specs.declared.look.Outcome.{Outcome}
 use Rattle.kernel_calls.specs.declared.look.Outcome.TheVariants.{Value, Fails, FailsAt, Steps}
@@ -28,9 +24,9 @@ use Rattle.kernel_walks.specs.Behind.{IsDirectoryText, asks_below}
 use Rattle.kernel_walks.specs.RenamesBehind.{LastLines, LookUp, RenamesAreLookedUp, rename_lines}
 use Rattle.kernel_walks.specs.Tells.{KernelWalksTell, TellsAsSeen}
 use Rattle.kernel_walks.specs.Told.{AreTold}
-use Rattle.calls_by_system_calls.specs.SystemCalls.{Descriptors, Says, StandFor, WalksTo, close_line, closed, line_of, rename_line}
+use Rattle.calls_by_system_calls.specs.SystemCalls.{Descriptors, Says, StandFor, WalksTo, close_line, closed, rename_line}
 use Rattle.calls_by_system_calls.specs.WholeCalls.{EntriesAreRenamedBySystemCalls, IsAbove, RenameCall, RepliesBy}
-use Rattle.calls_by_system_calls.proofs.Noted.{Changed, Closed, Directory, GotBy, IsNoChange, IsOutcome, RenameShape, Renames, renamed, seeks, way}
+use Rattle.calls_by_system_calls.proofs.Noted.{Closed, Directory, IsNoChange, IsOutcome, RenameShape, Renames, renamed, seeks, way}
 use Rattle.calls_by_system_calls.proofs.WholeCalls.{ends_here, line_fits, machine_bits, one_list, owned, spliced, told_so, walks_to}
 
 -- the lines of the first look-up before those that come behind it

@@ -1,5 +1,5 @@
 -- The race with a whole call, computed.
-use Rattle.std.proofs.Common.{◌≡◌, ℕ, List, [], ◌∷◌, ◌++◌, true, false, refl, arith}
+use Rattle.std.proofs.Common.{List, [], ◌∷◌, ◌++◌, true, false, refl, arith}
 use Rattle.std.specs.Prelude.{Some, codes}
 use Rattle.path_text.specs.declared.part.Part.TheVariants.{Named}
 use Rattle.path_text.specs.declared.path.Rule.TheVariants.{Drop}
@@ -23,8 +23,8 @@ use Rattle.kernel_calls.specs.Look.{look_up, opened, walk}
 use Rattle.kernel_calls.specs.Path.{At}
 use Rattle.kernel_calls.specs.declared.change.Wanted.{Wanted}
 use Rattle.kernel_calls.specs.declared.look.Outcome.TheVariants.{Value}
-use Rattle.calls_by_system_calls.specs.SystemCalls.{LookUpSays, StandFor}
-use Rattle.calls_by_system_calls.specs.WholeCalls.{EntryCall, HasLines}
+use Rattle.calls_by_system_calls.specs.SystemCalls.{StandFor}
+use Rattle.calls_by_system_calls.specs.WholeCalls.{EntryCall}
 use Rattle.calls_by_system_calls.specs.WorkedRace.{race_opening}
 use Rattle.calls_by_system_calls.specs.WorkedWhole.{WholeMkdirIsMade, before_move, behind_move, whole_below, whole_call, whole_exchanges, whole_numbers}
 

@@ -4,7 +4,6 @@
 use Rattle.std.specs.Prelude.{◌≡◌, ℕ, List, [], ◌∷◌, ◌++◌, ◌==◌, true, false, if◌then◌else◌, Some, None, codes}
 use Rattle.system_calls.specs.OpenFlags.{x86_64}
 use Rattle.tree_model.specs.declared.answer.Answer.TheVariants.{Opened, Names, Done}
-use Rattle.tree_model.specs.declared.answer.Event.{Event}
 use Rattle.tree_model.specs.declared.step.Kind.TheVariants as kind
 use Rattle.tree_model.specs.declared.step.StepOf.TheVariants.{Open, NameBelow, Close, MakeDir}
 use Rattle.tree_model.specs.State.{child, names_below}
