@@ -5,8 +5,6 @@ pub mod Refusals
 pub mod Lines
 pub mod Window
 pub mod Joined
-pub mod AtOnce
-pub mod SeenBelow
 pub mod Places
 pub mod WorkedRace
 pub mod WorkedChange

@@ -1,10 +1,8 @@
 //! What calls of `root_ops` tell whose steps are made by system calls.
-ghost use Rattle.calls_by_system_calls.specs.AtOnce.{FailsAtOnceBySystemCalls};
 ghost use Rattle.calls_by_system_calls.specs.Conversations.{ConversationsAreCalls, UnmadeStepsEndCalls};
-ghost use Rattle.calls_by_system_calls.specs.Joined.{CallsTellBySystemCalls};
+ghost use Rattle.calls_by_system_calls.specs.Joined.{CallsTellBySystemCalls, LinesHaveHistories};
 ghost use Rattle.calls_by_system_calls.specs.Places.{AskedPlacesStood};
 ghost use Rattle.calls_by_system_calls.specs.Refusals.{StepsAreRefusedSo};
-ghost use Rattle.calls_by_system_calls.specs.SeenBelow.{ResolvesSeenBelowBySystemCalls};
 ghost use Rattle.calls_by_system_calls.specs.WholeCalls.{EntriesAreChangedBySystemCalls, EntriesAreMissedBySystemCalls, EntriesAreRenamedBySystemCalls, PathsAreMissedBySystemCalls, PathsAreOpenedBySystemCalls};
 ghost use Rattle.calls_by_system_calls.specs.WorkedChange.{MkdirIsMade};
 ghost use Rattle.calls_by_system_calls.specs.WorkedRace.{RaceIsMade};
@@ -61,26 +59,12 @@ pub fn calls_tell_by_system_calls()
     calls_tell_by_any_numbers();
 }
 
-/// The same of a resolve that fails by ENOENT without its turns: its path is names alone, and one system call looked
-/// them up until one was missing (openat2(2), RESOLVE_NO_SYMLINKS). That this one was missing at a moment within that
-/// system call, in the directory that those before it led to, is a premise (path_resolution(7)).
-pub fn fails_at_once_by_system_calls()
-    ensures { FailsAtOnceBySystemCalls }
-{
-    fails_at_once_tell();
-    calls_tell_by_any_numbers();
-}
-
-/// The same of a resolve whose last check is the kernel's (openat2(2), RESOLVE_BENEATH): at a moment of that call the
-/// object stood below the root, at whatever names. In the history the walk has opened the object, which was reached by
-/// the path's parts and stood below the root at the last check (`resolves_seen_below`). So it is of each resolve whose
-/// lines lead to the object. Where one system call walks a path as a whole, through links and `..`, that its steps
-/// were such lines is a premise.
-pub fn seen_below_by_system_calls()
-    ensures { ResolvesSeenBelowBySystemCalls }
-{
-    resolves_seen_below();
-}
+/// Any lines that are made so have such a history. So what a law on a call in a legal history says, of `root_ops`, of
+/// `kernel_walks` or here, holds there. Where one system call walks a path as a whole, through links and `..`, that its
+/// steps were such lines is a premise (path_resolution(7)).
+pub fn lines_have_histories()
+    ensures { LinesHaveHistories }
+{}
 
 /// A whole call that makes or removes an entry, whose directory the kernel looks up as a whole: the system calls that
 /// `change_entry` of `kernel_calls` asks for, and what each answer says of the call's own lines in a history
