@@ -79,7 +79,7 @@ CallsTellBySystemCalls = (below : Below) (op : Op) (turn : CallTurn) (exchanges 
     → LinesAreMade x below nodes root node (lines_of turn exchanges reply is) counts
     → TellsInHistory x below op begins.0.0 nodes root node (lines_of turn exchanges reply is) counts reply
 
--- Any lines that are made so have a history. If one system call walks a path as a whole, its lines are the steps that the kernel took.
+-- Any lines that are made so have a history.
 abbrev pub LinesHaveHistories : Type 0
 LinesHaveHistories = (x : Linux) (below : Below) (op : Op) (room : Bool) (nodes : ℕ → ℕ) (root node : ℕ)
     (lines : List Line) (counts : List ℕ) → LinesAreMade x below nodes root node lines counts

@@ -75,7 +75,7 @@ abbrev pub IsOn : Descriptors → Known → Type 0
 IsOn d known = IsOfMachine known.machine × (d.machine ≡ known.machine)
 
 -- A call of the library that makes this operation's change of an entry: what it is asked for, all its exchanges, and
--- its end. It gives no descriptor's object another name, and opens nothing that it made but a new file.
+-- its end. It gives no descriptor's object another name, and gives nothing that it made but a new file.
 pub record EntryCall (below : Below) (d : Descriptors) (op : Op) : Type 0 where
   pub rule : Rule
   pub change : Change
@@ -102,8 +102,8 @@ pub record EntryCall (below : Below) (d : Descriptors) (op : Op) : Type 0 where
 
 -- ---- what it comes to
 
--- It is done; or the error is the model's for that step, and want of memory where the model has no word for it. A call
--- that single steps make, or whose directory wasn't found, isn't spoken of.
+-- It is done; or the error is the model's for that step, and want of memory where the model has no word for it. Of a
+-- call that single steps make nothing is said, and below of one whose directory wasn't found.
 abbrev pub RepliesBy : StepWith ℕ → Outcome → Reply → Type 0
 RepliesBy step (Value value) reply = reply ≡ Done
 RepliesBy step (FailsAt error blamed) reply = reply ≡ reply_of (change_ended step false error)
@@ -170,8 +170,8 @@ pub record RenameCall (below : Below) (d : Descriptors) (op : Op) : Type 0 where
   pub whole : Whole (rename known at entry other new_entry how is_last) exchanges end
 
 abbrev pub EntriesAreRenamedBySystemCalls : Type 0
-EntriesAreRenamedBySystemCalls = (c : CallInHistory) (d : Descriptors) (call : RenameCall c.below d c.op) (reply : Reply)
-    → HasLines c d call.exchanges call.end → RepliesBy (steps.Rename 0 [] 0 [] call.mode) call.end.outcome reply
+EntriesAreRenamedBySystemCalls = (c : CallInHistory) (d : Descriptors) (call : RenameCall c.below d c.op)
+    (reply : Reply) → HasLines c d call.exchanges call.end → RepliesBy (steps.Rename 0 [] 0 [] call.mode) call.end.outcome reply
     → c.room ≡ true → IsCallInHistory c → TellsAsSeen c reply
 
 -- ---- what a path means

@@ -60,8 +60,8 @@ pub fn calls_tell_by_system_calls()
 }
 
 /// Any lines that are made so have such a history. So what a law on a call in a legal history says, of `root_ops`, of
-/// `kernel_walks` or here, holds there. Where one system call walks a path as a whole, through links and `..`, that its
-/// steps were such lines is a premise (path_resolution(7)).
+/// `kernel_walks` or here, holds there. Where one system call passes names and `..`, that its steps were such lines is
+/// a premise (path_resolution(7)).
 pub fn lines_have_histories()
     ensures { LinesHaveHistories }
 {}
@@ -88,8 +88,8 @@ pub fn entries_are_missed_by_system_calls()
     fails_at_once_tell();
 }
 
-/// The same of a rename (renameat2(2)), both of whose directories the kernel looks up, one after the other: one own event
-/// renames the entry, from the one directory to the other.
+/// The same of a rename (renameat2(2)), both of whose directories the kernel looks up, one after the other: one own
+/// event renames the entry, from the one directory to the other.
 pub fn entries_are_renamed_by_system_calls()
     ensures { EntriesAreRenamedBySystemCalls }
 {
@@ -105,8 +105,8 @@ pub fn paths_are_opened_by_system_calls()
     resolves_seen_below();
 }
 
-/// The same of one that fails by ENOENT: its last look-up follows no link (RESOLVE_NO_SYMLINKS), and found a name of the
-/// path missing (path_resolution(7)). The call tells what each call tells (`fails_at_once_tell`).
+/// The same of one that fails by ENOENT: its last look-up follows no link (RESOLVE_NO_SYMLINKS), and found a name of
+/// the path missing (path_resolution(7)). The call tells what each call tells (`fails_at_once_tell`).
 pub fn paths_are_missed_by_system_calls()
     ensures { PathsAreMissedBySystemCalls }
 {
@@ -134,8 +134,8 @@ pub fn worked_change_is_made()
     ensures { MkdirIsMade }
 {}
 
-/// The same of a whole call, by `entries_are_changed_by_system_calls`: a directory is made by three system calls, in one
-/// that the kernel looked up, and that another moves out of the root before the second.
+/// The same of a whole call, by `entries_are_changed_by_system_calls`: a directory is made by three system calls, in
+/// one that the kernel looked up, and that another moves out of the root before the second.
 pub fn worked_whole_is_made()
     ensures { WholeMkdirIsMade }
 {}

@@ -6,8 +6,9 @@
 //! `unmade_steps_end_calls` say of a call's turns what comes of them in no history, whatever is answered. Which errors
 //! of a system call are a step's own says `linux_steps`, and `steps_are_refused_so` that the step table has no others.
 //!
-//! Where the kernel walks a call's paths as a whole, `kernel_calls` has the system calls, and `kernel_walks` what comes of
-//! the lines that they stand for. `entries_are_changed_by_system_calls` and the laws beside it join these for whole calls.
+//! Where the kernel walks a call's paths as a whole, `kernel_calls` has the system calls, and `kernel_walks` what comes
+//! of the lines that they stand for. `entries_are_changed_by_system_calls` and the laws beside it join these for whole
+//! calls.
 #![tactic(auto)]
 
 mod laws;
