@@ -4,7 +4,7 @@ use Rattle.path_text.specs.declared.errno.Errno.{Errno}
 use Rattle.path_text.specs.declared.errno.Errno.TheVariants.{NotFound, BadHandle, NotDir, TooMany}
 use Rattle.path_text.specs.Text.{text_fault}
 use Rattle.tree_model.specs.declared.answer.Answer.{Answer}
-use Rattle.tree_model.specs.declared.answer.Answer.TheVariants.{Opened, Listed, Done, Refused}
+use Rattle.tree_model.specs.declared.answer.Answer.TheVariants.{Opened, Listed, Done, Refused, Text}
 use Rattle.tree_model.specs.declared.inode.Inode.{Inode}
 use Rattle.tree_model.specs.declared.inode.Object.{Object}
 use Rattle.tree_model.specs.declared.inode.Object.TheVariants as object
@@ -145,6 +145,12 @@ same_text nodes t k d same e =
     on_held t 0 k d (λ x. reads t (object_at t.nodes x)) e
     ∙ ap (λ ns. (reads t (object_at ns d)).answer) same
     ∙ reads_same (alone nodes d) t (object_at nodes d) (length t.handles)
+
+pub text_there : (nodes : List Inode) (d : ℕ) (text : List ℕ) → object_at nodes d ≡ Some (object.Link text)
+    → (outcome (alone nodes d) 0 (ReadLink 0)).answer ≡ Text text
+text_there nodes d text is =
+    on_held (alone nodes d) 0 0 d (λ x. reads (alone nodes d) (object_at nodes x)) refl
+    ∙ ap (λ o. (reads (alone nodes d) o).answer) is
 
 shows_same : (s t : State) (o : Option (List (List ℕ))) → (shows t o).answer ≡ (shows s o).answer
 shows_same s t None = refl

@@ -24,9 +24,9 @@ use Rattle.linux_steps.proofs.OpenLemmas.{opens-stood}
 use Rattle.linux_steps.proofs.ParentLemmas.{parents-stood}
 use Rattle.root_ops.specs.Renumbered.{Numbering, step_by, answer_by}
 use Rattle.calls_by_system_calls.specs.Linux.{Linux, state_at}
-use Rattle.calls_by_system_calls.specs.Lines.{seen, Descriptors, HasRoom, IsTalked, LookIsMade, NameIsPassed, NamesAreListed, Tells, TextIsRefused, UpIsPassed, after_step, with_opened, with_closed}
+use Rattle.calls_by_system_calls.specs.Lines.{seen, Descriptors, HasRoom, IsTalked, LookIsMade, NameIsPassed, NamesAreListed, Tells, TextIsPassed, TextIsRefused, UpIsPassed, after_step, with_opened, with_closed}
 use Rattle.calls_by_system_calls.specs.Places.{PlaceIsTold}
-use Rattle.calls_by_system_calls.proofs.Answers.{alone, at_number, bad_text, missing_name, passed_name, passed_up, same_close, same_dup, same_list, same_open, same_parent, same_place, same_text}
+use Rattle.calls_by_system_calls.proofs.Answers.{alone, at_number, bad_text, missing_name, passed_name, passed_up, same_close, same_dup, same_list, same_open, same_parent, same_place, same_text, text_there}
 use Rattle.calls_by_system_calls.proofs.Moments.{seen_is_linux}
 use Rattle.calls_by_system_calls.proofs.Places.{place_stood}
 
@@ -271,6 +271,22 @@ module _ (x : Linux) (nodes : ℕ → ℕ) (m calls : ℕ) (table : Descriptors)
   link_ends w now link answer (ended.Text length) none stood = stood.1
   link_ends w now link answer end none stood = tt
 
+  text_is_by : (link : ℕ) → IsByHandle (λ i. steps.ReadLink i) link
+  text_is_by link = record {
+    by = λ f i. refl;
+    other = λ i j. refl;
+    same = λ ns z k e held full. same_text ns z k link e held;
+  }
+
+  at_link : (h link : ℕ) (answer : Answer) → table.on h ≡ Some link → TextIsPassed x m calls link answer
+      → Made x nodes m calls table (steps.ReadLink h) answer
+  at_link h link (Text text) on made =
+      let step : ℕ → StepWith ℕ = λ i. steps.ReadLink i in
+      let is = text_is_by link in
+      at step h link is on (Text text) (tells step h link is on (Text text) refl) (m + made.0) (omega arith)
+      (omega (arith, made.1)) (text_there (state_at x (m + made.0)).nodes link text made.2)
+  at_link h link answer on made = absurd made
+
   at_text : (h link : ℕ) (is_link : Bool) (entry : Option Entry) (answer : Answer) → table.on h ≡ Some link
       → IsTalked x nodes m calls link false (λ fd. read_link_step fd is_link entry) answer
       → ((error : Errno) (n : ℕ) (text : List ℕ) → answer ≡ Refused error
@@ -278,13 +294,7 @@ module _ (x : Linux) (nodes : ℕ → ℕ) (m calls : ℕ) (table : Descriptors)
       → Made x nodes m calls table (steps.ReadLink h) answer
   at_text h link is_link entry answer on t none =
       let w = seen x false t.on t.layered t.text in
-      talked (λ i. steps.ReadLink i) h link
-      (record {
-        by = λ f i. refl;
-        other = λ i j. refl;
-        same = λ ns z k e held full. same_text ns z k link e held;
-      })
-      on false (λ fd. read_link_step fd is_link entry) answer t
+      talked (λ i. steps.ReadLink i) h link (text_is_by link) on false (λ fd. read_link_step fd is_link entry) answer t
       (link_ends w (moment_behind m t.exchanges) link answer t.end (λ error is n text. none error n text is)
       (links-were-read w m t.fd link is_link entry t.exchanges t.end t.is_on t.says t.is))
 
@@ -365,7 +375,8 @@ module _ (x : Linux) (nodes : ℕ → ℕ) (m calls : ℕ) (table : Descriptors)
   made_at_moment within (steps.Parent h) answer made =
       ⊎_elim (λ talk. at_parent h made.1 talk.0 answer made.0 made.2 talk.1)
       (at_up h made.1 answer made.0 made.2) made.3
-  made_at_moment within (steps.ReadLink h) answer made = at_text h made.0 made.2 made.3 answer made.1 made.4 made.5
+  made_at_moment within (steps.ReadLink h) answer made =
+      ⊎_elim (λ talk. at_text h made.0 talk.0 talk.1 answer made.1 talk.2 talk.3) (at_link h made.0 answer made.1) made.2
   made_at_moment within (steps.NameBelow r h) answer made =
       at_place r h made.0 made.1 answer made.2 made.3
       (place_stood x m calls made.0 made.1 answer (within h made.1 made.3) made.4)

@@ -100,6 +100,12 @@ UpIsPassed x nodes m calls dir (answers.Opened h y k) =
     × (object_at (state_at x (m + n)).nodes (nodes y) ≡ Some object.Dir) × (k ≡ kind.Dir)
 UpIsPassed x nodes m calls dir answer = ⊥
 
+-- ReadLink within such a look-up: the kernel reads the link that it found, and goes on along its text
+abbrev pub TextIsPassed : Linux → ℕ → ℕ → ℕ → Answer → Type 0
+TextIsPassed x m calls link (answers.Text text) =
+    (n : ℕ) × (n ≤ calls) × (object_at (state_at x (m + n)).nodes link ≡ Some (object.Link text))
+TextIsPassed x m calls link answer = ⊥
+
 -- List, which the kernel answers in several calls: its answer was the whole directory at one of the moments (a
 -- premise). A driver that reads a whole directory so meets it if nobody changes that one's entries meanwhile.
 pub record NamesAreListed (x : Linux) (m calls dir : ℕ) (answer : Answer) : Type 0 where
@@ -131,10 +137,12 @@ LookIsMade x nodes m table calls (steps.Parent h) answer =
     ⊎ UpIsPassed x nodes m calls dir answer)
 -- it is refused where the object is no link
 LookIsMade x nodes m table calls (steps.ReadLink h) answer =
-    (link : ℕ) × (table.on h ≡ Some link) × (is_link : Bool) × (entry : Option Entry)
+    (link : ℕ) × (table.on h ≡ Some link)
+    × (((is_link : Bool) × (entry : Option Entry)
     × IsTalked x nodes m calls link false (λ fd. read_link_step fd is_link entry) answer
     × ((error : Errno) (n : ℕ) (text : List ℕ) → answer ≡ answers.Refused error
-    → object_at (state_at x n).nodes link ≢ Some (object.Link text))
+    → object_at (state_at x n).nodes link ≢ Some (object.Link text)))
+    ⊎ TextIsPassed x m calls link answer)
 LookIsMade x nodes m table calls (steps.NameBelow r h) answer =
     (top node : ℕ) × (table.on r ≡ Some top) × (table.on h ≡ Some node) × PlaceIsFound x m calls top node answer
 LookIsMade x nodes m table calls (steps.List h) answer =

@@ -60,8 +60,8 @@ pub fn calls_tell_by_system_calls()
 }
 
 /// Any lines that are made so have such a history. So what a law on a call in a legal history says, of `root_ops`, of
-/// `kernel_walks` or here, holds there. Where one system call passes names and `..`, that its steps were such lines is
-/// a premise (path_resolution(7)).
+/// `kernel_walks` or here, holds there. Where one system call walks a path as a whole, that its steps were such lines
+/// is a premise (path_resolution(7)).
 pub fn lines_have_histories()
     ensures { LinesHaveHistories }
 {}
