@@ -170,8 +170,8 @@ pub record RenameCall (below : Below) (d : Descriptors) (op : Op) : Type 0 where
   pub whole : Whole (rename known at entry other new_entry how is_last) exchanges end
 
 abbrev pub EntriesAreRenamedBySystemCalls : Type 0
-EntriesAreRenamedBySystemCalls = (c : CallInHistory) (d : Descriptors) (call : RenameCall c.below d c.op)
-    (reply : Reply) → HasLines c d call.exchanges call.end → RepliesBy (steps.Rename 0 [] 0 [] call.mode) call.end.outcome reply
+EntriesAreRenamedBySystemCalls = (c : CallInHistory) (d : Descriptors) (r : RenameCall c.below d c.op) (reply : Reply)
+    → HasLines c d r.exchanges r.end → RepliesBy (steps.Rename 0 [] 0 [] r.mode) r.end.outcome reply
     → c.room ≡ true → IsCallInHistory c → TellsAsSeen c reply
 
 -- ---- what a path means
