@@ -1,5 +1,4 @@
 pub mod Replayed
-mod ToldOnes
 pub mod Unsurveyed
 mod WholeCalls
 mod PartWritten

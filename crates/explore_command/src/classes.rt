@@ -30,20 +30,20 @@ fn tell<T: Tree>(
     told_of(alloc, named, opening, actors, &found)
 }
 
-/// What the text says of each outcome, where so many actors are there and these are named. NoMemory where room was
-/// refused.
-pub(crate) fn tell_all<T: Tree>(
+/// What the text says of each outcome, where so many actors are there and these are named. Each report is let go as soon
+/// as it is told. NoMemory where room was refused.
+pub(crate) fn tell_all<T: Tree + Drop>(
     alloc: Global,
     named: &[u32],
     opening: &Snapshot,
     actors: u32,
-    classes: &[Class<End<T>>],
+    classes: Vec<Class<End<T>>>,
 ) -> Result<Vec<Told>, NoMemory>
-    ensures { IfOk result (λ all. AreTold named.now opening.now actors (classes_in classes.now) all.items) }
+    ensures { IfOk result (λ all. AreTold named.now opening.now actors (classes_in classes.items) all.items) }
 {
     let mut all = Vec::with_capacity(alloc, classes.len())?;
     for class in classes {
-        all.push(tell(alloc, named, opening, actors, class)?)?;
+        all.push(tell(alloc, named, opening, actors, &class)?)?;
     }
     Ok(all)
 }

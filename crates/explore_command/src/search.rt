@@ -36,11 +36,11 @@ pub(crate) fn told_in(
     alloc: Global,
     scene: &Scene,
     asked: &Asked,
-    classes: &[Class<End<ListTree>>],
+    classes: Vec<Class<End<ListTree>>>,
 ) -> Result<Vec<Told>, NoMemory>
     requires { length scene.now.plans.items ≤ MOST_ACTORS }
     ensures { IfOk result (λ all. AreTold asked.now.named.items scene.now.tree (length scene.now.plans.items)
-        (classes_in classes.now) all.items) }
+        (classes_in classes.items) all.items) }
 {
     let opening = scene.tree.snapshot(alloc)?;
     let actors = scene.plans.len() as u32;
@@ -61,7 +61,7 @@ fn survey_of(
         × (survey.outcomes.items ≡ counted asked.now.properties.items (in_order is.all))) }
 {
     let (lists, states, turns) = (found.lists, found.states, found.turns as u64);
-    let all = told_in(alloc, scene, asked, &found.classes)?;
+    let all = told_in(alloc, scene, asked, found.classes)?;
     told_in_order(alloc, lists, Some(states), turns, all, &asked.properties)
 }
 

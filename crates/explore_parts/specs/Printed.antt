@@ -4,6 +4,7 @@ use Rattle.std.specs.List.{All}
 use Rattle.outcome_text.specs.declared.part.Part.{Part}
 use Rattle.outcome_text.specs.declared.survey.Told.{Told}
 use Rattle.outcome_text.specs.Property.{is_property}
+use Rattle.outcome_text.specs.Survey.{look_of}
 use Rattle.explore_parts.specs.declared.asked.Asked.{Asked}
 
 abbrev pub AreActors : List ℕ → Type 0
@@ -18,7 +19,7 @@ pub record ToldFits (told : Told) : Type 0 where
   pub changes : told.changes < 2 ^ 64
   pub turns : AreActors told.turns.items
   pub block : AreBytes told.block
-  pub look : AreBytes told.look
+  pub look : AreBytes (look_of told)
   pub lines : AreBytes told.lines
 
 -- and of no more turns than it begins with is it said who might have had them

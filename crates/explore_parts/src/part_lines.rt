@@ -121,7 +121,7 @@ fn told_texts(out: &mut Output, told: &Told) -> Result<(), NoMemory>
     out.text(",\"block\":")?;
     text(out, told.block.as_slice())?;
     out.text(",\"look\":")?;
-    text(out, told.look.as_slice())?;
+    text(out, told.look())?;
     out.text(",\"lines\":")?;
     text(out, told.lines.as_slice())
 }

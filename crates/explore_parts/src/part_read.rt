@@ -11,7 +11,7 @@ ghost use Rattle.explore_parts.specs.Options.{IsUnsaid};
 ghost use Rattle.explore_parts.specs.PartRead.{SaysNumber, SaysActor, SaysText, ItemsSay, SaysList, SaysActors, Under, SaysTold, SaysPart, SaysProperty, SaysProperties, SaysQuestion, IsReading};
 
 use event_log::Output;
-use outcome_text::{Part, Property, Rule, Told, read_property, schedule_words};
+use outcome_text::{Part, Property, Rule, Told, look_beside, read_property, schedule_words};
 use path_text::NoMemory;
 use serde_json::Value;
 use std::alloc::{AllocError, Global};
@@ -189,14 +189,16 @@ fn told(alloc: Global, value: &Value) -> Result<Told, PartFault>
     let turns = actors_under(alloc, value, "least")?;
     let mut leads = Output::new(alloc);
     schedule_words(&mut leads, &turns)?;
+    let block = text(alloc, value, "block")?;
+    let other_look = look_beside(&block, text(alloc, value, "look")?);
     Ok(Told {
         lists: number(value, "schedules")?,
         cuts: number(value, "cuts")?,
         changes: number(value, "changes")?,
         turns,
         schedule: leads,
-        block: text(alloc, value, "block")?,
-        look: text(alloc, value, "look")?,
+        block,
+        other_look,
         lines: text(alloc, value, "lines")?,
     })
 }

@@ -38,7 +38,7 @@ fn told_of(alloc: Global, least: &Least) -> Result<Told, NoMemory> {
         turns: list,
         schedule,
         block: output_of(alloc, block)?,
-        look: output_of(alloc, block)?,
+        other_look: None,
         lines: output_of(alloc, block)?,
     })
 }

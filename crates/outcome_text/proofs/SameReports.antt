@@ -12,6 +12,7 @@ use Rattle.tree_model.specs.declared.inode.Inode.{Inode}
 use Rattle.tree_model.specs.State.{State}
 use Rattle.outcome_text.specs.Changes.{changes_text}
 use Rattle.outcome_text.specs.Outcome.{named_lines, named_outside, outside_lines, outcome_lines, report_lines}
+use Rattle.outcome_text.specs.Survey.{look_of}
 use Rattle.outcome_text.specs.Telling.{IsLook}
 use Rattle.outcome_text.specs.InPieces.{HoldAsMany, SameReportsAreToldAlike, OneListIsToldAsOne}
 
@@ -69,7 +70,7 @@ module _ (named : List ℕ) (opening tree other : State) (actors : ℕ) (replies
 
 pub same_reports_are_told_alike : SameReportsAreToldAlike
 same_reports_are_told_alike named opening tree other actors lists many cuts less changes fewer turns list replies outside told like is are nodes held = record {
-  look = same_looks named opening tree other actors replies outside nodes held told.look like.look is.looks are.looks;
+  look = same_looks named opening tree other actors replies outside nodes held (look_of told) (look_of like) is.looks are.looks;
   lines = is.judged_by ∙ (same_lines named opening tree other actors replies outside nodes held ∙ sym are.judged_by);
 }
 

@@ -6,13 +6,13 @@ use Rattle.tree_model.specs.State.{State}
 use Rattle.tree_model.specs.Steps.{held_count}
 use Rattle.outcome_text.specs.declared.property.Property.{Property}
 use Rattle.outcome_text.specs.declared.survey.Told.{Told}
-use Rattle.outcome_text.specs.Survey.{lists_where}
+use Rattle.outcome_text.specs.Survey.{look_of, lists_where}
 use Rattle.outcome_text.specs.Conditions.{told_text, told_holds}
 use Rattle.outcome_text.specs.Telling.{IsToldOf}
 
 -- The two look the same, and have the same lines.
 pub record AreAlike (told other : Told) : Type 0 where
-  pub look : told.look ≡ other.look
+  pub look : look_of told ≡ look_of other
   pub lines : told.lines ≡ other.lines
 
 -- Their least lists, what is printed of them and all else is the same, but for the number of lists.

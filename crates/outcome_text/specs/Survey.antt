@@ -11,9 +11,18 @@ use Rattle.outcome_text.specs.Property.{fails, is_condition, rule_word}
 
 -- ---- blocks: outcomes that look the same are one
 
--- what is printed of the two is the same where new nodes are numbered anew
+-- a look that is kept beside a block, where it is another text
+abbrev pub look_by : List ℕ → Option (List ℕ) → List ℕ
+look_by block None = block
+look_by block (Some look) = look
+
+-- what is printed of an outcome where new nodes are numbered anew
+abbrev pub look_of : Told → List ℕ
+look_of told = look_by told.block told.other_look
+
+-- of the two that is the same
 abbrev pub looks_like : Told → Told → Bool
-looks_like told other = same_bytes other.look told.look
+looks_like told other = same_bytes (look_of other) (look_of told)
 
 -- none of these looks like it
 abbrev pub is_new : List Told → Told → Bool

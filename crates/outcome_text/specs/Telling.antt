@@ -8,6 +8,7 @@ use Rattle.tree_model.specs.State.{State}
 use Rattle.outcome_text.specs.declared.survey.Told.{Told}
 use Rattle.outcome_text.specs.Outcome.{outcome_lines, report_lines}
 use Rattle.outcome_text.specs.Schedule.{schedule_words}
+use Rattle.outcome_text.specs.Survey.{look_of}
 
 -- It is what is printed of these replies and this tree by other numbers of the nodes that the opening tree doesn't
 -- have: those by the order in which they are met.
@@ -32,5 +33,5 @@ pub record IsToldOf (named : List ℕ) (opening : State) (actors lists cuts chan
   pub least : told.turns.items ≡ turns
   pub scheduled : told.schedule ≡ schedule_words turns
   pub printed : told.block ≡ outcome_lines named opening replies tree outside actors
-  pub looks : IsLook named opening actors replies tree outside told.look
+  pub looks : IsLook named opening actors replies tree outside (look_of told)
   pub judged_by : told.lines ≡ report_lines replies tree outside actors

@@ -41,6 +41,6 @@ pub use part::Part;
 pub use property::{Property, Rule, read_property};
 pub use ranked::{Survey, told_in_order};
 pub use schedule::{before_tail, schedule_words};
-pub use survey::{Told, all_hold, outcome_text};
+pub use survey::{Told, all_hold, look_beside, outcome_text};
 pub use tellable::first_untold;
 pub use telling::{Found, told_of};

@@ -20,9 +20,9 @@ pub(crate) fn sums_of<'a>(
 {
     let mut sums = HashMap::new(alloc);
     for told in all {
-        let look = told.look.as_slice();
-        let before = sums.get(look).copied().unwrap_or(0);
-        sums.insert(look, plus(before, told.lists))?;
+        let key = told.look();
+        let before = sums.get(key).copied().unwrap_or(0);
+        sums.insert(key, plus(before, told.lists))?;
     }
     Ok(sums)
 }

@@ -3,7 +3,7 @@ ghost use Rattle.std.specs.Prelude.{◌≡◌, find};
 ghost use Rattle.std.specs.Option.{option_copied};
 ghost use Rattle.event_log.specs.Output.{Gains};
 ghost use Rattle.outcome_text.specs.Looks.{AreSums};
-ghost use Rattle.outcome_text.specs.Survey.{lists_breaking, breaks, witness_words, states_words, numbers_text, block_words, blocks_text, property_text, properties_text, holds, all_hold, outcome_text};
+ghost use Rattle.outcome_text.specs.Survey.{look_by, look_of, lists_breaking, breaks, witness_words, states_words, numbers_text, block_words, blocks_text, property_text, properties_text, holds, all_hold, outcome_text};
 
 use crate::counts::{counted, plus};
 use crate::looks::sums_of;
@@ -29,13 +29,34 @@ pub struct Told {
     pub schedule: Output,
     /// What is printed of its report.
     pub block: Output,
-    /// The same where the nodes that the opening tree doesn't have are numbered anew.
-    pub look: Output,
+    /// The same where the nodes that the opening tree doesn't have are numbered anew, if that is another text.
+    pub other_look: Option<Output>,
     /// All lines of its report but those of events, which properties are judged by.
     pub lines: Output,
 }
 
+/// A look as it is kept beside a block: nothing where it is the block's text.
+pub fn look_beside(block: &Output, look: Output) -> Option<Output>
+    ensures { look_by block.now result ≡ look }
+{
+    if look.as_slice() == block.as_slice() {
+        None
+    } else {
+        Some(look)
+    }
+}
+
 impl Told {
+    /// What is printed of its report where the nodes that the opening tree doesn't have are numbered anew.
+    pub fn look(&self) -> &[u8]
+        ensures { result.now ≡ look_of self.now }
+    {
+        match &self.other_look {
+            Some(look) => look.as_slice(),
+            None => self.block.as_slice(),
+        }
+    }
+
     // Adds how many cuts the least list has, and the schedule that leads to it.
     #[tactic(auto, unfolding(crate::specs::Survey::witness_words))]
     fn witness(&self, out: &mut Output) -> Result<(), NoMemory>
@@ -93,7 +114,7 @@ fn blocks(out: &mut Output, sums: &mut HashMap<&[u8], u64>, all: &[Told]) -> Res
 {
     let mut number = 0;
     for told in all {
-        if let Some(lists) = sums.remove(told.look.as_slice()) {
+        if let Some(lists) = sums.remove(told.look()) {
             block(out, number, lists, told)?;
             number += 1;
         }

@@ -5,7 +5,7 @@ ghost use Rattle.outcome_text.specs.Telling.{IsLook, IsToldOf};
 
 use crate::outcome::{Ended, outcome_lines, report_lines};
 use crate::schedule::schedule_words;
-use crate::survey::Told;
+use crate::survey::{Told, look_beside};
 use event_log::Output;
 use node_numbering::renumber;
 use path_text::NoMemory;
@@ -101,7 +101,7 @@ pub fn told_of<T: Tree>(
         outside: found.outside,
     };
     let block = printed(alloc, named, opening, &ended, actors)?;
-    let look = look(alloc, named, opening, &ended, actors)?;
+    let other_look = look_beside(&block, look(alloc, named, opening, &ended, actors)?);
     let mut lines = Output::new(alloc);
     report_lines(alloc, &mut lines, &ended, actors)?;
     Ok(Told {
@@ -111,7 +111,7 @@ pub fn told_of<T: Tree>(
         turns,
         schedule: leads,
         block,
-        look,
+        other_look,
         lines,
     })
 }

@@ -1,8 +1,10 @@
-use Rattle.std.proofs.Common.{take}
+use Rattle.std.proofs.Common.{List, ◌++◌}
 use Rattle.explore.specs.Explored.{classes_in}
+use Rattle.outcome_text.specs.declared.survey.Told.{Told}
 use Rattle.explore_command.specs.Classes.{AreTold}
 use Rattle.explore_command.proofs.classes.tell_all.Given as goal
 
--- it is told of those so far
+-- what is told of those that are left goes on from what is told so far
 abbrev pub invariant-loop-class : goal.invariant-loop-class
-invariant-loop-class g l = AreTold l.named l.opening l.fn.actors (classes_in (take l.class-index l.classes)) l.all.items
+invariant-loop-class g l = (more : List Told) → AreTold l.named l.opening l.fn.actors (classes_in l.class-iterator.rest.items) more
+    → AreTold l.named l.opening l.fn.actors (classes_in l.fn.classes.items) (l.all.items ++ more)

@@ -1,12 +1,8 @@
-use Rattle.std.proofs.Common.{◌∙◌, IfOk, List, ap, subst, length}
+use Rattle.std.proofs.Common.{◌∙◌, IfOk, List, ap}
 use Rattle.std.specs.Prelude.{Result, Ok, Err, Some}
-use Rattle.layered_search.specs.declared.found.Class.{Class}
-use Rattle.local_states.specs.Worlds.{EndView}
-use Rattle.explore.specs.Explored.{classes_in}
 use Rattle.outcome_text.specs.declared.property.Property.{Property}
 use Rattle.outcome_text.specs.Conditions.{counted, told_text, told_holds}
 use Rattle.outcome_text.specs.Order.{in_order}
-use Rattle.explore_command.specs.Classes.{AreTold}
 use Rattle.explore_command.proofs.search.survey_of.Goals as goal
 
 -- what is said of a success in three parts, put together
@@ -18,13 +14,12 @@ pub returns : goal.returns
 returns c =
     let all = c.in_ok-all.all.items in
     let found = c.args.found in
-    let scene = c.args.scene.now in
     both (λ survey text holds outcomes. (
       record {
         all = all;
-        told = subst (λ (cs : List (Class EndView)). AreTold c.args.asked.now.named.items scene.tree (length scene.plans.items) (classes_in cs) all) c.deref.ensures.value c.in_ok-all.ensures;
-        is = text ∙ ap (λ (ps : List Property). told_text found.lists (Some found.states) found.turns (in_order all) ps) c.deref-2.ensures.value;
-        judged = holds ∙ ap (λ (ps : List Property). told_holds (in_order all) ps) c.deref-2.ensures.value;
+        told = c.in_ok-all.ensures;
+        is = text ∙ ap (λ (ps : List Property). told_text found.lists (Some found.states) found.turns (in_order all) ps) c.deref.ensures.value;
+        judged = holds ∙ ap (λ (ps : List Property). told_holds (in_order all) ps) c.deref.ensures.value;
       },
-      outcomes ∙ ap (λ (ps : List Property). counted ps (in_order all)) c.deref-2.ensures.value,
+      outcomes ∙ ap (λ (ps : List Property). counted ps (in_order all)) c.deref.ensures.value,
     )) c.told_in_order.result c.told_in_order.ensures.text c.told_in_order.ensures.holds c.told_in_order.ensures.outcomes
