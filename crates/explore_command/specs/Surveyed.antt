@@ -12,6 +12,7 @@ use Rattle.outcome_text.specs.declared.survey.Told.{Told}
 use Rattle.outcome_text.specs.Order.{in_order}
 use Rattle.outcome_text.specs.declared.ranked.Survey.{Survey}
 use Rattle.outcome_text.specs.Conditions.{counted, told_text, told_holds}
+use Rattle.outcome_text.specs.Framed.{text_of}
 use Rattle.explore_command.specs.Classes.{AreTold}
 use Rattle.outcome_text.specs.Tellable.{first_untold}
 use Rattle.schedule_graph.specs.declared.fault.SearchFault.TheVariants as search
@@ -62,7 +63,7 @@ outcomes_of {asked} survey = counted asked.properties.items (in_order survey.tel
 -- a survey, and the outcomes that its text tells of
 abbrev pub IsSurveyWith : Asked → State → List ActorPlan → ℕ → Survey → Type 0
 IsSurveyWith asked tree plans lines survey =
-    (is : IsSurvey asked tree plans lines survey.holds survey.text) × (survey.outcomes.items ≡ outcomes_of is)
+    (is : IsSurvey asked tree plans lines survey.holds (text_of survey)) × (survey.outcomes.items ≡ outcomes_of is)
 
 -- The first of those that are named who isn't there; or else the first property that no report can have a line for;
 -- or else the first turn of the beginning that can't be taken; or a list has more turns than are gone through, or there

@@ -4,6 +4,7 @@ ghost use Rattle.scripts.specs.declared.turns.TurnOrder.TheVariants.{OfScript};
 ghost use Rattle.scripts.specs.Scenario.{said_by, said_for, IsPlayable};
 ghost use Rattle.explore_command.specs.Explore.{IsExplore, IsNoSurvey, IsSurveyOf};
 ghost use Rattle.explore_command.specs.Gauge.{SaysNoMore, WhyTooMuch};
+ghost use Rattle.outcome_text.specs.Framed.{text_of};
 
 use crate::gauge::Gauge;
 use crate::search::survey_scene;
@@ -29,9 +30,9 @@ fn surveyed<G: Gauge, P: Progress>(
     requires same { tree ≡ scenario.tree }
     requires none { scenario.tree.handles ≡ [] }
     requires playable { IsPlayable (said_by scenario) }
-    ensures survey { MatchResult result (λ survey. IsSurveyOf asked.now survey.holds (said_by scenario) survey.text)
+    ensures survey { MatchResult result (λ survey. IsSurveyOf asked.now survey.holds (said_by scenario) (text_of survey))
         (IsNoSurvey asked.now (said_by scenario)) }
-    ensures some { IfOk result (λ survey. survey.text ≢ []) }
+    ensures some { IfOk result (λ survey. text_of survey ≢ []) }
     ensures memory { MatchResult result (λ _. SaysNoMore (G.may_say gauge.now) asked.now.memory)
         (WhyTooMuch (G.may_say gauge.now)) }
 {
@@ -76,7 +77,7 @@ pub fn explore_script<W: Write, G: Gauge, P: Waiter>(
     let explored = surveyed(alloc, scenario, tree, asked, gauge, progress);
     progress.over();
     let survey = explored?;
-    match writer.write_all(survey.text.as_slice()) {
+    match survey.write(writer) {
         Ok(()) => Ok(survey.holds),
         Err(_) => Err(ExploreFault::Run(RunFault::WriteFailed)),
     }

@@ -4,6 +4,7 @@ ghost use Rattle.race_core.specs.declared.opening.TheConstants.{ACTORS_MAX as MO
 ghost use Rattle.explore.specs.Explored.{classes_in};
 ghost use Rattle.explore_command.specs.Surveyed.{IsOfThese, IsTelling, IsSurveyWith, WhyNoSurvey};
 ghost use Rattle.outcome_text.specs.Conditions.{counted};
+ghost use Rattle.outcome_text.specs.Framed.{text_of};
 ghost use Rattle.outcome_text.specs.Order.{in_order};
 ghost use Rattle.outcome_text.specs.Unfound.{unfound_by};
 ghost use Rattle.explore_command.specs.Classes.{AreTold};
@@ -57,7 +58,7 @@ fn survey_of(
     requires { length scene.now.plans.items ≤ MOST_ACTORS }
     ensures { IfOk result (λ survey.
         (is : IsTelling asked.now scene.now.tree scene.now.plans.items (classes_in found.classes.items) found.lists
-        found.states found.turns survey.holds survey.text)
+        found.states found.turns survey.holds (text_of survey))
         × (survey.outcomes.items ≡ counted asked.now.properties.items (in_order is.all))) }
 {
     let (lists, states, turns) = (found.lists, found.states, found.turns as u64);

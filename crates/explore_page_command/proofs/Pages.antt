@@ -14,6 +14,7 @@ use Rattle.explore_page_command.proofs.Taken.{outcomes_taken}
 use Rattle.outcome_text.specs.declared.fault.ExploreFault.TheVariants.{Run, NoSuchActor, NoSuchLine, Search, TooMuchMemory, NoGauge}
 use Rattle.outcome_text.specs.declared.ranked.Survey.{Survey}
 use Rattle.outcome_text.specs.declared.survey.Told.{Told}
+use Rattle.outcome_text.specs.Framed.{text_of}
 use Rattle.pages.specs.declared.played.Played.{Played}
 use Rattle.pages.specs.Page.{page_of}
 use Rattle.scripts.specs.declared.fault.RunFault.TheVariants as run
@@ -37,15 +38,15 @@ pub survey_taken : (asked : Asked) (said : Said) (tree : State) (survey : Survey
     → IsPlayable said → length said.plans ≤ said.lines → All (AreTaken (length said.plans)) survey.outcomes.items
 survey_taken asked said tree survey same is playable enough =
     let here = in_said asked said tree survey same is in
-    subst (All (AreTaken (length said.plans))) (sym here.1) (outcomes_taken asked said survey.holds survey.text here.0 playable enough)
+    subst (All (AreTaken (length said.plans))) (sym here.1) (outcomes_taken asked said survey.holds (text_of survey) here.0 playable enough)
 
 pub is_page : (asked : Asked) (said : Said) (tree : State) (survey : Survey) (runs : List Played) (page : List ℕ) → tree ≡ tree_of said
     → IsSurveyWith asked tree said.plans said.lines survey → ArePlayed (said_on tree said.plans [] said.lines) (chosen survey.outcomes.items) runs
-    → page ≡ page_of survey.text runs → IsExplorationPage asked survey.holds said page
+    → page ≡ page_of (text_of survey) runs → IsExplorationPage asked survey.holds said page
 is_page asked said tree survey runs page same surveyed played is =
     let here = in_said asked said tree survey same surveyed in
     record {
-      text = survey.text;
+      text = text_of survey;
       survey = here.0;
       runs = runs;
       played =

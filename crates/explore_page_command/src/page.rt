@@ -1,7 +1,8 @@
 //! A script explored, as a page.
-ghost use Rattle.std.specs.Prelude.{◌≡◌, [], MatchResult};
+ghost use Rattle.std.specs.Prelude.{◌≡◌, [], IfOk, MatchResult};
 ghost use Rattle.explore_command.specs.Gauge.{SaysNoMore};
 ghost use Rattle.explore_page_command.specs.ExplorePage.{IsExplorationPage, IsNoExplorationPage, IsExplorePage, WhyPageTookTooMuch};
+ghost use Rattle.outcome_text.specs.Framed.{text_of};
 ghost use Rattle.scripts.specs.declared.turns.TurnOrder.TheVariants.{OfScript};
 ghost use Rattle.scripts.specs.Scenario.{said_by, said_for, IsPlayable};
 
@@ -26,6 +27,17 @@ use tree_list::ListTree;
 struct Exploration {
     page: Output,
     holds: bool,
+}
+
+// The text of a survey.
+fn text_in(alloc: Global, survey: &Survey) -> Result<Vec<u8>, NoMemory>
+    ensures { IfOk result (λ text. text.items ≡ text_of survey.now) }
+{
+    let mut text = Vec::new(alloc);
+    match survey.write(&mut text) {
+        Ok(()) => Ok(text),
+        Err(_) => Err(NoMemory),
+    }
 }
 
 // The page of all schedules of what a script says. Errors as of `explore_page`, but for those of the script and of
@@ -60,8 +72,9 @@ fn explored<G: Gauge, P: Progress>(
         Err(fault) => return Err(ExplorePageFault::Explore(fault)),
     };
     let runs = runs_of(alloc, &scene, &survey.outcomes)?;
+    let text = text_in(alloc, &survey)?;
     let mut page = Output::new(alloc);
-    runs_page(alloc, &mut page, survey.text.as_slice(), &runs)?;
+    runs_page(alloc, &mut page, &text, &runs)?;
     Ok(Exploration {
         page,
         holds: survey.holds,

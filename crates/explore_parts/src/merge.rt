@@ -160,7 +160,7 @@ pub fn merge_parts<R: Read, W: Write>(
     let text = read_all(alloc, reader)?;
     let parts = parts_in(alloc, text.as_slice())?;
     let survey = merge(alloc, parts.parts, &parts.properties)?;
-    match writer.write_all(survey.text.as_slice()) {
+    match survey.write(writer) {
         Ok(()) => Ok(survey.holds),
         Err(_) => Err(MergeFault::WriteFailed),
     }

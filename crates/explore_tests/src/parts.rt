@@ -301,8 +301,10 @@ fn comes_to(alloc: Global, head: &Head, cover: Cover) -> Option<bool> {
     let parts = parts_of(alloc, &scene, cover)?;
     let lists = all_lists(&parts);
     let made = merge(alloc, parts, &asked.properties).ok()?;
-    let text = made.text.as_slice();
-    let is_whole = is_without_states(text, survey.text.as_slice())?;
+    let (mut text, mut whole) = (Vec::new(alloc), Vec::new(alloc));
+    made.write(&mut text).ok()?;
+    survey.write(&mut whole).ok()?;
+    let is_whole = is_without_states(&text, &whole)?;
     Some(is_whole && text.starts_with(begins.as_bytes()) && lists == found.lists)
 }
 

@@ -109,7 +109,9 @@ fn is_surveyed(
     properties.push(property_of(alloc, Rule::Never, "reply 0 0 done")?)?;
     let survey = told_in_order(alloc, 6, Some(9), 2, all, &properties)?;
     let are_well = all_hold(&survey.outcomes, &properties) == holds && survey.holds == holds;
-    Ok(are_well && survey.text.as_slice() == wanted.as_bytes())
+    let mut text = Vec::new(alloc);
+    let is_written = survey.write(&mut text).is_ok();
+    Ok(are_well && is_written && text.as_slice() == wanted.as_bytes())
 }
 
 #[test]

@@ -3,6 +3,7 @@ pub mod Asked
 pub mod Changes
 pub mod Conditions
 pub mod Counts
+pub mod Framed
 pub mod InPieces
 pub mod Looks
 pub mod Merge

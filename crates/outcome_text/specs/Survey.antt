@@ -60,6 +60,13 @@ block_text all k told = block_words k (lists_to all told) told
 abbrev pub blocks_text : List Told → List ℕ
 blocks_text all = numbered (block_text all) 0 (new_ones all)
 
+-- each block behind its line; an outcome without a line has none
+abbrev pub woven : List (Option (List ℕ)) → List Told → List ℕ
+woven [] all = []
+woven (head ∷ heads) [] = []
+woven (None ∷ heads) (told ∷ all) = woven heads all
+woven (Some head ∷ heads) (told ∷ all) = (head ++ told.block) ++ woven heads all
+
 -- ---- properties
 
 abbrev pub breaks : Property → Told → Bool

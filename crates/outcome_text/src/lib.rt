@@ -29,6 +29,7 @@ mod schedule;
 mod survey;
 mod tellable;
 mod telling;
+mod writing;
 
 pub use asked::{OptionFault, Options};
 pub use counts::COUNT_MAX;
@@ -41,6 +42,6 @@ pub use part::Part;
 pub use property::{Property, Rule, read_property};
 pub use ranked::{Survey, told_in_order};
 pub use schedule::{before_tail, schedule_words};
-pub use survey::{Told, all_hold, look_beside, outcome_text};
+pub use survey::{Frame, Told, all_hold, look_beside};
 pub use tellable::first_untold;
 pub use telling::{Found, told_of};

@@ -2,6 +2,7 @@
 ghost use Rattle.std.specs.Prelude.{◌≡◌, ◌<◌, ◌++◌, ◌∷◌, [], false, true, take, IfOk, MatchOption, MatchResult};
 ghost use Rattle.std.specs.List.{list_any};
 ghost use Rattle.outcome_text.specs.declared.merging.MergeFault.TheVariants as merge_fault;
+ghost use Rattle.outcome_text.specs.Framed.{text_of};
 ghost use Rattle.outcome_text.specs.Nearby.{AreSome};
 ghost use Rattle.outcome_text.specs.Merge.{has_lists, lacks_turn, has_gap, all_lists, longest, all_of, IsJoined, IsWhole, WhyNoWhole};
 
@@ -203,7 +204,7 @@ fn all_of(alloc: Global, parts: Vec<Part>) -> Result<Vec<Told>, NoMemory>
 
 // The text of all lists of these parts, and whether no property fails.
 fn joined(alloc: Global, parts: Vec<Part>, properties: &[Property]) -> Result<Survey, NoMemory>
-    ensures { IfOk result (λ survey. IsJoined parts.items properties.now survey.holds survey.text) }
+    ensures { IfOk result (λ survey. IsJoined parts.items properties.now survey.holds (text_of survey)) }
 {
     let (lists, turns) = (all_lists(&parts), longest(&parts));
     let ordered = in_order(all_of(alloc, parts)?)?;
@@ -215,7 +216,7 @@ fn joined(alloc: Global, parts: Vec<Part>, properties: &[Property]) -> Result<Su
 /// Errors, in this order: `Overlap` of the first two parts of which one begins with the other, or as it does;
 /// `Missing` where schedules are in no part; `NoSchedule` where no part has any; `NoMemory`.
 pub fn merge(alloc: Global, parts: Vec<Part>, properties: &[Property]) -> Result<Survey, MergeFault>
-    ensures { MatchResult result (λ survey. IsWhole parts.items properties.now survey.holds survey.text)
+    ensures { MatchResult result (λ survey. IsWhole parts.items properties.now survey.holds (text_of survey))
         (WhyNoWhole parts.items) }
 {
     if let Some((one, other)) = first_overlap(alloc, &parts)? {

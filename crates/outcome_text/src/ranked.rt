@@ -2,19 +2,21 @@
 ghost use Rattle.std.specs.Prelude.{◌≡◌, IfOk};
 ghost use Rattle.outcome_text.specs.Order.{in_order};
 ghost use Rattle.outcome_text.specs.Conditions.{counted, told_text, told_holds};
+ghost use Rattle.outcome_text.specs.Framed.{text_of};
 
 use crate::conditions::{condition_lines, counted, lists_counted};
 use crate::order::in_order;
 use crate::property::Property;
-use crate::survey::{Told, all_hold, outcome_text};
+use crate::survey::{Frame, Told, all_hold, frame_of};
 use event_log::Output;
 use path_text::NoMemory;
 use std::alloc::Global;
 
-/// The text of a survey, whether no property fails, and the outcomes that it tells of.
+/// The text of a survey, whether no property fails, and the outcomes that it tells of. The text's blocks are those of
+/// the outcomes.
 #[derive(Debug, Drop)]
 pub struct Survey {
-    pub text: Output,
+    pub frame: Frame,
     pub holds: bool,
     /// Those that count, in the order of their least lists.
     pub outcomes: Vec<Told>,
@@ -32,7 +34,7 @@ pub fn told_in_order(
     properties: &[Property],
 ) -> Result<Survey, NoMemory>
     ensures text { IfOk result (λ survey.
-        survey.text ≡ told_text lists states longest (in_order all.items) properties.now) }
+        text_of survey ≡ told_text lists states longest (in_order all.items) properties.now) }
     ensures holds { IfOk result (λ survey. survey.holds ≡ told_holds (in_order all.items) properties.now) }
     ensures outcomes { IfOk result (λ survey. survey.outcomes.items ≡ counted properties.now (in_order all.items)) }
 {
@@ -50,7 +52,7 @@ pub(crate) fn told_ordered(
     properties: &[Property],
 ) -> Result<Survey, NoMemory>
     ensures text { IfOk result (λ survey.
-        survey.text ≡ told_text lists states longest ordered.items properties.now) }
+        text_of survey ≡ told_text lists states longest ordered.items properties.now) }
     ensures holds { IfOk result (λ survey. survey.holds ≡ told_holds ordered.items properties.now) }
     ensures outcomes { IfOk result (λ survey. survey.outcomes.items ≡ counted properties.now ordered.items) }
 {
@@ -58,20 +60,12 @@ pub(crate) fn told_ordered(
     condition_lines(&mut conditions, lists, &ordered, properties)?;
     let schedules = lists_counted(lists, properties, &ordered);
     let all = counted(ordered, properties);
-    let mut text = Output::new(alloc);
-    outcome_text(
-        alloc,
-        &mut text,
-        schedules,
-        states,
-        longest,
-        &all,
-        conditions.as_slice(),
-        properties,
+    let frame = frame_of(
+        alloc, schedules, states, longest, &all, conditions, properties,
     )?;
     let holds = all_hold(&all, properties);
     Ok(Survey {
-        text,
+        frame,
         holds,
         outcomes: all,
     })

@@ -1,9 +1,10 @@
 //! The text of what a search found.
-ghost use Rattle.std.specs.Prelude.{◌≡◌, find};
+ghost use Rattle.std.specs.Prelude.{◌≡◌, ◌++◌, find, IfOk};
 ghost use Rattle.std.specs.Option.{option_copied};
 ghost use Rattle.event_log.specs.Output.{Gains};
+ghost use Rattle.outcome_text.specs.Framed.{framed};
 ghost use Rattle.outcome_text.specs.Looks.{AreSums};
-ghost use Rattle.outcome_text.specs.Survey.{look_by, look_of, lists_breaking, breaks, witness_words, states_words, numbers_text, block_words, blocks_text, property_text, properties_text, holds, all_hold, outcome_text};
+ghost use Rattle.outcome_text.specs.Survey.{look_by, look_of, lists_breaking, breaks, witness_words, states_words, numbers_text, block_words, blocks_text, woven, property_text, properties_text, holds, all_hold, outcome_text};
 
 use crate::counts::{counted, plus};
 use crate::looks::sums_of;
@@ -97,29 +98,37 @@ fn numbers(
     out.text("\n")
 }
 
-// Adds a block by its number, of so many lists.
-fn block(out: &mut Output, number: u64, lists: u64, told: &Told) -> Result<(), NoMemory>
-    ensures { Gains out.old out.new (block_words number lists told.now) result }
+// The line before a block by its number, of so many lists.
+fn head(alloc: Global, number: u64, lists: u64, told: &Told) -> Result<Output, NoMemory>
+    ensures { IfOk result (λ head. head ++ told.now.block ≡ block_words number lists told.now) }
 {
-    numbered(out, "outcome ", number)?;
-    counted(out, " schedules ", lists)?;
-    told.witness(out)?;
-    out.bytes(told.block.as_slice())
+    let mut out = Output::new(alloc);
+    numbered(&mut out, "outcome ", number)?;
+    counted(&mut out, " schedules ", lists)?;
+    told.witness(&mut out)?;
+    Ok(out)
 }
 
-// Adds a block of each that looks like none before it, and takes its lists out of the table.
-fn blocks(out: &mut Output, sums: &mut HashMap<&[u8], u64>, all: &[Told]) -> Result<(), NoMemory>
+// The line before the block of each that looks like none before it. Takes its lists out of the table.
+fn heads(
+    alloc: Global,
+    sums: &mut HashMap<&[u8], u64>,
+    all: &[Told],
+) -> Result<Vec<Option<Output>>, NoMemory>
     requires { AreSums sums.old all.now }
-    ensures { Gains out.old out.new (blocks_text all.now) result }
+    ensures { IfOk result (λ heads. woven heads.items all.now ≡ blocks_text all.now) }
 {
     let mut number = 0;
+    let mut heads = Vec::with_capacity(alloc, all.len())?;
     for told in all {
         if let Some(lists) = sums.remove(told.look()) {
-            block(out, number, lists, told)?;
+            heads.push(Some(head(alloc, number, lists, told)?))?;
             number += 1;
+        } else {
+            heads.push(None)?;
         }
     }
-    Ok(())
+    Ok(heads)
 }
 
 // The first that breaks a property.
@@ -196,26 +205,38 @@ pub fn all_hold(all: &[Told], properties: &[Property]) -> bool
     true
 }
 
-/// Adds the text of outcomes, which come in the order of their least lists, where there are so many lists, by so many
+/// The text of outcomes but for their blocks, which stay where they are.
+#[derive(Debug, Drop)]
+pub struct Frame {
+    /// What comes before the blocks.
+    pub front: Output,
+    /// Of each outcome the line before its block; of one that looks like one before it none.
+    pub heads: Vec<Option<Output>>,
+    /// What comes behind the blocks.
+    pub back: Output,
+}
+
+/// The text of outcomes, which come in the order of their least lists, where there are so many lists, by so many
 /// worlds if they were found by a search, and the longest has so many turns: these numbers, how many outcomes look
 /// different, a block for each of these, the lines of conditions, which are given, and the line of each property.
-/// NoMemory where room was refused, and a part of the text may have been added then.
-pub fn outcome_text(
+/// NoMemory where room was refused.
+pub(crate) fn frame_of(
     alloc: Global,
-    out: &mut Output,
     lists: u64,
     states: Option<u64>,
     longest: u64,
     all: &[Told],
-    conditions: &[u8],
+    conditions: Output,
     properties: &[Property],
-) -> Result<(), NoMemory>
-    ensures { Gains out.old out.new
-        (outcome_text lists states longest all.now conditions.now properties.now) result }
+) -> Result<Frame, NoMemory>
+    ensures { IfOk result (λ frame. framed frame all.now
+        ≡ outcome_text lists states longest all.now conditions properties.now) }
 {
     let mut sums = sums_of(alloc, all)?;
-    numbers(out, lists, states, longest, sums.len() as u64)?;
-    blocks(out, &mut sums, all)?;
-    out.bytes(conditions)?;
-    property_lines(out, all, properties)
+    let mut front = Output::new(alloc);
+    numbers(&mut front, lists, states, longest, sums.len() as u64)?;
+    let heads = heads(alloc, &mut sums, all)?;
+    let mut back = conditions;
+    property_lines(&mut back, all, properties)?;
+    Ok(Frame { front, heads, back })
 }

@@ -5,6 +5,7 @@ use Rattle.tree_model.specs.State.{State}
 use Rattle.explore_page_command.specs.Played.{AreTaken, ArePlayed, chosen}
 use Rattle.explore_page_command.proofs.Pages.{survey_taken, is_page}
 use Rattle.outcome_text.specs.declared.survey.Told.{Told}
+use Rattle.outcome_text.specs.Framed.{text_of}
 use Rattle.pages.specs.Page.{page_of}
 use Rattle.scripts.specs.Scenario.{IsPlayable, said_by, said_on}
 use Rattle.scripts.specs.Writing.{tree_of}
@@ -41,5 +42,5 @@ returns-clause-page g c =
     c.requires.same ∙ (λ i. record { nodes = c.args.scenario.tree.nodes; handles = c.requires.none i }) in
     is_page c.args.asked.now said c.args.tree survey runs c.runs_page.new.out whole c.in-Ok.ensures.survey
     (subst (λ (os : List Told). ArePlayed (said_on c.args.tree said.plans [] said.lines) (chosen os) runs) c.deref.ensures.value c.in_ok-runs.ensures)
-    (c.in_ok-runs_page.ensures ∙ ap (λ (old : List ℕ). old ++ page_of c.as_slice.result.now c.deref-2.result.now) c.new-page.ensures
-    ∙ ap (λ (bs : List ℕ). page_of bs c.deref-2.result.now) c.as_slice.ensures ∙ ap (page_of survey.text) c.deref-2.ensures.value)
+    (c.in_ok-runs_page.ensures ∙ ap (λ (old : List ℕ). old ++ page_of c.deref-2.result.now c.deref-3.result.now) c.new-page.ensures
+    ∙ ap (λ (bs : List ℕ). page_of bs c.deref-3.result.now) (c.deref-2.ensures.value ∙ c.in_ok-text.ensures) ∙ ap (page_of (text_of survey)) c.deref-3.ensures.value)
