@@ -30,8 +30,8 @@ fn tell<T: Tree>(
     told_of(alloc, named, opening, actors, &found)
 }
 
-/// What the text says of each outcome, where so many actors are there and these are named. Each report is let go as soon
-/// as it is told. NoMemory where room was refused.
+/// What the text says of each outcome, where so many actors are there and these are named. Each report is let go as
+/// soon as it is told. NoMemory where room was refused.
 pub(crate) fn tell_all<T: Tree + Drop>(
     alloc: Global,
     named: &[u32],

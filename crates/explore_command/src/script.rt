@@ -30,7 +30,8 @@ fn surveyed<G: Gauge, P: Progress>(
     requires same { tree ≡ scenario.tree }
     requires none { scenario.tree.handles ≡ [] }
     requires playable { IsPlayable (said_by scenario) }
-    ensures survey { MatchResult result (λ survey. IsSurveyOf asked.now survey.holds (said_by scenario) (text_of survey))
+    ensures survey { MatchResult result
+        (λ survey. IsSurveyOf asked.now survey.holds (said_by scenario) (text_of survey))
         (IsNoSurvey asked.now (said_by scenario)) }
     ensures some { IfOk result (λ survey. text_of survey ≢ []) }
     ensures memory { MatchResult result (λ _. SaysNoMore (G.may_say gauge.now) asked.now.memory)

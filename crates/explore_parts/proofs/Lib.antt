@@ -1,3 +1,4 @@
+mod Pieces
 mod Numbers
 mod Sealing
 mod Settled

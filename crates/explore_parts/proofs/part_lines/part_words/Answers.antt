@@ -1,6 +1,6 @@
 use Rattle.std.specs.Prelude.{codes}
 use Rattle.explore_parts.specs.PartText.{question_words, turns_words, found_words, part_words}
-use Rattle.outcome_text.proofs.Pieces.{four_added}
+use Rattle.explore_parts.proofs.Pieces.{four_added}
 use Rattle.explore_parts.proofs.part_lines.part_words.Goals as goal
 
 pub returns : goal.returns

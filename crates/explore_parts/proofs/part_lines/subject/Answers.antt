@@ -4,7 +4,7 @@ use Rattle.event_log.specs.Output.{Gains}
 use Rattle.report_text.specs.Json.{text_words}
 use Rattle.explore_parts.specs.Lists.{numbers_words}
 use Rattle.explore_parts.specs.PartText.{subject_words}
-use Rattle.outcome_text.proofs.Pieces.{four_added}
+use Rattle.explore_parts.proofs.Pieces.{four_added}
 use Rattle.explore_parts.proofs.part_lines.subject.Goals as goal
 
 pub returns : goal.returns
