@@ -1,5 +1,5 @@
 use Rattle.std.proofs.Common.{◌≡◌, ◌++◌, ◌∷◌, [], List, sym, ap, ◌∙◌, subst, rules}
-use Rattle.std.proofs.lemmas.List.{append_assoc, append-nil}
+use Rattle.std.proofs.lemmas.List.{append_assoc, append-nil, nil_from_length}
 use Rattle.layered_search.specs.declared.found.Class.{Class}
 use Rattle.local_states.specs.Worlds.{EndView}
 use Rattle.explore.specs.Explored.{classes_in}
@@ -29,6 +29,7 @@ returns g c =
     let named = c.args.named.now in
     let opening = c.args.opening.now in
     let actors = c.args.actors in
-    let none : c.loop-class.class-iterator.rest.items ≡ [] = search rules in
+    let left = c.loop-class.class-iterator.rest in
+    let none : left.items ≡ [] = nil_from_length left.items (sym left.ok.0 ∙ c.in-None.ensures.steps.0) in
     subst (λ (ts : List Told). AreTold named opening actors (classes_in c.args.classes.items) ts) (append-nil c.loop-class.all.items)
     (c.loop-class.invariant [] (subst (λ (cs : List (Class EndView)). AreTold named opening actors (classes_in cs) []) (sym none) tt))
