@@ -224,8 +224,8 @@ fn a_removed_directory_is_asked_itself(rt: HostRuntime) {
         answers(STATX, 3, "", gave(0, 0)),
     ];
     let mut talk = begun(bare(request(PLACE)), (b"/", b"/"));
-    let ended = ends(&rt, rt.alloc(), &mut talk, &lines);
-    assert_eq!(&rt; ended, (FAILS, ENOENT as u64));
+    let due = ends(&rt, rt.alloc(), &mut talk, &lines);
+    assert_eq!(&rt; (due.what, due.number), (FAILS, ENOENT as u64));
 }
 
 #[test]
