@@ -1,17 +1,30 @@
 /*
- * short: each kind of call with so many descriptors left, from none on. It ends by EMFILE or as it does else, and leaves none
- * open.
+ * short: each kind of call with so many descriptors left, from none on, and as the first of a thread. It ends by EMFILE or as it
+ * does else, and leaves none open.
  *
  * usage: short DIR. Exits 0 where that holds.
  */
 #define _GNU_SOURCE
 #include "each.h"
 
+#include <pthread.h>
 #include <sys/resource.h>
 
 enum { MOST = 20 };
 
 static int root;
+
+/* A call in a thread that knows nothing of the kernel yet. */
+struct first {
+    int number, got;
+};
+
+static void *call_first(void *at)
+{
+    struct first *first = at;
+    first->got = call(root, first->number);
+    return NULL;
+}
 
 static void allow(int count)
 {
@@ -43,6 +56,15 @@ static void each_call(void)
             expect(left < 8 || got != -EMFILE, "call %d with %d descriptors left: wanted what else it gives, got -EMFILE", number, left);
             restore(root, got, number);
         }
+        struct first first = {.number = number};
+        pthread_t thread;
+        allow(none);
+        gives(pthread_create(&thread, NULL, call_first, &first), 0, "pthread_create");
+        pthread_join(thread, NULL);
+        allow(enough);
+        expect(first.got == -EMFILE || same(first.got, wanted), "call %d, a thread's first, without descriptors: wanted %d or -EMFILE, got %d",
+               number, wanted, first.got);
+        restore(root, first.got, number);
         gives(open_descriptors(), before, "call %d: open descriptors", number);
     }
     gives_least(ran_short, CALLS + 1, "calls that ran short");
