@@ -213,13 +213,18 @@ def racing_jobs():
 # ---- reads and writes
 
 
-def fault_each(fault, kind, wanted, script, *words, behind=""):
+def begins(ran, wanted, text):
+    """Whether the run ended so, and has written a beginning of the text."""
+    return text.startswith(ran.out) and ends(ran, wanted[0], ran.out, wanted[2])
+
+
+def fault_each(fault, kind, wanted, script, *words, behind="", text=""):
     """Makes each read, or each write, fail in turn. Where the first write isn't the one that fails, the first lines of
-    `behind` may be written."""
+    `behind`, or a beginning of `text`, may be written."""
     name, number, ran = f"inroot {' '.join(words)}: FAULT_{fault}", 1, run(script, *words, KIND=kind, **{fault: 1})
     verdict(ran.met > 0, f"{name}: nothing failed")
     while ran.met > 0 or ran.live < 0:
-        holds = ends(ran, *wanted) or number > 1 and ends_first(ran, *wanted[:2], behind)
+        holds = ends(ran, *wanted) or number > 1 and (ends_first(ran, *wanted[:2], behind) or begins(ran, wanted, text))
         verdict(holds, f"{name}={number} FAULT_KIND={kind}", seen(ran))
         # The run did not come to its end.
         if ran.live < 0:
@@ -228,10 +233,10 @@ def fault_each(fault, kind, wanted, script, *words, behind=""):
         ran = run(script, *words, KIND=kind, **{fault: number})
 
 
-def fault_all(printed, script, *words):
+def fault_all(printed, script, *words, text=""):
     """Each of them in each way: one that fails ends the run, and after one that is interrupted or short it goes on."""
     fault_each("READ", "fail", (4, "", "inroot: read failed\n"), script, *words)
-    fault_each("WRITE", "fail", (4, "", "inroot: write failed\n"), script, *words)
+    fault_each("WRITE", "fail", (4, "", "inroot: write failed\n"), script, *words, text=text)
     for fault in ("READ", "WRITE"):
         for kind in ("interrupt", "short"):
             fault_each(fault, kind, (0, printed, ""), script, *words)
@@ -255,9 +260,11 @@ def reads_and_writes(search, parts):
     report, replies = run(*replay).out, run(*one).out
     for printed, row in ((ANSWER, walk), (report, replay), (replies, one), (replies, two)):
         fault_all(printed, *row)
-    for script, words in ((MOVED_OUT, "draw --svg"), (search, "explore --html"), (search, "explore --part --begin 0"),
-                          (parts, "explore --merge")):
+    for script, words in ((MOVED_OUT, "draw --svg"), (search, "explore --html"), (search, "explore --part --begin 0")):
         fault_all(run(script, *words.split()).out, script, *words.split())
+    # The text of a survey is written piece by piece.
+    merged = run(parts, "explore", "--merge").out
+    fault_all(merged, parts, "explore", "--merge", text=merged)
     # A fault whose error can't be written keeps its status.
     fault_each("WRITE", "fail", (3, "", ""), "/dev/null", "walk", "abs/f", behind=run("/dev/null", "walk", "abs/f").err)
     for printed, row in ((ANSWER, walk), (report, replay), (replies, two)):
