@@ -14,15 +14,10 @@ enum { MOST = 20 };
 
 static int root;
 
-/* A call in a thread that knows nothing of the kernel yet. */
-struct first {
-    int number, got;
-};
-
+/* A call in a thread that knows nothing of the kernel yet: by its number, in the place of which it lays what it gave. */
 static void *call_first(void *at)
 {
-    struct first *first = at;
-    first->got = call(root, first->number);
+    *(int *)at = call(root, *(int *)at);
     return NULL;
 }
 
@@ -38,8 +33,7 @@ static void each_call(void)
 {
     int ran_short = 0;
     /* The library opens its /proc now: a rename anywhere on the machine may have any call below need it. */
-    const int top = sure(inroot_reopen(root, O_RDONLY | O_DIRECTORY), "inroot_reopen");
-    sure(close(top), "close");
+    sure(close(sure(inroot_reopen(root, O_RDONLY | O_DIRECTORY), "inroot_reopen")), "close");
     const int none = take_gaps(root), enough = none + 64;
     for (int number = 0; number < CALLS; number++) {
         allow(enough);
@@ -56,15 +50,14 @@ static void each_call(void)
             expect(left < 8 || got != -EMFILE, "call %d with %d descriptors left: wanted what else it gives, got -EMFILE", number, left);
             restore(root, got, number);
         }
-        struct first first = {.number = number};
+        int first = number;
         pthread_t thread;
         allow(none);
         gives(pthread_create(&thread, NULL, call_first, &first), 0, "pthread_create");
         pthread_join(thread, NULL);
         allow(enough);
-        expect(first.got == -EMFILE || same(first.got, wanted), "call %d, a thread's first, without descriptors: wanted %d or -EMFILE, got %d",
-               number, wanted, first.got);
-        restore(root, first.got, number);
+        expect(first == -EMFILE || same(first, wanted), "call %d, a thread's first: wanted %d or -EMFILE, got %d", number, wanted, first);
+        restore(root, first, number);
         gives(open_descriptors(), before, "call %d: open descriptors", number);
     }
     gives_least(ran_short, CALLS + 1, "calls that ran short");
