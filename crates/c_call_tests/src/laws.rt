@@ -1,11 +1,5 @@
-//! The laws of whole calls, of single steps and of walks by the kernel are called as a caller has them at hand. They do
+//! The laws of single steps and of walks by the kernel are called as a caller has them at hand. They do
 //! nothing.
-
-#[test]
-fn laws_of_whole_calls() {
-    call_course::calls_hold();
-    call_course::what_is_taken_is_the_calls_own();
-}
 
 #[test]
 fn laws_of_single_steps() {
@@ -29,5 +23,6 @@ fn laws_of_walks_by_the_kernel() {
     kernel_walks::renames_are_looked_up();
     kernel_calls::entries_are_changed_where_they_stand();
     kernel_calls::entries_are_renamed_where_they_stand();
+    kernel_calls::objects_are_linked_where_entries_stand();
     kernel_calls::paths_are_looked_up_as_a_whole();
 }

@@ -6,8 +6,6 @@ mod by_kernel;
 #[cfg(test)]
 mod c_paths;
 #[cfg(test)]
-mod callings;
-#[cfg(test)]
 mod kernel_dialogues;
 #[cfg(test)]
 mod laws;

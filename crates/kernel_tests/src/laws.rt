@@ -10,6 +10,8 @@ fn laws_are_at_hand() {
     open_partial::tries_hold();
     remove_by_calls::removals_hold();
     remove_by_calls::what_is_busy_is_no_bound();
+    call_course::calls_hold();
+    call_course::what_is_taken_is_the_calls_own();
     list_directory::a_part_is_bounded();
     list_directory::all_levels_are_bounded();
     list_directory::listings_hold();

@@ -3,6 +3,8 @@
 #![tactic(auto)]
 
 #[cfg(test)]
+mod callings;
+#[cfg(test)]
 mod courses;
 #[cfg(test)]
 mod held;

@@ -49,7 +49,12 @@ impl Room for Path {
         let (wanted, path) = words.split_once(' ').unwrap_or((words, ""));
         let follows = !wanted.contains("no_");
         Path {
-            making: begin(path.len(), wanted.contains("file"), follows, wanted != "once"),
+            making: begin(
+                path.len(),
+                wanted.contains("file"),
+                follows,
+                wanted != "once",
+            ),
             room: laid(path),
             outcomes: [WORKS; 7],
             heard: 0,
@@ -180,7 +185,8 @@ fn follows_forty_links(rt: HostRuntime) -> Result<(), AllocError> {
             assert!(rt; path.take(gave).is_some());
         }
     }
-    let talk = "make b by 40 = ENOENT; partial b by 40 = partly 3 0; close 3 = ok; read b by 40 = is c; \
+    let talk =
+        "make b by 40 = ENOENT; partial b by 40 = partly 3 0; close 3 = ok; read b by 40 = is c; \
         fails ELOOP at 4";
     goes(&rt, rt.alloc(), &mut path, talk)
 }
