@@ -1,17 +1,4 @@
-//! The laws of single steps and of walks by the kernel are called as a caller has them at hand. They do
-//! nothing.
-
-#[test]
-fn laws_of_single_steps() {
-    linux_steps::opens_stood();
-    linux_steps::parents_stood();
-    linux_steps::there_stood();
-    linux_steps::links_were_read();
-    linux_steps::dups_stood();
-    linux_steps::closes_stood();
-    linux_steps::changes_stood();
-    linux_steps::steps_keep_rules();
-}
+//! The laws of walks by the kernel are called as a caller has them at hand. They do nothing.
 
 #[test]
 fn laws_of_walks_by_the_kernel() {

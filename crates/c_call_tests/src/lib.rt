@@ -12,6 +12,4 @@ mod laws;
 #[cfg(test)]
 mod single_steps;
 #[cfg(test)]
-mod step_dialogues;
-#[cfg(test)]
 mod talks;

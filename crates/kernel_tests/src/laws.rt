@@ -50,3 +50,15 @@ fn laws_of_all_dialogues() {
     dialogue::checkpoints_are_kept::<u8, u8, u8, u8>();
     dialogue::signals_may_be_left_out::<u8, u8, u8>();
 }
+
+#[test]
+fn laws_of_single_steps() {
+    linux_steps::opens_stood();
+    linux_steps::parents_stood();
+    linux_steps::there_stood();
+    linux_steps::links_were_read();
+    linux_steps::dups_stood();
+    linux_steps::closes_stood();
+    linux_steps::changes_stood();
+    linux_steps::steps_keep_rules();
+}

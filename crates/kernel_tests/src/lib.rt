@@ -33,4 +33,6 @@ mod rows;
 #[cfg(test)]
 mod searches;
 #[cfg(test)]
+mod steps;
+#[cfg(test)]
 mod talk;

@@ -5,7 +5,8 @@ use system_calls::errors::EAGAIN;
 
 const ERRORS: &str =
     "ok=0 EPERM=1 ENOENT=2 EINTR=4 EIO=5 EBADF=9 EAGAIN=11 ENOMEM=12 EACCES=13 EBUSY=16 EEXIST=17 \
-    EXDEV=18 ENOTDIR=20 EISDIR=21 EINVAL=22 ENFILE=23 EMFILE=24 ERANGE=34 ENAMETOOLONG=36 ENOSYS=38 ELOOP=40";
+    EXDEV=18 ENOTDIR=20 EISDIR=21 EINVAL=22 ENFILE=23 EMFILE=24 ENOSPC=28 EROFS=30 ERANGE=34 ENAMETOOLONG=36 \
+    ENOSYS=38 ENOTEMPTY=39 ELOOP=40";
 
 /// The number of the error that has this name; else a word's own. Nothing of any other word.
 pub(crate) fn number(word: &str) -> Option<u32> {

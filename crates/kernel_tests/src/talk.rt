@@ -24,7 +24,7 @@ pub(crate) struct Talk {
     count: usize,
 }
 
-fn works() -> Answer {
+pub(crate) fn works() -> Answer {
     Answer {
         file_system: 0,
         flags: 0,
