@@ -2,14 +2,12 @@
 #![tactic(auto)]
 
 #[cfg(test)]
-mod by_kernel;
-#[cfg(test)]
 mod c_paths;
+#[cfg(test)]
+mod calls;
 #[cfg(test)]
 mod kernel_dialogues;
 #[cfg(test)]
 mod laws;
-#[cfg(test)]
-mod single_steps;
 #[cfg(test)]
 mod talks;

@@ -1,34 +1,7 @@
 //! Conversations as rows of text: what is due, and what it gave.
+pub(crate) use fixtures::rows::{name_of, number};
 use std::alloc::{AllocError, Global};
 use std::process::Abort;
-use system_calls::errors::EAGAIN;
-
-const ERRORS: &str =
-    "ok=0 EPERM=1 ENOENT=2 EINTR=4 EIO=5 EBADF=9 EAGAIN=11 ENOMEM=12 EACCES=13 EBUSY=16 EEXIST=17 \
-    EXDEV=18 ENOTDIR=20 EISDIR=21 EINVAL=22 ENFILE=23 EMFILE=24 ENOSPC=28 EROFS=30 ERANGE=34 ENAMETOOLONG=36 \
-    ENOSYS=38 ENOTEMPTY=39 ELOOP=40";
-
-/// The number of the error that has this name; else a word's own. Nothing of any other word.
-pub(crate) fn number(word: &str) -> Option<u32> {
-    for error in ERRORS.split(' ') {
-        let (name, number) = error.split_once('=')?;
-        if name == word {
-            return number.parse().ok();
-        }
-    }
-    word.parse().ok()
-}
-
-/// The error's name.
-pub(crate) fn name_of(error: u32) -> &'static str {
-    for row in ERRORS.split(' ') {
-        let (name, _) = row.split_once('=').unwrap_or(("", ""));
-        if number(name) == Some(error) {
-            return name;
-        }
-    }
-    "no error of these tables"
-}
 
 /// The word of this number, from 1 on.
 pub(crate) fn word_of<'w>(number: u8, words: &'w str) -> &'w str {

@@ -1,5 +1,5 @@
 use Rattle.std.specs.Prelude.{◌≡◌, true, IsSome}
-use Rattle.c_call_tests.proofs.talks.ends.Given as goal
+use Rattle.c_call_tests.proofs.calls.goes.Given as goal
 
 abbrev pub invariant-loop-line : goal.invariant-loop-line
 invariant-loop-line g l = record {
