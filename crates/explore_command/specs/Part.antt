@@ -1,5 +1,5 @@
 -- The outcomes of the schedules that begin with some turns.
-use Rattle.std.specs.Prelude.{◌≡◌, ◌<◌, ◌⊎◌, ◌++◌, ℕ, suc, List, [], ◌∷◌, length, take, slice_get, Some}
+use Rattle.std.specs.Prelude.{◌≡◌, ◌<◌, ◌⊎◌, ◌++◌, ℕ, suc, List, [], ◌∷◌, length, true, take, slice_get, Some}
 use Rattle.std.specs.Global.{Vec}
 use Rattle.explore.specs.Explored.{Scope, ClassView, IsIdle, IsWithin, cuts}
 use Rattle.explore.specs.Opened.{opened_world}
@@ -44,7 +44,7 @@ AreFarEnough w scope begin turns = (turns ≡ length begin) ⊎ IsBarred w scope
 pub record HasLists (asked : Asked) (tree : State) (plans : List ActorPlan) (lines : ℕ) (part : Part) : Type 0 where
   pub classes : List ClassView
   pub explored : IsMerged (opened_world tree plans lines) (scope_asked asked) classes part.lists part.turns
-  pub told : AreTold asked.named.items tree (length plans) classes part.all.items
+  pub told : AreTold true asked.named.items tree (length plans) classes part.all.items
 
 -- no list does, and there is no outcome
 pub record HasNone (part : Part) : Type 0 where

@@ -1,5 +1,5 @@
 -- The text of what a search of all schedules finds.
-use Rattle.std.specs.Prelude.{⊤, ◌≡◌, ◌≤◌, ℕ, Bool, List, length, find, nat_le, Option, Some, None}
+use Rattle.std.specs.Prelude.{⊤, ◌≡◌, ◌≤◌, ℕ, Bool, List, length, find, nat_le, nat_lt, Option, Some, None}
 use Rattle.explore.specs.Promise.{IsMerged}
 use Rattle.explore.specs.Explored.{Scope, scope_with, ClassView, AreStates, WhyNot}
 use Rattle.explore.specs.Opened.{opened_world}
@@ -22,6 +22,10 @@ use Rattle.scripts.specs.declared.fault.RunFault.TheVariants.{NoMemory}
 abbrev pub scope_asked : Asked → Scope
 scope_asked asked = scope_with asked.limits asked.outside
 
+-- whether any property judges the outcomes
+abbrev pub are_judged : Asked → Bool
+are_judged asked = nat_lt 0 (length asked.properties.items)
+
 -- the first of those that are named who isn't there
 abbrev pub first_foreign : Asked → List ActorPlan → Option ℕ
 first_foreign asked plans = find (λ i. nat_le (length plans) i) asked.named.items
@@ -36,7 +40,7 @@ pub record IsOfThese (asked : Asked) (plans : List ActorPlan) : Type 0 where
 pub record IsTelling (asked : Asked) (tree : State) (plans : List ActorPlan) (classes : List ClassView)
     (lists states turns : ℕ) (holds : Bool) (text : List ℕ) : Type 0 where
   pub all : List Told
-  pub told : AreTold asked.named.items tree (length plans) classes all
+  pub told : AreTold (are_judged asked) asked.named.items tree (length plans) classes all
   pub is : text ≡ told_text lists (Some states) turns (in_order all) asked.properties.items
   pub judged : holds ≡ told_holds (in_order all) asked.properties.items
 

@@ -12,12 +12,13 @@ use tree_model::{Snapshot, Tree};
 // What the text says of an outcome.
 fn tell<T: Tree>(
     alloc: Global,
+    judged: bool,
     named: &[u32],
     opening: &Snapshot,
     actors: u32,
     class: &Class<End<T>>,
 ) -> Result<Told, NoMemory>
-    ensures { IfOk result (IsTold named.now opening.now actors (class_of class.now)) }
+    ensures { IfOk result (IsTold judged named.now opening.now actors (class_of class.now)) }
 {
     let found = Found {
         lists: class.lists,
@@ -27,23 +28,24 @@ fn tell<T: Tree>(
         report: &class.outcome.report,
         outside: &class.outcome.outside,
     };
-    told_of(alloc, named, opening, actors, &found)
+    told_of(alloc, judged, named, opening, actors, &found)
 }
 
-/// What the text says of each outcome, where so many actors are there and these are named. Each report is let go as
-/// soon as it is told. NoMemory where room was refused.
+/// What the text says of each outcome, where so many actors are there and these are named; with its lines where it is
+/// judged. Each report is let go as soon as it is told. NoMemory where room was refused.
 pub(crate) fn tell_all<T: Tree + Drop>(
     alloc: Global,
+    judged: bool,
     named: &[u32],
     opening: &Snapshot,
     actors: u32,
     classes: Vec<Class<End<T>>>,
 ) -> Result<Vec<Told>, NoMemory>
-    ensures { IfOk result (λ all. AreTold named.now opening.now actors (classes_in classes.items) all.items) }
+    ensures { IfOk result (λ all. AreTold judged named.now opening.now actors (classes_in classes.items) all.items) }
 {
     let mut all = Vec::with_capacity(alloc, classes.len())?;
     for class in classes {
-        all.push(tell(alloc, named, opening, actors, &class)?)?;
+        all.push(tell(alloc, judged, named, opening, actors, &class)?)?;
     }
     Ok(all)
 }

@@ -156,7 +156,7 @@ fn searched<G: Gauge, P: Progress>(
         might,
         lists: found.lists,
         turns: found.turns as u64,
-        all: told_in(alloc, scene, asked, found.classes)?,
+        all: told_in(alloc, true, scene, asked, found.classes)?,
     })
 }
 

@@ -32,20 +32,22 @@ fn first_foreign(named: &[u32], actors: usize) -> Option<u32>
     None
 }
 
-/// What the text says of each outcome that was found. NoMemory where room was refused.
+/// What the text says of each outcome that was found, with its lines where it is judged. NoMemory where room was
+/// refused.
 pub(crate) fn told_in(
     alloc: Global,
+    judged: bool,
     scene: &Scene,
     asked: &Asked,
     classes: Vec<Class<End<ListTree>>>,
 ) -> Result<Vec<Told>, NoMemory>
     requires { length scene.now.plans.items ≤ MOST_ACTORS }
-    ensures { IfOk result (λ all. AreTold asked.now.named.items scene.now.tree (length scene.now.plans.items)
+    ensures { IfOk result (λ all. AreTold judged asked.now.named.items scene.now.tree (length scene.now.plans.items)
         (classes_in classes.items) all.items) }
 {
     let opening = scene.tree.snapshot(alloc)?;
     let actors = scene.plans.len() as u32;
-    tell_all(alloc, &asked.named, &opening, actors, classes)
+    tell_all(alloc, judged, &asked.named, &opening, actors, classes)
 }
 
 // The text of what was found, and whether no property fails.
@@ -62,7 +64,8 @@ fn survey_of(
         × (survey.outcomes.items ≡ counted asked.now.properties.items (in_order is.all))) }
 {
     let (lists, states, turns) = (found.lists, found.states, found.turns as u64);
-    let all = told_in(alloc, scene, asked, found.classes)?;
+    let judged = !asked.properties.is_empty();
+    let all = told_in(alloc, judged, scene, asked, found.classes)?;
     told_in_order(alloc, lists, Some(states), turns, all, &asked.properties)
 }
 

@@ -8,7 +8,7 @@ use Rattle.explore.specs.Explored.{ClassView}
 use Rattle.explore.specs.Opened.{opened_world}
 use Rattle.explore_parts.specs.declared.asked.Asked.{Asked}
 use Rattle.explore_command.specs.Classes.{AreTold}
-use Rattle.explore_command.specs.Surveyed.{scope_asked, IsSurvey, outcomes_of}
+use Rattle.explore_command.specs.Surveyed.{scope_asked, are_judged, IsSurvey, outcomes_of}
 use Rattle.explore_command.proofs.Replayed.{written_lead_there}
 use Rattle.explore_page_command.specs.Played.{AreTaken, chosen}
 use Rattle.explore_page_command.specs.declared.chosen.TheConstants.{PLAYED_MAX}
@@ -65,14 +65,14 @@ chosen_keeps P all ps = All-take P PLAYED_MAX (new_ones all) (new_keeps P [] all
 
 -- ---- what is told of classes
 
-told_taken : (named : List ℕ) (opening : State) (actors n : ℕ) (classes : List ClassView) (all : List Told) → AreTold named opening actors classes all
+told_taken : (judged : Bool) (named : List ℕ) (opening : State) (actors n : ℕ) (classes : List ClassView) (all : List Told) → AreTold judged named opening actors classes all
     → ((k : ℕ) (c : ClassView) → slice_get classes k ≡ Some c → All (λ i. i < n) (without_tail c.least.turns)) → All (AreTaken n) all
-told_taken named opening actors n [] [] are each = All-nil (AreTaken n)
-told_taken named opening actors n [] (told ∷ all) are each = absurd are
-told_taken named opening actors n (c ∷ classes) [] are each = absurd are
-told_taken named opening actors n (c ∷ classes) (told ∷ all) are each =
+told_taken judged named opening actors n [] [] are each = All-nil (AreTaken n)
+told_taken judged named opening actors n [] (told ∷ all) are each = absurd are
+told_taken judged named opening actors n (c ∷ classes) [] are each = absurd are
+told_taken judged named opening actors n (c ∷ classes) (told ∷ all) are each =
     All-cons (AreTaken n) told all (subst (λ (is : List ℕ). All (λ i. i < n) (without_tail is)) (sym are.0.least) (each 0 c refl))
-    (told_taken named opening actors n classes all are.1 (λ k d e. each (suc k) d e))
+    (told_taken judged named opening actors n classes all are.1 (λ k d e. each (suc k) d e))
 
 -- the world has a seat for each actor, and memory
 record IsSeated (said : Said) : Type 0 where
@@ -98,7 +98,7 @@ pub outcomes_taken : (asked : Asked) (said : Said) (holds : Bool) (text : List �
 outcomes_taken asked said holds text survey playable enough =
     All-filter (counts asked.properties.items) (AreTaken n) (put_all survey.telling.all [])
     (put_all_keeps (AreTaken n) survey.telling.all []
-    (told_taken asked.named.items (tree_of said) n n survey.classes survey.telling.all survey.telling.told each) (All-nil (AreTaken n)))
+    (told_taken (are_judged asked) asked.named.items (tree_of said) n n survey.classes survey.telling.all survey.telling.told each) (All-nil (AreTaken n)))
   where
     n : ℕ
     n = length said.plans

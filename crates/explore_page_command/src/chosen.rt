@@ -14,7 +14,7 @@ pub const PLAYED_MAX: usize = 64;
 fn looks_like(told: &Told, other: &Told) -> bool
     ensures { result ≡ looks_like told.now other.now }
 {
-    other.look() == told.look()
+    other.look.as_slice() == told.look.as_slice()
 }
 
 // Whether an outcome looks like none of those before it.

@@ -13,7 +13,7 @@ use Rattle.outcome_text.specs.declared.property.Property.{Property}
 use Rattle.outcome_text.specs.declared.property.Rule.{Rule}
 use Rattle.outcome_text.specs.declared.property.Rule.TheVariants.{When, Never, Always}
 use Rattle.outcome_text.specs.Property.{is_property, rule_word}
-use Rattle.outcome_text.specs.Survey.{look_of}
+use Rattle.outcome_text.specs.Survey.{block_of}
 use Rattle.explore_parts.specs.Options.{IsUnsaid}
 use Rattle.explore_parts.specs.PartRead.{SaysNumber, SaysActor, SaysText, ItemsSay, SaysList, SaysActors, Under, SaysTold, SaysPart, SaysProperty, SaysProperties}
 use Rattle.explore_parts.specs.ReadBack.{AreSameTold, ValuesSayOnePart}
@@ -82,8 +82,8 @@ told_one d told other h k =
       changes = under_one SaysNumber Same number_one _ told.changes other.changes h.changes k.changes;
       turns = turns;
       schedule = h.scheduled ∙ ap schedule_words turns ∙ sym k.scheduled;
-      block = under_one SaysText SameText text_one _ told.block other.block h.block k.block;
-      look = under_one SaysText SameText text_one _ (look_of told) (look_of other) h.look k.look;
+      block = under_one SaysText SameText text_one _ (block_of told) (block_of other) h.block k.block;
+      look = under_one SaysText SameText text_one _ told.look other.look h.look k.look;
       lines = under_one SaysText SameText text_one _ told.lines other.lines h.lines k.lines;
     }
 

@@ -10,7 +10,7 @@ use Rattle.outcome_text.specs.declared.part.Part.{Part}
 use Rattle.outcome_text.specs.declared.property.Property.{Property}
 use Rattle.outcome_text.specs.declared.survey.Told.{Told}
 use Rattle.outcome_text.specs.Property.{rule_word}
-use Rattle.outcome_text.specs.Survey.{look_of}
+use Rattle.outcome_text.specs.Survey.{block_of}
 use Rattle.explore_parts.specs.declared.asked.Asked.{Asked}
 use Rattle.report_text.specs.Json.{text_words, comma_words}
 use Rattle.explore_parts.specs.Lists.{numbers_words, lists_words}
@@ -54,8 +54,8 @@ told_data told =
     (member (codes "cuts") (number_data told.cuts)
     (member (codes "changes") (number_data told.changes)
     (member (codes "least") (numbers_data told.turns.items)
-    (member (codes "block") (text_data told.block)
-    (member (codes "look") (text_data (look_of told))
+    (member (codes "block") (text_data (block_of told))
+    (member (codes "look") (text_data told.look)
     (member (codes "lines") (text_data told.lines) no_members)))))))
 
 -- with that digest
@@ -128,10 +128,10 @@ told_same : (told : Told) → compact_text (told_data told) ≡ told_object told
 unfolding escape_byte count_words texts_words
 told_same told =
     (λ i. codes "{\"schedules\":" ++ (decimal told.lists ++ (codes ",\"cuts\":" ++ (decimal told.cuts ++ (codes ",\"changes\":" ++ (decimal told.changes
-    ++ (codes ",\"least\":" ++ (numbers_same told.turns.items i ++ (codes ",\"block\":" ++ (text_words told.block ++ (codes ",\"look\":" ++ (text_words (look_of told)
+    ++ (codes ",\"least\":" ++ (numbers_same told.turns.items i ++ (codes ",\"block\":" ++ (text_words (block_of told) ++ (codes ",\"look\":" ++ (text_words told.look
     ++ (codes ",\"lines\":" ++ (text_words told.lines ++ codes "}"))))))))))))))
     ∙ regroup_told (codes "{\"schedules\":") (decimal told.lists) (codes ",\"cuts\":") (decimal told.cuts) (codes ",\"changes\":") (decimal told.changes)
-    (codes ",\"least\":") (numbers_words told.turns.items) (codes ",\"block\":") (text_words told.block) (codes ",\"look\":") (text_words (look_of told))
+    (codes ",\"least\":") (numbers_words told.turns.items) (codes ",\"block\":") (text_words (block_of told)) (codes ",\"look\":") (text_words told.look)
     (codes ",\"lines\":") (text_words told.lines) (codes "}")
 
 outcomes_same : (all : List Told) → compact_text (list_data told_data all) ≡ outcomes_words all

@@ -18,7 +18,7 @@ use Rattle.outcome_text.specs.declared.property.Rule.TheVariants.{When, Never, A
 use Rattle.outcome_text.specs.declared.survey.Told.{Told}
 use Rattle.outcome_text.specs.Schedule.{schedule_words}
 use Rattle.outcome_text.specs.Property.{names_a_line, ends_in_blank, is_printed, is_property, rule_word}
-use Rattle.outcome_text.specs.Survey.{look_of}
+use Rattle.outcome_text.specs.Survey.{block_of}
 use Rattle.explore_parts.specs.declared.asked.Asked.{Asked}
 use Rattle.explore_parts.specs.PartRead.{SaysActor, SaysText, ItemsSay, SaysList, SaysActors, SaysTold, SaysPart, SaysProperty, SaysProperties, LineSays}
 use Rattle.explore_parts.specs.PartText.{part_words}
@@ -156,8 +156,8 @@ says_told told fits scheduled = record {
   changes = refl;
   least = says_actors told.turns.items fits.turns;
   scheduled = scheduled;
-  block = says_text told.block fits.block;
-  look = says_text (look_of told) fits.look;
+  block = says_text (block_of told) fits.block;
+  look = says_text told.look fits.look;
   lines = says_text told.lines fits.lines;
 }
 

@@ -12,7 +12,7 @@ use Rattle.outcome_text.specs.declared.property.Property.{Property}
 use Rattle.outcome_text.specs.declared.survey.Told.{Told}
 use Rattle.outcome_text.specs.Property.{is_property, rule_word}
 use Rattle.outcome_text.specs.Schedule.{schedule_words}
-use Rattle.outcome_text.specs.Survey.{look_of}
+use Rattle.outcome_text.specs.Survey.{block_of}
 use Rattle.explore_parts.specs.declared.part_read.PartFault.{PartFault}
 use Rattle.explore_parts.specs.declared.part_read.PartFault.TheVariants.{Shape}
 use Rattle.explore_parts.specs.Options.{IsUnsaid}
@@ -60,8 +60,8 @@ pub record SaysTold (d : Data) (told : Told) : Type 0 where
   pub changes : Under (codes "changes") SaysNumber d told.changes
   pub least : Under (codes "least") SaysActors d told.turns
   pub scheduled : told.schedule ≡ schedule_words told.turns.items
-  pub block : Under (codes "block") SaysText d told.block
-  pub look : Under (codes "look") SaysText d (look_of told)
+  pub block : Under (codes "block") SaysText d (block_of told)
+  pub look : Under (codes "look") SaysText d told.look
   pub lines : Under (codes "lines") SaysText d told.lines
 
 -- ---- a part: of no more turns than it begins with is it said who might have had them

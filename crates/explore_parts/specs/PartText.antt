@@ -9,7 +9,7 @@ use Rattle.report_text.specs.Json.{text_words, comma_words}
 use Rattle.explore_parts.specs.Lists.{numbers_words, lists_words}
 use Rattle.explore_parts.specs.Seal.{sealed}
 use Rattle.outcome_text.specs.Property.{rule_word}
-use Rattle.outcome_text.specs.Survey.{look_of}
+use Rattle.outcome_text.specs.Survey.{block_of}
 
 abbrev pub cuts_words : Option ℕ → List ℕ
 cuts_words None = codes "null"
@@ -51,8 +51,8 @@ count_words told =
 
 unfoldable pub texts_words : Told → List ℕ
 texts_words told =
-    codes ",\"block\":" ++ (text_words told.block
-    ++ (codes ",\"look\":" ++ (text_words (look_of told) ++ (codes ",\"lines\":" ++ text_words told.lines))))
+    codes ",\"block\":" ++ (text_words (block_of told)
+    ++ (codes ",\"look\":" ++ (text_words told.look ++ (codes ",\"lines\":" ++ text_words told.lines))))
 
 unfoldable pub told_words : ℕ → Told → List ℕ
 told_words at told =

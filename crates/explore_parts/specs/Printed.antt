@@ -4,7 +4,7 @@ use Rattle.std.specs.List.{All}
 use Rattle.outcome_text.specs.declared.part.Part.{Part}
 use Rattle.outcome_text.specs.declared.survey.Told.{Told}
 use Rattle.outcome_text.specs.Property.{is_property}
-use Rattle.outcome_text.specs.Survey.{look_of}
+use Rattle.outcome_text.specs.Survey.{block_of}
 use Rattle.explore_parts.specs.declared.asked.Asked.{Asked}
 
 abbrev pub AreActors : List ℕ → Type 0
@@ -18,8 +18,8 @@ pub record ToldFits (told : Told) : Type 0 where
   pub cuts : told.cuts < 2 ^ 64
   pub changes : told.changes < 2 ^ 64
   pub turns : AreActors told.turns.items
-  pub block : AreBytes told.block
-  pub look : AreBytes (look_of told)
+  pub block : AreBytes (block_of told)
+  pub look : AreBytes told.look
   pub lines : AreBytes told.lines
 
 -- and of no more turns than it begins with is it said who might have had them

@@ -6,7 +6,7 @@ use Rattle.serde_json.specs.Data.{Data}
 use Rattle.outcome_text.specs.declared.part.Part.{Part}
 use Rattle.outcome_text.specs.declared.survey.Told.{Told}
 use Rattle.outcome_text.specs.Schedule.{schedule_words}
-use Rattle.outcome_text.specs.Survey.{look_of}
+use Rattle.outcome_text.specs.Survey.{block_of}
 use Rattle.explore_parts.specs.declared.asked.Asked.{Asked}
 use Rattle.explore_parts.specs.PartRead.{SaysPart, LineSays}
 use Rattle.explore_parts.specs.PartText.{part_words}
@@ -21,8 +21,8 @@ pub record AreSameTold (told other : Told) : Type 0 where
   pub changes : told.changes ≡ other.changes
   pub turns : told.turns.items ≡ other.turns.items
   pub schedule : told.schedule ≡ other.schedule
-  pub block : told.block ≡ other.block
-  pub look : look_of told ≡ look_of other
+  pub block : block_of told ≡ block_of other
+  pub look : told.look ≡ other.look
   pub lines : told.lines ≡ other.lines
 
 pub record AreSame (part other : Part) : Type 0 where

@@ -115,46 +115,46 @@ fn told_counts(out: &mut Output, told: &Told) -> Result<(), NoMemory>
 
 // Adds the texts of an outcome.
 #[tactic(auto, unfolding(crate::specs::PartText::texts_words))]
-fn told_texts(out: &mut Output, told: &Told) -> Result<(), NoMemory>
+fn told_texts(alloc: Global, out: &mut Output, told: &Told) -> Result<(), NoMemory>
     ensures { Gains out.old out.new (texts_words told.now) result }
 {
     out.text(",\"block\":")?;
-    text(out, told.block.as_slice())?;
+    text(out, told.block(alloc)?.as_slice())?;
     out.text(",\"look\":")?;
-    text(out, told.look())?;
+    text(out, told.look.as_slice())?;
     out.text(",\"lines\":")?;
     text(out, told.lines.as_slice())
 }
 
 // Adds an outcome by its place.
 #[tactic(auto, unfolding(crate::specs::PartText::told_words))]
-fn told(out: &mut Output, at: usize, told: &Told) -> Result<(), NoMemory>
+fn told(alloc: Global, out: &mut Output, at: usize, told: &Told) -> Result<(), NoMemory>
     ensures { Gains out.old out.new (told_words at told.now) result }
 {
     comma(out, at)?;
     told_counts(out, told)?;
     out.text(",\"least\":")?;
     numbers(out, &told.turns)?;
-    told_texts(out, told)?;
+    told_texts(alloc, out, told)?;
     out.text("}")
 }
 
 // Adds the outcomes of a list.
-fn all_told(out: &mut Output, all: &[Told]) -> Result<(), NoMemory>
+fn all_told(alloc: Global, out: &mut Output, all: &[Told]) -> Result<(), NoMemory>
     ensures { Gains out.old out.new (numbered told_words 0 all.now) result }
 {
     for (at, one) in all.iter().enumerate() {
-        told(out, at, one)?;
+        told(alloc, out, at, one)?;
     }
     Ok(())
 }
 
 // Adds a list of outcomes.
-fn outcomes(out: &mut Output, all: &[Told]) -> Result<(), NoMemory>
+fn outcomes(alloc: Global, out: &mut Output, all: &[Told]) -> Result<(), NoMemory>
     ensures { Gains out.old out.new (outcomes_words all.now) result }
 {
     out.text("[")?;
-    all_told(out, all)?;
+    all_told(alloc, out, all)?;
     out.text("]")
 }
 
@@ -171,13 +171,13 @@ fn part_turns(out: &mut Output, part: &Part) -> Result<(), NoMemory>
 
 // Adds how many schedules a part has, how long they are, and their outcomes.
 #[tactic(auto, unfolding(crate::specs::PartText::found_words))]
-fn part_found(out: &mut Output, part: &Part) -> Result<(), NoMemory>
+fn part_found(alloc: Global, out: &mut Output, part: &Part) -> Result<(), NoMemory>
     ensures { Gains out.old out.new (found_words part.now) result }
 {
     numbered(out, ",\"schedules\":", part.lists)?;
     numbered(out, ",\"turns\":", part.turns)?;
     out.text(",\"outcomes\":")?;
-    outcomes(out, &part.all)
+    outcomes(alloc, out, &part.all)
 }
 
 // Adds a part of what is asked of the script with that digest: an object of JSON, but for its end.
@@ -194,7 +194,7 @@ fn part_words(
     out.text("{\"part of\":")?;
     question(alloc, out, script, asked)?;
     part_turns(out, part)?;
-    part_found(out, part)
+    part_found(alloc, out, part)
 }
 
 /// A part of what is asked of the script with that digest, as a line that ends with its own digest. NoMemory where its

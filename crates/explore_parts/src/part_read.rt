@@ -11,8 +11,8 @@ ghost use Rattle.explore_parts.specs.Options.{IsUnsaid};
 ghost use Rattle.explore_parts.specs.PartRead.{SaysNumber, SaysActor, SaysText, ItemsSay, SaysList, SaysActors, Under, SaysTold, SaysPart, SaysProperty, SaysProperties, SaysQuestion, IsReading};
 
 use event_log::Output;
-use outcome_text::{Part, Property, Rule, Told, look_beside, read_property, schedule_words};
-use path_text::NoMemory;
+use outcome_text::{Part, Property, Rule, Told, beside, read_property, schedule_words};
+use path_text::{Bytes, NoMemory};
 use serde_json::Value;
 use std::alloc::{AllocError, Global};
 use thiserror::Error;
@@ -106,17 +106,17 @@ fn bytes_of(alloc: Global, text: &str) -> Result<Output, PartFault>
 }
 
 // The text that a value says.
-fn text_of(alloc: Global, value: &Value) -> Result<Output, PartFault>
+fn text_of(alloc: Global, value: &Value) -> Result<Bytes, PartFault>
     ensures { IsReading SaysText (view value.now) result }
 {
     match value.as_str() {
-        Some(text) => bytes_of(alloc, text),
+        Some(text) => Ok(Bytes::from_slice(alloc, bytes_of(alloc, text)?.as_slice())?),
         None => Err(PartFault::Shape),
     }
 }
 
 // The text under a key.
-fn text(alloc: Global, value: &Value, key: &str) -> Result<Output, PartFault>
+fn text(alloc: Global, value: &Value, key: &str) -> Result<Bytes, PartFault>
     ensures { IsReading (Under key.now SaysText) (view value.now) result }
 {
     text_of(alloc, under(value, key)?)
@@ -190,15 +190,17 @@ fn told(alloc: Global, value: &Value) -> Result<Told, PartFault>
     let mut leads = Output::new(alloc);
     schedule_words(&mut leads, &turns)?;
     let block = text(alloc, value, "block")?;
-    let other_look = look_beside(&block, text(alloc, value, "look")?);
+    let look = text(alloc, value, "look")?;
+    let (same, rest) = beside(alloc, look.as_slice(), block.as_slice())?;
     Ok(Told {
         lists: number(value, "schedules")?,
         cuts: number(value, "cuts")?,
         changes: number(value, "changes")?,
         turns,
         schedule: leads,
-        block,
-        other_look,
+        look,
+        same,
+        rest,
         lines: text(alloc, value, "lines")?,
     })
 }

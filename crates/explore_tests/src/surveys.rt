@@ -9,12 +9,6 @@ use scripts::RunFault;
 use search_tests::scenes::{MOVED_OUT, scene_of};
 use std::alloc::Global;
 
-fn output_of(alloc: Global, text: &str) -> Result<Output, NoMemory> {
-    let mut out = Output::new(alloc);
-    out.text(text)?;
-    Ok(out)
-}
-
 /// The cuts and the turns of an outcome's least list, and what is printed of it.
 type Least = (u64, &'static [u32], &'static str);
 
@@ -37,9 +31,10 @@ fn told_of(alloc: Global, least: &Least) -> Result<Told, NoMemory> {
         changes: 1,
         turns: list,
         schedule,
-        block: output_of(alloc, block)?,
-        other_look: None,
-        lines: output_of(alloc, block)?,
+        look: Bytes::from_slice(alloc, block.as_bytes())?,
+        same: block.len(),
+        rest: Bytes::from_slice(alloc, b"")?,
+        lines: Bytes::from_slice(alloc, block.as_bytes())?,
     })
 }
 

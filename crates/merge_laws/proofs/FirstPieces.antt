@@ -245,8 +245,3 @@ put_sum f told (other ∷ others) = go (comes_before told other) (put_sum f told
 pub order_sum : (f : Told → ℕ) (all : List Told) → sum_by f (in_order all) ≡ sum_by f all
 order_sum f [] = refl
 order_sum f (told ∷ all) = put_sum f told (in_order all) ∙ (ap (λ (n : ℕ). f told + n) (order_sum f all) ∙ sym (sum_by-cons f told all))
-
-pub mapped_sum : {A : Type 0} (told : A → Told) (f : Told → ℕ) (xs : List A) → sum_by f (map told xs) ≡ sum_by (λ x. f (told x)) xs
-mapped_sum told f [] = refl
-mapped_sum told f (x ∷ xs) =
-    sum_by-cons f (told x) (map told xs) ∙ (ap (λ (n : ℕ). f (told x) + n) (mapped_sum told f xs) ∙ sym (sum_by-cons (λ y. f (told y)) x xs))

@@ -7,6 +7,7 @@ mod CallsSayNoHandles
 mod RepliesSayNoHandles
 mod NoGaps
 mod Covered
+mod Judged
 mod Merged
 mod OfScripts
 mod Printed

@@ -24,6 +24,7 @@ use Rattle.further_world_laws.specs.Parts as worlds
 use Rattle.further_world_laws.proofs.PartsJoined.{parts_make_the_whole}
 use Rattle.further_world_laws.proofs.WholePart.{whole_is_a_part}
 use Rattle.merge_laws.specs.Merged.{RepliesNameNoHandles, ArePartsOf, SayTheSame, MergedPartsAreTheWhole}
+use Rattle.merge_laws.proofs.Judged.{HaveLines, have_lines}
 use Rattle.merge_laws.proofs.Covered.{parts_without_gaps_are_all}
 use Rattle.merge_laws.proofs.RepliesSayNoHandles.{replies_say_no_handles}
 use Rattle.merge_laws.proofs.Tellings.{Piece, Telling, are_pieces}
@@ -62,9 +63,12 @@ module _ (asked : Asked) (tree : State) (plans : List ActorPlan) (lines : ℕ) (
       alone : AreParts world scope (part_with [] survey.classes survey.lists survey.turns ∷ [])
       alone = whole_is_a_part world scope survey.classes survey.lists survey.turns survey.explored
 
-      pairs : ArePaired world scope asked.named.items tree (length plans) survey.classes survey.telling.all
+      lined : HaveLines asked.named.items tree (length plans) asked.properties.items survey.classes survey.telling.all
+      lined = have_lines asked.named.items tree (length plans) asked.properties.items survey.classes survey.telling.all survey.telling.told
+
+      pairs : ArePaired world scope asked.named.items tree (length plans) survey.classes lined.full
       pairs =
-          paired world scope asked.named.items tree (length plans) survey.classes survey.telling.all survey.telling.told
+          paired world scope asked.named.items tree (length plans) survey.classes lined.full lined.told
           (endings_in world scope asked.named.items tree (length plans) (part_with [] survey.classes survey.lists survey.turns)
           (alone.each (part_with [] survey.classes survey.lists survey.turns) (inl refl)))
 
@@ -80,10 +84,10 @@ module _ (asked : Asked) (tree : State) (plans : List ActorPlan) (lines : ℕ) (
       unfolding of_whole
       wide part h = ⊎_elim (λ e. ap (λ (v : PartView). v.begin) e) (λ none. absurd none) h
 
-      pieces : ArePieces (in_order (all_of parts)) (in_order survey.telling.all)
+      pieces : ArePieces (in_order (all_of parts)) (in_order lined.full)
       unfolding pairs of_whole viewed of_parts
       pieces =
-          subst (λ (ts : List Told). ArePieces (in_order ts) (in_order survey.telling.all)) viewed.told.are_told
+          subst (λ (ts : List Told). ArePieces (in_order ts) (in_order lined.full)) viewed.told.are_told
           (subst (λ (ts : List Told). ArePieces (in_order (map (λ (z : Piece world scope asked.named.items tree (length plans)). z.told) of_parts.pieces)) (in_order ts)) pairs.are_told
           (are_pieces world scope asked.named.items tree (length plans) seats nameless of_parts of_whole wide))
 
@@ -98,14 +102,14 @@ module _ (asked : Asked) (tree : State) (plans : List ActorPlan) (lines : ℕ) (
 
       said : SayTheSame asked.properties.items holds answer whole text
       said =
-          let tells = pieces_tell_the_whole survey.lists None survey.turns asked.properties.items (in_order (all_of parts)) (in_order survey.telling.all) pieces in record {
+          let tells = pieces_tell_the_whole survey.lists None survey.turns asked.properties.items (in_order (all_of parts)) (in_order lined.full) pieces in record {
             all = in_order survey.telling.all;
             lists = survey.lists;
             states = survey.states;
             longest = survey.turns;
             whole_is = survey.telling.is;
-            text_is = join.is ∙ (numbers_same asked.properties.items (in_order (all_of parts)) lists_same longest_same ∙ tells.0);
-            answers = join.judged ∙ (tells.1 ∙ sym survey.telling.judged);
+            text_is = join.is ∙ (numbers_same asked.properties.items (in_order (all_of parts)) lists_same longest_same ∙ (tells.0 ∙ lined.text survey.lists None survey.turns));
+            answers = join.judged ∙ (tells.1 ∙ (lined.holds ∙ sym survey.telling.judged));
           }
 
 pub merged_parts_are_the_whole : MergedPartsAreTheWhole

@@ -39,7 +39,7 @@ use Rattle.merge_laws.proofs.OfScripts.{merged_parts_of_a_script_are_the_whole}
 -- ---- a part like the one that was found
 
 module _ (named : List ℕ) (tree : State) (actors : ℕ) where
-  told_like : (class : ClassView) (told other : Told) → AreSameTold told other → IsTold named tree actors class told → IsTold named tree actors class other
+  told_like : (class : ClassView) (told other : Told) → AreSameTold told other → IsTold true named tree actors class told → IsTold true named tree actors class other
   told_like class told other same is = record {
     counted = sym same.lists ∙ is.counted;
     cut = sym same.cuts ∙ is.cut;
@@ -51,7 +51,7 @@ module _ (named : List ℕ) (tree : State) (actors : ℕ) where
     judged_by = sym same.lines ∙ is.judged_by;
   }
 
-  all_like : (classes : List ClassView) (all others : List Told) → AllZip AreSameTold all others → AreTold named tree actors classes all → AreTold named tree actors classes others
+  all_like : (classes : List ClassView) (all others : List Told) → AllZip AreSameTold all others → AreTold true named tree actors classes all → AreTold true named tree actors classes others
   all_like [] [] [] same are = tt
   all_like [] [] (other ∷ others) same are = absurd same
   all_like [] (told ∷ all) others same are = absurd are
@@ -61,7 +61,7 @@ module _ (named : List ℕ) (tree : State) (actors : ℕ) where
       (told_like class told other same.0 are.0, all_like classes all others same.1 are.1)
 
   -- each outcome's schedule is that of its least list
-  scheduled_of : (classes : List ClassView) (all : List Told) → AreTold named tree actors classes all → AllByRecursion (λ told. told.schedule ≡ schedule_words told.turns.items) all
+  scheduled_of : (classes : List ClassView) (all : List Told) → AreTold true named tree actors classes all → AllByRecursion (λ told. told.schedule ≡ schedule_words told.turns.items) all
   scheduled_of [] [] are = tt
   scheduled_of [] (told ∷ all) are = absurd are
   scheduled_of (class ∷ classes) [] are = absurd are

@@ -13,7 +13,8 @@ use Rattle.outcome_text.specs.declared.survey.Told.{Told}
 use Rattle.outcome_text.specs.InPieces.{AreAlike, AreOneBut, IsByOutcome, ArePieces}
 use Rattle.outcome_text.specs.Order.{rank_of, in_order}
 use Rattle.outcome_text.specs.Telling.{IsToldOf}
-use Rattle.merge_laws.proofs.FirstPieces.{Before, HaveNoTies, AreOthers, IsFirstOf, IsWholeOf, first_in_order, order_sum, mapped_sum}
+use Rattle.merge_laws.proofs.FirstPieces.{Before, HaveNoTies, AreOthers, IsFirstOf, IsWholeOf, first_in_order, order_sum}
+use Rattle.outcome_text.proofs.Bare.{mapped_sum}
 use Rattle.outcome_text.proofs.SameReports.{one_list_is_told_as_one}
 use Rattle.tree_model.specs.State.{State}
 use Rattle.further_world_laws.specs.Parts.{Begins, PartView, AreParts, classes_of}
@@ -32,7 +33,7 @@ module _ (w : WorldView) (scope : Scope) (named : List ℕ) (opening : State) (a
     pub class : ClassView
     pub told : Told
     pub ending : IsEnding w scope class.least
-    pub is : IsTold named opening actors class told
+    pub is : IsTold true named opening actors class told
 
   -- the classes of parts that make all lists, with what is told of them
   pub record Telling : Type 0 where
@@ -136,7 +137,7 @@ module _ (w : WorldView) (scope : Scope) (named : List ℕ) (opening : State) (a
 
   module _ (seats : actors ≡ length w.seats) (nameless : RepliesNameNoHandles w scope) where
     alike : (x y : Piece) → Same x y → AreAlike x.told y.told
-    alike x y h = told_alike w scope named opening actors seats nameless x.class y.class x.told y.told x.ending y.ending h x.is y.is
+    alike x y h = told_alike true w scope named opening actors seats nameless x.class y.class x.told y.told x.ending y.ending h x.is y.is
 
     comes_too : (t u : Telling) (test : Told → Bool) → IsByOutcome test → (js : List ℕ) → InSome (Comes t test) t.pieces js → InSome (Comes u test) u.pieces js
     comes_too t u test by js h =
@@ -173,8 +174,8 @@ module _ (w : WorldView) (scope : Scope) (named : List ℕ) (opening : State) (a
       one_but : (x y : Piece) → x.class.least.turns ≡ y.class.least.turns → AreOneBut x.told y.told
       one_but x y turns =
           let e = y.class.least in
-          one_list_is_told_as_one named opening e.tree actors x.class.lists y.class.lists e.cuts e.changes e.turns e.replies e.outside x.told y.told
-          (subst (λ (d : EndingView). IsToldOf named opening actors x.class.lists d.cuts d.changes d.turns d.replies d.tree d.outside x.told)
+          one_list_is_told_as_one true named opening e.tree actors x.class.lists y.class.lists e.cuts e.changes e.turns e.replies e.outside x.told y.told
+          (subst (λ (d : EndingView). IsToldOf true named opening actors x.class.lists d.cuts d.changes d.turns d.replies d.tree d.outside x.told)
           (same_ending w scope x.class.least e x.ending y.ending turns) x.is)
           y.is
 

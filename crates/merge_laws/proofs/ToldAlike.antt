@@ -1,5 +1,5 @@
 -- What is told of two lists that lead to one outcome.
-use Rattle.std.specs.Prelude.{◌≡◌, ◌<◌, ℕ, List, length, refl}
+use Rattle.std.specs.Prelude.{◌≡◌, ◌<◌, ℕ, Bool, List, length, refl}
 use Rattle.std.proofs.Common.{◌∙◌, sym, ap, subst}
 use Rattle.explore.specs.Explored.{Scope, AgreeIn, EndingView, ClassView, IsEnding}
 use Rattle.local_states.proofs.Lists.Runs.{actors_stay}
@@ -32,19 +32,19 @@ module _ (w : WorldView) (scope : Scope) (nameless : RepliesNameNoHandles w scop
   same_outside : c.outside ≡ d.outside
   same_outside = is.outside ∙ (agree.outside ∙ sym are.outside)
 
-pub told_alike : (w : WorldView) (scope : Scope) (named : List ℕ) (opening : State) (actors : ℕ) → actors ≡ length w.seats → RepliesNameNoHandles w scope
+pub told_alike : (judged : Bool) (w : WorldView) (scope : Scope) (named : List ℕ) (opening : State) (actors : ℕ) → actors ≡ length w.seats → RepliesNameNoHandles w scope
     → (c d : ClassView) (told like : Told) → IsEnding w scope c.least → IsEnding w scope d.least → AgreeIn w scope c.least.turns d.least.turns
-    → IsTold named opening actors c told → IsTold named opening actors d like → AreAlike told like
-told_alike w scope named opening actors seats nameless c d told like is are agree says tells =
+    → IsTold judged named opening actors c told → IsTold judged named opening actors d like → AreAlike told like
+told_alike judged w scope named opening actors seats nameless c d told like is are agree says tells =
     let replies = same_replies w scope nameless c.least d.least is are agree in
     let outside = same_outside w scope nameless c.least d.least is are agree in
-    same_reports_are_told_alike named opening c.least.tree d.least.tree actors c.lists d.lists c.least.cuts d.least.cuts c.least.changes d.least.changes
+    same_reports_are_told_alike judged named opening c.least.tree d.least.tree actors c.lists d.lists c.least.cuts d.least.cuts c.least.changes d.least.changes
     c.least.turns d.least.turns c.least.replies c.least.outside told like says
-    (subst (λ (out : List ℕ). IsToldOf named opening actors d.lists d.least.cuts d.least.changes d.least.turns c.least.replies d.least.tree out like) (sym outside)
-    (subst (λ (rs : List (List Outcome)). IsToldOf named opening actors d.lists d.least.cuts d.least.changes d.least.turns rs d.least.tree d.least.outside like) (sym replies) tells))
+    (subst (λ (out : List ℕ). IsToldOf judged named opening actors d.lists d.least.cuts d.least.changes d.least.turns c.least.replies d.least.tree out like) (sym outside)
+    (subst (λ (rs : List (List Outcome)). IsToldOf judged named opening actors d.lists d.least.cuts d.least.changes d.least.turns rs d.least.tree d.least.outside like) (sym replies) tells))
     (same_nodes w scope nameless c.least d.least is are agree)
     (λ a lt. same_held w scope nameless c.least d.least is are agree a (subst (λ (n : ℕ). a < n) seats lt))
 
 pub agreeing_lists_are_told_alike : AgreeingListsAreToldAlike
-agreeing_lists_are_told_alike w scope named opening c d told like nameless is are agree says tells =
-    told_alike w scope named opening (length w.seats) refl nameless c d told like is are agree says tells
+agreeing_lists_are_told_alike judged w scope named opening c d told like nameless is are agree says tells =
+    told_alike judged w scope named opening (length w.seats) refl nameless c d told like is are agree says tells

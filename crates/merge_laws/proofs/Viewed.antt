@@ -1,5 +1,5 @@
 -- Parts as they were searched, with what is told of their classes.
-use Rattle.std.specs.Prelude.{◌≡◌, ◌+◌, ℕ, max, List, [], ◌∷◌, ◌++◌, map, length, sum_by, refl}
+use Rattle.std.specs.Prelude.{◌≡◌, ◌+◌, ℕ, max, List, [], ◌∷◌, ◌++◌, true, map, length, sum_by, refl}
 use Rattle.std.proofs.Common.{◌∙◌, inl, inr, sym, ap, subst, ⊎_elim}
 use Rattle.std.proofs.lemmas.List.{map-append}
 use Rattle.std.proofs.lemmas.List.Sums.{sum_by-cons}
@@ -45,7 +45,7 @@ module _ (w : WorldView) (scope : Scope) (named : List ℕ) (opening : State) (a
     pub are_classes : classes_in pieces ≡ classes
     pub are_told : told_in pieces ≡ all
 
-  pub paired : (classes : List ClassView) (all : List Told) → AreTold named opening actors classes all → ((c : ClassView) → IsAmong c classes → IsEnding w scope c.least)
+  pub paired : (classes : List ClassView) (all : List Told) → AreTold true named opening actors classes all → ((c : ClassView) → IsAmong c classes → IsEnding w scope c.least)
       → ArePaired classes all
   paired [] [] says endings = record { pieces = []; are_classes = refl; are_told = refl }
   paired [] (t ∷ all) says endings = absurd says
@@ -128,7 +128,7 @@ module _ (asked : Asked) (tree : State) (plans : List ActorPlan) (lines : ℕ) w
           lists = refl;
           turns = refl;
           told = paired world (scope_asked asked) asked.named.items tree (length plans) has.classes part.all.items
-              (subst (λ (names : List ℕ). AreTold names tree (length plans) has.classes part.all.items) one.named has.told)
+              (subst (λ (names : List ℕ). AreTold true names tree (length plans) has.classes part.all.items) one.named has.told)
               (endings_in world (scope_asked asked) asked.named.items tree (length plans) view is);
           is = is;
         }

@@ -17,7 +17,7 @@ use Rattle.outcome_text.specs.declared.property.Property.{Property}
 use Rattle.outcome_text.specs.declared.survey.Told.{Told}
 use Rattle.outcome_text.specs.Counts.{count_words}
 use Rattle.outcome_text.specs.Property.{fails, is_condition, rule_word}
-use Rattle.outcome_text.specs.Survey.{look_of, looks_like, is_new, new_among, new_ones, lists_where, lists_to, witness_words, block_words, block_text, blocks_text, breaks, lists_breaking, status_words, property_text, properties_text, holds, all_hold, numbers_text}
+use Rattle.outcome_text.specs.Survey.{block_of, looks_like, is_new, new_among, new_ones, lists_where, lists_to, witness_words, block_words, block_text, blocks_text, breaks, lists_breaking, status_words, property_text, properties_text, holds, all_hold, numbers_text}
 use Rattle.outcome_text.specs.Conditions.{is_met, counts, counted, lists_counted, condition_text, conditions_text}
 use Rattle.outcome_text.specs.InPieces.{AreAlike, AreOneBut, IsByOutcome, IsAgain, AreFirst, ArePieces, PiecesTellTheWhole}
 use Rattle.std.proofs.Math.Bool.{or-false}
@@ -25,7 +25,7 @@ use Rattle.std.proofs.Math.Bool.{or-false}
 -- ---- tests by outcome
 
 by_look : (told : Told) → IsByOutcome (looks_like told)
-by_look told t u h = ap (λ (look : List ℕ). same_bytes look (look_of told)) h.look
+by_look told t u h = ap (λ (look : List ℕ). same_bytes look told.look) h.look
 
 by_lines : (property : Property) → IsByOutcome (breaks property)
 by_lines property t u h = ap (fails property) h.lines
@@ -104,10 +104,10 @@ ones_text line other each k (x ∷ xs) (y ∷ ys) h =
 
 new_same : (earlier before : List Told) (told other : Told) → AreOneBut told other → AreAsFound earlier before → is_new earlier told ≡ is_new before other
 new_same earlier before told other one same =
-    ap not (same (looks_like told) (by_look told) ∙ ap (λ (look : List ℕ). list_any (λ t. same_bytes (look_of t) look) before) one.alike.look)
+    ap not (same (looks_like told) (by_look told) ∙ ap (λ (look : List ℕ). list_any (λ t. same_bytes t.look look) before) one.alike.look)
 
 old_again : (earlier : List Told) (told : Told) → IsAgain earlier told → is_new earlier told ≡ false
-old_again earlier told h = ap not (again_found (looks_like told) earlier told (by_look told) h ((bytes_eq-Decides (look_of told) (look_of told)).1 refl))
+old_again earlier told h = ap not (again_found (looks_like told) earlier told (by_look told) h ((bytes_eq-Decides told.look told.look).1 refl))
 
 ones_again : (earlier : List Told) (told : Told) (pieces news : List Told) → IsAgain earlier told
     → AreOnes (new_among (earlier ++ told ∷ []) pieces) news → AreOnes (new_among earlier (told ∷ pieces)) news
@@ -148,8 +148,8 @@ witness_same told other h =
 block_same : (k lists many : ℕ) (told other : Told) → AreOneBut told other → lists ≡ many → block_words k lists told ≡ block_words k many other
 unfolding block_words
 block_same k lists many told other h e =
-    ap (λ (n : ℕ). (codes "outcome " ++ decimal k) ++ ((codes " schedules " ++ count_words n) ++ (witness_words told ++ told.block))) e
-    ∙ (ap (λ (w : List ℕ). (codes "outcome " ++ decimal k) ++ ((codes " schedules " ++ count_words many) ++ (w ++ told.block))) (witness_same told other h)
+    ap (λ (n : ℕ). (codes "outcome " ++ decimal k) ++ ((codes " schedules " ++ count_words n) ++ (witness_words told ++ block_of told))) e
+    ∙ (ap (λ (w : List ℕ). (codes "outcome " ++ decimal k) ++ ((codes " schedules " ++ count_words many) ++ (w ++ block_of told))) (witness_same told other h)
     ∙ ap (λ (b : List ℕ). (codes "outcome " ++ decimal k) ++ ((codes " schedules " ++ count_words many) ++ (witness_words other ++ b))) h.block)
 
 -- ---- the first that passes
@@ -287,7 +287,7 @@ module _ (pieces whole : List Told) (are : ArePieces pieces whole) where
   block_of_same : (k : ℕ) (told other : Told) → AreOneBut told other → block_text pieces k told ≡ block_text whole k other
   block_of_same k told other one =
       block_same k (lists_to pieces told) (lists_to whole other) told other one
-      (are.lists (looks_like told) (by_look told) ∙ ap (λ (look : List ℕ). lists_where (λ t. same_bytes (look_of t) look) whole) one.alike.look)
+      (are.lists (looks_like told) (by_look told) ∙ ap (λ (look : List ℕ). lists_where (λ t. same_bytes t.look look) whole) one.alike.look)
 
   blocks_same : blocks_text pieces ≡ blocks_text whole
   blocks_same = ones_text (block_text pieces) (block_text whole) block_of_same 0 (new_ones pieces) (new_ones whole) new_ones_same

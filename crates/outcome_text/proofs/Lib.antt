@@ -1,5 +1,6 @@
 mod Tails
 mod NewOnes
+pub mod Bare
 pub mod Pieces
 mod AnyOrder
 mod Beginnings

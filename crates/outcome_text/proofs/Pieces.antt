@@ -3,7 +3,7 @@ use Rattle.std.proofs.Common.{◌≡◌, ◌<◌, ◌+◌, ◌⊎◌, ⊎_elim, 
 use Rattle.std.specs.Prelude.{Option, Some, None}
 use Rattle.std.proofs.lemmas.List.{append_assoc, append-nil, take_more, length-take-le}
 use Rattle.outcome_text.specs.declared.survey.Told.{Told}
-use Rattle.outcome_text.specs.Survey.{woven}
+use Rattle.outcome_text.specs.Survey.{block_of, woven}
 
 pub three_added : (a b c d first second third : List ℕ) → first ≡ a → second ≡ first ++ b → third ≡ second ++ c
     → third ++ d ≡ a ++ (b ++ (c ++ d))
@@ -20,8 +20,8 @@ woven_more [] (t ∷ front) head told e = absurd (omega (arith, e))
 woven_more (h ∷ heads) [] head told e = absurd (omega (arith, e))
 woven_more (None ∷ heads) (t ∷ front) head told e = woven_more heads front head told (omega (arith, e))
 woven_more (Some h ∷ heads) (t ∷ front) head told e =
-    ap (λ bs. (h ++ t.block) ++ bs) (woven_more heads front head told (omega (arith, e)))
-    ∙ sym (append_assoc (h ++ t.block) (woven heads front) (woven (head ∷ []) (told ∷ [])))
+    ap (λ bs. (h ++ block_of t) ++ bs) (woven_more heads front head told (omega (arith, e)))
+    ∙ sym (append_assoc (h ++ block_of t) (woven heads front) (woven (head ∷ []) (told ∷ [])))
 
 -- where no outcome is left, or no line, there is no block
 pub woven_over : (heads : List (Option (List ℕ))) (all : List Told) → (length all ≡ 0) ⊎ (length heads ≡ 0) → woven heads all ≡ []
@@ -48,4 +48,4 @@ woven_next done heads others all rest head told whole first one h =
   where
     by : (o : Option (List ℕ)) → woven (o ∷ []) (told ∷ []) ++ woven others rest ≡ woven (o ∷ others) (told ∷ rest)
     by None = refl
-    by (Some line) = ap (λ (bs : List ℕ). bs ++ woven others rest) (append-nil (line ++ told.block))
+    by (Some line) = ap (λ (bs : List ℕ). bs ++ woven others rest) (append-nil (line ++ block_of told))

@@ -1,6 +1,6 @@
 -- What is told of reports with the same replies, nodes and counts.
 use Rattle.std.proofs.Common.{◌≡◌, ◌-◌, ℕ, zero, suc, List, [], ◌∷◌, ◌++◌, length, refl, sym, ap, ◌∙◌, subst, arith}
-use Rattle.std.specs.Prelude.{codes, decimal, slice_get}
+use Rattle.std.specs.Prelude.{codes, decimal, slice_get, if◌then◌else◌}
 use Rattle.std.proofs.lemmas.Option.{same_Some, none-some}
 use Rattle.node_numbering.specs.Exchanges.{after_all, before_all}
 use Rattle.node_numbering.specs.Meeting.{numbers, numbered_on}
@@ -12,7 +12,6 @@ use Rattle.tree_model.specs.declared.inode.Inode.{Inode}
 use Rattle.tree_model.specs.State.{State}
 use Rattle.outcome_text.specs.Changes.{changes_text}
 use Rattle.outcome_text.specs.Outcome.{named_lines, named_outside, outside_lines, outcome_lines, report_lines}
-use Rattle.outcome_text.specs.Survey.{look_of}
 use Rattle.outcome_text.specs.Telling.{IsLook}
 use Rattle.outcome_text.specs.InPieces.{HoldAsMany, SameReportsAreToldAlike, OneListIsToldAsOne}
 
@@ -69,15 +68,15 @@ module _ (named : List ℕ) (opening tree other : State) (actors : ℕ) (replies
       λ i. reply_lines replies ++ (row_lines (nodes i) ++ (h i ++ outside_lines outside))
 
 pub same_reports_are_told_alike : SameReportsAreToldAlike
-same_reports_are_told_alike named opening tree other actors lists many cuts less changes fewer turns list replies outside told like is are nodes held = record {
-  look = same_looks named opening tree other actors replies outside nodes held (look_of told) (look_of like) is.looks are.looks;
-  lines = is.judged_by ∙ (same_lines named opening tree other actors replies outside nodes held ∙ sym are.judged_by);
+same_reports_are_told_alike judged named opening tree other actors lists many cuts less changes fewer turns list replies outside told like is are nodes held = record {
+  look = same_looks named opening tree other actors replies outside nodes held told.look like.look is.looks are.looks;
+  lines = is.judged_by ∙ (ap (λ (lines : List ℕ). if judged then lines else []) (same_lines named opening tree other actors replies outside nodes held) ∙ sym are.judged_by);
 }
 
 pub one_list_is_told_as_one : OneListIsToldAsOne
-one_list_is_told_as_one named opening tree actors lists many cuts changes turns replies outside told like is are = record {
+one_list_is_told_as_one judged named opening tree actors lists many cuts changes turns replies outside told like is are = record {
   cuts = is.cut ∙ sym are.cut;
   schedule = is.scheduled ∙ sym are.scheduled;
   block = is.printed ∙ sym are.printed;
-  alike = same_reports_are_told_alike named opening tree tree actors lists many cuts cuts changes changes turns turns replies outside told like is are refl (λ a lt. refl);
+  alike = same_reports_are_told_alike judged named opening tree tree actors lists many cuts cuts changes changes turns turns replies outside told like is are refl (λ a lt. refl);
 }

@@ -11,7 +11,7 @@ use Rattle.path_text.specs.Name.{same_bytes}
 use Rattle.outcome_text.specs.declared.counts.TheConstants.{COUNT_MAX}
 use Rattle.outcome_text.specs.declared.survey.Told.{Told}
 use Rattle.outcome_text.specs.Looks.{has_look, lists_of, entry_of, AreSums, AreLeft}
-use Rattle.outcome_text.specs.Survey.{look_of, lists_where, lists_to, is_new, new_among}
+use Rattle.outcome_text.specs.Survey.{lists_where, lists_to, is_new, new_among}
 use Rattle.outcome_text.proofs.NewOnes.{new_at}
 
 -- where none passes there are no lists
@@ -49,19 +49,19 @@ few_lists all look = by (list_any (has_look look) all)
     by true = omega arith
     by false = omega arith
 
-module _ {S : Type 0} (old new : HashMap (Bor (List ℕ)) ℕ S) (told : Told) (key : Bor (List ℕ)) (is : key.now ≡ look_of told) where
+module _ {S : Type 0} (old new : HashMap (Bor (List ℕ)) ℕ S) (told : Told) (key : Bor (List ℕ)) (is : key.now ≡ told.look) where
   -- the table has one more outcome's lists
   pub sums_more : (all : List Told) (lists : ℕ) → AreSums old all → lists ≡ min (unwrap_or (entry_of old key) 0 + told.lists) COUNT_MAX
       → Updates (λ x y. same_bytes x.now y.now) old new key (Some lists) → AreSums new (all ++ told ∷ [])
   sums_more all lists sums counted updates q =
       updates.0 q ∙ ap (λ (look : List ℕ). cond (same_bytes look q.now) (Some lists) (entry_of old q)) is
-      ∙ by (same_bytes (look_of told) q.now) refl ∙ sym (more_lists (has_look q.now) all told)
+      ∙ by (same_bytes told.look q.now) refl ∙ sym (more_lists (has_look q.now) all told)
     where
-      by : (b : Bool) → same_bytes (look_of told) q.now ≡ b
+      by : (b : Bool) → same_bytes told.look q.now ≡ b
           → cond b (Some lists) (entry_of old q) ≡ (if b then Some (min (unwrap_or (lists_of all q.now) 0 + told.lists) COUNT_MAX) else lists_of all q.now)
       by true e =
           ap (λ (n : ℕ). Some n) (counted ∙ ap (λ (o : Option ℕ). min (unwrap_or o 0 + told.lists) COUNT_MAX)
-          (sums key ∙ ap (lists_of all) (is ∙ (bytes_eq-Decides (look_of told) q.now).0 e)))
+          (sums key ∙ ap (lists_of all) (is ∙ (bytes_eq-Decides told.look q.now).0 e)))
       by false e = sums q
 
   -- the table has a look less
@@ -69,7 +69,7 @@ module _ {S : Type 0} (old new : HashMap (Bor (List ℕ)) ℕ S) (told : Told) (
       → UpdatesBy (λ x y. same_bytes x.now y.now) (λ y. same_bytes key.now y.now) old new None → AreLeft new (earlier ++ told ∷ []) all
   left_more earlier all left updates q =
       updates.0 q ∙ ap (λ (look : List ℕ). cond (same_bytes look q.now) None (entry_of old q)) is
-      ∙ by (same_bytes (look_of told) q.now) (list_any (has_look q.now) earlier) (left q)
+      ∙ by (same_bytes told.look q.now) (list_any (has_look q.now) earlier) (left q)
       ∙ ap (λ (b : Bool). if b then None else lists_of all q.now) (sym (list_any-append (has_look q.now) earlier (told ∷ [])))
     where
       by : (b a : Bool) → entry_of old q ≡ (if a then None else lists_of all q.now)
@@ -84,17 +84,17 @@ module _ {S : Type 0} (old new : HashMap (Bor (List ℕ)) ℕ S) (told : Told) (
       → entry_of old key ≡ (if is_new (take at all) told then Some (lists_to all told) else None)
   taken all at within there left =
       left key ∙ ap (λ (look : List ℕ). if list_any (has_look look) (take at all) then None else lists_of all look) is
-      ∙ by (list_any (has_look (look_of told)) (take at all)) ∙ here
+      ∙ by (list_any (has_look told.look) (take at all)) ∙ here
     where
-      any : list_any (has_look (look_of told)) all ≡ true
-      any = list_any_at (has_look (look_of told)) all at told within
-          (ap (λ (t : Told). same_bytes (look_of t) (look_of told)) (sym there) ∙ (bytes_eq-Decides (look_of told) (look_of told)).1 refl)
+      any : list_any (has_look told.look) all ≡ true
+      any = list_any_at (has_look told.look) all at told within
+          (ap (λ (t : Told). same_bytes t.look told.look) (sym there) ∙ (bytes_eq-Decides told.look told.look).1 refl)
 
-      by : (a : Bool) → (if a then None else lists_of all (look_of told)) ≡ (if not a then lists_of all (look_of told) else None)
+      by : (a : Bool) → (if a then None else lists_of all told.look) ≡ (if not a then lists_of all told.look else None)
       by true = refl
       by false = refl
 
-      here : (if is_new (take at all) told then lists_of all (look_of told) else None) ≡ (if is_new (take at all) told then Some (lists_to all told) else None)
+      here : (if is_new (take at all) told then lists_of all told.look else None) ≡ (if is_new (take at all) told then Some (lists_to all told) else None)
       here = ap (λ (b : Bool). if is_new (take at all) told then (if b then Some (lists_to all told) else None) else None) any
 
 counts_on : (a : Bool) (told : Told) (rest : List Told) (lists n m whole : ℕ) → m ≡ n + (if is_some (if a then Some lists else None) then 0 else 1)
@@ -104,11 +104,11 @@ counts_on false told rest lists n m whole more h = omega (arith, more, h)
 
 -- as many looks are in the table as are new
 pub looks_more : (all : List Told) (at : ℕ) (told : Told) (n m whole : ℕ) → at < length all → told ≡ get_or all at told
-    → m ≡ n + (if is_some (lists_of (take at all) (look_of told)) then 0 else 1)
+    → m ≡ n + (if is_some (lists_of (take at all) told.look) then 0 else 1)
     → n + length (new_among (take at all) (drop at all)) ≡ whole → m + length (new_among (take (at + 1) all) (drop (at + 1) all)) ≡ whole
 looks_more all at told n m whole within there more h =
     let rest = new_among (take (at + 1) all) (drop (at + 1) all) in
-    counts_on (list_any (has_look (look_of told)) (take at all)) told rest (lists_where (has_look (look_of told)) (take at all)) n m whole more
+    counts_on (list_any (has_look told.look) (take at all)) told rest (lists_where (has_look told.look) (take at all)) n m whole more
     (ap (λ (xs : List Told). n + length xs) (sym (new_at all at told within there)) ∙ h)
 
 -- what was taken out of the table tells whether the outcome is new

@@ -6,20 +6,20 @@ use Rattle.tree_model.specs.State.{State}
 use Rattle.tree_model.specs.Steps.{held_count}
 use Rattle.outcome_text.specs.declared.property.Property.{Property}
 use Rattle.outcome_text.specs.declared.survey.Told.{Told}
-use Rattle.outcome_text.specs.Survey.{look_of, lists_where}
+use Rattle.outcome_text.specs.Survey.{block_of, lists_where}
 use Rattle.outcome_text.specs.Conditions.{told_text, told_holds}
 use Rattle.outcome_text.specs.Telling.{IsToldOf}
 
 -- The two look the same, and have the same lines.
 pub record AreAlike (told other : Told) : Type 0 where
-  pub look : look_of told ≡ look_of other
+  pub look : told.look ≡ other.look
   pub lines : told.lines ≡ other.lines
 
 -- Their least lists, what is printed of them and all else is the same, but for the number of lists.
 pub record AreOneBut (told other : Told) : Type 0 where
   pub cuts : told.cuts ≡ other.cuts
   pub schedule : told.schedule ≡ other.schedule
-  pub block : told.block ≡ other.block
+  pub block : block_of told ≡ block_of other
   pub alike : AreAlike told other
 
 -- it answers by the look and the lines alone
@@ -60,15 +60,15 @@ HoldAsMany actors tree other = (a : ℕ) → a < actors → held_count tree a �
 
 -- Reports with the same replies, nodes, counts of handles and steps outside are told alike, whatever lists lead there.
 abbrev pub SameReportsAreToldAlike : Type 0
-SameReportsAreToldAlike = (named : List ℕ) (opening tree other : State) (actors lists many cuts less changes fewer : ℕ)
+SameReportsAreToldAlike = (judged : Bool) (named : List ℕ) (opening tree other : State) (actors lists many cuts less changes fewer : ℕ)
     (turns list : List ℕ) (replies : List (List Outcome)) (outside : List ℕ) (told like : Told)
-    → IsToldOf named opening actors lists cuts changes turns replies tree outside told
-    → IsToldOf named opening actors many less fewer list replies other outside like
+    → IsToldOf judged named opening actors lists cuts changes turns replies tree outside told
+    → IsToldOf judged named opening actors many less fewer list replies other outside like
     → tree.nodes ≡ other.nodes → HoldAsMany actors tree other → AreAlike told like
 
 -- What is told of one least list is the same but for the number of lists.
 abbrev pub OneListIsToldAsOne : Type 0
-OneListIsToldAsOne = (named : List ℕ) (opening tree : State) (actors lists many cuts changes : ℕ)
+OneListIsToldAsOne = (judged : Bool) (named : List ℕ) (opening tree : State) (actors lists many cuts changes : ℕ)
     (turns : List ℕ) (replies : List (List Outcome)) (outside : List ℕ) (told like : Told)
-    → IsToldOf named opening actors lists cuts changes turns replies tree outside told
-    → IsToldOf named opening actors many cuts changes turns replies tree outside like → AreOneBut told like
+    → IsToldOf judged named opening actors lists cuts changes turns replies tree outside told
+    → IsToldOf judged named opening actors many cuts changes turns replies tree outside like → AreOneBut told like

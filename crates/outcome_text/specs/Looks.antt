@@ -5,10 +5,10 @@ use Rattle.std.specs.List.{list_any}
 use Rattle.std.specs.Prelude.{◌≡◌, ℕ, List, Bool, if◌then◌else◌, Option, Some, None}
 use Rattle.path_text.specs.Name.{same_bytes}
 use Rattle.outcome_text.specs.declared.survey.Told.{Told}
-use Rattle.outcome_text.specs.Survey.{look_of, lists_where}
+use Rattle.outcome_text.specs.Survey.{lists_where}
 
 abbrev pub has_look : List ℕ → Told → Bool
-has_look look told = same_bytes (look_of told) look
+has_look look told = same_bytes told.look look
 
 -- how many lists come to this look, if an outcome has it
 abbrev pub lists_of : List Told → List ℕ → Option ℕ

@@ -44,3 +44,7 @@ outcome_lines (i ∷ is) opening replies s outside actors =
 abbrev pub report_lines : List (List Outcome) → State → List ℕ → ℕ → List ℕ
 report_lines replies s outside actors =
     reply_lines replies ++ (row_lines s.nodes ++ (held_lines s actors ++ outside_lines outside))
+
+-- those that a report is judged by, if any property judges it
+abbrev pub judged_lines : Bool → List (List Outcome) → State → List ℕ → ℕ → List ℕ
+judged_lines judged replies s outside actors = if judged then report_lines replies s outside actors else []

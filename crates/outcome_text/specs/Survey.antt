@@ -1,5 +1,5 @@
 -- The text of what a search found.
-use Rattle.std.specs.Prelude.{ℕ, List, [], ◌∷◌, ◌++◌, Bool, not, length, min, nat_lt, sum_by, find, if◌then◌else◌, is_none, codes, decimal, Option, Some, None}
+use Rattle.std.specs.Prelude.{ℕ, List, [], ◌∷◌, ◌++◌, Bool, not, length, min, nat_lt, sum_by, take, find, if◌then◌else◌, is_none, codes, decimal, Option, Some, None}
 use Rattle.std.specs.List.{flat_map, list_all, list_any}
 use Rattle.path_text.specs.Name.{same_bytes}
 use Rattle.report_text.specs.Report.{numbered}
@@ -11,18 +11,13 @@ use Rattle.outcome_text.specs.Property.{fails, is_condition, rule_word}
 
 -- ---- blocks: outcomes that look the same are one
 
--- a look that is kept beside a block, where it is another text
-abbrev pub look_by : List ℕ → Option (List ℕ) → List ℕ
-look_by block None = block
-look_by block (Some look) = look
-
--- what is printed of an outcome where new nodes are numbered anew
-abbrev pub look_of : Told → List ℕ
-look_of told = look_by told.block told.other_look
+-- what is printed of an outcome: so many bytes of its look, and the rest
+abbrev pub block_of : Told → List ℕ
+block_of told = take told.same told.look ++ told.rest
 
 -- of the two that is the same
 abbrev pub looks_like : Told → Told → Bool
-looks_like told other = same_bytes (look_of other) (look_of told)
+looks_like told other = same_bytes other.look told.look
 
 -- none of these looks like it
 abbrev pub is_new : List Told → Told → Bool
@@ -52,7 +47,7 @@ witness_words told = (codes " cuts " ++ decimal told.cuts) ++ (codes " schedule 
 unfoldable pub block_words : ℕ → ℕ → Told → List ℕ
 block_words k lists told =
     (codes "outcome " ++ decimal k)
-    ++ ((codes " schedules " ++ count_words lists) ++ (witness_words told ++ told.block))
+    ++ ((codes " schedules " ++ count_words lists) ++ (witness_words told ++ block_of told))
 
 abbrev pub block_text : List Told → ℕ → Told → List ℕ
 block_text all k told = block_words k (lists_to all told) told
@@ -65,7 +60,7 @@ abbrev pub woven : List (Option (List ℕ)) → List Told → List ℕ
 woven [] all = []
 woven (head ∷ heads) [] = []
 woven (None ∷ heads) (told ∷ all) = woven heads all
-woven (Some head ∷ heads) (told ∷ all) = (head ++ told.block) ++ woven heads all
+woven (Some head ∷ heads) (told ∷ all) = (head ++ block_of told) ++ woven heads all
 
 -- ---- properties
 

@@ -12,6 +12,7 @@
 
 mod apart;
 mod asked;
+mod begins;
 mod changes;
 mod conditions;
 mod counts;
@@ -32,6 +33,7 @@ mod telling;
 mod writing;
 
 pub use asked::{OptionFault, Options};
+pub use begins::beside;
 pub use counts::COUNT_MAX;
 pub use fault::{ExploreFault, SearchFault};
 pub use laws::{
@@ -42,6 +44,6 @@ pub use part::Part;
 pub use property::{Property, Rule, read_property};
 pub use ranked::{Survey, told_in_order};
 pub use schedule::{before_tail, schedule_words};
-pub use survey::{Frame, Told, all_hold, look_beside};
+pub use survey::{Frame, Told, all_hold};
 pub use tellable::first_untold;
 pub use telling::{Found, told_of};

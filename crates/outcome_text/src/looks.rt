@@ -20,7 +20,7 @@ pub(crate) fn sums_of<'a>(
 {
     let mut sums = HashMap::new(alloc);
     for told in all {
-        let key = told.look();
+        let key = told.look.as_slice();
         let before = sums.get(key).copied().unwrap_or(0);
         sums.insert(key, plus(before, told.lists))?;
     }

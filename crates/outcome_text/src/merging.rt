@@ -1,5 +1,5 @@
 //! The outcomes of all schedules, made of those of parts of them.
-ghost use Rattle.std.specs.Prelude.{◌≡◌, ◌<◌, ◌++◌, ◌∷◌, [], false, true, take, IfOk, MatchOption, MatchResult};
+ghost use Rattle.std.specs.Prelude.{◌≡◌, ◌<◌, ◌++◌, ◌∷◌, [], false, true, IfOk, MatchOption, MatchResult};
 ghost use Rattle.std.specs.List.{list_any};
 ghost use Rattle.outcome_text.specs.declared.merging.MergeFault.TheVariants as merge_fault;
 ghost use Rattle.outcome_text.specs.Framed.{text_of};
@@ -7,6 +7,7 @@ ghost use Rattle.outcome_text.specs.Nearby.{AreSome};
 ghost use Rattle.outcome_text.specs.Merge.{has_lists, lacks_turn, has_gap, all_lists, longest, all_of, IsJoined, IsWhole, WhyNoWhole};
 
 use crate::apart::first_overlap;
+use crate::begins::first_of;
 use crate::counts::plus;
 use crate::nearby::{in_word_order, is_there};
 use crate::order::in_order;
@@ -109,17 +110,6 @@ fn first_missing_of(
     Ok(None)
 }
 
-// So many turns of a beginning, or all of them.
-fn first_turns(begin: &[u32], turns: usize) -> &[u32]
-    ensures { result.now ≡ take turns begin.now }
-{
-    if turns < begin.len() {
-        &begin[..turns]
-    } else {
-        begin
-    }
-}
-
 // The first turn of a part's beginning that no part has by an actor who might have had it, and the actor.
 fn first_missing_by(
     alloc: Global,
@@ -132,7 +122,7 @@ fn first_missing_by(
         (λ _. has_gap parts.now part.now ≡ true)) }
 {
     for (at, might) in part.might.iter().enumerate() {
-        let turns = first_turns(part.begin.as_slice(), at);
+        let turns = first_of(part.begin.as_slice(), at);
         if let Some(actor) = first_missing_of(alloc, parts, ordered, turns, might.as_slice())? {
             return Ok(Some((at, actor)));
         }

@@ -1,11 +1,11 @@
 //! What is told of a report.
-ghost use Rattle.std.specs.Prelude.{◌≡◌};
+ghost use Rattle.std.specs.Prelude.{◌≡◌, IfOk};
 ghost use Rattle.event_log.specs.Output.{Gains};
-ghost use Rattle.outcome_text.specs.Outcome.{is_named, named_lines_of, named_lines, outside_line, outside_lines, named_outside_of, named_outside, outcome_lines, report_lines};
+ghost use Rattle.outcome_text.specs.Outcome.{is_named, named_lines_of, named_lines, outside_line, outside_lines, named_outside_of, named_outside, outcome_lines, judged_lines};
 
 use crate::changes::changes;
 use event_log::Output;
-use path_text::NoMemory;
+use path_text::{Bytes, NoMemory};
 use race_core::{Outcome, Outcomes};
 use report_text::{held, numbered, replies, replies_of, rows};
 use std::alloc::Global;
@@ -128,21 +128,25 @@ pub(crate) fn outcome_lines<T: Tree>(
     all_outside(out, ended.outside)
 }
 
-/// Adds all lines of a report but those of events, and then how many steps of each actor acted outside, where they
-/// were counted. NoMemory where their room was refused.
-pub(crate) fn report_lines<T: Tree>(
+/// Where a report is judged, all its lines but those of events, and then how many steps of each actor acted outside,
+/// where they were counted. NoMemory where their room was refused.
+pub(crate) fn judged_lines<T: Tree>(
     alloc: Global,
-    out: &mut Output,
+    judged: bool,
     ended: &Ended<T>,
     actors: u32,
-) -> Result<(), NoMemory>
-    ensures { Gains out.old out.new
-        (report_lines ended.now.replies.now
+) -> Result<Bytes, NoMemory>
+    ensures { IfOk result (λ lines. lines ≡ judged_lines judged ended.now.replies.now
         (record { nodes = ended.now.nodes.now.nodes; handles = (T.state ended.now.tree.now).handles })
-        ended.now.outside.now actors) result }
+        ended.now.outside.now actors) }
 {
-    replies(alloc, out, ended.replies)?;
-    rows(alloc, out, ended.nodes)?;
-    held(out, ended.tree, actors)?;
-    all_outside(out, ended.outside)
+    if !judged {
+        return Bytes::from_slice(alloc, &[]);
+    }
+    let mut out = Output::new(alloc);
+    replies(alloc, &mut out, ended.replies)?;
+    rows(alloc, &mut out, ended.nodes)?;
+    held(&mut out, ended.tree, actors)?;
+    all_outside(&mut out, ended.outside)?;
+    Bytes::from_slice(alloc, out.as_slice())
 }

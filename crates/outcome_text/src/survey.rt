@@ -1,16 +1,17 @@
 //! The text of what a search found.
-ghost use Rattle.std.specs.Prelude.{◌≡◌, ◌++◌, find, IfOk};
+ghost use Rattle.std.specs.Prelude.{◌≡◌, ◌++◌, find, take, IfOk};
 ghost use Rattle.std.specs.Option.{option_copied};
 ghost use Rattle.event_log.specs.Output.{Gains};
 ghost use Rattle.outcome_text.specs.Framed.{framed};
 ghost use Rattle.outcome_text.specs.Looks.{AreSums};
-ghost use Rattle.outcome_text.specs.Survey.{look_by, look_of, lists_breaking, breaks, witness_words, states_words, numbers_text, block_words, blocks_text, woven, property_text, properties_text, holds, all_hold, outcome_text};
+ghost use Rattle.outcome_text.specs.Survey.{block_of, lists_breaking, breaks, witness_words, states_words, numbers_text, block_words, blocks_text, woven, property_text, properties_text, holds, all_hold, outcome_text};
 
+use crate::begins::first_of;
 use crate::counts::{counted, plus};
 use crate::looks::sums_of;
 use crate::property::Property;
 use event_log::Output;
-use path_text::NoMemory;
+use path_text::{Bytes, NoMemory};
 use report_text::numbered;
 use std::alloc::Global;
 use std::collections::HashMap;
@@ -28,34 +29,32 @@ pub struct Told {
     pub turns: Vec<u32>,
     /// The schedule that leads to the least of them.
     pub schedule: Output,
-    /// What is printed of its report.
-    pub block: Output,
-    /// The same where the nodes that the opening tree doesn't have are numbered anew, if that is another text.
-    pub other_look: Option<Output>,
-    /// All lines of its report but those of events, which properties are judged by.
-    pub lines: Output,
-}
-
-/// A look as it is kept beside a block: nothing where it is the block's text.
-pub fn look_beside(block: &Output, look: Output) -> Option<Output>
-    ensures { look_by block.now result ≡ look }
-{
-    if look.as_slice() == block.as_slice() {
-        None
-    } else {
-        Some(look)
-    }
+    /// What is printed of its report where the nodes that the opening tree doesn't have are numbered anew.
+    pub look: Bytes,
+    /// With its own numbers the same is printed up to here,
+    pub same: usize,
+    /// and then this.
+    pub rest: Bytes,
+    /// Where it is judged by properties, all lines of its report but those of events.
+    pub lines: Bytes,
 }
 
 impl Told {
-    /// What is printed of its report where the nodes that the opening tree doesn't have are numbered anew.
-    pub fn look(&self) -> &[u8]
-        ensures { result.now ≡ look_of self.now }
+    // The beginning of what is printed, which the look has too.
+    pub(crate) fn begin(&self) -> &[u8]
+        ensures { result.now ≡ take self.now.same self.now.look }
     {
-        match &self.other_look {
-            Some(look) => look.as_slice(),
-            None => self.block.as_slice(),
-        }
+        first_of(self.look.as_slice(), self.same)
+    }
+
+    /// What is printed of its report. NoMemory where its room was refused.
+    pub fn block(&self, alloc: Global) -> Result<Output, NoMemory>
+        ensures { IfOk result (λ block. block ≡ block_of self.now) }
+    {
+        let mut out = Output::new(alloc);
+        out.bytes(self.begin())?;
+        out.bytes(self.rest.as_slice())?;
+        Ok(out)
     }
 
     // Adds how many cuts the least list has, and the schedule that leads to it.
@@ -100,7 +99,7 @@ fn numbers(
 
 // The line before a block by its number, of so many lists.
 fn head(alloc: Global, number: u64, lists: u64, told: &Told) -> Result<Output, NoMemory>
-    ensures { IfOk result (λ head. head ++ told.now.block ≡ block_words number lists told.now) }
+    ensures { IfOk result (λ head. head ++ block_of told.now ≡ block_words number lists told.now) }
 {
     let mut out = Output::new(alloc);
     numbered(&mut out, "outcome ", number)?;
@@ -121,7 +120,7 @@ fn heads(
     let mut number = 0;
     let mut heads = Vec::with_capacity(alloc, all.len())?;
     for told in all {
-        if let Some(lists) = sums.remove(told.look()) {
+        if let Some(lists) = sums.remove(told.look.as_slice()) {
             heads.push(Some(head(alloc, number, lists, told)?))?;
             number += 1;
         } else {

@@ -3,12 +3,13 @@ ghost use Rattle.std.specs.Prelude.{◌≡◌, IfOk};
 ghost use Rattle.outcome_text.specs.Outcome.{outcome_lines};
 ghost use Rattle.outcome_text.specs.Telling.{IsLook, IsToldOf};
 
-use crate::outcome::{Ended, outcome_lines, report_lines};
+use crate::begins::beside;
+use crate::outcome::{Ended, judged_lines, outcome_lines};
 use crate::schedule::schedule_words;
-use crate::survey::{Told, look_beside};
+use crate::survey::Told;
 use event_log::Output;
 use node_numbering::renumber;
-use path_text::NoMemory;
+use path_text::{Bytes, NoMemory};
 use race_core::Report;
 use std::alloc::Global;
 use tree_model::{Snapshot, Tree};
@@ -30,14 +31,14 @@ pub struct Found<'a, T> {
     pub outside: &'a [u64],
 }
 
-// What is printed of a report.
+// What is printed of a report, in no more room than it takes.
 fn printed<T: Tree>(
     alloc: Global,
     named: &[u32],
     opening: &Snapshot,
     ended: &Ended<T>,
     actors: u32,
-) -> Result<Output, NoMemory>
+) -> Result<Bytes, NoMemory>
     ensures { IfOk result (λ text. text
         ≡ outcome_lines named.now opening.now ended.now.replies.now
         (record { nodes = ended.now.nodes.now.nodes; handles = (T.state ended.now.tree.now).handles })
@@ -45,7 +46,7 @@ fn printed<T: Tree>(
 {
     let mut text = Output::new(alloc);
     outcome_lines(alloc, &mut text, named, opening, ended, actors)?;
-    Ok(text)
+    Bytes::from_slice(alloc, text.as_slice())
 }
 
 // What is printed of a report whose new nodes are numbered anew.
@@ -55,7 +56,7 @@ fn look<T: Tree>(
     opening: &Snapshot,
     ended: &Ended<T>,
     actors: u32,
-) -> Result<Output, NoMemory>
+) -> Result<Bytes, NoMemory>
     ensures { IfOk result (IsLook named.now opening.now actors ended.now.replies.now
         (record { nodes = ended.now.nodes.now.nodes; handles = (T.state ended.now.tree.now).handles })
         ended.now.outside.now) }
@@ -75,16 +76,18 @@ fn look<T: Tree>(
 /// What the text says of an outcome, where so many actors are there: the replies of the actors that are named alone, or
 /// where none is all replies, how the entries of the tree differ from those of the opening one, and how many handles
 /// each actor has open; and then how many steps acted outside, where they were counted. The same is made with the
-/// nodes of the run numbered anew, by which outcomes are told apart. NoMemory where room was refused.
+/// nodes of the run numbered anew, by which outcomes are told apart. The lines by which it is judged are made only
+/// where it is. NoMemory where room was refused.
 pub fn told_of<T: Tree>(
     alloc: Global,
+    judged: bool,
     named: &[u32],
     opening: &Snapshot,
     actors: u32,
     found: &Found<T>,
 ) -> Result<Told, NoMemory>
     ensures { IfOk result
-        (IsToldOf named.now opening.now actors found.now.lists found.now.cuts found.now.changes
+        (IsToldOf judged named.now opening.now actors found.now.lists found.now.cuts found.now.changes
         found.now.turns.now
         found.now.report.now.replies.items (T.state found.now.report.now.tree) found.now.outside.now) }
 {
@@ -101,17 +104,17 @@ pub fn told_of<T: Tree>(
         outside: found.outside,
     };
     let block = printed(alloc, named, opening, &ended, actors)?;
-    let other_look = look_beside(&block, look(alloc, named, opening, &ended, actors)?);
-    let mut lines = Output::new(alloc);
-    report_lines(alloc, &mut lines, &ended, actors)?;
+    let look = look(alloc, named, opening, &ended, actors)?;
+    let (same, rest) = beside(alloc, look.as_slice(), block.as_slice())?;
     Ok(Told {
         lists: found.lists,
         cuts: found.cuts,
         changes: found.changes,
         turns,
         schedule: leads,
-        block,
-        other_look,
-        lines,
+        look,
+        same,
+        rest,
+        lines: judged_lines(alloc, judged, &ended, actors)?,
     })
 }

@@ -17,7 +17,8 @@ fn write_blocks<W: Write>(writer: &mut W, heads: &[Option<Output>], all: &[Told]
     for (told, head) in all.iter().zip(heads.iter()) {
         if let Some(head) = head {
             writer.write_all(head.as_slice())?;
-            writer.write_all(told.block.as_slice())?;
+            writer.write_all(told.begin())?;
+            writer.write_all(told.rest.as_slice())?;
         }
     }
     Ok(())

@@ -19,10 +19,10 @@ loop-class-preserved g c more are =
     let before = c.loop-class.all.items in
     let split : c.loop-class.class-iterator.rest.items ≡ c.in-Some.class ∷ c.next.new.self.rest.items = search rules in
     let pushed : c.push.new.self.items ≡ before ++ told ∷ [] = c.in_ok-push.ensures.items in
-    subst (λ (ts : List Told). AreTold named opening actors (classes_in c.args.classes.items) ts)
+    subst (λ (ts : List Told). AreTold c.args.judged named opening actors (classes_in c.args.classes.items) ts)
     (sym (ap (λ (ts : List Told). ts ++ more) pushed ∙ append_assoc before (told ∷ []) more))
     (c.loop-class.invariant (told ∷ more)
-    (subst (λ (cs : List (Class EndView)). AreTold named opening actors (classes_in cs) (told ∷ more)) (sym split) (c.in_ok-tell.ensures, are)))
+    (subst (λ (cs : List (Class EndView)). AreTold c.args.judged named opening actors (classes_in cs) (told ∷ more)) (sym split) (c.in_ok-tell.ensures, are)))
 
 pub returns : goal.returns
 returns g c =
@@ -31,5 +31,5 @@ returns g c =
     let actors = c.args.actors in
     let left = c.loop-class.class-iterator.rest in
     let none : left.items ≡ [] = nil_from_length left.items (sym left.ok.0 ∙ c.in-None.ensures.steps.0) in
-    subst (λ (ts : List Told). AreTold named opening actors (classes_in c.args.classes.items) ts) (append-nil c.loop-class.all.items)
-    (c.loop-class.invariant [] (subst (λ (cs : List (Class EndView)). AreTold named opening actors (classes_in cs) []) (sym none) tt))
+    subst (λ (ts : List Told). AreTold c.args.judged named opening actors (classes_in c.args.classes.items) ts) (append-nil c.loop-class.all.items)
+    (c.loop-class.invariant [] (subst (λ (cs : List (Class EndView)). AreTold c.args.judged named opening actors (classes_in cs) []) (sym none) tt))

@@ -6,5 +6,5 @@ use Rattle.explore_command.proofs.classes.tell_all.Given as goal
 
 -- what is told of those that are left goes on from what is told so far
 abbrev pub invariant-loop-class : goal.invariant-loop-class
-invariant-loop-class g l = (more : List Told) → AreTold l.named l.opening l.fn.actors (classes_in l.class-iterator.rest.items) more
-    → AreTold l.named l.opening l.fn.actors (classes_in l.fn.classes.items) (l.all.items ++ more)
+invariant-loop-class g l = (more : List Told) → AreTold l.judged l.named l.opening l.fn.actors (classes_in l.class-iterator.rest.items) more
+    → AreTold l.judged l.named l.opening l.fn.actors (classes_in l.fn.classes.items) (l.all.items ++ more)

@@ -20,7 +20,7 @@ loop-told-preserved c =
     let all = c.args.all.now in
     let at = c.loop-told.told-index in
     let told = c.told-item.result in
-    let key = c.look.result in
+    let key = c.as_slice.result in
     let old = c.loop-told.heads.items in
     let few = c.loop-told.invariant.few in
     let many = c.loop-told.invariant.many in
@@ -28,8 +28,8 @@ loop-told-preserved c =
     take_more all at told c.loop-told-test.true ∙ ap (λ (t : Told). take at all ++ t ∷ []) (sym c.told-item.is) in
     let left : AreLeft c.remove.new.self (take (at + 1) all) all =
     subst (λ (ts : List Told). AreLeft c.remove.new.self ts all) (sym front)
-    (left_more c.loop-told.sums c.remove.new.self told key c.look.ensures (take at all) all c.loop-told.invariant.left c.remove.ensures.updates) in
-    let there = c.remove.ensures.value ∙ taken c.loop-told.sums c.remove.new.self told key c.look.ensures all at c.loop-told-test.true c.told-item.is c.loop-told.invariant.left in
+    (left_more c.loop-told.sums c.remove.new.self told key c.as_slice.ensures (take at all) all c.loop-told.invariant.left c.remove.ensures.updates) in
+    let there = c.remove.ensures.value ∙ taken c.loop-told.sums c.remove.new.self told key c.as_slice.ensures all at c.loop-told-test.true c.told-item.is c.loop-told.invariant.left in
     elim c.match-remove.branch [
       | in-Some+in_ok-head+in_ok-push w ↦
           let one = one_taken (is_new (take at all) told) (lists_to all told) _ c.remove.result there w.in-Some.is in
