@@ -1,11 +1,9 @@
 -- What is asked of a search of all schedules of a world, and what it tells. Which lists are asked for, which are on the
 -- way, and which have one state is said as it is of all moves (`Asked` of `layered_search`).
 use Rattle.std.specs.Prelude.{◌≡◌, ℕ, List, Bool, Option, None, Some, slice_get, map}
-use Rattle.tree_model.specs.declared.answer.Event.{Event}
 use Rattle.tree_model.specs.State.{State}
-use Rattle.handles.specs.Objects.{StandingObject}
 use Rattle.race_core.specs.declared.report.Outcome.{Outcome}
-use Rattle.race_core.specs.Worlds.{WorldView, ledgers_in, Reports}
+use Rattle.race_core.specs.Worlds.{WorldView}
 use Rattle.schedule_graph.specs.declared.fault.SearchFault.{SearchFault}
 use Rattle.layered_search.specs.Asked as asked
 pub use Rattle.layered_search.specs.Asked.{IsWithin, GoAlong}
@@ -17,7 +15,7 @@ use Rattle.layered_search.specs.declared.limits.Limits.{Limits}
 use Rattle.local_states.specs.Local.{SameParts}
 pub use Rattle.local_states.specs.Local.{TellAlike}
 use Rattle.local_states.specs.Outside.{outside_of}
-use Rattle.local_states.specs.Worlds.{after_turns, world_moves, worlds, EndView}
+use Rattle.local_states.specs.Worlds.{after_turns, world_moves, worlds, EndView, ReportsOn}
 
 -- ---- which lists are asked for, and what they tell
 
@@ -64,15 +62,14 @@ rank w is =
 
 -- ---- what is found
 
--- a list of turns, what counts in it, its report, and, where that is told, each actor's changes outside of its root
+-- a list of turns, what counts in it, the tree and the replies of its report, and, where that is told, each actor's
+-- changes outside of its root
 pub record EndingView : Type 0 where
   pub turns : List ℕ
   pub cuts : ℕ
   pub changes : ℕ
   pub tree : State
-  pub events : List Event
   pub replies : List (List Outcome)
-  pub kept : List StandingObject
   pub outside : List ℕ
 
 -- an outcome: what its least list comes to, and how many lists lead to it
@@ -88,9 +85,7 @@ class_of class = record {
     cuts = class.cuts;
     changes = class.changes;
     tree = class.outcome.tree;
-    events = class.outcome.events;
     replies = class.outcome.replies;
-    kept = class.outcome.kept;
     outside = class.outcome.outside;
   };
   lists = class.lists;
@@ -99,12 +94,11 @@ class_of class = record {
 abbrev pub classes_in : List (Class EndView) → List ClassView
 classes_in classes = map (λ class. class_of class) classes
 
--- that list is asked for, and this is its report
+-- that list is asked for, and these are of its report
 pub record IsEnding (w : WorldView) (scope : Scope) (ending : EndingView) : Type 0 where
   pub asked : IsAsked w scope ending.turns
   pub ranked : record { cuts = ending.cuts; changes = ending.changes; turns = ending.turns } ≡ rank w ending.turns
-  pub report : Reports (after_turns w ending.turns).book
-      (ledgers_in (after_turns w ending.turns).seats) ending.tree ending.events ending.replies ending.kept
+  pub report : ReportsOn (after_turns w ending.turns) ending.tree ending.replies
   pub outside : ending.outside ≡ outside_of scope.outside (after_turns w ending.turns)
 
 -- one of the classes has this list's outcome

@@ -19,8 +19,8 @@
 -- the least of them,
 --     its `least`: by cuts, then by changes of actor, then as lists (`Explored.rank`, `Explored.is_at_most`);
 -- and what the run of that list comes to.
---     its `ending` (`IsEnding`): its report, its cuts and changes of actor, and, where that is told, how many changes
---     each actor made outside of its root.
+--     its `ending` (`IsEnding`): its tree and replies, its cuts and changes of actor, and, where that is told, how many
+--     changes each actor made outside of its root.
 -- It tells how many states there are, of lists under way that are as long and lead to worlds with the same parts one;
 --     `Explored.AreStates`.
 --

@@ -3,7 +3,7 @@ ghost use Rattle.explore_command.specs.Replayed.{WrittenSchedulesLeadThere};
 ghost use Rattle.explore_command.specs.WholeCalls.{OutcomesWithoutCutsAreOfWholeCalls};
 
 /// The schedule that is written with an outcome leads to it. A run of the world by that schedule, as `replay` makes
-/// it, comes to the outcome's own tree, events and replies.
+/// it, comes to the outcome's own tree and replies.
 pub fn written_schedules_lead_there()
     ensures { WrittenSchedulesLeadThere }
 {}

@@ -3,7 +3,7 @@ use Rattle.std.specs.Prelude.{◌≡◌, ◌≤◌, ℕ, List}
 use Rattle.std.proofs.Common.{◌∙◌, sym, ap, subst}
 use Rattle.std.proofs.Math.Nat.{le_antisymm}
 use Rattle.race_core.specs.Book.{tree_now}
-use Rattle.race_core.specs.Worlds.{WorldView, ledgers_in, replies_in, kept_in}
+use Rattle.race_core.specs.Worlds.{WorldView, ledgers_in, replies_in}
 use Rattle.schedule_graph.specs.Counted.{IsAmong, EachOnce}
 use Rattle.local_states.specs.Worlds.{after_turns}
 use Rattle.explore.specs.Explored.{Scope, cuts, changes, Rank, rank, IsAsked, AgreeIn, EndingView, ClassView, IsEnding, HasClass, IsLongest}
@@ -23,12 +23,8 @@ module _ (w : WorldView) (scope : Scope) where
       let g : e.changes ≡ d.changes =
       ap (λ (r : Rank). r.changes) is.ranked ∙ (ap (λ (js : List ℕ). changes js) t ∙ sym (ap (λ (r : Rank). r.changes) are.ranked)) in
       let tree : e.tree ≡ d.tree = is.report.is_tree ∙ (ap (λ (js : List ℕ). tree_now (after_turns w js).book) t ∙ sym are.report.is_tree) in
-      let events : e.events ≡ d.events =
-      is.report.are_events ∙ (ap (λ (js : List ℕ). (after_turns w js).book.events) t ∙ sym are.report.are_events) in
       let replies : e.replies ≡ d.replies =
       is.report.are_replies ∙ (ap (λ (js : List ℕ). replies_in (ledgers_in (after_turns w js).seats)) t ∙ sym are.report.are_replies) in
-      let kept : e.kept ≡ d.kept =
-      is.report.is_kept ∙ (ap (λ (js : List ℕ). kept_in (ledgers_in (after_turns w js).seats)) t ∙ sym are.report.is_kept) in
       let outside : e.outside ≡ d.outside =
       is.outside ∙ (ap (λ (js : List ℕ). outside_of scope.outside (after_turns w js)) t ∙ sym are.outside) in
       λ i. record {
@@ -36,9 +32,7 @@ module _ (w : WorldView) (scope : Scope) where
         cuts = c i;
         changes = g i;
         tree = tree i;
-        events = events i;
         replies = replies i;
-        kept = kept i;
         outside = outside i;
       }
 

@@ -1,16 +1,14 @@
 -- A world after some turns; and as a system of actors who take turns: which worlds are alike, what they come to, and
 -- which of these are the same.
 use Rattle.std.specs.Prelude.{◌≡◌, ◌<◌, ℕ, List, Bool, length}
-use Rattle.tree_model.specs.declared.answer.Event.{Event}
 use Rattle.tree_model.specs.State.{State}
 use Rattle.tree_model.specs.Steps.{held_count}
-use Rattle.handles.specs.Objects.{StandingObject}
 use Rattle.layered_search.specs.Moves.{Moves, after}
 use Rattle.layered_search.specs.System.{System, Outcomes}
 pub use Rattle.race_core.specs.OneReport.{full}
 use Rattle.race_core.specs.declared.report.Outcome.{Outcome}
 use Rattle.race_core.specs.Renamed.{replies_by}
-use Rattle.race_core.specs.Worlds.{WorldView, turn, is_busy_at, is_within_at, ledgers_in, Reports}
+use Rattle.race_core.specs.Worlds.{WorldView, turn, is_busy_at, is_within_at, ledgers_in, kept_in, Reports}
 use Rattle.local_states.specs.Local.{SameParts, TellAlike}
 use Rattle.local_states.specs.Outside.{outside_of}
 use Rattle.local_states.specs.Same.{IsSame}
@@ -48,17 +46,20 @@ worlds told w = record {
 
 -- ---- what they come to
 
--- the report on a world, and, where that is told, how many changes each actor made outside of its root
+-- the tree and the replies of the report on a world, and, where that is told, how many changes each actor made outside
+-- of its root
 pub record EndView : Type 0 where
   pub tree : State
-  pub events : List Event
   pub replies : List (List Outcome)
-  pub kept : List StandingObject
   pub outside : List ℕ
+
+-- the world's report has that tree and those replies
+abbrev pub ReportsOn : WorldView → State → List (List Outcome) → Type 0
+ReportsOn v tree replies = Reports v.book (ledgers_in v.seats) tree v.book.events replies (kept_in (ledgers_in v.seats))
 
 -- it is that of this world
 pub record IsEndOf (told : Bool) (v : WorldView) (end : EndView) : Type 0 where
-  pub report : Reports v.book (ledgers_in v.seats) end.tree end.events end.replies end.kept
+  pub report : ReportsOn v end.tree end.replies
   pub outside : end.outside ≡ outside_of told v
 
 -- they tell the same outcome

@@ -1,5 +1,5 @@
 -- A world gone on from by turns: what is known once it has ended.
-use Rattle.std.specs.Prelude.{◌≡◌, ◌<◌, ℕ, ◌+◌, List, [], ◌∷◌, ◌++◌, Bool, false, Result, Ok, Err, is_err, IfOk, OnOk, length}
+use Rattle.std.specs.Prelude.{◌≡◌, ◌<◌, ℕ, ◌+◌, List, [], ◌∷◌, ◌++◌, Bool, false, Result, Ok, Err, is_err, IfOk, OnOk, length, refl}
 use Rattle.std.proofs.Common.{sym, ap, ◌∙◌, subst, get_or, take}
 use Rattle.std.proofs.lemmas.Bool.{true≢false}
 use Rattle.std.proofs.lemmas.List.{take_more}
@@ -8,8 +8,8 @@ use Rattle.tree_model.specs.State.{State}
 use Rattle.handles.specs.Objects.{StandingObject}
 use Rattle.race_core.specs.declared.report.Outcome.{Outcome}
 use Rattle.race_core.specs.Turns.{Luck}
-use Rattle.race_core.specs.Worlds.{WorldView, turn, Runs, RunsTo, Reports, ledgers_in}
-use Rattle.local_states.specs.Worlds.{full, after_turns, EndView, IsEndOf}
+use Rattle.race_core.specs.Worlds.{WorldView, turn, Runs, RunsTo}
+use Rattle.local_states.specs.Worlds.{full, after_turns, EndView, ReportsOn, IsEndOf}
 use Rattle.local_states.specs.Outside.{outside_of}
 use Rattle.local_states.specs.OutOfMemory.{EndsWell, replies_out_of_memory}
 use Rattle.local_states.proofs.Lists.Runs.{replies_of_seats, actors_stay, turn_stays}
@@ -45,10 +45,15 @@ module _ (world : WorldView) (tree : State) (events : List Event) (replies : Lis
       join ran.end (after_turns world ([] ++ all.0)) world all.1.0 (over_rests world ([] ++ all.0) over)
 
   pub is_end : (told : Bool) (outside : List ℕ) → outside ≡ outside_of told world → IsOver world
-      → IsEndOf told world (record { tree = tree; events = events; replies = replies; kept = kept; outside = outside })
+      → IsEndOf told world (record { tree = tree; replies = replies; outside = outside })
   is_end told outside counted over = record {
-    report = subst (λ (v : WorldView). Reports v.book (ledgers_in v.seats) tree events replies kept)
-        (end_is over) ran.reports;
+    report = subst (λ (v : WorldView). ReportsOn v tree replies) (end_is over) (record {
+      is_tree = ran.reports.is_tree;
+      are_events = refl;
+      legal = ran.reports.legal;
+      are_replies = ran.reports.are_replies;
+      is_kept = refl;
+    });
     outside = counted;
   }
 

@@ -12,7 +12,7 @@ use tree_model::{Snapshot, Tree, same_nodes};
 /// The end of a world's run. Contracts see it as an `EndView`.
 #[derive(Drop)]
 pub struct End<T: Tree> {
-    /// The report on the run.
+    /// The report on the run, without its events.
     pub report: Report<T>,
     /// Of each actor, how many changes it made outside of its root.
     pub outside: Vec<u64>,
@@ -29,9 +29,7 @@ impl<T: Tree> Model for End<T> {
 
     ghost view = { λ e. record {
       tree = T.state e.report.tree;
-      events = e.report.events.events;
       replies = e.report.replies.items;
-      kept = e.report.kept.items;
       outside = e.outside.items;
     } };
 

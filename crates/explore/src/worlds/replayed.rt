@@ -12,6 +12,7 @@ ghost use Rattle.local_states.specs.Worlds.{IsEndOf};
 
 use crate::outcomes::end::End;
 use crate::worlds::beginnings::Beginnings;
+use event_log::EventLog;
 use layered_search::{Limits, SearchFault};
 use local_states::{Tally, tells_out_of_memory};
 use path_text::NoMemory;
@@ -157,7 +158,8 @@ pub(crate) fn ended<T: Tree + Drop>(
     ensures report { IfOk result (λ end. IsOver replayed.world → IsEndOf replayed.told replayed.world end) }
 {
     let Replayed { world, tally } = replayed;
-    let report = told(alloc, world)?;
+    let mut report = told(alloc, world)?;
+    report.events = EventLog::new(alloc);
     let nodes = report.tree.snapshot(alloc)?;
     Ok(End {
         report,

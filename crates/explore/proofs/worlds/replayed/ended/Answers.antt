@@ -26,9 +26,7 @@ pub returns-clause-report : goal.returns-clause-report
 returns-clause-report g c =
     subst (λ (r : ReplayedView). IsOver r.world → IsEndOf r.told r.world (record {
       tree = g.T.Tree.state c.in_ok-report.report.tree;
-      events = c.in_ok-report.report.events.events;
       replies = c.in_ok-report.report.replies.items;
-      kept = c.in_ok-report.report.kept.items;
       outside = c.into_counts.result.items;
     })) c.replayed.view_is
     (is_end c.replayed.inside.world (g.T.Tree.state c.in_ok-report.report.tree) c.in_ok-report.report.events.events
