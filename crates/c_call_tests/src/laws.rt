@@ -6,8 +6,6 @@ fn laws_of_walks_by_the_kernel() {
     kernel_walks::kernel_walks_tell();
     kernel_walks::resolves_seen_below();
     kernel_walks::entries_are_changed_behind_walks();
-    kernel_walks::directories_are_looked_up();
-    kernel_walks::renames_are_looked_up();
     kernel_calls::entries_are_changed_where_they_stand();
     kernel_calls::entries_are_renamed_where_they_stand();
     kernel_calls::objects_are_linked_where_entries_stand();

@@ -3,7 +3,7 @@ use Rattle.std.proofs.Common.{◌≡◌, ◌≢◌, ℕ, suc, ◌+◌, ◌<◌, 
 use Rattle.std.specs.Prelude.{◌==◌}
 use Rattle.std.specs.List.{AllByRecursion, count_by}
 use Rattle.std.proofs.lemmas.Bool.{eqb-true, eqb-false, false≢true}
-use Rattle.std.proofs.lemmas.Option.{none-some}
+use Rattle.std.proofs.lemmas.Option.{none-some, slice_get_past}
 use Rattle.path_text.specs.declared.errno.Errno.TheVariants.{BadHandle}
 use Rattle.tree_model.specs.declared.answer.Answer.{Answer}
 use Rattle.tree_model.specs.declared.answer.Answer.TheVariants.{Opened, Text, Names, NotBelow, Listed, Done, Refused}
@@ -126,10 +126,6 @@ still_tells f (Listed names) e = refl
 still_tells f Done e = e
 still_tells f (Refused error) e = refl
 
-none_behind : (xs : List (Option OpenHandle)) → slice_get xs (length xs) ≡ None
-none_behind [] = refl
-none_behind (x ∷ xs) = none_behind xs
-
 module _ (nodes : ℕ → ℕ) (z : State) (t : State) (k : ℕ) (table : Descriptors) (f : ℕ → ℕ)
     (s : Stands z t k table f) (step : StepWith ℕ) (answer : Answer)
     (tells : (g : ℕ → ℕ) → ((h y : ℕ) (kd : Kind) → answer ≡ Opened h y kd → g h ≡ length t.handles)
@@ -167,7 +163,7 @@ module _ (nodes : ℕ → ℕ) (z : State) (t : State) (k : ℕ) (table : Descri
 
     new_is_apart : (i d : ℕ) → table.on i ≡ Some d → length t.handles ≡ f i → ⊥
     new_is_apart i d p q =
-        none-some d (sym (ap (node_held 0) (none_behind t.handles)) ∙ ap (held t 0) q ∙ s.on i d p)
+        none-some d (sym (ap (node_held 0) (slice_get_past t.handles (length t.handles) (omega arith))) ∙ ap (held t 0) q ∙ s.on i d p)
 
     apart_now : (j i d e : ℕ) → (with_opened table h (nodes y)).on j ≡ Some d → (with_opened table h (nodes y)).on i ≡ Some e
         → g_of j ≡ g_of i → j ≡ i

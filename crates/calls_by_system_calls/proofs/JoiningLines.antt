@@ -1,7 +1,7 @@
 -- All lines of a call in a row: the window that they make together with what others do.
-use Rattle.std.proofs.Common.{◌≡◌, ⊎_elim, ℕ, suc, ◌+◌, ◌-◌, ◌<◌, ◌≤◌, Bool, true, false, cond, if◌then◌else◌, List, [], ◌∷◌, ◌++◌, length, Option, Some, None, slice_get, refl, sym, ap, ◌∙◌, subst, append-nil, arith}
+use Rattle.std.proofs.Common.{◌≡◌, ⊎_elim, ℕ, suc, ◌+◌, ◌-◌, ◌<◌, ◌≤◌, Bool, true, false, if◌then◌else◌, List, [], ◌∷◌, ◌++◌, length, Option, Some, None, slice_get, refl, sym, ap, ◌∙◌, subst, append-nil, arith}
 use Rattle.std.specs.Prelude.{◌==◌, nat_le}
-use Rattle.std.proofs.lemmas.Bool.{eqb-true, or_from}
+use Rattle.std.proofs.lemmas.Bool.{eqb-true, lt-leb, or_from}
 use Rattle.std.proofs.lemmas.Option.{none-some}
 use Rattle.tree_model.specs.declared.answer.Answer.{Answer}
 use Rattle.tree_model.specs.declared.answer.Answer.TheVariants.{Opened, Text, Names, NotBelow, Listed, Done, Refused}
@@ -15,6 +15,7 @@ use Rattle.tree_model.specs.Steps.{held_count, is_full, outcome}
 use Rattle.tree_model.specs.StepWith.{StepWith}
 use Rattle.tree_model.proofs.HistoryLaws.{IsLegal-append, after_events-append}
 use Rattle.tree_model.proofs.StepLaws.{held-is}
+use Rattle.bulk_ops.proofs.OwnEvents.{own_both}
 use Rattle.step_resolver.specs.Order.{Line, answered, no_room, not_made, events_of}
 use Rattle.step_resolver.specs.WalkHistory.{own_events}
 use Rattle.root_ops.specs.Renumbered.{step_by, answer_by, lines_by}
@@ -25,20 +26,9 @@ use Rattle.calls_by_system_calls.proofs.AtChange.{Changed, changed_at_call}
 use Rattle.calls_by_system_calls.proofs.AtMoment.{Effect, Made, opens_one, closes_one, tells_only, made_at_moment, numbering}
 use Rattle.calls_by_system_calls.proofs.Joining.{Moved, Stands, moves, own_change, own_step}
 use Rattle.calls_by_system_calls.proofs.Moments.{fewer, later, legal_meanwhile, others_meanwhile, reached}
-use Rattle.calls_by_system_calls.proofs.Others.{below_is_no_more}
 use Rattle.calls_by_system_calls.proofs.Woven.{woven_length}
 
 -- ---- small parts
-
-own_append : (a : ℕ) (xs ys : List Event) → own_events a (xs ++ ys) ≡ own_events a xs ++ own_events a ys
-own_append a [] ys = refl
-own_append a (event ∷ xs) ys = by (event.actor == a) (own_append a xs ys)
-  where
-    by : (b : Bool) → own_events a (xs ++ ys) ≡ own_events a xs ++ own_events a ys
-        → cond b (event ∷ own_events a (xs ++ ys)) (own_events a (xs ++ ys))
-        ≡ cond b (event ∷ own_events a xs) (own_events a xs) ++ own_events a ys
-    by true same = ap (λ zs. event ∷ zs) same
-    by false same = same
 
 -- a number that is none of all is none of those opened here, and none of those later
 none_here : (j : ℕ) (answer : Answer) (hs : List ℕ) → IsNoneOf j (number_opened answer hs)
@@ -96,8 +86,8 @@ module _ (x : Linux) (linux : IsLinux x 0) (nodes : ℕ → ℕ) where
       let most : HANDLES_MAX ≡ 1024 = refl in
       let long = ap (λ (z : State). length z.handles) stands.is in
       or_from (nat_le HANDLES_MAX (held_count t 0)) (nat_le NUMBERS_MAX (length t.handles))
-      (below_is_no_more HANDLES_MAX (held_count t 0) (omega (arith, most, room, stands.count)))
-      (below_is_no_more NUMBERS_MAX (length t.handles) (omega (arith, long, woven_length stands.woven, few)))
+      (lt-leb HANDLES_MAX (held_count t 0) (omega (arith, most, room, stands.count)))
+      (lt-leb NUMBERS_MAX (length t.handles) (omega (arith, long, woven_length stands.woven, few)))
 
   within : (s t : State) (k : ℕ) (table : Descriptors) (f : ℕ → ℕ) → Stands s t k table f
       → (h d : ℕ) → table.on h ≡ Some d → d < length s.nodes
@@ -311,9 +301,9 @@ module _ (x : Linux) (linux : IsLinux x 0) (nodes : ℕ → ℕ) where
               (IsLegal-append t here.first (own_event ∷ here.second) here.legal_first (refl, here.legal_second))
               (subst (λ z. IsLegal z rest.window) (sym reaches) rest.legal);
           owns =
-              own_append 0 (here.first ++ (own_event ∷ here.second)) rest.window
+              own_both 0 (here.first ++ (own_event ∷ here.second)) rest.window
               ∙ ap (λ z. z ++ own_events 0 rest.window)
-              (own_append 0 here.first (own_event ∷ here.second)
+              (own_both 0 here.first (own_event ∷ here.second)
               ∙ ap (λ z. z ++ own_events 0 (own_event ∷ here.second)) here.others_first
               ∙ ap (λ z. own_event ∷ z) here.others_second)
               ∙ ap (λ z. own_event ∷ z) rest.own;
@@ -356,7 +346,7 @@ module _ (x : Linux) (linux : IsLinux x 0) (nodes : ℕ → ℕ) where
           window = (first.others ++ []) ++ rest.window;
           legal = subst (λ z. IsLegal t (z ++ rest.window)) (sym whole)
               (IsLegal-append t first.others rest.window first.legal rest.legal);
-          owns = ap (λ z. own_events 0 (z ++ rest.window)) whole ∙ own_append 0 first.others rest.window
+          owns = ap (λ z. own_events 0 (z ++ rest.window)) whole ∙ own_both 0 first.others rest.window
               ∙ ap (λ z. z ++ own_events 0 rest.window) first.not_own ∙ rest.own;
           placed = record {
             n = calls;

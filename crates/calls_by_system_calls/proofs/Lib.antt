@@ -12,13 +12,12 @@ mod AtChange
 mod Joining
 mod JoiningLines
 mod LinesJoined
-mod BySystemCalls
 mod Places
 mod WorkedRace
-mod WorkedChange
 mod Noted
+mod Reaching
+mod Standing
 mod WholeCalls
 mod WholeRenames
 mod WholePaths
 mod WorkedWhole
-mod WholeMissing

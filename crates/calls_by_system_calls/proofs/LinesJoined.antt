@@ -9,8 +9,10 @@ use Rattle.step_resolver.specs.Order.{Line, events_of}
 use Rattle.step_resolver.specs.WalkHistory.{own_events}
 use Rattle.root_ops.specs.declared.below.Below.{Below}
 use Rattle.root_ops.specs.declared.op.Op.{Op}
+use Rattle.root_ops.specs.Blind.{CallsTellByAnyNumbers}
 use Rattle.root_ops.specs.Renumbered.{lines_by}
-use Rattle.calls_by_system_calls.specs.Joined.{descriptors_before, HasHistory, LinesAreMade}
+use Rattle.calls_by_system_calls.specs.Conversations.{lines_of, ConversationsAreCalls}
+use Rattle.calls_by_system_calls.specs.Joined.{call_in, descriptors_before, CallsTellBySystemCalls, HasHistory, LinesAreMade, LinesHaveHistories}
 use Rattle.calls_by_system_calls.specs.Linux.{Linux, state_at}
 use Rattle.calls_by_system_calls.specs.Lines.{Descriptors, IsNoneOf, numbers_opened}
 use Rattle.calls_by_system_calls.proofs.AtMoment.{numbering}
@@ -54,7 +56,7 @@ module _ (x : Linux) (below : Below) (nodes : ℕ → ℕ) (root node : ℕ) (li
   root_is : joined.g below.root.handle ≡ root
   root_is = joined.same below.root.handle made.differ.0
 
-  pub has_history : (op : Op) (room : Bool) → HasHistory x below op room nodes root node lines counts
+  has_history : (op : Op) (room : Bool) → HasHistory x below op room nodes root node lines counts
   has_history op room = record {
     f = numbering joined.g nodes;
     by_nodes = refl;
@@ -72,3 +74,16 @@ module _ (x : Linux) (below : Below) (nodes : ℕ → ℕ) (root node : ℕ) (li
       root_is_dir = made.directory;
     };
   }
+
+pub lines_have : LinesHaveHistories
+lines_have x below op room nodes root node lines counts made =
+    has_history x below nodes root node lines counts made op room
+
+pub calls_tell : ConversationsAreCalls → CallsTellByAnyNumbers → CallsTellBySystemCalls
+calls_tell are by_any below op turn exchanges reply begins is x nodes root node counts made =
+    let lines = lines_of turn exchanges reply is in
+    let history = has_history x below nodes root node lines counts made op begins.0.0 in (
+      history,
+      by_any history.f (call_in x below op begins.0.0 node lines history.window) reply
+          (are below op turn exchanges reply begins is) history.is_call,
+    )

@@ -1,25 +1,26 @@
 -- Which exchanges a conversation of kernel_calls has, signals left out.
-use Rattle.std.proofs.Common.{◌≡◌, ◌⊎◌, inl, inr, ℕ, List, [], ◌∷◌, ◌++◌, Bool, true, false, not, ◌&&◌, ◌||◌, if◌then◌else◌, Result, Ok, Err, refl, sym, ap, subst, ◌∙◌, true≢false, arith}
+use Rattle.std.proofs.Common.{◌≡◌, ◌⊎◌, inl, inr, ℕ, ◌+◌, List, [], ◌∷◌, ◌++◌, Bool, true, false, not, ◌&&◌, ◌||◌, if◌then◌else◌, Result, Ok, Err, refl, sym, ap, subst, ◌∙◌, true≢false, arith}
 use Rattle.std.specs.Prelude.{◌==◌, nat_lt, length, bit_or, Option, Some, None}
 use Rattle.std.proofs.lemmas.Bool.{eqb-true}
+use Rattle.std.proofs.lemmas.List.{append-nil, append_assoc}
 use Rattle.path_text.specs.Text.{begins_with_slash, is_empty}
 use Rattle.path_text.specs.declared.path.TheConstants.{TEXT_MAX}
 use Rattle.system_calls.specs.Errors.{EINTR, ENOENT}
 use Rattle.system_calls.specs.Objects.{kind_of}
 use Rattle.system_calls.specs.OpenFlags.{O_CLOEXEC, O_PATH}
 use Rattle.dialogue.specs.Dialogue.{Dialogue, Exchange, SystemCall, again, and_then, calling, closes, ends, knows, look_up, open_path, stats, Whole, without_signals}
-use Rattle.dialogue.specs.Holds.{Watch, state_after}
+use Rattle.dialogue.specs.Holds.{AllMay, Watch, state_after}
 use Rattle.dialogue.specs.declared.calls.Answer.{Answer}
 use Rattle.dialogue.proofs.HoldLemmas.{Goes, asks_then, both, choose, exchange, over, weak}
 use Rattle.find_proc.specs.declared.asks.Known.{Known}
 use Rattle.linux_steps.specs.Steps.{look_error}
 use Rattle.kernel_walks.specs.AtOnce.{misses_at_once}
-use Rattle.kernel_calls.specs.Calls.{Ended, Left, behind_of, change_entry, change_in, changing, ended, from_by, is_plain, is_steps, not_renamed, plain_told, rename, rename_from, rename_in, rename_to, renaming, resolve, resolve_by, with_kind}
+use Rattle.kernel_calls.specs.Calls.{Ended, Left, behind_of, change_entry, change_in, changing, ended, from_by, is_plain, is_steps, left, not_renamed, plain_told, rename, rename_from, rename_in, rename_to, renaming, resolve, resolve_by, with_kind}
 use Rattle.kernel_calls.specs.Change.{Changing, given, is_made, made_by, make, make_by, make_change, question_of}
 use Rattle.kernel_calls.specs.Entry.{EntryAt, directory_at, directory_by, find_directory, leave, own_of}
 use Rattle.kernel_calls.specs.Flags.{BENEATH, MAKE_LINK, OPEN, bit, has, resolve_of}
 use Rattle.kernel_calls.specs.InProc.{gives}
-use Rattle.kernel_calls.specs.Look.{Came, came_to, forget, is_filtered, is_missing, look_up as looking_up, may_walk, missing_by, missing_told, is_missing_told, opened, opened_told, walk, walk_by, walk_failed}
+use Rattle.kernel_calls.specs.Look.{Came, came_to, forget, is_filtered, is_missing, look_up as looking_up, may_walk, missing_by, missing_told, opened, walk, walk_by, walk_failed}
 use Rattle.kernel_calls.specs.Path.{At, place_in, text_in}
 use Rattle.kernel_calls.specs.Promises.{IsReply}
 use Rattle.kernel_calls.specs.declared.change.Wanted.{Wanted}
@@ -28,52 +29,79 @@ use Rattle.kernel_calls.specs.declared.look.Outcome.{Outcome}
 use Rattle.kernel_calls.specs.declared.look.Outcome.TheVariants.{Value, Fails, FailsAt, Steps}
 
 -- each exchange is noted
-abbrev pub noted : Watch (List Exchange)
+abbrev noted : Watch (List Exchange)
 noted = record { by = λ s x. s ++ x ∷ []; May = λ s q. Unit {0} }
 
-note_one : (s : List Exchange) (x : Exchange) (xs : List Exchange) → (s ++ x ∷ []) ++ xs ≡ s ++ x ∷ xs
-note_one [] x xs = refl
-note_one (y ∷ s) x xs = ap (λ zs. y ∷ zs) (note_one s x xs)
+all_noted : (s xs : List Exchange) → state_after noted s xs ≡ s ++ xs
+all_noted s [] = sym (append-nil s)
+all_noted s (x ∷ xs) = all_noted (s ++ x ∷ []) xs ∙ append_assoc s (x ∷ []) xs
 
-note_none : (s : List Exchange) → s ≡ s ++ []
-note_none [] = refl
-note_none (y ∷ s) = ap (λ zs. y ∷ zs) (note_none s)
+-- at most so many exchanges come, and they are these
+abbrev pub Comes : {E : Type 0} → ℕ → Dialogue E → (List Exchange → E → Type 0) → Type 0
+Comes n m Post = Goes noted n [] m Post
 
-pub all_noted : (s xs : List Exchange) → state_after noted s xs ≡ s ++ xs
-all_noted s [] = note_none s
-all_noted s (x ∷ xs) = all_noted (s ++ x ∷ []) xs ∙ note_one s x xs
+any_may : (s xs : List Exchange) → AllMay noted s xs
+any_may s [] = tt
+any_may s (x ∷ xs) = (tt, any_may (s ++ x ∷ []) xs)
+
+-- behind others
+shifted : {E : Type 0} {m : Dialogue E} {Post : List Exchange → E → Type 0} (n : ℕ) (s : List Exchange)
+    → Comes n m (λ xs. Post (s ++ xs)) → Goes noted n s m Post
+shifted {E} {m} {Post} n s h = record {
+  each = λ es e whole.
+      let r = h.each es e whole in
+      record {
+        few = r.few;
+        fair = any_may s (without_signals es);
+        ends = subst (λ xs. Post xs e)
+            (ap (λ xs. s ++ xs) (all_noted [] (without_signals es)) ∙ sym (all_noted s (without_signals es))) r.ends;
+      };
+}
+
+-- one part after another
+parts : {E F : Type 0} {m : Dialogue E} {f : E → Dialogue F} {Mid : List Exchange → E → Type 0}
+    {Post : List Exchange → F → Type 0} (n k : ℕ) → Comes n m Mid
+    → ((xs : List Exchange) (e : E) → Mid xs e → Comes k (f e) (λ ys. Post (xs ++ ys)))
+    → Comes (n + k) (and_then m f) Post
+parts n k h g = both n k h (λ xs e mid. shifted k xs (g xs e mid))
+
+asked_then : {F : Type 0} {f : Answer → Dialogue F} {Post : List Exchange → F → Type 0} (k : ℕ) (q : SystemCall)
+    → ((a : Answer) → Comes k (f a) (λ ys. Post (exchange q a ∷ ys))) → Comes (1 + k) (and_then (calling q) f) Post
+asked_then k q g = asks_then k q tt (λ a. shifted k (exchange q a ∷ []) (g a))
+
+of_whole : {E : Type 0} {m : Dialogue E} {Post : List Exchange → E → Type 0} (n : ℕ) → Comes n m Post
+    → (es : List Exchange) (e : E) → Whole m es e → Post (without_signals es) e
+of_whole {E} {m} {Post} n h es e whole =
+    subst (λ xs. Post xs e) (all_noted [] (without_signals es)) (h.each es e whole).ends
 
 -- ---- a look-up
 
-forgets : (s : List Exchange) (k : Known) (error : ℕ)
-    → Goes noted 1 s (forget k error) (λ t now. is_filtered error ≡ false → t ≡ s)
+forgets : (k : Known) (error : ℕ) → Comes 1 (forget k error) (λ xs now. is_filtered error ≡ false → xs ≡ [])
 unfolding forget
-forgets s k error =
+forgets k error =
     choose (is_filtered error)
-    (λ yes. choose k.has_floor (λ _. asks_then 0 (knows false) tt (λ a. over (λ none. absurd (true≢false (sym yes ∙ none)))))
+    (λ yes. choose k.has_floor
+    (λ _. asked_then 0 (knows false) (λ a. over (λ none. absurd (true≢false (sym yes ∙ none)))))
     (λ _. over (λ none. refl)))
     (λ _. over (λ none. refl))
 
--- it is noted, and was answered by this descriptor
-abbrev pub GotBy : List Exchange → SystemCall → List Exchange → ℕ → Type 0
-GotBy s q t fd = (a : Answer) × (t ≡ s ++ exchange q a ∷ []) × (a.error ≡ 0) × (a.value ≡ fd)
+-- it was answered by this descriptor
+abbrev pub GotBy : SystemCall → List Exchange → ℕ → Type 0
+GotBy q xs fd = (a : Answer) × (xs ≡ exchange q a ∷ []) × (a.error ≡ 0) × (a.value ≡ fd)
 
 -- what is known stays; or the error is the look-up's, or 0 where the kernel may not walk the path
-abbrev Got : List Exchange → SystemCall → Known → List Exchange → Known → Result ℕ ℕ → Type 0
-Got s q k t now (Ok fd) = GotBy s q t fd × (now ≡ k)
-Got s q k t now (Err error) =
-    ((a : Answer) × (a.error ≡ error) × (is_filtered error ≡ false → t ≡ s ++ exchange q a ∷ [])) ⊎ (error ≡ 0)
+abbrev Got : SystemCall → Known → List Exchange → Known → Result ℕ ℕ → Type 0
+Got q k xs now (Ok fd) = GotBy q xs fd × (now ≡ k)
+Got q k xs now (Err error) =
+    ((a : Answer) × (a.error ≡ error) × (is_filtered error ≡ false → xs ≡ exchange q a ∷ [])) ⊎ (error ≡ 0)
 
-got : (s : List Exchange) (k : Known) (q : SystemCall) (a : Answer)
-    → Goes noted 1 (s ++ exchange q a ∷ []) (opened_told k a) (λ t c. Got s q k t c.known c.value)
-got s k q a =
-    choose (a.error == 0) (λ none. over ((a, refl, eqb-true a.error 0 none, refl), refl))
-    (λ _. both 1 0 (forgets (s ++ exchange q a ∷ []) k a.error) (λ t now is. over (inl (a, refl, is))))
-
-opens : (s : List Exchange) (k : Known) (q : SystemCall)
-    → Goes noted 2 s (opened k q) (λ t c. Got s q k t c.known c.value)
+opens : (k : Known) (q : SystemCall) → Comes 2 (opened k q) (λ xs c. Got q k xs c.known c.value)
 unfolding opened
-opens s k q = asks_then 1 q tt (λ a. got s k q a)
+opens k q =
+    asked_then 1 q
+    (λ a. choose (a.error == 0) (λ none. over ((a, refl, eqb-true a.error 0 none, refl), refl))
+    (λ _. parts 1 0 (forgets k a.error)
+    (λ xs now is. over (inl (a, refl, λ no. ap (λ ys. exchange q a ∷ (ys ++ [])) (is no))))))
 
 -- the look-up that asks whether a name is missing
 abbrev pub seeks_missing : At → SystemCall
@@ -83,111 +111,95 @@ abbrev pub may_miss : At → Bool
 may_miss at = misses_at_once (has at.flags BENEATH) (text_in at.slashed) (place_in at.slashed)
 
 -- it found one missing
-abbrev Missed : List Exchange → At → List Exchange → Bool → Type 0
-Missed s at t b = b ≡ true → (a : Answer) × (t ≡ s ++ exchange (seeks_missing at) a ∷ []) × (a.error ≡ ENOENT)
-    × (may_miss at ≡ true)
+abbrev Missed : At → List Exchange → Bool → Type 0
+Missed at xs b = b ≡ true
+    → (a : Answer) × (xs ≡ exchange (seeks_missing at) a ∷ []) × (a.error ≡ ENOENT) × (may_miss at ≡ true)
 
-missed : (s t : List Exchange) (k now : Known) (at : At) (r : Result ℕ ℕ) → may_miss at ≡ true
-    → Got s (seeks_missing at) k t now r → Goes noted 1 t (missing_by now r) (λ u c. Missed s at u c.value)
-missed s t k now at (Ok fd) may h = asks_then 0 (closes fd) tt (λ a. over (λ yes. absurd (true≢false (sym yes))))
-missed s t k now at (Err error) may (inl h) =
+missed : (k now : Known) (at : At) (xs : List Exchange) (r : Result ℕ ℕ) → may_miss at ≡ true
+    → Got (seeks_missing at) k xs now r → Comes 1 (missing_by now r) (λ ys c. Missed at (xs ++ ys) c.value)
+missed k now at xs (Ok fd) may h = asked_then 0 (closes fd) (λ a. over (λ yes. absurd (true≢false (sym yes))))
+missed k now at xs (Err error) may (inl h) =
     over (λ yes.
     let e = eqb-true error ENOENT yes in
-    (h.0, h.2 (ap is_filtered e), h.1 ∙ e, may))
-missed s t k now at (Err error) may (inr none) =
+    (h.0, ap (λ ys. ys ++ []) (h.2 (ap is_filtered e)), h.1 ∙ e, may))
+missed k now at xs (Err error) may (inr none) =
     over (λ yes. absurd (true≢false (sym yes ∙ ap (λ n. n == ENOENT) none)))
 
-misses : (s : List Exchange) (k : Known) (at : At) → Goes noted 3 s (is_missing k at) (λ t c. Missed s at t c.value)
+misses : (k : Known) (at : At) → Comes 3 (is_missing k at) (λ xs c. Missed at xs c.value)
 unfolding is_missing
-misses s k at =
-    by_case (may_miss at) refl
+misses k at = by_case (may_miss at) refl
   where
     by_case : (b : Bool) → may_miss at ≡ b
-        → Goes noted 3 s (if not b then ends (came_to k false)
-        else and_then (opened k (seeks_missing at)) missing_told) (λ t c. Missed s at t c.value)
+        → Comes 3 (if not b then ends (came_to k false) else and_then (opened k (seeks_missing at)) missing_told)
+        (λ xs c. Missed at xs c.value)
     by_case false may = over (λ yes. absurd (true≢false (sym yes)))
-    by_case true may =
-        both 2 1 (opens s k (seeks_missing at)) (λ t c h. missed s t k c.known at c.value may h)
+    by_case true may = parts 2 1 (opens k (seeks_missing at)) (λ xs c h. missed k c.known at xs c.value may h)
 
 -- It failed: a signal came; or a name was missing, by two look-ups.
-pub data Failed (s : List Exchange) (q : SystemCall) (at : At) (t : List Exchange) (error : ℕ) : Type 0 where
-  by_signal : (a : Answer) → t ≡ s ++ exchange q a ∷ [] → a.error ≡ EINTR → Failed s q at t error
-  by_missing : (a b : Answer) → t ≡ (s ++ exchange q a ∷ []) ++ exchange (seeks_missing at) b ∷ []
-      → b.error ≡ ENOENT → may_miss at ≡ true → error ≡ ENOENT → Failed s q at t error
+pub data Failed (q : SystemCall) (at : At) (xs : List Exchange) (error : ℕ) : Type 0 where
+  by_signal : (a : Answer) → xs ≡ exchange q a ∷ [] → a.error ≡ EINTR → Failed q at xs error
+  by_missing : (a b : Answer) → xs ≡ exchange q a ∷ exchange (seeks_missing at) b ∷ [] → a.error ≡ ENOENT
+      → b.error ≡ ENOENT → may_miss at ≡ true → error ≡ ENOENT → Failed q at xs error
 
 -- so the call ends without a change
-abbrev pub Unfound : List Exchange → SystemCall → At → List Exchange → Outcome → Type 0
-Unfound s q at t (Value value) = ⊥
-Unfound s q at t (Fails error step) = Failed s q at t error
-Unfound s q at t (FailsAt error step) = ⊥
-Unfound s q at t Steps = Unit {0}
+abbrev pub Unfound : SystemCall → At → List Exchange → Outcome → Type 0
+Unfound q at xs (Value value) = ⊥
+Unfound q at xs (Fails error step) = Failed q at xs error
+Unfound q at xs (FailsAt error step) = ⊥
+Unfound q at xs Steps = Unit {0}
 
-abbrev pub IsNoChange : Outcome → Type 0
-IsNoChange (Value value) = ⊥
-IsNoChange (Fails error step) = Unit {0}
-IsNoChange (FailsAt error step) = ⊥
-IsNoChange Steps = Unit {0}
+abbrev Walked : SystemCall → Known → At → List Exchange → Known → Result ℕ Outcome → Type 0
+Walked q k at xs now (Ok fd) = GotBy q xs fd × (now ≡ k)
+Walked q k at xs now (Err why) = Unfound q at xs why
 
-no_change : (s : List Exchange) (q : SystemCall) (at : At) (t : List Exchange) (why : Outcome) → Unfound s q at t why
-    → IsNoChange why
-no_change s q at t (Value value) h = h
-no_change s q at t (Fails error step) h = tt
-no_change s q at t (FailsAt error step) h = h
-no_change s q at t Steps h = tt
-
-abbrev Walked : List Exchange → SystemCall → Known → At → List Exchange → Known → Result ℕ Outcome → Type 0
-Walked s q k at t now (Ok fd) = GotBy s q t fd × (now ≡ k)
-Walked s q k at t now (Err why) = Unfound s q at t why
-
-missing_so : (s : List Exchange) (q : SystemCall) (at : At) (a : Answer) (t : List Exchange) (b : Bool)
-    → Missed (s ++ exchange q a ∷ []) at t b → Unfound s q at t (if b then Fails ENOENT OPEN else Steps)
-missing_so s q at a t true h =
+missing_so : (q : SystemCall) (at : At) (a : Answer) (xs ys : List Exchange) (b : Bool) → xs ≡ exchange q a ∷ []
+    → a.error ≡ ENOENT → Missed at ys b → Unfound q at (xs ++ (ys ++ [])) (if b then Fails ENOENT OPEN else Steps)
+missing_so q at a xs ys true is enoent h =
     let m = h refl in
-    by_missing a m.0 m.1 m.2 m.3 refl
-missing_so s q at a t false h = tt
+    by_missing a m.0 (ap (λ zs. zs ++ (ys ++ [])) is ∙ ap (λ zs. exchange q a ∷ (zs ++ [])) m.1) enoent m.2 m.3 refl
+missing_so q at a xs ys false is enoent h = tt
 
-walk_fails : (s t : List Exchange) (k now : Known) (at : At) (q : SystemCall) (error : ℕ) → Got s q k t now (Err error)
-    → Goes noted 3 t (walk_failed at now error) (λ u c. Walked s q k at u c.known c.value)
-walk_fails s t k now at q error (inl h) =
+walk_fails : (k now : Known) (at : At) (q : SystemCall) (xs : List Exchange) (error : ℕ) → Got q k xs now (Err error)
+    → Comes 3 (walk_failed at now error) (λ ys c. Walked q k at (xs ++ ys) c.known c.value)
+walk_fails k now at q xs error (inl h) =
     choose (error == EINTR)
     (λ is.
     let e = eqb-true error EINTR is in
-    over (by_signal h.0 (h.2 (ap is_filtered e)) (h.1 ∙ e)))
+    over (by_signal h.0 (ap (λ ys. ys ++ []) (h.2 (ap is_filtered e))) (h.1 ∙ e)))
     (λ _. choose (error == ENOENT)
-    (λ is. subst (λ z. Goes noted 3 z (and_then (is_missing now at) is_missing_told)
-    (λ u c. Walked s q k at u c.known c.value)) (sym (h.2 (ap is_filtered (eqb-true error ENOENT is))))
-    (both 3 0 (misses (s ++ exchange q h.0 ∷ []) now at) (λ u c m. over (missing_so s q at h.0 u c.value m))))
+    (λ is.
+    let e = eqb-true error ENOENT is in
+    parts 3 0 (misses now at) (λ ys c m. over (missing_so q at h.0 xs ys c.value (h.2 (ap is_filtered e)) (h.1 ∙ e) m)))
     (λ _. over tt))
-walk_fails s t k now at q error (inr none) =
+walk_fails k now at q xs error (inr none) =
     choose (error == EINTR) (λ is. absurd (true≢false (sym is ∙ ap (λ n. n == EINTR) none)))
     (λ _. choose (error == ENOENT) (λ is. absurd (true≢false (sym is ∙ ap (λ n. n == ENOENT) none))) (λ _. over tt))
 
-walked_by : (s t : List Exchange) (k now : Known) (at : At) (q : SystemCall) (r : Result ℕ ℕ) → Got s q k t now r
-    → Goes noted 3 t (walk_by at now r) (λ u c. Walked s q k at u c.known c.value)
-walked_by s t k now at q (Ok fd) h = over h
-walked_by s t k now at q (Err error) h = walk_fails s t k now at q error h
+walked_by : (k now : Known) (at : At) (q : SystemCall) (xs : List Exchange) (r : Result ℕ ℕ) → Got q k xs now r
+    → Comes 3 (walk_by at now r) (λ ys c. Walked q k at (xs ++ ys) c.known c.value)
+walked_by k now at q xs (Ok fd) h = over ((h.0.0, ap (λ ys. ys ++ []) h.0.1, h.0.2, h.0.3), h.1)
+walked_by k now at q xs (Err error) h = walk_fails k now at q xs error h
 
 -- by O_PATH
 abbrev pub seeks : At → List ℕ → ℕ → SystemCall
 seeks at path how = look_up at.root (text_in path) how (resolve_of at.flags)
 
-looks : (s : List Exchange) (k : Known) (at : At) (how : ℕ) → has how O_PATH ≡ true
-    → Goes noted 2 s (looking_up k at how 0) (λ t c. Got s (seeks at at.slashed how) k t c.known c.value)
+looks : (k : Known) (at : At) (how : ℕ) → has how O_PATH ≡ true
+    → Comes 2 (looking_up k at how 0) (λ xs c. Got (seeks at at.slashed how) k xs c.known c.value)
 unfolding looking_up
-looks s k at how path =
+looks k at how path =
     choose (not at.looked && not (may_walk at)) (λ _. over (inr refl))
     (λ _. subst
-    (λ b. Goes noted 2 s (opened k (if b then seeks at at.slashed how
+    (λ b. Comes 2 (opened k (if b then seeks at at.slashed how
     else open_path at.root (text_in at.slashed) (bit_or how O_CLOEXEC) 0 (resolve_of at.flags)))
-    (λ t c. Got s (seeks at at.slashed how) k t c.known c.value)) (sym path)
-    (opens s k (seeks at at.slashed how)))
+    (λ xs c. Got (seeks at at.slashed how) k xs c.known c.value)) (sym path)
+    (opens k (seeks at at.slashed how)))
 
-walks : (s : List Exchange) (k : Known) (at : At) (how : ℕ) → has how O_PATH ≡ true
-    → Goes noted 5 s (walk k at how 0) (λ t c. Walked s (seeks at at.slashed how) k at t c.known c.value)
+walks : (k : Known) (at : At) (how : ℕ) → has how O_PATH ≡ true
+    → Comes 5 (walk k at how 0) (λ xs c. Walked (seeks at at.slashed how) k at xs c.known c.value)
 unfolding walk
-walks s k at how path =
-    both 2 3 (looks s k at how path)
-    (λ t c h. walked_by s t k c.known at (seeks at at.slashed how) c.value h)
+walks k at how path =
+    parts 2 3 (looks k at how path) (λ xs c h. walked_by k c.known at (seeks at at.slashed how) xs c.value h)
 
 -- ---- the directory of an entry
 
@@ -199,48 +211,42 @@ abbrev pub is_out : At → Bool
 is_out at = has at.flags BENEATH && begins_with_slash (text_in at.slashed)
 
 -- it is the root, without a system call; or its path was looked up
-abbrev pub Directory : List Exchange → Known → At → Option (List ℕ) → List Exchange → Dir → Type 0
-Directory s k at None t dir = (t ≡ s) × (dir ≡ record { fd = at.root; own = false }) × (is_out at ≡ false)
-Directory s k at (Some path) t dir = GotBy s (seeks at path (way k)) t dir.fd × (dir.own ≡ true)
+abbrev pub Directory : Known → At → Option (List ℕ) → List Exchange → Dir → Type 0
+Directory k at None xs dir = (xs ≡ []) × (dir ≡ record { fd = at.root; own = false }) × (is_out at ≡ false)
+Directory k at (Some path) xs dir = GotBy (seeks at path (way k)) xs dir.fd × (dir.own ≡ true)
 
 -- or it wasn't found
-abbrev pub Lacks : List Exchange → Known → At → Option (List ℕ) → List Exchange → Outcome → Type 0
-Lacks s k at None t why = why ≡ Steps
-Lacks s k at (Some path) t why = Unfound s (seeks at path (way k)) (record at { slashed = path }) t why
+abbrev pub Lacks : Known → At → Option (List ℕ) → List Exchange → Outcome → Type 0
+Lacks k at None xs why = why ≡ Steps
+Lacks k at (Some path) xs why = Unfound (seeks at path (way k)) (record at { slashed = path }) xs why
 
-by_steps : (s : List Exchange) (k : Known) (at : At) (above : Option (List ℕ)) (t : List Exchange)
-    → Lacks s k at above t Steps
-by_steps s k at None t = refl
-by_steps s k at (Some path) t = tt
+by_steps : (k : Known) (at : At) (above : Option (List ℕ)) (xs : List Exchange) → Lacks k at above xs Steps
+by_steps k at None xs = refl
+by_steps k at (Some path) xs = tt
 
-pub lacks_change : (s : List Exchange) (k : Known) (at : At) (above : Option (List ℕ)) (t : List Exchange)
-    (why : Outcome) → Lacks s k at above t why → IsNoChange why
-lacks_change s k at None t why is = subst IsNoChange (sym is) tt
-lacks_change s k at (Some path) t why h =
-    no_change s (seeks at path (way k)) (record at { slashed = path }) t why h
+abbrev Found : Known → At → Option (List ℕ) → List Exchange → Known → Result Dir Outcome → Type 0
+Found k at above xs now (Ok dir) = Directory k at above xs dir × (now ≡ k)
+Found k at above xs now (Err why) = Lacks k at above xs why
 
-abbrev pub Found : List Exchange → Known → At → Option (List ℕ) → List Exchange → Known → Result Dir Outcome → Type 0
-Found s k at above t now (Ok dir) = Directory s k at above t dir × (now ≡ k)
-Found s k at above t now (Err why) = Lacks s k at above t why
+found_by : (k now : Known) (at : At) (path : List ℕ) (xs : List Exchange) (r : Result ℕ Outcome)
+    → Walked (seeks at path (way k)) k (record at { slashed = path }) xs now r
+    → Found k at (Some path) (xs ++ []) (directory_by now r).known (directory_by now r).value
+found_by k now at path xs (Ok fd) h = (((h.0.0, ap (λ ys. ys ++ []) h.0.1, h.0.2, h.0.3), refl), h.1)
+found_by k now at path xs (Err why) h =
+    subst (λ ys. Unfound (seeks at path (way k)) (record at { slashed = path }) ys why) (sym (append-nil xs)) h
 
-found_by : (s t : List Exchange) (k now : Known) (at : At) (path : List ℕ) (r : Result ℕ Outcome)
-    → Walked s (seeks at path (way k)) k (record at { slashed = path }) t now r
-    → Found s k at (Some path) t (directory_by now r).known (directory_by now r).value
-found_by s t k now at path (Ok fd) h = ((h.0, refl), h.1)
-found_by s t k now at path (Err why) h = h
+found_at : (k : Known) (at : At) (above : Option (List ℕ)) → has (way k) O_PATH ≡ true → is_out at ≡ false
+    → Comes 5 (directory_at k at above) (λ xs c. Found k at above xs c.known c.value)
+found_at k at None path inside = over ((refl, refl, inside), refl)
+found_at k at (Some slashed) path inside =
+    parts 5 0 (walks k (record at { slashed = slashed }) (way k) path)
+    (λ xs c h. over (found_by k c.known at slashed xs c.value h))
 
-found_at : (s : List Exchange) (k : Known) (at : At) (above : Option (List ℕ)) → has (way k) O_PATH ≡ true
-    → is_out at ≡ false → Goes noted 5 s (directory_at k at above) (λ t c. Found s k at above t c.known c.value)
-found_at s k at None path inside = over ((refl, refl, inside), refl)
-found_at s k at (Some slashed) path inside =
-    both 5 0 (walks s k (record at { slashed = slashed }) (way k) path)
-    (λ t c h. over (found_by s t k c.known at slashed c.value h))
-
-pub finds : (s : List Exchange) (k : Known) (at : At) (above : Option (List ℕ)) → has (way k) O_PATH ≡ true
-    → Goes noted 5 s (find_directory k at above) (λ t c. Found s k at above t c.known c.value)
+finds : (k : Known) (at : At) (above : Option (List ℕ)) → has (way k) O_PATH ≡ true
+    → Comes 5 (find_directory k at above) (λ xs c. Found k at above xs c.known c.value)
 unfolding find_directory
-finds s k at above path =
-    choose (is_out at) (λ _. over (by_steps s k at above s)) (λ inside. found_at s k at above path inside)
+finds k at above path =
+    choose (is_out at) (λ _. over (by_steps k at above [])) (λ inside. found_at k at above path inside)
 
 -- ---- the change
 
@@ -250,97 +256,111 @@ IsOutcome error (Value value) = error ≡ 0
 IsOutcome error (FailsAt why step) = why ≡ error
 IsOutcome error other = ⊥
 
--- the change is noted
-pub record Changed (s : List Exchange) (w : Wanted) (c : Changing) (t : List Exchange) (outcome : Outcome) : Type 0 where
+pub record Changed (w : Wanted) (c : Changing) (xs : List Exchange) (outcome : Outcome) : Type 0 where
   pub nofollow : ℕ
   pub answer : Answer
-  pub all : t ≡ s ++ exchange (question_of w c nofollow) answer ∷ []
+  pub all : xs ≡ exchange (question_of w c nofollow) answer ∷ []
   pub is : IsOutcome answer.error outcome
 
-not_given : (t : List Exchange) (now : Known) (w : Wanted) (c : Changing) (made : Option ℕ) (read : List ℕ)
-    (error : ℕ) → w.gives ≡ false → error ≡ 0
-    → Goes noted 0 t (given now w c made read) (λ u o. (u ≡ t) × IsOutcome error o.value)
+not_given : (k : Known) (w : Wanted) (c : Changing) (made : Option ℕ) (read : List ℕ) (error : ℕ) → w.gives ≡ false
+    → error ≡ 0 → Comes 0 (given k w c made read) (λ xs o. (xs ≡ []) × IsOutcome error o.value)
 unfolding given
-not_given t now w c made read error none done =
-    choose (not w.gives) (λ _. over (refl, done))
-    (λ yes. absurd (true≢false (sym (ap not none) ∙ yes)))
+not_given k w c made read error none done =
+    choose (not w.gives) (λ _. over (refl, done)) (λ yes. absurd (true≢false (sym (ap not none) ∙ yes)))
 
-record Answered (s : List Exchange) (w : Wanted) (c : Changing) (t : List Exchange) (r : Result ℕ ℕ) : Type 0 where
+record Answered (w : Wanted) (c : Changing) (xs : List Exchange) (r : Result ℕ ℕ) : Type 0 where
   nofollow : ℕ
   answer : Answer
-  all : t ≡ s ++ exchange (question_of w c nofollow) answer ∷ []
+  all : xs ≡ exchange (question_of w c nofollow) answer ∷ []
   is : r ≡ (if answer.error == 0 then Ok answer.value else Err answer.error)
 
-made_so : (s : List Exchange) (k : Known) (w : Wanted) (c : Changing) → w.linked ≡ false
-    → Goes noted 1 s (make k w c) (λ t r. Answered s w c t r.value)
+made_so : (k : Known) (w : Wanted) (c : Changing) → w.linked ≡ false
+    → Comes 1 (make k w c) (λ xs r. Answered w c xs r.value)
 unfolding make gives
-made_so s k w c unlinked =
+made_so k w c unlinked =
     choose (w.linked && is_made c.step)
     (λ yes. absurd (true≢false (sym yes ∙ ap (λ b. b && is_made c.step) unlinked)))
-    (λ _. both 1 0
-    (asks_then 0 (question_of w c k.machine.nofollow) tt
-    (λ a. over {Post = λ t r. Answered s w c t r}
-    (record { nofollow = k.machine.nofollow; answer = a; all = refl; is = refl })))
-    (λ t r h. over h))
+    (λ _. parts {Mid = Answered w c} 1 0
+    (asked_then 0 (question_of w c k.machine.nofollow)
+    (λ a. over (record { nofollow = k.machine.nofollow; answer = a; all = refl; is = refl })))
+    (λ xs r h. over (record { nofollow = h.nofollow; answer = h.answer; all = ap (λ ys. ys ++ []) h.all; is = h.is })))
 
-by_answer : (s t : List Exchange) (now : Known) (w : Wanted) (c : Changing) (read : List ℕ) (r : Result ℕ ℕ)
-    (b : Bool) (h : Answered s w c t r) → w.gives ≡ false → h.answer.error == 0 ≡ b
+by_answer : (k : Known) (w : Wanted) (c : Changing) (read : List ℕ) (xs : List Exchange) (r : Result ℕ ℕ) (b : Bool)
+    (h : Answered w c xs r) → w.gives ≡ false → h.answer.error == 0 ≡ b
     → r ≡ (if b then Ok h.answer.value else Err h.answer.error)
-    → Goes noted 0 t (make_by w c read now r) (λ u o. Changed s w c u o.value)
-by_answer s t now w c read r true h none zero is =
-    subst (λ x. Goes noted 0 t (make_by w c read now x) (λ u o. Changed s w c u o.value)) (sym is)
+    → Comes 0 (make_by w c read k r) (λ ys o. Changed w c (xs ++ ys) o.value)
+by_answer k w c read xs r true h none zero is =
+    subst (λ x. Comes 0 (make_by w c read k x) (λ ys o. Changed w c (xs ++ ys) o.value)) (sym is)
     (weak 0 (omega arith)
-    (not_given t now w c (made_by w c.step h.answer.value) read h.answer.error none (eqb-true h.answer.error 0 zero))
-    (λ u o g. record { nofollow = h.nofollow; answer = h.answer; all = g.0 ∙ h.all; is = g.1 }))
-by_answer s t now w c read r false h none zero is =
-    subst (λ x. Goes noted 0 t (make_by w c read now x) (λ u o. Changed s w c u o.value)) (sym is)
-    (over (record { nofollow = h.nofollow; answer = h.answer; all = h.all; is = refl }))
+    (not_given k w c (made_by w c.step h.answer.value) read h.answer.error none (eqb-true h.answer.error 0 zero))
+    (λ ys o g. record {
+      nofollow = h.nofollow;
+      answer = h.answer;
+      all = ap (λ zs. xs ++ zs) g.0 ∙ ap (λ zs. zs ++ []) h.all;
+      is = g.1;
+    }))
+by_answer k w c read xs r false h none zero is =
+    subst (λ x. Comes 0 (make_by w c read k x) (λ ys o. Changed w c (xs ++ ys) o.value)) (sym is)
+    (over (record { nofollow = h.nofollow; answer = h.answer; all = ap (λ zs. zs ++ []) h.all; is = refl }))
 
-pub changes : (s : List Exchange) (k : Known) (w : Wanted) (c : Changing) (read : List ℕ) → w.linked ≡ false
-    → w.gives ≡ false → Goes noted 1 s (make_change k w c read) (λ t o. Changed s w c t o.value)
+changes : (k : Known) (w : Wanted) (c : Changing) (read : List ℕ) → w.linked ≡ false → w.gives ≡ false
+    → Comes 1 (make_change k w c read) (λ xs o. Changed w c xs o.value)
 unfolding make_change
-changes s k w c read unlinked none =
-    both 1 0 (made_so s k w c unlinked)
-    (λ t r h. by_answer s t r.known w c read r.value (h.answer.error == 0) h none refl h.is)
+changes k w c read unlinked none =
+    parts 1 0 (made_so k w c unlinked)
+    (λ xs r h. by_answer r.known w c read xs r.value (h.answer.error == 0) h none refl h.is)
 
 -- ---- the directory is closed
 
-abbrev pub Closed : Bool → List Exchange → ℕ → List Exchange → Type 0
-Closed true s fd t = (a : Answer) × (t ≡ s ++ exchange (closes fd) a ∷ [])
-Closed false s fd t = t ≡ s
+abbrev pub Closed : Bool → ℕ → List Exchange → Type 0
+Closed true fd xs = (a : Answer) × (xs ≡ exchange (closes fd) a ∷ [])
+Closed false fd xs = xs ≡ []
 
 abbrev over_so : Dialogue (Unit {0})
 over_so = ends tt
 
-leaves_by : (s : List Exchange) (fd : ℕ) (b : Bool)
-    → Goes noted 1 s (if b then and_then (calling (closes fd)) (λ _. over_so) else over_so) (λ t _. Closed b s fd t)
-leaves_by s fd true = asks_then 0 (closes fd) tt (λ a. over (a, refl))
-leaves_by s fd false = over refl
+leaves_by : (fd : ℕ) (b : Bool)
+    → Comes 1 (if b then and_then (calling (closes fd)) (λ _. over_so) else over_so) (λ xs _. Closed b fd xs)
+leaves_by fd true = asked_then 0 (closes fd) (λ a. over (a, refl))
+leaves_by fd false = over refl
 
-pub leaves : (s : List Exchange) (dir : Dir) (is_behind : Bool)
-    → Goes noted 1 s (leave dir is_behind) (λ t _. Closed (dir.own && not is_behind) s dir.fd t)
+leaves : (dir : Dir) (is_behind : Bool)
+    → Comes 1 (leave dir is_behind) (λ xs _. Closed (dir.own && not is_behind) dir.fd xs)
 unfolding leave
-leaves s dir is_behind = leaves_by s dir.fd (dir.own && not is_behind)
+leaves dir is_behind = leaves_by dir.fd (dir.own && not is_behind)
+
+-- ---- in a directory
+
+-- The directory was found; what was done there; and its close, before the call's end or behind that.
+pub record Within (k : Known) (at : At) (above : Option (List ℕ))
+    (Inner : Dir → List Exchange → List ℕ → Outcome → Type 0) (s : List Exchange) (fds : List ℕ)
+    (outcome : Outcome) : Type 0 where
+  pub dir : Dir
+  pub first : List Exchange
+  pub mid : List Exchange
+  pub last : List Exchange
+  pub all : s ≡ first ++ (mid ++ last)
+  pub finds : Directory k at above first dir
+  pub behind : List ℕ
+  pub inner : Inner dir mid behind outcome
+  pub is_last : Bool
+  pub at_once : is_last ≡ false → behind ≡ []
+  pub closed : Closed (dir.own && not is_last) dir.fd last
+  pub closes : fds ≡ behind ++ behind_of is_last (own_of dir)
+
+-- or it wasn't, and the call ends without a change
+abbrev pub Enters : Known → At → Option (List ℕ) → (Dir → List Exchange → List ℕ → Outcome → Type 0)
+    → List Exchange → List ℕ → Outcome → Type 0
+Enters k at above Inner s fds outcome = (Lacks k at above s outcome × (fds ≡ [])) ⊎ Within k at above Inner s fds outcome
 
 -- ---- an entry is made or removed
 
--- These exchanges make the change: the look-up of its directory, the change, and the directory's close.
-pub record Makes (k : Known) (at : At) (entry : EntryAt) (w : Wanted) (step : ℕ) (text : List ℕ) (is_last : Bool)
-    (s : List Exchange) (e : Ended) : Type 0 where
-  pub dir : Dir
-  pub found : List Exchange
-  pub finds : Directory [] k at entry.above found dir
-  pub made : List Exchange
-  pub change : Changed found w (changing step dir.fd entry.name text) made e.outcome
-  pub closed : Closed (dir.own && not is_last) made dir.fd s
-  pub behind : e.closes ≡ behind_of is_last (own_of dir)
-
-abbrev pub Shape : Known → At → EntryAt → Wanted → ℕ → List ℕ → Bool → List Exchange → Ended → Type 0
-Shape k at entry w step text is_last s e =
-    Lacks [] k at entry.above s e.outcome ⊎ Makes k at entry w step text is_last s e
+abbrev pub MakesIn : EntryAt → Wanted → ℕ → List ℕ → Dir → List Exchange → List ℕ → Outcome → Type 0
+MakesIn entry w step text dir xs fds outcome =
+    Changed w (changing step dir.fd entry.name text) xs outcome × (fds ≡ [])
 
 plain : (k : Known) (gives : Bool) (step : ℕ) (text : List ℕ) → gives ≡ false
-    → Goes noted 0 [] (is_plain k gives step text) (λ t is. t ≡ [])
+    → Comes 0 (is_plain k gives step text) (λ xs is. xs ≡ [])
 unfolding is_plain
 plain k gives step text none =
     choose ((step == MAKE_LINK) && (is_empty text || nat_lt TEXT_MAX (length text))) (λ _. over refl)
@@ -348,136 +368,160 @@ plain k gives step text none =
 
 module _ (k : Known) (at : At) (entry : EntryAt) (w : Wanted) (step : ℕ) (text read : List ℕ) (is_last : Bool)
     (unlinked : w.linked ≡ false) (none : w.gives ≡ false) (path : has (way k) O_PATH ≡ true) where
-  changed_in : (t : List Exchange) (now : Known) (r : Result Dir Outcome) → Found [] k at entry.above t now r
-      → Goes noted 2 t (change_in entry w step text read is_last now r) (Shape k at entry w step text is_last)
-  changed_in t now (Err why) h = over (inl h)
-  changed_in t now (Ok dir) h =
-      both 1 1 (changes t now w (changing step dir.fd entry.name text) read unlinked none)
-      (λ u c d. both 1 0 (leaves u dir is_last)
-      (λ v _ l. over
+  abbrev Shape : List Exchange → Ended → Type 0
+  Shape s e = Enters k at entry.above (MakesIn entry w step text) s e.closes e.outcome
+
+  changed_in : (now : Known) (xs : List Exchange) (r : Result Dir Outcome) → Found k at entry.above xs now r
+      → Comes 2 (change_in entry w step text read is_last now r) (λ ys. Shape (xs ++ ys))
+  changed_in now xs (Err why) h =
+      over (inl (subst (λ s. Lacks k at entry.above s why) (sym (append-nil xs)) h, refl))
+  changed_in now xs (Ok dir) h =
+      parts 1 1 (changes now w (changing step dir.fd entry.name text) read unlinked none)
+      (λ ys c changed. parts 1 0 (leaves dir is_last)
+      (λ zs _ left. over
       (inr (record {
         dir = dir;
-        found = t;
+        first = xs;
+        mid = ys;
+        last = zs;
+        all = ap (λ l. xs ++ (ys ++ l)) (append-nil zs);
         finds = h.0;
-        made = u;
-        change = d;
-        closed = l;
-        behind = refl;
+        behind = [];
+        inner = (changed, refl);
+        is_last = is_last;
+        at_once = λ _. refl;
+        closed = left;
+        closes = refl;
       }))))
 
-  entry_goes : Goes noted 7 [] (change_entry k at entry w step text read is_last) (Shape k at entry w step text is_last)
-  unfolding change_entry
-  entry_goes =
-      both 0 7 (plain k w.gives step text none)
-      (λ t is same. subst
-      (λ u. Goes noted 7 u (plain_told k at entry w step text read is_last is) (Shape k at entry w step text is_last))
-      (sym same)
-      (choose (not is) (λ _. over (inl (by_steps [] k at entry.above [])))
-      (λ _. both 5 2 (finds [] k at entry.above path) (λ u c h. changed_in u c.known c.value h))))
-
   pub shaped : (es : List Exchange) (e : Ended) → Whole (change_entry k at entry w step text read is_last) es e
-      → Shape k at entry w step text is_last (without_signals es) e
-  shaped es e whole =
-      subst (λ s. Shape k at entry w step text is_last s e) (all_noted [] (without_signals es))
-      (entry_goes.each es e whole).ends
+      → Shape (without_signals es) e
+  unfolding change_entry
+  shaped =
+      of_whole {Post = λ s (e : Ended). Shape s e} 7
+      (parts 0 7 (plain k w.gives step text none)
+      (λ xs is nothing. subst
+      (λ s. Comes 7 (plain_told k at entry w step text read is_last is) (λ ys. Shape (s ++ ys))) (sym nothing)
+      (choose (not is) (λ _. over (inl (by_steps k at entry.above [], refl)))
+      (λ _. parts 5 2 (finds k at entry.above path) (λ ys c h. changed_in c.known ys c.value h)))))
 
 -- ---- an entry is renamed
 
--- These exchanges make the rename: both look-ups, the change, and the closes.
-pub record Renames (k : Known) (at : At) (entry : EntryAt) (other : At) (new : EntryAt) (w : Wanted) (is_last : Bool)
-    (s : List Exchange) (e : Ended) : Type 0 where
-  pub from : Dir
-  pub to : Dir
-  pub first : List Exchange
-  pub finds : Directory [] k at entry.above first from
-  pub both : List Exchange
-  pub finds_new : Directory first k other new.above both to
-  pub made : List Exchange
-  pub change : Changed both w (renaming from entry.name to new.name) made e.outcome
-  pub mid : List Exchange
-  pub closed_new : Closed (to.own && not is_last) made to.fd mid
-  pub closed_old : Closed (from.own && not is_last) mid from.fd s
-  pub behind : e.closes ≡ behind_of is_last (own_of to ++ own_of from)
+-- in the old entry's directory the new one's is entered
+abbrev pub RenamesIn : Known → EntryAt → At → EntryAt → Wanted → Dir → List Exchange → List ℕ → Outcome → Type 0
+RenamesIn k entry other new w from =
+    Enters k other new.above
+    (λ to xs fds outcome. Changed w (renaming from entry.name to new.name) xs outcome × (fds ≡ []))
 
-abbrev pub RenameShape : Known → At → EntryAt → At → EntryAt → Wanted → Bool → List Exchange → Ended → Type 0
-RenameShape k at entry other new w is_last s e = IsNoChange e.outcome ⊎ Renames k at entry other new w is_last s e
+both_behind : (b : Bool) (xs ys : List ℕ) → behind_of b (xs ++ ys) ≡ behind_of b xs ++ behind_of b ys
+both_behind true xs ys = refl
+both_behind false xs ys = refl
 
 module _ (k : Known) (at : At) (entry : EntryAt) (other : At) (new : EntryAt) (w : Wanted) (is_last : Bool)
     (unlinked : w.linked ≡ false) (none : w.gives ≡ false) (path : has (way k) O_PATH ≡ true) where
   abbrev Ends : List Exchange → Ended → Type 0
-  Ends = RenameShape k at entry other new w is_last
+  Ends s e = Enters k at entry.above (RenamesIn k entry other new w) s e.closes e.outcome
 
-  unfound : (t : List Exchange) (now : Known) (from : Dir) (why : Outcome) → IsNoChange why
-      → Goes noted 1 t (and_then (not_renamed from why is_last) (λ l. ends (ended now l.closes l.outcome))) Ends
+  unfound : (now : Known) (from : Dir) (xs ys : List Exchange) (why : Outcome) → Directory k at entry.above xs from
+      → Lacks k other new.above ys why
+      → Comes 1 (and_then (not_renamed from why is_last) (λ l. ends (ended now l.closes l.outcome)))
+      (λ zs. Ends (xs ++ (ys ++ zs)))
   unfolding not_renamed
-  unfound t now from why nothing =
-      both 1 0
-      (both 1 0 (leaves t from (is_last && not (is_steps why)))
-      (λ u _ _. over {Post = λ v (l : Left). l.outcome ≡ why} refl))
-      (λ u l is. over (inl (subst IsNoChange (sym is) nothing)))
-
-  renamed_to : (s t : List Exchange) (now : Known) (from : Dir) (r : Result Dir Outcome)
-      → Directory [] k at entry.above s from → Found s k other new.above t now r
-      → Goes noted 3 t (rename_to w from entry.name new.name is_last now r) Ends
-  unfolding rename_in
-  renamed_to s t now from (Err why) f h =
-      weak 1 (omega arith) (unfound t now from why (lacks_change s k other new.above t why h)) (λ u e x. x)
-  renamed_to s t now from (Ok to) f h =
-      both 1 2 (changes t now w (renaming from entry.name to new.name) [] unlinked none)
-      (λ u c d. both 1 1 (leaves u to is_last)
-      (λ v _ l. both 1 0 (leaves v from is_last)
-      (λ x _ m. over
+  unfound now from xs ys why f h =
+      let last = is_last && not (is_steps why) in
+      parts {Mid = λ zs (l : Left). Closed (from.own && not last) from.fd zs × (l ≡ left (behind_of last (own_of from)) why)}
+      1 0 (parts 1 0 (leaves from last) (λ zs _ closed. over
+      (subst (Closed (from.own && not last) from.fd) (sym (append-nil zs)) closed, refl)))
+      (λ zs l is. over
       (inr (record {
-        from = from;
-        to = to;
-        first = s;
+        dir = from;
+        first = xs;
+        mid = ys;
+        last = zs;
+        all = ap (λ z. xs ++ (ys ++ z)) (append-nil zs);
         finds = f;
-        both = t;
-        finds_new = h.0;
-        made = u;
-        change = d;
-        mid = v;
-        closed_new = l;
-        closed_old = m;
-        behind = refl;
+        behind = [];
+        inner = inl (subst (Lacks k other new.above ys) (ap (λ (m : Left). m.outcome) (sym is.1)) h, refl);
+        is_last = last;
+        at_once = λ _. refl;
+        closed = is.0;
+        closes = ap (λ (m : Left). m.closes) is.1;
+      })))
+
+  renamed_to : (now : Known) (from : Dir) (xs ys : List Exchange) (r : Result Dir Outcome)
+      → Directory k at entry.above xs from → Found k other new.above ys now r
+      → Comes 3 (rename_to w from entry.name new.name is_last now r) (λ zs. Ends (xs ++ (ys ++ zs)))
+  unfolding rename_in
+  renamed_to now from xs ys (Err why) f h = weak 1 (omega arith) (unfound now from xs ys why f h) (λ zs e x. x)
+  renamed_to now from xs ys (Ok to) f h =
+      parts 1 2 (changes now w (renaming from entry.name to new.name) [] unlinked none)
+      (λ zs c changed. parts 1 1 (leaves to is_last)
+      (λ us _ left_new. parts 1 0 (leaves from is_last)
+      (λ vs _ left_old. over
+      (inr (record {
+        dir = from;
+        first = xs;
+        mid = ys ++ (zs ++ us);
+        last = vs;
+        all = ap (λ l. xs ++ l) (ap (λ l. ys ++ (zs ++ (us ++ l))) (append-nil vs)
+            ∙ ap (λ l. ys ++ l) (sym (append_assoc zs us vs)) ∙ sym (append_assoc ys (zs ++ us) vs));
+        finds = f;
+        behind = behind_of is_last (own_of to);
+        inner = inr (record {
+              dir = to;
+              first = ys;
+              mid = zs;
+              last = us;
+              all = refl;
+              finds = h.0;
+              behind = [];
+              inner = (changed, refl);
+              is_last = is_last;
+              at_once = λ _. refl;
+              closed = left_new;
+              closes = refl;
+            });
+        is_last = is_last;
+        at_once = λ no. ap (λ b. behind_of b (own_of to)) no;
+        closed = left_old;
+        closes = both_behind is_last (own_of to) (own_of from);
       })))))
 
-  renamed_from : (s : List Exchange) (now : Known) (r : Result Dir Outcome) → Found [] k at entry.above s now r
-      → Goes noted 8 s (from_by w entry.name other new is_last now r) Ends
+  renamed_from : (now : Known) (xs : List Exchange) (r : Result Dir Outcome) → Found k at entry.above xs now r
+      → Comes 8 (from_by w entry.name other new is_last now r) (λ ys. Ends (xs ++ ys))
   unfolding rename_from
-  renamed_from s now (Err why) h = over (inl (lacks_change [] k at entry.above s why h))
-  renamed_from s now (Ok from) h =
-      subst (λ n. Goes noted 8 s (from_by w entry.name other new is_last n (Ok from)) Ends) (sym h.1)
-      (both 5 3 (finds s k other new.above path)
-      (λ t c g. renamed_to s t c.known from c.value h.0 g))
-
-  rename_goes : Goes noted 13 [] (rename k at entry other new w is_last) Ends
-  unfolding rename
-  rename_goes =
-      both 5 8 (finds [] k at entry.above path) (λ s c h. renamed_from s c.known c.value h)
+  renamed_from now xs (Err why) h =
+      over (inl (subst (λ s. Lacks k at entry.above s why) (sym (append-nil xs)) h, refl))
+  renamed_from now xs (Ok from) h =
+      subst (λ n. Comes 8 (from_by w entry.name other new is_last n (Ok from)) (λ ys. Ends (xs ++ ys))) (sym h.1)
+      (parts 5 3 (finds k other new.above path) (λ ys c g. renamed_to c.known from xs ys c.value h.0 g))
 
   pub renamed : (es : List Exchange) (e : Ended) → Whole (rename k at entry other new w is_last) es e
       → Ends (without_signals es) e
-  renamed es e whole =
-      subst (λ s. Ends s e) (all_noted [] (without_signals es)) (rename_goes.each es e whole).ends
+  unfolding rename
+  renamed =
+      of_whole {Post = λ s (e : Ended). Ends s e} 13
+      (parts 5 8 (finds k at entry.above path) (λ xs c h. renamed_from c.known xs c.value h))
 
 -- ---- what a path means
 
-abbrev pub Behind : Bool → List Exchange → ℕ → List Exchange → Type 0
-Behind true s fd t = (a : Answer) × (t ≡ s ++ exchange (stats fd) a ∷ [])
-Behind false s fd t = t ≡ s
+abbrev pub Behind : Bool → ℕ → List Exchange → Type 0
+Behind true fd xs = (a : Answer) × (xs ≡ exchange (stats fd) a ∷ [])
+Behind false fd xs = xs ≡ []
 
 -- the look-up of the whole path, and the question for the kind
 pub record Opens (at : At) (how : ℕ) (asks : Bool) (s : List Exchange) (value : ℕ) : Type 0 where
   pub fd : ℕ
   pub first : List Exchange
-  pub got : GotBy [] (seeks at at.slashed how) first fd
-  pub behind : Behind asks first fd s
+  pub last : List Exchange
+  pub all : s ≡ first ++ last
+  pub got : GotBy (seeks at at.slashed how) first fd
+  pub behind : Behind asks fd last
   pub is_reply : IsReply asks fd value
 
 abbrev pub ResolveShape : At → ℕ → Bool → List Exchange → Outcome → Type 0
 ResolveShape at how asks s (Value value) = Opens at how asks s value
-ResolveShape at how asks s (Fails error step) = Failed [] (seeks at at.slashed how) at s error
+ResolveShape at how asks s (Fails error step) = Failed (seeks at at.slashed how) at s error
 ResolveShape at how asks s (FailsAt error step) = ⊥
 ResolveShape at how asks s Steps = Unit {0}
 
@@ -486,43 +530,48 @@ abbrev pub how_of : Known → Bool → Bool → ℕ
 how_of k follows directory =
     bit_or (bit_or O_PATH (bit (not follows) k.machine.nofollow)) (bit directory k.machine.directory)
 
-told_kind : (at : At) (how fd : ℕ) (s : List Exchange) → GotBy [] (seeks at at.slashed how) s fd
-    → Goes noted 2 s (with_kind fd) (ResolveShape at how true)
+told_kind : (at : At) (how fd : ℕ) (xs : List Exchange) → GotBy (seeks at at.slashed how) xs fd
+    → Comes 2 (with_kind fd) (λ ys. ResolveShape at how true (xs ++ ys))
 unfolding with_kind
-told_kind at how fd s h =
-    asks_then 1 (stats fd) tt
-    (λ a. choose (not (look_error a == 0)) (λ _. asks_then 0 (closes fd) tt (λ b. over tt))
-    (λ _. over (record { fd = fd; first = s; got = h; behind = (a, refl); is_reply = (kind_of a.mode, refl) })))
+told_kind at how fd xs h =
+    asked_then 1 (stats fd)
+    (λ a. choose (not (look_error a == 0)) (λ _. asked_then 0 (closes fd) (λ b. over tt))
+    (λ _. over (record {
+      fd = fd;
+      first = xs;
+      last = exchange (stats fd) a ∷ [];
+      all = refl;
+      got = h;
+      behind = (a, refl);
+      is_reply = (kind_of a.mode, refl);
+    })))
 
-told_asked : (k now : Known) (at : At) (how : ℕ) (asks : Bool) (s : List Exchange) (r : Result ℕ Outcome)
-    → Walked [] (seeks at at.slashed how) k at s now r
-    → Goes noted 2 s (resolve_by asks now r) (λ t c. ResolveShape at how asks t c.value)
-told_asked k now at how asks s (Err why) h = over (unfound_told why h)
-  where
-    unfound_told : (o : Outcome) → Unfound [] (seeks at at.slashed how) at s o → ResolveShape at how asks s o
-    unfound_told (Value value) u = absurd u
-    unfound_told (Fails error step) u = u
-    unfound_told (FailsAt error step) u = u
-    unfound_told Steps u = u
-told_asked k now at how true s (Ok fd) h =
-    both 2 0 (told_kind at how fd s h.0) (λ t o is. over is)
-told_asked k now at how false s (Ok fd) h =
-    over (record { fd = fd; first = s; got = h.0; behind = refl; is_reply = refl })
+unfound_told : (at : At) (how : ℕ) (asks : Bool) (xs : List Exchange) (o : Outcome)
+    → Unfound (seeks at at.slashed how) at xs o → ResolveShape at how asks xs o
+unfound_told at how asks xs (Value value) u = absurd u
+unfound_told at how asks xs (Fails error step) u = u
+unfound_told at how asks xs (FailsAt error step) u = u
+unfound_told at how asks xs Steps u = u
 
-resolve_goes : (k : Known) (at : At) (follows directory asks : Bool) → has (how_of k follows directory) O_PATH ≡ true
-    → Goes noted 7 [] (resolve k at follows directory asks)
-    (λ s c. ResolveShape at (how_of k follows directory) asks s c.value)
-unfolding resolve
-resolve_goes k at follows directory asks path =
-    both 5 2 (walks [] k at (how_of k follows directory) path)
-    (λ t c h. told_asked k c.known at (how_of k follows directory) asks t c.value h)
+told_asked : (k now : Known) (at : At) (how : ℕ) (asks : Bool) (xs : List Exchange) (r : Result ℕ Outcome)
+    → Walked (seeks at at.slashed how) k at xs now r
+    → Comes 2 (resolve_by asks now r) (λ ys c. ResolveShape at how asks (xs ++ ys) c.value)
+told_asked k now at how asks xs (Err why) h =
+    over (subst (λ s. ResolveShape at how asks s why) (sym (append-nil xs)) (unfound_told at how asks xs why h))
+told_asked k now at how true xs (Ok fd) h =
+    parts 2 0 (told_kind at how fd xs h.0)
+    (λ ys o is. over (subst (λ s. ResolveShape at how true (xs ++ s) o) (sym (append-nil ys)) is))
+told_asked k now at how false xs (Ok fd) h =
+    over (record { fd = fd; first = xs; last = []; all = refl; got = h.0; behind = refl; is_reply = refl })
 
 pub resolved : (k : Known) (at : At) (follows directory asks : Bool) → has (how_of k follows directory) O_PATH ≡ true
     → (es : List Exchange) (c : Came Outcome) → Whole (resolve k at follows directory asks) es c
     → ResolveShape at (how_of k follows directory) asks (without_signals es) c.value
-resolved k at follows directory asks path es c whole =
-    subst (λ s. ResolveShape at (how_of k follows directory) asks s c.value) (all_noted [] (without_signals es))
-    ((resolve_goes k at follows directory asks path).each es c whole).ends
+unfolding resolve
+resolved k at follows directory asks path =
+    let how = how_of k follows directory in
+    of_whole {Post = λ s (c : Came Outcome). ResolveShape at how asks s c.value} 7
+    (parts 5 2 (walks k at how path) (λ xs c h. told_asked k c.known at how asks xs c.value h))
 
 -- ---- signals are left out
 

@@ -1,7 +1,7 @@
 -- Others' events, with one actor's handles among theirs: the same events on the same nodes, by other numbers.
 use Rattle.std.proofs.Common.{◌≡◌, ◌≢◌, ℕ, ◌+◌, ◌<◌, ◌≤◌, Bool, true, false, not, cond, ◌||◌, nat_le, List, [], ◌∷◌, ◌++◌, length, Option, Some, None, Result, Ok, Err, refl, sym, ap, ◌∙◌, subst, ne_eqb, arith}
 use Rattle.std.specs.List.{AllByRecursion}
-use Rattle.std.proofs.lemmas.Bool.{false_from_ne_true, leb-true}
+use Rattle.std.proofs.lemmas.Bool.{lt-leb}
 use Rattle.path_text.specs.declared.errno.Errno.{Errno}
 use Rattle.path_text.specs.declared.errno.Errno.TheVariants.{NotFound, BadHandle, NotDir, Invalid, TooMany}
 use Rattle.tree_model.specs.declared.answer.Answer.{Answer}
@@ -48,9 +48,6 @@ module _ (a k : ℕ) where
   alike_if true q q' o o' at_true at_false = at_true
   alike_if false q q' o o' at_true at_false = at_false
 
-pub below_is_no_more : (a b : ℕ) → b < a → nat_le a b ≡ false
-below_is_no_more a b less = false_from_ne_true (nat_le a b) (λ e. absurd (omega (arith, less, leb-true a b e)))
-
 abbrev numbers_of : {a k : ℕ} {xs ys : List (Option OpenHandle)} → Woven a k xs ys → Numbering
 numbers_of w = record { handle = index w; node = λ x. x }
 
@@ -78,8 +75,8 @@ module _ (a k b : ℕ) (other : b ≢ a) (s : State) (ys : List (Option OpenHand
   full_alike : is_full (among s ys) b ≡ is_full s b
   full_alike =
       let long = woven_length w in
-      let mine = below_is_no_more NUMBERS_MAX (length s.handles) (omega (arith, few)) in
-      let all = below_is_no_more NUMBERS_MAX (length ys) (omega (arith, few, long)) in
+      let mine = lt-leb NUMBERS_MAX (length s.handles) (omega (arith, few)) in
+      let all = lt-leb NUMBERS_MAX (length ys) (omega (arith, few, long)) in
       ap (λ n. nat_le HANDLES_MAX n || nat_le NUMBERS_MAX (length ys)) (woven_count w b other)
       ∙ ap (λ t. nat_le HANDLES_MAX (held_count s b) || t) (all ∙ sym mine)
 

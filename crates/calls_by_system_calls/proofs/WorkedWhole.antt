@@ -2,7 +2,6 @@
 use Rattle.std.proofs.Common.{List, [], ◌∷◌, ◌++◌, true, false, refl, arith}
 use Rattle.std.specs.Prelude.{Some, codes}
 use Rattle.path_text.specs.declared.part.Part.TheVariants.{Named}
-use Rattle.path_text.specs.declared.path.Rule.TheVariants.{Drop}
 use Rattle.path_text.specs.declared.path.Split.{Split}
 use Rattle.system_calls.specs.OpenFlags.{on_x86_64_large, x86_64}
 use Rattle.tree_model.proofs.TreeTests.{IsState-from_test}
@@ -25,8 +24,8 @@ use Rattle.kernel_calls.specs.declared.change.Wanted.{Wanted}
 use Rattle.kernel_calls.specs.declared.look.Outcome.TheVariants.{Value}
 use Rattle.calls_by_system_calls.specs.SystemCalls.{StandFor}
 use Rattle.calls_by_system_calls.specs.WholeCalls.{EntryCall}
-use Rattle.calls_by_system_calls.specs.WorkedRace.{race_opening}
-use Rattle.calls_by_system_calls.specs.WorkedWhole.{WholeMkdirIsMade, before_move, behind_move, whole_below, whole_call, whole_exchanges, whole_numbers}
+use Rattle.calls_by_system_calls.specs.WorkedRace.{race_below, race_opening}
+use Rattle.calls_by_system_calls.specs.WorkedWhole.{WholeMkdirIsMade, before_move, behind_move, whole_call, whole_exchanges, whole_numbers}
 
 abbrev known : Known
 known = record {
@@ -65,22 +64,22 @@ whole : Whole (change_entry known at entry how 8 [] [] false) whole_exchanges en
 unfolding Talks and_then asking change_entry is_plain find_directory walk look_up opened make_change make gives given leave
 whole = (refl, (refl, (refl, refl)))
 
-call : EntryCall whole_below whole_numbers (CreateDir (codes "a/b/new"))
+call : EntryCall race_below whole_numbers (CreateDir (codes "a/b/new"))
 call = record {
-  rule = Drop;
-  change = changes.MakeDir;
-  path = codes "a/b/new";
-  split = split;
-  is_op = (refl, (refl, refl));
-  is_entry = (refl, refl);
-  at = at;
-  entry = entry;
-  is_at = record {
+  takes_slash = true;
+  place = record {
+    at = at;
     is_below = record { root = refl; beneath = refl; no_links = refl };
-    text = refl;
-    above = record { is_path = refl; absolute = refl; parts = refl };
-    name = refl;
+    entry = entry;
+    divided = record {
+      split = split;
+      entry = (refl, refl);
+      name = refl;
+      above = (λ none. absurd cc, record { is_path = refl; absolute = refl; parts = refl });
+    };
   };
+  change = changes.MakeDir;
+  is_op = (refl, (refl, refl));
   how = how;
   step = 8;
   text = [];
@@ -106,7 +105,7 @@ opens_both =
 abbrev closes_it : List Line
 closes_it = answered (Close 4) Done ∷ []
 
-stand : StandFor whole_below whole_numbers whole_exchanges (before_move ++ behind_move)
+stand : StandFor race_below whole_numbers whole_exchanges (before_move ++ behind_move)
 stand = (
   before_move,
   behind_move,
@@ -122,12 +121,13 @@ stand = (
       free = λ same. absurd (omega (arith, same));
       is = refl;
     };
-    failed = λ wrong. absurd (wrong refl);
+    failed = λ wrong not_last. absurd (wrong refl);
+    missed = λ place wrong. absurd cc;
   },
   (
     answered (MakeDir 4 (codes "new")) Done ∷ [],
     closes_it,
-    record { in_directory = λ apart. refl; in_root = λ same. absurd (omega (arith, same)) },
+    refl,
     (closes_it, [], refl, refl, refl),
     refl,
   ),

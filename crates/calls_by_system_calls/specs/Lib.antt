@@ -7,7 +7,6 @@ pub mod Window
 pub mod Joined
 pub mod Places
 pub mod WorkedRace
-pub mod WorkedChange
 pub mod SystemCalls
 pub mod WholeCalls
 pub mod WorkedWhole

@@ -30,8 +30,8 @@ use Rattle.kernel_calls.specs.Flags.{has}
 use Rattle.kernel_walks.specs.AtOnce.{Passed, lines_missing, misses_at_once, names_to}
 use Rattle.kernel_walks.specs.Behind.{asks_below}
 
--- The descriptor of the call's root; which handle of the history each other descriptor is; and the machine's flags of
--- open(2).
+-- The descriptor of the call's root; which handle of the history each other descriptor is, and by which other handle on
+-- the root the call goes if its first entry is in the root itself; and the machine's flags of open(2).
 pub record Descriptors : Type 0 where
   pub root : ℕ
   pub handle : ℕ → ℕ
@@ -66,15 +66,7 @@ pub record WalksTo (below : Below) (d : Descriptors) (op : Op) (fd : ℕ) (lines
 abbrev pub resolves : Bool → List ℕ → Op
 resolves no_follow path = if no_follow then ResolveNoFollow path else Resolve path
 
--- a look-up that failed has no lines
-pub record LookUpSays (below : Below) (d : Descriptors) (dir : ℕ) (path : List ℕ) (how resolve : ℕ) (a : Answer)
-    (lines : List Line) : Type 0 where
-  pub opened : a.error ≡ 0 → IsBelow below d dir resolve
-      → WalksTo below d (resolves (has how d.machine.nofollow) path) a.value lines
-  pub failed : a.error ≢ 0 → lines ≡ []
-
--- RESOLVE_NO_SYMLINKS (4), ENOENT: each name of a path of names alone was opened in the directory before it, up to one
--- that was missing there. This is for the last look-up of a call.
+-- each name of a path of names alone was opened in the directory before it, up to one that was missing there
 pub record Misses (below : Below) (place : List ℕ) (lines : List Line) : Type 0 where
   pub passed : List Passed
   pub name : List ℕ
@@ -82,10 +74,15 @@ pub record Misses (below : Below) (place : List ℕ) (lines : List Line) : Type 
   pub names : names_read place ≡ Some (names_to passed name rest)
   pub all : lines ≡ lines_missing below.root.handle passed name
 
-abbrev pub MissSays : Below → Descriptors → SystemCall → Answer → List Line → Type 0
-MissSays below d (look_up dir path how resolve) a lines = (place : List ℕ) → dir ≡ d.root → has resolve 4 ≡ true
-    → a.error ≡ ENOENT → misses_at_once below.flags.beneath path place ≡ true → Misses below place lines
-MissSays below d q a lines = Unit {0}
+-- One that failed has no lines if another look-up comes next, which is of the same path. Behind the last one the call
+-- fails: RESOLVE_NO_SYMLINKS (4), ENOENT.
+pub record LookUpSays (below : Below) (d : Descriptors) (is_last : Bool) (dir : ℕ) (path : List ℕ) (how resolve : ℕ)
+    (a : Answer) (lines : List Line) : Type 0 where
+  pub opened : a.error ≡ 0 → IsBelow below d dir resolve
+      → WalksTo below d (resolves (has how d.machine.nofollow) path) a.value lines
+  pub failed : a.error ≢ 0 → is_last ≡ false → lines ≡ []
+  pub missed : (place : List ℕ) → a.error ≡ ENOENT → is_last ≡ true → dir ≡ d.root → has resolve 4 ≡ true
+      → misses_at_once below.flags.beneath path place ≡ true → Misses below place lines
 
 -- ---- changes
 
@@ -108,18 +105,13 @@ change_line change name error h =
 abbrev pub close_line : ℕ → Line
 close_line h = answered (steps.Close h) answers.Done
 
--- In the root itself the step goes by another handle on it, as that of a walk along no parts does (dup(2)). That one is
--- asked where it stands, and closed behind the step.
-pub record InRoot (below : Below) (line : ℕ → Line) (lines : List Line) : Type 0 where
+-- In the root itself a step goes by another handle on it, as that of a walk along no parts does (dup(2)). That one is
+-- asked where it stands, and closed behind these lines.
+pub record InRoot (below : Below) (inner : ℕ → List Line) (lines : List Line) : Type 0 where
   pub other : Handle
   pub others : List (List ℕ)
   pub all : lines ≡ answered (steps.Dup below.root.handle) (answers.Opened other.number other.node other.kind)
-      ∷ asks_below below other others ∷ line other.number ∷ close_line other.number ∷ []
-
--- by the directory's handle, else
-pub record ChangeSays (below : Below) (d : Descriptors) (dir : ℕ) (line : ℕ → Line) (lines : List Line) : Type 0 where
-  pub in_directory : dir ≢ d.root → lines ≡ line (d.handle dir) ∷ []
-  pub in_root : dir ≡ d.root → InRoot below line lines
+      ∷ asks_below below other others ∷ (inner other.number ++ close_line other.number ∷ [])
 
 -- open(2): a file is made, or there is one by that name (O_CREAT, 64, and O_EXCL, 128); O_PATH would make none
 abbrev pub IsNewFile : ℕ → Type 0
@@ -135,46 +127,55 @@ abbrev pub rename_line : List ℕ → List ℕ → Mode → ℕ → ℕ → ℕ 
 rename_line name new mode error h k =
     let step = steps.Rename h name k new mode in line_of step (change_ended step false error)
 
--- of a rename in the root itself nothing is supposed
-abbrev pub RenameSays : Descriptors → ℕ → List ℕ → ℕ → List ℕ → ℕ → ℕ → List Line → Type 0
-RenameSays d from name to new flags error lines = (mode : Mode) → flags ≡ rename_flags mode → from ≢ d.root
-    → to ≢ d.root → lines ≡ rename_line name new mode error (d.handle from) (d.handle to) ∷ []
+-- a new entry in the root itself goes by a handle of its own, even where the old one is there too
+pub record RenameSays (below : Below) (d : Descriptors) (to : ℕ) (line : ℕ → Line) (lines : List Line) : Type 0 where
+  pub in_directory : to ≢ d.root → lines ≡ line (d.handle to) ∷ []
+  pub in_root : to ≡ d.root → InRoot below (λ h. line h ∷ []) lines
 
 -- ---- the table
 
-abbrev pub Says : Below → Descriptors → SystemCall → Answer → List Line → Type 0
-Says below d (look_up dir path how resolve) a lines = LookUpSays below d dir path how resolve a lines
+-- of a system call of this call, which is its last look-up or not
+abbrev pub Says : Below → Descriptors → Bool → SystemCall → Answer → List Line → Type 0
+Says below d is_last (look_up dir path how resolve) a lines = LookUpSays below d is_last dir path how resolve a lines
 -- mkdirat(2)
-Says below d (makes_directory dir name mode) a lines =
-    ChangeSays below d dir (change_line changes.MakeDir name a.error) lines
+Says below d is_last (makes_directory dir name mode) a lines =
+    lines ≡ change_line changes.MakeDir name a.error (d.handle dir) ∷ []
 -- mknodat(2)
-Says below d (makes_node dir name mode device) a lines =
-    ChangeSays below d dir (change_line changes.MakeFile name a.error) lines
-Says below d (opens dir name flags mode) a lines =
-    IsNewFile flags → ChangeSays below d dir (change_line changes.MakeFile name a.error) lines
+Says below d is_last (makes_node dir name mode device) a lines =
+    lines ≡ change_line changes.MakeFile name a.error (d.handle dir) ∷ []
+Says below d is_last (opens dir name flags mode) a lines =
+    IsNewFile flags → lines ≡ change_line changes.MakeFile name a.error (d.handle dir) ∷ []
 -- symlinkat(2)
-Says below d (makes_link dir name text) a lines =
-    ChangeSays below d dir (change_line (changes.MakeLink text) name a.error) lines
+Says below d is_last (makes_link dir name text) a lines =
+    lines ≡ change_line (changes.MakeLink text) name a.error (d.handle dir) ∷ []
 -- unlinkat(2), without AT_REMOVEDIR and with it
-Says below d (removes dir name false) a lines =
-    ChangeSays below d dir (change_line changes.RemoveFile name a.error) lines
-Says below d (removes dir name true) a lines =
-    ChangeSays below d dir (change_line changes.RemoveDir name a.error) lines
+Says below d is_last (removes dir name directory) a lines =
+    lines ≡ change_line (if directory then changes.RemoveDir else changes.RemoveFile) name a.error (d.handle dir) ∷ []
 -- renameat2(2)
-Says below d (renames from name to new flags) a lines = RenameSays d from name to new flags a.error lines
+Says below d is_last (renames from name to new flags) a lines = (mode : Mode) → flags ≡ rename_flags mode
+    → RenameSays below d to (rename_line name new mode a.error (d.handle from)) lines
 -- close(2), whatever it gives
-Says below d (closes fd) a lines = lines ≡ close_line (d.handle fd) ∷ []
+Says below d is_last (closes fd) a lines = lines ≡ close_line (d.handle fd) ∷ []
 -- statx(2), of a kind alone; and no system call, but what the thread knows of the kernel
-Says below d (stats fd) a lines = lines ≡ []
-Says below d (knows known) a lines = lines ≡ []
-Says below d q a lines = Unit {0}
+Says below d is_last (stats fd) a lines = lines ≡ []
+Says below d is_last (knows known) a lines = lines ≡ []
+Says below d is_last q a lines = Unit {0}
 
 -- ---- one after another
 
+abbrev pub is_look_up : SystemCall → Bool
+is_look_up (look_up dir path how resolve) = true
+is_look_up q = false
+
+-- no look-up comes next
+abbrev pub ends_looks : List Exchange → Bool
+ends_looks [] = true
+ends_looks (x ∷ xs) = not (is_look_up x.asked)
+
 abbrev pub StandFor : Below → Descriptors → List Exchange → List Line → Type 0
 StandFor below d [] lines = lines ≡ []
-StandFor below d (x ∷ xs) lines = (own rest : List Line) × Says below d x.asked x.answer own × StandFor below d xs rest
-    × (lines ≡ own ++ rest)
+StandFor below d (x ∷ xs) lines = (own rest : List Line) × Says below d (ends_looks xs) x.asked x.answer own
+    × StandFor below d xs rest × (lines ≡ own ++ rest)
 
 -- what is closed behind the call's end
 abbrev pub closed : Descriptors → List ℕ → List Line

@@ -1,6 +1,5 @@
 -- One race with a whole call, computed: a directory is made at a/b/new below /c of the base tree. openat2(2) of a/b
--- opens /c/a/b. Another moves it to /secret/b before mkdirat(2). It shows that what is supposed of a whole call can be
--- met.
+-- opens /c/a/b. Another moves /c/a to /secret/a before mkdirat(2). So what is supposed of a whole call can be met.
 use Rattle.std.specs.Prelude.{◌≡◌, ℕ, List, [], ◌∷◌, ◌++◌, ◌==◌, true, false, if◌then◌else◌, Some, None, codes}
 use Rattle.system_calls.specs.OpenFlags.{x86_64}
 use Rattle.tree_model.specs.declared.answer.Answer.TheVariants.{Opened, Names, Done}
@@ -9,24 +8,17 @@ use Rattle.tree_model.specs.declared.step.StepOf.TheVariants.{Open, NameBelow, C
 use Rattle.tree_model.specs.State.{child, names_below}
 use Rattle.dialogue.specs.Dialogue.{Exchange, SystemCall, closes, look_up, makes_directory}
 use Rattle.step_resolver.specs.Order.{Line, answered, events_of}
-use Rattle.root_ops.specs.declared.below.Below.{Below}
 use Rattle.root_ops.specs.declared.op.Op.TheVariants.{CreateDir}
 use Rattle.root_ops.specs.declared.reply.Reply.TheVariants as replies
 use Rattle.root_ops.specs.CallHistory.{CallInHistory, IsCallInHistory, end_of}
 use Rattle.root_ops.specs.Order.{change_step}
 use Rattle.calls_by_system_calls.specs.SystemCalls.{Descriptors}
 use Rattle.calls_by_system_calls.specs.WholeCalls.{EntryCall, HasLines, RepliesBy}
-use Rattle.calls_by_system_calls.specs.WorkedRace.{move, race_opening}
+use Rattle.calls_by_system_calls.specs.WorkedRace.{move, race_below, race_opening}
 
 -- the root's descriptor is 3, and openat2(2) gives 7; in the history these are the handles 0 and 4
 abbrev pub whole_numbers : Descriptors
 whole_numbers = record { root = 3; handle = λ fd. if fd == 7 then 4 else 0; machine = x86_64 0 }
-
-abbrev pub whole_below : Below
-whole_below = record {
-  root = record { owner = record { tag = 0; actor = 0 }; handle = 0 };
-  flags = record { beneath = false; no_links = false };
-}
 
 -- what it gives, without error
 abbrev pub exchange_of : SystemCall → ℕ → Exchange
@@ -71,7 +63,7 @@ whole_call = record {
   opening = race_opening;
   before = [];
   window = events_of 0 before_move ++ move ∷ events_of 0 behind_move;
-  below = whole_below;
+  below = race_below;
   root = 1;
   room = true;
   op = CreateDir (codes "a/b/new");
@@ -80,9 +72,9 @@ whole_call = record {
 
 -- All that is supposed is met; and what is made is the node 11, which doesn't stand below the root.
 pub record WholeMkdirIsMade : Type 0 where
-  pub call : EntryCall whole_below whole_numbers (CreateDir (codes "a/b/new"))
+  pub call : EntryCall race_below whole_numbers (CreateDir (codes "a/b/new"))
   pub made : call.exchanges ≡ whole_exchanges
-  pub has : HasLines whole_call whole_numbers call.exchanges call.end
+  pub has : HasLines whole_call whole_numbers call.place.entry.above call.exchanges call.end
   pub replies : RepliesBy (change_step call.change 0 []) call.end.outcome replies.Done
   pub in_history : IsCallInHistory whole_call
   pub new : child (end_of whole_call).nodes 3 (codes "new") ≡ Some 11

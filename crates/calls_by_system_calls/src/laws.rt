@@ -3,16 +3,12 @@ ghost use Rattle.calls_by_system_calls.specs.Conversations.{ConversationsAreCall
 ghost use Rattle.calls_by_system_calls.specs.Joined.{CallsTellBySystemCalls, LinesHaveHistories};
 ghost use Rattle.calls_by_system_calls.specs.Places.{AskedPlacesStood};
 ghost use Rattle.calls_by_system_calls.specs.Refusals.{StepsAreRefusedSo};
-ghost use Rattle.calls_by_system_calls.specs.WholeCalls.{EntriesAreChangedBySystemCalls, EntriesAreMissedBySystemCalls, EntriesAreRenamedBySystemCalls, PathsAreMissedBySystemCalls, PathsAreOpenedBySystemCalls};
-ghost use Rattle.calls_by_system_calls.specs.WorkedChange.{MkdirIsMade};
+ghost use Rattle.calls_by_system_calls.specs.WholeCalls.{EntriesAreChangedBySystemCalls, EntriesAreRenamedBySystemCalls, PathsAreOpenedBySystemCalls};
 ghost use Rattle.calls_by_system_calls.specs.WorkedRace.{RaceIsMade};
 ghost use Rattle.calls_by_system_calls.specs.WorkedWhole.{WholeMkdirIsMade};
 
 use find_place::places_stood;
-use kernel_walks::{
-    directories_are_looked_up, fails_at_once_tell, kernel_walks_tell, renames_are_looked_up,
-    resolves_seen_below,
-};
+use kernel_walks::{fails_at_once_tell, kernel_walks_tell, resolves_seen_below};
 use root_ops::calls_tell_by_any_numbers;
 
 /// Of no history, from what `Call::start`, `take` and `pass` of `root_ops` say alone, whatever the answers are: each
@@ -71,45 +67,31 @@ pub fn lines_have_histories()
 /// (openat2(2), mkdirat(2), mknodat(2), openat(2), symlinkat(2), unlinkat(2), close(2); the table of
 /// `specs/SystemCalls.antt`). In each legal history with these lines the call tells what `kernel_walks_tell` says: the
 /// directory was reached by the path's parts and stood below the root at the kernel's check, and one own event changes
-/// entries, there.
+/// entries, there. One that fails for its directory does so by ENOENT, since a name of its path is missing.
 pub fn entries_are_changed_by_system_calls()
     ensures { EntriesAreChangedBySystemCalls }
-{
-    kernel_walks_tell();
-    directories_are_looked_up();
-}
-
-/// One that fails for its directory, of whose path a name is missing, as its last look-up found (openat2(2),
-/// RESOLVE_NO_SYMLINKS): it tells what a call tells whose walk fails by ENOENT.
-pub fn entries_are_missed_by_system_calls()
-    ensures { EntriesAreMissedBySystemCalls }
 {
     kernel_walks_tell();
     fails_at_once_tell();
 }
 
-/// The same of a rename (renameat2(2)), both of whose directories the kernel looks up, one after the other: one own
-/// event renames the entry, from the one directory to the other.
+/// The same of a rename (renameat2(2)), each of whose directories the kernel looks up, or is the root itself: one own
+/// event renames the entry, from the one directory to the other. Either directory may be missing.
 pub fn entries_are_renamed_by_system_calls()
     ensures { EntriesAreRenamedBySystemCalls }
 {
     kernel_walks_tell();
-    renames_are_looked_up();
+    fails_at_once_tell();
 }
 
 /// A whole call that opens what a path means, by the same table: the object was reached by the path's parts and stood
-/// below the root at the kernel's check (`resolves_seen_below`), and the reply's descriptor is a handle on it.
+/// below the root at the kernel's check (`resolves_seen_below`), and the reply's descriptor is a handle on it. One that
+/// fails does so by ENOENT: its last look-up follows no link (RESOLVE_NO_SYMLINKS), and found a name of the path
+/// missing (path_resolution(7)). Then the call tells what each call tells (`fails_at_once_tell`).
 pub fn paths_are_opened_by_system_calls()
     ensures { PathsAreOpenedBySystemCalls }
 {
     resolves_seen_below();
-}
-
-/// The same of one that fails by ENOENT: its last look-up follows no link (RESOLVE_NO_SYMLINKS), and found a name of
-/// the path missing (path_resolution(7)). The call tells what each call tells (`fails_at_once_tell`).
-pub fn paths_are_missed_by_system_calls()
-    ensures { PathsAreMissedBySystemCalls }
-{
     fails_at_once_tell();
 }
 
@@ -122,16 +104,10 @@ pub fn asked_places_stood()
     places_stood();
 }
 
-/// What is supposed can be met: a walk along `a/b/..`, whose directory another moves out of the root meanwhile, is
-/// made by ten system calls.
+/// What is supposed can be met: a directory is made at `a/b/../new`, in one that another moves out of the root between
+/// two of the call's seventeen system calls.
 pub fn worked_race_is_made()
     ensures { RaceIsMade }
-{}
-
-/// The same of a call that changes something: a directory is made in one that another moves out of the root between
-/// two of the call's system calls.
-pub fn worked_change_is_made()
-    ensures { MkdirIsMade }
 {}
 
 /// The same of a whole call, by `entries_are_changed_by_system_calls`: a directory is made by three system calls, in

@@ -15,8 +15,7 @@ mod laws;
 
 pub use laws::{
     asked_places_stood, calls_tell_by_system_calls, conversations_are_calls,
-    entries_are_changed_by_system_calls, entries_are_missed_by_system_calls,
-    entries_are_renamed_by_system_calls, lines_have_histories, paths_are_missed_by_system_calls,
+    entries_are_changed_by_system_calls, entries_are_renamed_by_system_calls, lines_have_histories,
     paths_are_opened_by_system_calls, steps_are_refused_so, unmade_steps_end_calls,
-    worked_change_is_made, worked_race_is_made, worked_whole_is_made,
+    worked_race_is_made, worked_whole_is_made,
 };

@@ -1,4 +1,4 @@
--- The lines of a change of one entry: those of a walk, one step and a Close; and the other way round.
+-- The lines of a change of one entry: those of a walk, one step and a Close.
 use Rattle.std.specs.Prelude.{◌≡◌, ℕ, List, [], ◌∷◌, ◌++◌, Bool, true, false, Option, Result, refl}
 use Rattle.std.proofs.Common.{sym, ap, subst, ◌∙◌}
 use Rattle.path_text.specs.declared.errno.Errno.{Errno}
@@ -7,15 +7,12 @@ use Rattle.path_text.specs.declared.path.Rule.{Rule}
 use Rattle.path_text.specs.declared.path.Rule.TheVariants.{Drop, Refuse}
 use Rattle.path_text.specs.declared.path.Split.{Split}
 use Rattle.path_text.specs.Split.{split_of}
-use Rattle.path_text.specs.Text.{text_fault, reading_of}
-use Rattle.tree_model.specs.declared.answer.Answer.TheVariants.{Names}
-use Rattle.tree_model.specs.declared.step.StepOf.TheVariants.{Close, NameBelow}
+use Rattle.path_text.specs.Text.{reading_of}
+use Rattle.tree_model.specs.declared.step.StepOf.TheVariants.{Close}
 use Rattle.tree_model.specs.StepWith.{StepWith}
-use Rattle.walk_plan.specs.declared.goal.Goal.TheVariants.{Follow}
 use Rattle.step_machine.specs.Machine.{taken}
-use Rattle.step_resolver.specs.Order.{Way, Handle, Walking, Line, answered, no_room, not_made, has_room, answer_of, ending, root_itself, todo}
+use Rattle.step_resolver.specs.Order.{Handle, Walking, Line, answered, no_room, not_made, answer_of}
 use Rattle.step_resolver.specs.Order as walk
-use Rattle.step_resolver.specs.View.{way_from}
 use Rattle.root_ops.specs.declared.aim.Aim.{Aim}
 use Rattle.root_ops.specs.declared.aim.Aim.TheVariants.{Changes}
 use Rattle.root_ops.specs.declared.aim.Change.{Change}
@@ -28,11 +25,8 @@ use Rattle.root_ops.specs.Acts.{IsEntry}
 use Rattle.root_ops.specs.Order.{Reply, fault, gives, acting, closing, walking, CallTurn, more, ends, change_step, reply_to, way_of, walked, walks, on_entry, in_directory, unless_fault, starts, calls, LeadsTo}
 use Rattle.root_ops.proofs.Replies.{at_its_end, no_lines}
 use Rattle.root_ops.proofs.Handles.WalkParts.{IsEnded, walk_ends}
-use Rattle.kernel_walks.specs.Behind.{IsChangeOf, IsLineOf, ActsBehind, Behind, IsBehindWalk, EntriesAreChangedBehindWalks, IsDirectoryText, asks_below, with_lines, IsChangedBehind, DirectoriesAreLookedUp}
-use Rattle.kernel_walks.specs.Told.{as_it_was, as_passed, AreTold}
-use Rattle.kernel_walks.proofs.LastQuestion.{LooksUp, resolve_looks_up}
-use Rattle.kernel_walks.proofs.Parts.{judged_found}
-use Rattle.kernel_walks.proofs.Slash.{without_slash_leads}
+use Rattle.kernel_walks.specs.Behind.{IsChangeOf, IsLineOf, ActsBehind, Behind, IsBehindWalk, EntriesAreChangedBehindWalks}
+use Rattle.kernel_walks.specs.Told.{as_it_was, AreTold}
 
 -- ---- the first turn
 
@@ -116,7 +110,7 @@ module _ (below : Below) (op : Op) (rule : Rule) (change : Change) (text : List 
 pub entries_behind_walks : EntriesAreChangedBehindWalks
 entries_behind_walks below op rule change text split lines reply is entry leads = is_behind below op rule change text split is entry lines reply leads
 
--- ---- the other way round
+-- ---- lines in a row
 
 -- what leads a walk on leads the call on
 pub walk_leads : (below : Below) (aim : Aim) (room : Bool) (turn : walk.Turn) (lines : List Line) (w : Walking) → walk.LeadsTo (way_of below aim) turn lines (walk.more w)
@@ -146,69 +140,3 @@ pub told_all : (below : Below) (turn end : CallTurn) (lines : List Line) → Lea
 told_all below turn end [] leads = tt
 told_all below (more doing) end (line ∷ lines) leads = (as_it_was refl, told_all below (taken (calls below) doing line) end lines leads.1)
 told_all below (ends reply) end (line ∷ lines) leads = absurd leads
-
-module _ (below : Below) (op : Op) (rule : Rule) (change : Change) (text path : List ℕ) (split : Split) (is : IsChangeOf op rule change text) (entry : IsEntry text rule split)
-    (same : IsDirectoryText path split) (lines : List Line) (dir : Handle) (told names : List (List ℕ)) (step close : Line)
-    (looks : LooksUp (way_from below.root Follow below.flags) (walk.begins (way_from below.root Follow below.flags) (reading_of path)) lines below.root.handle dir told names)
-    (is_step : IsLineOf (change_step change dir.number split.name) step) (is_close : IsLineOf (Close dir.number) close) where
-  abbrev to : Aim
-  to = Changes change split.name
-
-  abbrev at_end : CallTurn
-  at_end = more (walking (ending dir names []) to)
-
-  abbrev behind_it : List Line
-  behind_it = step ∷ close ∷ []
-
-  up_to : LeadsTo below (walks below to split.dir) lines at_end
-  up_to = walk_leads below to true (walk.begins (way_of below to) split.dir) lines (ending dir names [])
-      (without_slash_leads (way_of below to) refl refl dir names path lines split.dir same.absolute same.parts looks.led)
-
-  over_then : LeadsTo below (ends (reply_to wants.Done (answer_of step))) [] (ends (reply_to wants.Done (answer_of step)))
-  over_then = refl
-
-  by_close : (line : Line) → IsLineOf (Close dir.number) line
-      → LeadsTo below (more (closing dir.number [] (gives (reply_to wants.Done (answer_of step))))) (line ∷ []) (ends (reply_to wants.Done (answer_of step)))
-  by_close (answered made answer) is_line = (is_line, over_then)
-  by_close (no_room made answer) is_line = (is_line, over_then)
-  by_close (not_made error) is_line = (is_line, over_then)
-
-  by_step : (line : Line) → IsLineOf (change_step change dir.number split.name) line → line ≡ step
-      → LeadsTo below (more (acting wants.Done (change_step change dir.number split.name) (dir.number ∷ []))) (line ∷ close ∷ []) (ends (reply_to wants.Done (answer_of step)))
-  by_step (answered made answer) is_line e =
-      (is_line, subst (λ l. LeadsTo below (more (closing dir.number [] (gives (reply_to wants.Done (answer_of l))))) (close ∷ []) (ends (reply_to wants.Done (answer_of step)))) (sym e) (by_close close is_close))
-  by_step (no_room made answer) is_line e =
-      (is_line, subst (λ l. LeadsTo below (more (closing dir.number [] (gives (reply_to wants.Done (answer_of l))))) (close ∷ []) (ends (reply_to wants.Done (answer_of step)))) (sym e) (by_close close is_close))
-  by_step (not_made error) is_line e =
-      (is_line, subst (λ l. LeadsTo below (more (closing dir.number [] (gives (reply_to wants.Done (answer_of l))))) (close ∷ []) (ends (reply_to wants.Done (answer_of step)))) (sym e) (by_close close is_close))
-
-  -- what the question told is that the directory was found
-  found_then : walk.take (way_of below to) true (ending dir names []) (Names told) ≡ walk.found dir names
-  found_then = ap (λ ns. walk.take (way_of below to) true (ending dir names []) (Names ns)) looks.told_is ∙ judged_found (way_of below to) dir names
-
-  onward : LeadsTo below (walked below true to (walk.take (way_of below to) true (ending dir names []) (Names told))) behind_it (ends (reply_to wants.Done (answer_of step)))
-  onward = subst (λ t. LeadsTo below (walked below true to t) behind_it (ends (reply_to wants.Done (answer_of step)))) (sym found_then) (by_step step is_step refl)
-
-  from_end : LeadsTo below at_end (asks_below below dir told ∷ behind_it) (ends (reply_to wants.Done (answer_of step)))
-  from_end = (refl, onward)
-
-  told_from_end : (others : List (List ℕ)) → AreTold below at_end (asks_below below dir told ∷ behind_it) (asks_below below dir others ∷ behind_it)
-  told_from_end others = (
-    as_passed (NameBelow below.root.handle dir.number) names others refl (ap (λ ns. answered (NameBelow below.root.handle dir.number) (Names ns)) looks.told_is) refl,
-    told_all below (walked below true to (walk.take (way_of below to) true (ending dir names []) (Names told))) (ends (reply_to wants.Done (answer_of step))) behind_it onward,
-  )
-
-  changed_behind : IsChangedBehind below op lines dir told step close
-  changed_behind =
-      let first = walks_so below op rule change text split is entry in
-      record {
-        leads = subst (λ t. LeadsTo below t (with_lines below lines dir told step close) (ends (reply_to wants.Done (answer_of step)))) (sym first)
-            (joined below (walks below to split.dir) at_end (ends (reply_to wants.Done (answer_of step))) lines (asks_below below dir told ∷ behind_it) up_to from_end);
-        are = λ others. subst (λ t. AreTold below t (with_lines below lines dir told step close) (with_lines below lines dir others step close)) (sym first)
-            (told_first below (walks below to split.dir) at_end lines (asks_below below dir told ∷ behind_it) (asks_below below dir others ∷ behind_it) up_to (told_from_end others));
-      }
-
-pub directories_looked_up : DirectoriesAreLookedUp
-directories_looked_up below op rule change text path split lines dir told names step close is entry same leads is_step is_close =
-    changed_behind below op rule change text path split is entry same lines dir told names step close
-    (resolve_looks_up below Follow path (text_fault path) lines below.root.handle dir told names leads) is_step is_close

@@ -1,6 +1,6 @@
 mod SeenBelow
 mod AtQuestion
-mod Parts
+pub mod Parts
 mod SeenTo
 mod Alone
 mod Past
@@ -10,12 +10,11 @@ mod Renames
 mod Clearing
 mod Bulk
 mod EachOperation
-mod LastQuestion
-mod Slash
-mod Behind
+pub mod LastQuestion
+pub mod Slash
+pub mod Behind
 mod Resolves
-mod RenamesBehind
 mod PiecesSeen
 mod FitPieces
-mod AtOnce
+pub mod AtOnce
 mod SplitLemmas

@@ -20,11 +20,10 @@ use Rattle.root_ops.specs.declared.aim.Change.TheVariants as changes
 use Rattle.root_ops.specs.declared.aim.Wanted.TheVariants as wants
 use Rattle.root_ops.specs.declared.below.Below.{Below}
 use Rattle.root_ops.specs.declared.op.Op.{Op}
-use Rattle.root_ops.specs.declared.op.Op.TheVariants.{Resolve, CreateFile, CreateDir, CreateLink, RemoveFile, RemoveDir}
+use Rattle.root_ops.specs.declared.op.Op.TheVariants.{CreateFile, CreateDir, CreateLink, RemoveFile, RemoveDir}
 use Rattle.root_ops.specs.Acts.{IsEntry}
 use Rattle.root_ops.specs.CallHistory.{IsPath}
-use Rattle.root_ops.specs.Order.{Reply, opened, fault, change_step, reply_to, starts, ends, LeadsTo}
-use Rattle.kernel_walks.specs.Told.{AreTold}
+use Rattle.root_ops.specs.Order.{Reply, fault, change_step, reply_to, starts, ends, LeadsTo}
 
 -- the operation makes this change of the entry of this path, whose slash at the end is treated so
 abbrev pub IsChangeOf : Op → Rule → Change → List ℕ → Type 0
@@ -77,7 +76,7 @@ EntriesAreChangedBehindWalks = (below : Below) (op : Op) (rule : Rule) (change :
     (lines : List Line) (reply : Reply) → IsChangeOf op rule change text → IsEntry text rule split
     → LeadsTo below (starts below true op) lines (ends reply) → IsBehindWalk below change split lines reply
 
--- ---- and the other way round
+-- ---- one look-up of the directory part
 
 -- the text is a path that is walked as the directory part, but for a slash at its end
 pub record IsDirectoryText (text : List ℕ) (split : Split) : Type 0 where
@@ -88,29 +87,3 @@ pub record IsDirectoryText (text : List ℕ) (split : Split) : Type 0 where
 -- the question where the object stands, with these names
 abbrev pub asks_below : Below → Handle → List (List ℕ) → Line
 asks_below below handle names = answered (NameBelow below.root.handle handle.number) (Names names)
-
--- the lines of a look-up, with these names as the answer to its question, and those behind it
-abbrev pub with_lines : Below → List Line → Handle → List (List ℕ) → Line → Line → List Line
-with_lines below lines dir names step close = lines ++ asks_below below dir names ∷ step ∷ close ∷ []
-
--- Lines lead the operation to its reply by what it was told; the history may have whatever names as the answer to the
--- question where the directory stood.
-pub record IsChangedBehind (below : Below) (op : Op) (lines : List Line) (dir : Handle) (told : List (List ℕ))
-    (step close : Line) : Type 0 where
-  pub leads : LeadsTo below (starts below true op) (with_lines below lines dir told step close)
-      (ends (reply_to wants.Done (answer_of step)))
-  pub are : (others : List (List ℕ))
-      → AreTold below (starts below true op) (with_lines below lines dir told step close)
-      (with_lines below lines dir others step close)
-
--- Whatever lines a look-up of the directory part stands for: if they and the question where it stands lead a resolve of
--- that path to the reply that it was opened, then they, the step on the last name by that handle, and its Close are the
--- operation's.
-abbrev pub DirectoriesAreLookedUp : Type 0
-DirectoriesAreLookedUp = (below : Below) (op : Op) (rule : Rule) (change : Change) (text path : List ℕ) (split : Split)
-    (lines : List Line) (dir : Handle) (told names : List (List ℕ)) (step close : Line)
-    → IsChangeOf op rule change text → IsEntry text rule split → IsDirectoryText path split
-    → LeadsTo below (starts below true (Resolve path)) (lines ++ asks_below below dir told ∷ [])
-    (ends (opened dir names))
-    → IsLineOf (change_step change dir.number split.name) step → IsLineOf (Close dir.number) close
-    → IsChangedBehind below op lines dir told step close

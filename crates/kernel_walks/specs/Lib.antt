@@ -10,6 +10,5 @@ pub mod Tells
 pub mod Followed
 pub mod Behind
 pub mod Resolves
-pub mod RenamesBehind
 pub mod AtOnce
 pub mod Split

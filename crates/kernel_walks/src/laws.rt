@@ -1,7 +1,6 @@
 //! What a call tells whose walks the kernel makes: laws, each the contract of a function without a body.
 ghost use Rattle.kernel_walks.specs.AtOnce.{FailsAtOnceTell};
-ghost use Rattle.kernel_walks.specs.Behind.{DirectoriesAreLookedUp, EntriesAreChangedBehindWalks};
-ghost use Rattle.kernel_walks.specs.RenamesBehind.{RenamesAreLookedUp};
+ghost use Rattle.kernel_walks.specs.Behind.{EntriesAreChangedBehindWalks};
 ghost use Rattle.kernel_walks.specs.Resolves.{ResolvesSeenBelow};
 ghost use Rattle.kernel_walks.specs.Tells.{KernelWalksTell};
 
@@ -35,21 +34,6 @@ pub fn resolves_seen_below()
 /// then it closes the handle.
 pub fn entries_are_changed_behind_walks()
     ensures { EntriesAreChangedBehindWalks }
-{}
-
-/// The other way round, as a driver goes that looks up the directory part by one system call: whatever lines the
-/// look-up stands for, if they and its question lead a resolve of that path to the reply that it was opened, then with
-/// the step on the last name by that handle, and its Close, they lead the create or the remove to its reply. So
-/// `kernel_walks_tell` holds of that.
-pub fn directories_are_looked_up()
-    ensures { DirectoriesAreLookedUp }
-{}
-
-/// The same of a rename, whose paths end in no slash: whatever lines two look-ups stand for, of the old path's
-/// directory part and after it of the new one's, with the Rename of the last names by both handles, and the Closes of
-/// these, they lead the rename to its reply.
-pub fn renames_are_looked_up()
-    ensures { RenamesAreLookedUp }
 {}
 
 /// A resolve of a path of which `misses_at_once` is true, by whatever handles each name was opened in the directory

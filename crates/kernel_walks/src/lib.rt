@@ -17,6 +17,5 @@ pub use at_once::misses_at_once;
 pub use followed::follows_at_once;
 pub use last_name::{Parted, split};
 pub use laws::{
-    directories_are_looked_up, entries_are_changed_behind_walks, fails_at_once_tell,
-    kernel_walks_tell, renames_are_looked_up, resolves_seen_below,
+    entries_are_changed_behind_walks, fails_at_once_tell, kernel_walks_tell, resolves_seen_below,
 };

@@ -1,4 +1,4 @@
-use Rattle.calls_by_system_calls.proofs.BySystemCalls.{calls_tell}
+use Rattle.calls_by_system_calls.proofs.LinesJoined.{calls_tell}
 use Rattle.calls_by_system_calls.proofs.laws.calls_tell_by_system_calls.Goals as goal
 
 pub returns : goal.returns

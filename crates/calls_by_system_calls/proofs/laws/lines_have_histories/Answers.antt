@@ -1,4 +1,4 @@
-use Rattle.calls_by_system_calls.proofs.BySystemCalls.{lines_have}
+use Rattle.calls_by_system_calls.proofs.LinesJoined.{lines_have}
 use Rattle.calls_by_system_calls.proofs.laws.lines_have_histories.Goals as goal
 
 pub returns : goal.returns

@@ -1,5 +1,0 @@
-use Rattle.calls_by_system_calls.proofs.WholePaths.{paths_are_missed}
-use Rattle.calls_by_system_calls.proofs.laws.paths_are_missed_by_system_calls.Goals as goal
-
-pub returns : goal.returns
-returns c = paths_are_missed c.fails_at_once_tell.ensures
