@@ -125,11 +125,11 @@ walks_by below d k at is on how no_follow stays path b a own done says =
 -- ---- exchanges, and what is closed behind them
 
 pub record AllLines (below : Below) (d : Descriptors) (s : List Exchange) (fds : List ℕ) (lines : List Line) : Type 0
-    where
-  pub own : List Line
-  pub stand : StandFor below d s own
-  pub quiet : NoSignals s
-  pub all : lines ≡ own ++ closed d fds
+  where
+    pub own : List Line
+    pub stand : StandFor below d s own
+    pub quiet : NoSignals s
+    pub all : lines ≡ own ++ closed d fds
 
 quiet_before : (xs ys : List Exchange) → NoSignals (xs ++ ys) → NoSignals xs
 quiet_before [] ys quiet = tt
@@ -167,10 +167,10 @@ one_line below d q a s fds lines is none all =
 
 -- The directory's close is the last of these lines, whether before the call's end or behind it.
 record Shut (below : Below) (d : Descriptors) (mid : List Exchange) (behind : List ℕ) (fd : ℕ) (lines : List Line) : Type 0
-    where
-  inner : List Line
-  stand : AllLines below d mid behind inner
-  all : lines ≡ inner ++ close_line (d.handle fd) ∷ []
+  where
+    inner : List Line
+    stand : AllLines below d mid behind inner
+    all : lines ≡ inner ++ close_line (d.handle fd) ∷ []
 
 shut : (below : Below) (d : Descriptors) (is_last : Bool) (mid last : List Exchange) (behind : List ℕ) (fd : ℕ)
     (own : List Line) → (is_last ≡ false → behind ≡ []) → Closed (not is_last) fd last
