@@ -1,4 +1,8 @@
 //! What is due, as C gets it: a system call with its arguments, or the call's end.
+ghost use Rattle.std.specs.Prelude.{◌≡◌, ◌<◌, ◌+◌, MatchOption, false, length, take};
+ghost use Rattle.dialogue.specs.Dialogue.{asked_of};
+ghost use Rattle.linux_call.specs.Due.{HasTexts, IsAskedBy, IsLaid, IsOn, is_entry_call, is_path_call, is_look_call};
+
 use crate::attributes::MOST_BYTES;
 use crate::path::front;
 use crate::request::{Reply, Request};
@@ -154,7 +158,10 @@ fn by_how(machine: &MachineFlags, dir: u32, how: &How) -> Due {
 }
 
 #[inline(always)]
-fn opens(dir: u32, flags: u32, mode: u32, resolve: u32, again: bool) -> Due {
+fn opens(dir: u32, flags: u32, mode: u32, resolve: u32, again: bool) -> Due
+    ensures on { IsOn 1 dir result }
+    ensures rest { (result.number ≡ flags) × (result.mode ≡ mode) × (result.resolve ≡ resolve) }
+{
     Due {
         what: OPENAT2,
         fd: dir,
@@ -166,7 +173,9 @@ fn opens(dir: u32, flags: u32, mode: u32, resolve: u32, again: bool) -> Due {
     }
 }
 
-fn on(what: u8, fd: u32) -> Due {
+fn on(what: u8, fd: u32) -> Due
+    ensures { IsOn what fd result }
+{
     Due {
         what,
         fd,
@@ -174,7 +183,9 @@ fn on(what: u8, fd: u32) -> Due {
     }
 }
 
-fn looks(what: u8, fd: u32) -> Due {
+fn looks(what: u8, fd: u32) -> Due
+    ensures { IsOn what fd result }
+{
     Due {
         again: true,
         ..on(what, fd)
@@ -182,7 +193,10 @@ fn looks(what: u8, fd: u32) -> Due {
 }
 
 // What is open, by a name in a /proc.
-fn in_proc(what: u8, proc: u32, number: u64, mode: u32) -> Due {
+fn in_proc(what: u8, proc: u32, number: u64, mode: u32) -> Due
+    ensures on { IsOn what proc result }
+    ensures rest { (result.number ≡ number) × (result.mode ≡ mode) }
+{
     Due {
         number,
         mode,
@@ -200,7 +214,9 @@ fn proc_place(fd: u32, device: u64, inode: u64, mount: u64, handed_in: bool) -> 
     }
 }
 
-fn look_due(question: &Question<'_>, machine: &MachineFlags) -> Option<Due> {
+fn look_due(question: &Question<'_>, machine: &MachineFlags) -> Option<Due>
+    ensures { MatchOption result (is_look_call (asked_of question.now) ≡ false) (IsAskedBy (asked_of question.now)) }
+{
     Some(match *question {
         Question::OpenName(dir, _, how)
         | Question::OpenSame(dir, how)
@@ -217,7 +233,9 @@ fn look_due(question: &Question<'_>, machine: &MachineFlags) -> Option<Due> {
     })
 }
 
-fn entry_due(question: &Question<'_>) -> Option<Due> {
+fn entry_due(question: &Question<'_>) -> Option<Due>
+    ensures { MatchOption result (is_entry_call (asked_of question.now) ≡ false) (IsAskedBy (asked_of question.now)) }
+{
     Some(match *question {
         Question::Open(dir, _, flags, mode) => Due {
             what: OPENAT,
@@ -248,7 +266,10 @@ fn entry_due(question: &Question<'_>) -> Option<Due> {
     })
 }
 
-fn other_due(question: &Question<'_>, size: u64) -> Due {
+fn other_due(question: &Question<'_>, size: u64) -> Due
+    ensures { is_path_call (asked_of question.now) ≡ false → is_look_call (asked_of question.now) ≡ false
+        → is_entry_call (asked_of question.now) ≡ false → IsAskedBy (asked_of question.now) result }
+{
     match *question {
         Question::AttributeAt(proc, _) => in_proc(XATTR_AT, proc, size, 0),
         Question::NoAttribute => in_proc(XATTR_AT, 0xffff_ffff, size, 0),
@@ -274,7 +295,10 @@ fn other_due(question: &Question<'_>, size: u64) -> Due {
 
 // Lays a text there, and a NUL behind it. If they don't fit, the text is empty.
 #[inline(always)]
-pub(crate) fn lay(room: &mut [u8], at: usize, text: &[u8]) {
+pub(crate) fn lay(room: &mut [u8], at: usize, text: &[u8])
+    ensures laid { at + length text.now < length room.old → IsLaid room.new at text.now }
+    ensures front { take at room.new ≡ take at room.old }
+{
     if at < room.len() && text.len() < room.len() - at {
         room[at..at + text.len()].copy_from_slice(text);
         room[at + text.len()] = 0;
@@ -317,7 +341,9 @@ fn lay_object(room: &mut [u8], front: &[u8], fd: u32) {
     lay(room, front.len(), digits(&number, count));
 }
 
-fn lay_texts(question: &Question<'_>, room: &mut [u8]) {
+fn lay_texts(question: &Question<'_>, room: &mut [u8])
+    ensures { is_path_call (asked_of question.now) ≡ false → HasTexts (asked_of question.now) room.new }
+{
     match *question {
         Question::OpenName(_, text, _)
         | Question::Open(_, text, _, _)
@@ -349,7 +375,10 @@ fn lay_texts(question: &Question<'_>, room: &mut [u8]) {
 
 /// The system call that is due; its texts are laid in the room.
 #[inline(always)]
-pub(crate) fn due_of(question: &Question<'_>, request: &Request, room: &mut [u8]) -> Due {
+pub(crate) fn due_of(question: &Question<'_>, request: &Request, room: &mut [u8]) -> Due
+    ensures call { IsAskedBy (asked_of question.now) result }
+    ensures texts { HasTexts (asked_of question.now) room.new }
+{
     match *question {
         Question::LookUp(dir, path, flags, resolve) => {
             lay(room, 0, path);
@@ -365,7 +394,10 @@ pub(crate) fn due_of(question: &Question<'_>, request: &Request, room: &mut [u8]
 }
 
 #[inline(never)]
-fn due_of_other(question: &Question<'_>, request: &Request, room: &mut [u8]) -> Due {
+fn due_of_other(question: &Question<'_>, request: &Request, room: &mut [u8]) -> Due
+    ensures call { is_path_call (asked_of question.now) ≡ false → IsAskedBy (asked_of question.now) result }
+    ensures texts { is_path_call (asked_of question.now) ≡ false → HasTexts (asked_of question.now) room.new }
+{
     lay_texts(question, room);
     let machine = &request.known.machine;
     if let Some(due) = look_due(question, machine) {
