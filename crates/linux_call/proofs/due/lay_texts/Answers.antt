@@ -47,7 +47,7 @@ returns-in-MakeLink c = λ _.
     let laid = both c.args.room.now one.new.room room c.in-MakeLink-1.name.now c.in-MakeLink-1.text.now
     one.auto.room two.auto.room one.ensures.laid two.ensures.laid two.ensures.front in
     elim c.in-MakeLink-1.branch [
-      in-MakeLink w ↦
+      | in-MakeLink w ↦
           texts_of_two _ _ _ w.in-MakeLink.name w.in-MakeLink.text room w.in-MakeLink.is w.name-is w.text-is laid
       | in-MakeLink-2 w ↦
           texts_of_two _ _ _ w.in-MakeLink.name w.in-MakeLink.text room w.in-MakeLink.is w.name-is w.text-is laid
