@@ -64,7 +64,7 @@ fn survey_of(
         × (survey.outcomes.items ≡ counted asked.now.properties.items (in_order is.all))) }
 {
     let (lists, states, turns) = (found.lists, found.states, found.turns as u64);
-    let judged = !asked.properties.is_empty();
+    let judged = asked.properties.len() > 0;
     let all = told_in(alloc, judged, scene, asked, found.classes)?;
     told_in_order(alloc, lists, Some(states), turns, all, &asked.properties)
 }

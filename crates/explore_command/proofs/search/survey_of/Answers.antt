@@ -1,8 +1,10 @@
-use Rattle.std.proofs.Common.{◌∙◌, IfOk, List, ap}
-use Rattle.std.specs.Prelude.{Result, Ok, Err, Some}
+use Rattle.std.proofs.Common.{◌∙◌, IfOk, ℕ, List, ap, length, subst}
+use Rattle.std.specs.Prelude.{nat_lt, Result, Ok, Err, Some}
 use Rattle.outcome_text.specs.declared.property.Property.{Property}
 use Rattle.outcome_text.specs.Conditions.{counted, told_text, told_holds}
 use Rattle.outcome_text.specs.Order.{in_order}
+use Rattle.explore.specs.Explored.{classes_in}
+use Rattle.explore_command.specs.Classes.{AreTold}
 use Rattle.explore_command.proofs.search.survey_of.Goals as goal
 
 -- what is said of a success in three parts, put together
@@ -17,7 +19,9 @@ returns c =
     both (λ survey text holds outcomes. (
       record {
         all = all;
-        told = c.in_ok-all.ensures;
+        told = subst (λ (n : ℕ). AreTold (nat_lt 0 n) c.args.asked.now.named.items c.args.scene.now.tree
+            (length c.args.scene.now.plans.items) (classes_in found.classes.items) all)
+            (c.len-judged.ensures ∙ c.args.asked.now.properties.ok.0) c.in_ok-all.ensures;
         is = text ∙ ap (λ (ps : List Property). told_text found.lists (Some found.states) found.turns (in_order all) ps) c.deref.ensures.value;
         judged = holds ∙ ap (λ (ps : List Property). told_holds (in_order all) ps) c.deref.ensures.value;
       },
