@@ -5,8 +5,8 @@ use Rattle.local_states.specs.Worlds.{after_turns}
 use Rattle.explore.specs.Explored.{Scope, EndingView, IsEnding}
 use Rattle.outcome_text.specs.Schedule.{without_tail}
 
--- A run of the world by the schedule that is written with an outcome has the report of the outcome's list of turns, with
--- the outcome's tree and replies. The schedule is that list without the tail that each run adds.
+-- A run of the world by the schedule that is written with an outcome has the report of the outcome's list of turns,
+-- with the outcome's tree and replies. The schedule is that list without the tail that each run adds.
 abbrev pub WrittenSchedulesLeadThere : Type 0
 WrittenSchedulesLeadThere = (w : WorldView) (scope : Scope) (ending : EndingView)
     → w.spent ≡ false → IsEnding w scope ending

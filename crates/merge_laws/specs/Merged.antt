@@ -44,9 +44,10 @@ RepliesSayNoHandles = (tree : State) (plans : List ActorPlan) (lines : ℕ) (is 
 
 -- What is told of two least lists that lead to one outcome looks the same and has the same lines.
 abbrev pub AgreeingListsAreToldAlike : Type 0
-AgreeingListsAreToldAlike = (judged : Bool) (w : WorldView) (scope : Scope) (named : List ℕ) (opening : State) (c d : ClassView)
-    (told like : Told) → RepliesNameNoHandles w scope → IsEnding w scope c.least → IsEnding w scope d.least
-    → AgreeIn w scope c.least.turns d.least.turns → IsTold judged named opening (length w.seats) c told
+AgreeingListsAreToldAlike = (judged : Bool) (w : WorldView) (scope : Scope) (named : List ℕ) (opening : State)
+    (c d : ClassView) (told like : Told) → RepliesNameNoHandles w scope → IsEnding w scope c.least
+    → IsEnding w scope d.least → AgreeIn w scope c.least.turns d.least.turns
+    → IsTold judged named opening (length w.seats) c told
     → IsTold judged named opening (length w.seats) d like → AreAlike told like
 
 -- ---- parts that are merged

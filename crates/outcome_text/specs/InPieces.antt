@@ -60,8 +60,9 @@ HoldAsMany actors tree other = (a : ℕ) → a < actors → held_count tree a �
 
 -- Reports with the same replies, nodes, counts of handles and steps outside are told alike, whatever lists lead there.
 abbrev pub SameReportsAreToldAlike : Type 0
-SameReportsAreToldAlike = (judged : Bool) (named : List ℕ) (opening tree other : State) (actors lists many cuts less changes fewer : ℕ)
-    (turns list : List ℕ) (replies : List (List Outcome)) (outside : List ℕ) (told like : Told)
+SameReportsAreToldAlike = (judged : Bool) (named : List ℕ) (opening tree other : State)
+    (actors lists many cuts less changes fewer : ℕ) (turns list : List ℕ) (replies : List (List Outcome))
+    (outside : List ℕ) (told like : Told)
     → IsToldOf judged named opening actors lists cuts changes turns replies tree outside told
     → IsToldOf judged named opening actors many less fewer list replies other outside like
     → tree.nodes ≡ other.nodes → HoldAsMany actors tree other → AreAlike told like
