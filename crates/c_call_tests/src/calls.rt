@@ -164,8 +164,11 @@ fn shown(alloc: Global, talk: &Talk, due: &Due) -> Result<String, AllocError> {
         }
     }
     let name = text(alloc, &talk.room)?;
-    let closes = format!(in alloc; " closes {}", due.first_closed)?;
-    let closes = if due.closes == 1 { closes.as_str() } else { "" };
+    let closes = if due.closes == 1 {
+        format!(in alloc; " closes {}", due.first_closed)?
+    } else {
+        String::new(alloc)
+    };
     match word {
         "fails" => {
             let error = name_of((due.number % 256) as u32);
