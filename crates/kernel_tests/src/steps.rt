@@ -134,13 +134,16 @@ impl Room for Step {
             has_mount: gave != "unnumbered",
             ..works()
         };
-        match (gave.split_once(' '), file_system(gave)) {
-            (Some(("is", of)), _) => answer.value = number(of)?,
-            (Some(("links", of)), _) => answer.links = number(of)?,
-            (_, Some(of)) => answer.file_system = of,
-            _ if gave == "unnumbered" => (),
-            _ if gave == "nosymfollow" => answer.flags = 0x2000,
-            _ => answer.error = number(gave)?,
+        let (word, of) = gave.split_once(' ').unwrap_or((gave, ""));
+        match word {
+            "is" => answer.value = number(of)?,
+            "links" => answer.links = number(of)?,
+            "unnumbered" => (),
+            "nosymfollow" => answer.flags = 0x2000,
+            _ => match file_system(word) {
+                Some(system) => answer.file_system = system,
+                None => answer.error = number(word)?,
+            },
         }
         *self.answers.get_mut(self.count)? = answer;
         self.count += 1;
