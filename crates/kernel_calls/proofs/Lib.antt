@@ -1,8 +1,10 @@
 pub mod ChangeLemmas
 pub mod EntryLemmas
+pub mod FrontLemmas
 pub mod GiveLemmas
 pub mod LinkLemmas
 pub mod LookLemmas
 pub mod NamedLemmas
+pub mod NextLemmas
 pub mod ProcLemmas
 pub mod ResolveLemmas

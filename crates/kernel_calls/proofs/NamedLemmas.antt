@@ -78,7 +78,7 @@ without_cur ps true =
     ap (λ n. take n (ps ++ Cur ∷ [])) one ∙ take-append_seam ps (Cur ∷ [])
 without_cur ps false = append-nil ps
 
-parts_are_pieces : (text : List ℕ) → parts_without_slash (reading_of text) ≡ map part_of (pieces text)
+pub parts_are_pieces : (text : List ℕ) → parts_without_slash (reading_of text) ≡ map part_of (pieces text)
 parts_are_pieces text = without_cur (map part_of (pieces text)) (has_final_slash text)
 
 abbrev kept : List (List ℕ) → List (List ℕ)
@@ -151,7 +151,7 @@ begins_front text zero more = absurd (more refl)
 begins_front [] (suc n) more = refl
 begins_front (b ∷ bs) (suc n) more = refl
 
-is_not_empty : (text : List ℕ) → IsPath text → is_empty text ≡ false
+pub is_not_empty : (text : List ℕ) → IsPath text → is_empty text ≡ false
 is_not_empty text is = is_some (is_empty text) (has_nul text) (nat_lt TEXT_MAX (length text)) is
 
 path_front : (text : List ℕ) (n count : ℕ) → IsPath text → n ≢ 0 → n ≤ length (take count text) → IsPath (take n text)

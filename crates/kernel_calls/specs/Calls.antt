@@ -1,10 +1,10 @@
 -- Calls on paths that the kernel walks: what is at the end; an entry there is made, removed or renamed.
-use Rattle.std.specs.Prelude.{ℕ, ◌+◌, ◌*◌, ◌^◌, List, [], ◌++◌, ◌==◌, Bool, true, false, not, ◌&&◌, ◌||◌, if◌then◌else◌, nat_lt, bit_or, length, Result, Ok, Err}
+use Rattle.std.specs.Prelude.{◌≡◌, ℕ, ◌+◌, ◌*◌, ◌^◌, List, [], ◌∷◌, ◌++◌, ◌==◌, Bool, true, false, not, ◌&&◌, ◌||◌, if◌then◌else◌, nat_lt, bit_or, length, Result, Ok, Err}
 use Rattle.path_text.specs.Text.{is_empty}
 use Rattle.path_text.specs.declared.path.TheConstants.{TEXT_MAX}
 use Rattle.system_calls.specs.Objects.{kind_of}
 use Rattle.system_calls.specs.OpenFlags.{O_PATH}
-use Rattle.dialogue.specs.Dialogue.{Dialogue, and_then, calling, closes, ends, stats}
+use Rattle.dialogue.specs.Dialogue.{Dialogue, and_then, calling, came as comes, closes, ends, ran, stats}
 use Rattle.dialogue.specs.declared.calls.Answer.{Answer}
 use Rattle.find_proc.specs.Asks.{has_floor}
 use Rattle.find_proc.specs.declared.asks.Known.{Known}
@@ -55,6 +55,15 @@ pub record Ended : Type 0 where
 
 abbrev pub ended : Known → List ℕ → Outcome → Ended
 ended k fds outcome = record { outcome = outcome; closes = fds; known = k }
+
+-- Nothing gets another name, nothing is opened for use or given.
+abbrev pub IsBare : Wanted → Type 0
+IsBare w = (w.linked ≡ false) × (w.opens ≡ false) × (w.gives ≡ false)
+
+-- One more answer without an error ends the call with 0, and these descriptors are closed behind that.
+unfoldable pub EndsNext : Dialogue Ended → List Answer → List ℕ → Type 0
+EndsNext s answers fds =
+    (a : Answer) → a.error ≡ 0 → (k : Known) × (ran s (answers ++ a ∷ []) ≡ comes (ended k fds (Value 0)) [])
 
 -- symlink(2): the text is the first that is wrong; what is given must be looked at, which takes a kernel that can
 unfoldable pub is_plain : Known → Bool → ℕ → List ℕ → Dialogue Bool

@@ -1,6 +1,6 @@
 -- An entry: the directory that has it, and its name.
-use Rattle.std.specs.Prelude.{◌≡◌, ◌≢◌, ℕ, List, [], ◌∷◌, ◌==◌, Bool, true, false, not, ◌&&◌, if◌then◌else◌, bit_or, Option, Some, None, Result, Ok, Err}
-use Rattle.path_text.specs.Text.{begins_with_slash}
+use Rattle.std.specs.Prelude.{◌≡◌, ◌≢◌, ℕ, ◌+◌, List, [], ◌∷◌, ◌==◌, Bool, true, false, not, ◌&&◌, if◌then◌else◌, bit_or, take, Option, Some, None, Result, Ok, Err}
+use Rattle.path_text.specs.Text.{begins_with_slash, ends_with_slash}
 use Rattle.path_text.specs.declared.path.Split.{Split}
 use Rattle.system_calls.specs.OpenFlags.{O_PATH}
 use Rattle.dialogue.specs.Dialogue.{Dialogue, and_then, calling, closes, ends}
@@ -49,9 +49,19 @@ pub record IsDivided (text : List ℕ) (takes_slash : Bool) (n : EntryAt) : Type
 abbrev pub IsNameless : List ℕ → Bool → Type 0
 IsNameless text takes_slash = (split : Split) → IsEntry text (rule_of takes_slash) split → ⊥
 
+-- a beginning of the path, without a slash at its end
+abbrev pub IsFront : List ℕ → Option (List ℕ) → Type 0
+IsFront slashed None = Unit {0}
+IsFront slashed (Some front) = ((n : ℕ) × (front ≡ take (1 + n) slashed)) × (ends_with_slash (text_in front) ≡ false)
+
+-- of a path with a slash before it: there is one
+pub record IsDivision (slashed : List ℕ) (takes_slash : Bool) (n : EntryAt) : Type 0 where
+  pub divided : IsDivided (text_in slashed) takes_slash n
+  pub front : IsFront slashed n.above
+
 abbrev pub IsNamed : List ℕ → Bool → Option LastName → Type 0
-IsNamed text takes_slash (Some n) = IsDivided text takes_slash (named_of n)
-IsNamed text takes_slash None = IsNameless text takes_slash
+IsNamed slashed takes_slash (Some n) = IsDivision slashed takes_slash (named_of n)
+IsNamed slashed takes_slash None = IsNameless (text_in slashed) takes_slash
 
 -- ---- its directory
 

@@ -1,7 +1,7 @@
 //! Calls on paths that the kernel walks: what is at the end; an entry there is made, removed or renamed.
-ghost use Rattle.std.specs.Prelude.{◌≡◌};
+ghost use Rattle.std.specs.Prelude.{◌≡◌, true, false};
 ghost use Rattle.dialogue.specs.Dialogue.{asked_of, ran, ran_by};
-ghost use Rattle.kernel_calls.specs.Calls.{change_entry, ended, is_plain, left, not_renamed, rename, rename_from, rename_in, resolve, with_kind};
+ghost use Rattle.kernel_calls.specs.Calls.{EndsNext, IsBare, change_entry, ended, is_plain, left, not_renamed, rename, rename_from, rename_in, resolve, with_kind};
 ghost use Rattle.kernel_calls.specs.Entry.{closed_by, named_of};
 ghost use Rattle.kernel_calls.specs.Path.{at_of};
 
@@ -102,10 +102,13 @@ pub fn change_entry<'n>(
     ends: bool,
     behind: &mut Behind,
 ) -> Asked<'n, Outcome>
-    ensures { ran_by (λ r. ended known.new (closed_by behind.new.closes) r) asked_of
+    ensures ran { ran_by (λ r. ended known.new (closed_by behind.new.closes) r) asked_of
         result answers.new.now
         ≡ ran (change_entry known.old (at_of at.now) (named_of named.entry) wanted.now step text.now read.now ends)
         answers.old.now }
+    ensures next { behind.new.changes ≡ true → IsBare wanted.now → EndsNext
+        (change_entry known.old (at_of at.now) (named_of named.entry) wanted.now step text.now read.now ends)
+        answers.old.now (closed_by behind.new.closes) }
 {
     *behind = NOT_BEHIND;
     if !is_plain(answers, known, wanted.gives, step, text)? {
@@ -143,8 +146,9 @@ fn not_renamed<'n>(
     ends: bool,
     behind: &mut Behind,
 ) -> Asked<'n, Outcome>
-    ensures { ran_by (λ r. left (closed_by behind.new.closes) r) asked_of
+    ensures ran { ran_by (λ r. left (closed_by behind.new.closes) r) asked_of
         result answers.new.now ≡ ran (not_renamed from why ends) answers.old.now }
+    ensures next { behind.new.changes ≡ false }
 {
     let is_behind = ends && why != Outcome::Steps;
     *behind = NOT_BEHIND;
@@ -168,9 +172,12 @@ fn rename_in<'n>(
     ends: bool,
     behind: &mut Behind,
 ) -> Asked<'n, Outcome>
-    ensures { ran_by (λ r. ended known.new (closed_by behind.new.closes) r) asked_of
+    ensures ran { ran_by (λ r. ended known.new (closed_by behind.new.closes) r) asked_of
         result answers.new.now
         ≡ ran (rename_in known.old wanted.now from name.now to new.now ends) answers.old.now }
+    ensures next { behind.new.changes ≡ true → IsBare wanted.now → EndsNext
+        (rename_in known.old wanted.now from name.now to new.now ends) answers.old.now
+        (closed_by behind.new.closes) }
 {
     let change = Change {
         step: steps::RENAME,
@@ -205,10 +212,14 @@ fn rename_from<'n>(
     ends: bool,
     behind: &mut Behind,
 ) -> Asked<'n, Outcome>
-    ensures { ran_by (λ r. ended known.new (closed_by behind.new.closes) r) asked_of
+    ensures ran { ran_by (λ r. ended known.new (closed_by behind.new.closes) r) asked_of
         result answers.new.now
         ≡ ran (rename_from known.old wanted.now from name.now (at_of at.now) (named_of to.entry) ends) answers.old.now }
+    ensures next { behind.new.changes ≡ true → IsBare wanted.now → EndsNext
+        (rename_from known.old wanted.now from name.now (at_of at.now) (named_of to.entry) ends) answers.old.now
+        (closed_by behind.new.closes) }
 {
+    *behind = NOT_BEHIND;
     match find_directory(answers, known, at, to.above)? {
         Ok(dir) => rename_in(
             answers, known, wanted, from, name, dir, to.name, ends, behind,
@@ -231,11 +242,14 @@ pub fn rename<'n>(
     ends: bool,
     behind: &mut Behind,
 ) -> Asked<'n, Outcome>
-    ensures { ran_by (λ r. ended known.new (closed_by behind.new.closes) r) asked_of
+    ensures ran { ran_by (λ r. ended known.new (closed_by behind.new.closes) r) asked_of
         result answers.new.now
         ≡ ran (rename known.old (at_of at.now) (named_of from.entry) (at_of other.now) (named_of to.entry)
         wanted.now ends)
         answers.old.now }
+    ensures next { behind.new.changes ≡ true → IsBare wanted.now → EndsNext
+        (rename known.old (at_of at.now) (named_of from.entry) (at_of other.now) (named_of to.entry) wanted.now ends)
+        answers.old.now (closed_by behind.new.closes) }
 {
     *behind = NOT_BEHIND;
     match find_directory(answers, known, at, from.above)? {

@@ -5,7 +5,7 @@ ghost use Rattle.dialogue.specs.Dialogue.{asked_of, ran, ran_by};
 ghost use Rattle.root_ops.specs.Acts.{IsEntry};
 ghost use Rattle.root_ops.specs.CallHistory.{IsPath};
 ghost use Rattle.kernel_walks.specs.Split.{IsPartedAt, rule_of};
-ghost use Rattle.kernel_calls.specs.Entry.{IsAbove, IsNamed, IsNameless, closed_by, find_directory, leave, own_of, slashed_of};
+ghost use Rattle.kernel_calls.specs.Entry.{IsAbove, IsFront, IsNamed, IsNameless, closed_by, find_directory, leave, own_of, slashed_of};
 ghost use Rattle.kernel_calls.specs.Path.{at_of, text_in};
 
 use crate::flags::{BENEATH, O_PATH, has};
@@ -75,7 +75,8 @@ pub fn parts(path: PathOf<'_>, takes_slash: bool) -> Option<Parted>
 
 #[inline(always)]
 fn above<'n>(path: PathOf<'n>, parted: &Parted) -> Option<PathOf<'n>>
-    ensures { (split : Split) → IsPath (text_in path.entry.slashed.now)
+    ensures front { IsFront path.entry.slashed.now (slashed_of result) }
+    ensures above { (split : Split) → IsPath (text_in path.entry.slashed.now)
         → IsPartedAt (text_in path.entry.slashed.now) split parted.now → IsAbove split (slashed_of result) }
 {
     let end = unslashed(path.text(), parted.name);
@@ -89,7 +90,7 @@ fn above<'n>(path: PathOf<'n>, parted: &Parted) -> Option<PathOf<'n>>
 /// Divides a path; one without a last name isn't divided.
 #[inline(always)]
 pub fn named<'n>(path: PathOf<'n>, takes_slash: bool) -> Option<LastName<'n>>
-    ensures { IsNamed (text_in path.entry.slashed.now) takes_slash result }
+    ensures { IsNamed path.entry.slashed.now takes_slash result }
 {
     let parted = parts(path, takes_slash)?;
     Some(LastName {

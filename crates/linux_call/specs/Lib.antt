@@ -1,2 +1,4 @@
 pub mod Due
 pub mod Kept
+pub mod Turns
+pub mod Whole

@@ -1,4 +1,10 @@
 //! Calls that are made up of one or two calls on paths, and of what is done with their object.
+ghost use Rattle.std.specs.Prelude.{◌≡◌, if◌then◌else◌, [], false, true};
+ghost use Rattle.dialogue.specs.Dialogue.{ran};
+ghost use Rattle.kernel_calls.specs.Calls.{EndsNext, IsBare};
+ghost use Rattle.kernel_calls.specs.Entry.{closed_by};
+ghost use Rattle.linux_call.specs.Whole.{CallDialogue, Follows, IsByKernel, IsWalked, at_in, besides, is_wrong, making, opening, wanted_of};
+
 use crate::inner::fault_of;
 use crate::path::{Texts, front};
 use crate::progress::{Progress, Said};
@@ -21,13 +27,17 @@ const WHITEOUT: u32 = 4;
 // A place is asked for so often, and once more.
 const QUESTIONS: u32 = 16;
 
-fn look_up_by(follows: bool) -> u8 {
+fn look_up_by(follows: bool) -> u8
+    ensures { result ≡ (if follows then 1 else 2) }
+{
     if follows { RESOLVE } else { RESOLVE_NOFOLLOW }
 }
 
 /// Whether the mode or the device of what is made is none, or the way of a rename. The kernel takes 32 bits of a
 /// device's number: a C library may leave out the others, and make the node of another device.
-pub(crate) fn is_wrong(request: &Request) -> bool {
+pub(crate) fn is_wrong(request: &Request) -> bool
+    ensures { result ≡ is_wrong request.now }
+{
     match request.what {
         MKDIR => request.mode & !MODE_BITS != 0,
         MAKE_NODE => {
@@ -45,7 +55,17 @@ pub(crate) fn is_wrong(request: &Request) -> bool {
 impl Progress<'_> {
     /// Opens what a path means.
     #[inline(always)]
-    pub(crate) fn open<'n>(&mut self, request: &Request, texts: Texts<'n>) -> Said<'n> {
+    pub(crate) fn open<'n>(&mut self, request: &Request, texts: Texts<'n>) -> Said<'n>
+        ensures ran { IsWalked (opening request.now).flags request.now.root → closed_by self.old.behind.closes ≡ []
+            → (s : CallDialogue) → IsByKernel (opening request.now) self.old.known
+            (at_in (opening request.now) texts.entry) (besides texts.entry) self.old.ends s
+            → Follows (ran s self.old.answers.now) (closed_by self.new.behind.closes) result }
+        ensures next { IsWalked (opening request.now).flags request.now.root
+            → IsBare (wanted_of (opening request.now)) → self.old.behind.changes ≡ false
+            → self.new.behind.changes ≡ true → (s : CallDialogue) → IsByKernel (opening request.now) self.old.known
+            (at_in (opening request.now) texts.entry) (besides texts.entry) self.old.ends s
+            → EndsNext s self.old.answers.now (closed_by self.new.behind.closes) }
+    {
         let asked = Request {
             what: look_up_by(!has(request.flags, NOFOLLOW)),
             flags: request.flags & !NOFOLLOW,
@@ -92,7 +112,17 @@ impl Progress<'_> {
 
     /// Makes an entry of this kind, by the request's mode.
     #[inline(always)]
-    pub(crate) fn make_entry<'n>(&mut self, request: &Request, texts: Texts<'n>) -> Said<'n> {
+    pub(crate) fn make_entry<'n>(&mut self, request: &Request, texts: Texts<'n>) -> Said<'n>
+        ensures ran { is_wrong request.now ≡ false → IsWalked (making request.now).flags request.now.root
+            → closed_by self.old.behind.closes ≡ [] → (s : CallDialogue) → IsByKernel (making request.now)
+            self.old.known (at_in (making request.now) texts.entry) (besides texts.entry) self.old.ends s
+            → Follows (ran s self.old.answers.now) (closed_by self.new.behind.closes) result }
+        ensures next { is_wrong request.now ≡ false → IsWalked (making request.now).flags request.now.root
+            → IsBare (wanted_of (making request.now)) → self.old.behind.changes ≡ false → self.new.behind.changes ≡ true
+            → (s : CallDialogue) → IsByKernel (making request.now) self.old.known
+            (at_in (making request.now) texts.entry) (besides texts.entry) self.old.ends s
+            → EndsNext s self.old.answers.now (closed_by self.new.behind.closes) }
+    {
         if is_wrong(request) {
             return Ok(refused(EINVAL));
         }
@@ -111,7 +141,17 @@ impl Progress<'_> {
 
     /// Renames an entry, in the way that HOW says.
     #[inline(always)]
-    pub(crate) fn rename_entry<'n>(&mut self, request: &Request, texts: Texts<'n>) -> Said<'n> {
+    pub(crate) fn rename_entry<'n>(&mut self, request: &Request, texts: Texts<'n>) -> Said<'n>
+        ensures ran { is_wrong request.now ≡ false → IsWalked request.now.flags request.now.root
+            → closed_by self.old.behind.closes ≡ [] → (s : CallDialogue) → IsByKernel request.now self.old.known
+            (at_in request.now texts.entry) (besides texts.entry) self.old.ends s
+            → Follows (ran s self.old.answers.now) (closed_by self.new.behind.closes) result }
+        ensures next { is_wrong request.now ≡ false → IsWalked request.now.flags request.now.root
+            → IsBare (wanted_of request.now) → self.old.behind.changes ≡ false → self.new.behind.changes ≡ true
+            → (s : CallDialogue) → IsByKernel request.now self.old.known (at_in request.now texts.entry)
+            (besides texts.entry) self.old.ends s
+            → EndsNext s self.old.answers.now (closed_by self.new.behind.closes) }
+    {
         if is_wrong(request) {
             return Ok(refused(EINVAL));
         }

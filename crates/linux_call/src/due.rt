@@ -1,6 +1,8 @@
 //! What is due, as C gets it: a system call with its arguments, or the call's end.
 ghost use Rattle.std.specs.Prelude.{◌≡◌, ◌<◌, ◌+◌, MatchOption, false, length, take};
 ghost use Rattle.dialogue.specs.Dialogue.{asked_of};
+ghost use Rattle.linux_call.specs.Turns.{IsEnd};
+ghost use Rattle.linux_call.specs.Whole.{outcome_of};
 ghost use Rattle.linux_call.specs.Due.{HasTexts, IsAskedBy, IsLaid, IsOn, is_entry_call, is_path_call, is_look_call};
 
 use crate::attributes::MOST_BYTES;
@@ -409,7 +411,9 @@ fn due_of_other(question: &Question<'_>, request: &Request, room: &mut [u8]) -> 
     other_due(question, request.size.min(MOST_BYTES))
 }
 
-fn failing(error: u32, step: u8) -> Due {
+fn failing(error: u32, step: u8) -> Due
+    ensures { (result.what ≡ 33) × (result.number ≡ error) × (result.step ≡ step) × (result.closes ≡ 0) }
+{
     Due {
         what: FAILS,
         number: error as u64,
@@ -437,7 +441,9 @@ fn lay_name(room: &mut [u8]) {
 
 /// The end; the name that an error was about is laid in the room.
 #[inline(always)]
-pub(crate) fn end_of(reply: &Reply<'_>, room: &mut [u8]) -> Due {
+pub(crate) fn end_of(reply: &Reply<'_>, room: &mut [u8]) -> Due
+    ensures { IsEnd (outcome_of reply.now) result × (result.closes ≡ 0) }
+{
     match *reply {
         Reply::Value(number, name) => {
             lay(room, 0, name);

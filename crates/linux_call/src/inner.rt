@@ -1,4 +1,11 @@
 //! A call on paths within a call: the kernel walks, or single steps make it.
+ghost use Rattle.std.specs.Prelude.{◌≡◌, [], false, true, Ok};
+ghost use Rattle.dialogue.specs.Dialogue.{asked_of, ran, ran_by};
+ghost use Rattle.kernel_calls.specs.Calls.{EndsNext, IsBare, ended};
+ghost use Rattle.kernel_calls.specs.Entry.{closed_by};
+ghost use Rattle.kernel_calls.specs.Flags.{has};
+ghost use Rattle.linux_call.specs.Whole.{CallDialogue, EXACT, Follows, IsByKernel, IsWalked, at_in, besides, fault_of, is_open, outcome_of, wanted_of};
+
 use crate::by_steps::Ended;
 use crate::path::Texts;
 use crate::progress::{Progress, Said};
@@ -14,7 +21,9 @@ const ALL_CALLS: u32 = BENEATH | NO_LINKS | NO_RETRY | NO_XDEV | EXACT;
 
 /// What is wrong with flags and root, or 0.
 #[inline(always)]
-pub(crate) fn fault_of(flags: u32, root: u32) -> u32 {
+pub(crate) fn fault_of(flags: u32, root: u32) -> u32
+    ensures { result ≡ fault_of flags root }
+{
     if flags & !ALL_CALLS != 0 {
         EINVAL
     } else if root >= 0x8000_0000 {
@@ -82,14 +91,20 @@ fn known_by(answer: &Answer, known: &Known) -> Known {
 
 impl Progress<'_> {
     #[inline(never)]
-    fn blame<'n>(&mut self, step: u8) -> Asked<'n, u8> {
+    fn blame<'n>(&mut self, step: u8) -> Asked<'n, u8>
+        ensures { self.new.behind ≡ self.old.behind }
+    {
         let has = has_floor(&mut self.answers, &self.known)?;
         Ok(if has { step } else { steps::KERNEL })
     }
 
     /// If the kernel lacks what the library needs, that is to blame. Of an entry that was made the step stays.
     #[inline(always)]
-    pub(crate) fn blamed<'n>(&mut self, reply: Reply<'n>) -> Said<'n> {
+    pub(crate) fn blamed<'n>(&mut self, reply: Reply<'n>) -> Said<'n>
+        ensures reply { is_open (outcome_of reply.entry) ≡ false
+            → result ≡ Ok reply.entry }
+        ensures rest { self.new.behind ≡ self.old.behind }
+    {
         Ok(match reply {
             Reply::Fails(ENOSYS, step, name) if step != steps::GIVE => {
                 Reply::Fails(ENOSYS, self.blame(step)?, name)
@@ -99,7 +114,16 @@ impl Progress<'_> {
     }
 
     #[inline(always)]
-    fn by_kernel<'n>(&mut self, asked: &Request, texts: Texts<'n>) -> Said<'n> {
+    fn by_kernel<'n>(&mut self, asked: &Request, texts: Texts<'n>) -> Said<'n>
+        ensures ran { has asked.now.flags EXACT ≡ false → closed_by self.old.behind.closes ≡ [] → (s : CallDialogue)
+            → IsByKernel asked.now self.old.known (at_in asked.now texts.entry) (besides texts.entry) self.old.ends s
+            → ran_by (λ r. ended self.new.known (closed_by self.new.behind.closes) (outcome_of r)) asked_of
+            result self.new.answers.now ≡ ran s self.old.answers.now }
+        ensures next { has asked.now.flags EXACT ≡ false → IsBare (wanted_of asked.now)
+            → self.old.behind.changes ≡ false → self.new.behind.changes ≡ true → (s : CallDialogue)
+            → IsByKernel asked.now self.old.known (at_in asked.now texts.entry) (besides texts.entry) self.old.ends s
+            → EndsNext s self.old.answers.now (closed_by self.new.behind.closes) }
+    {
         let at = path_below(asked, &texts);
         if has(asked.flags, EXACT) {
             return Ok(Reply::Steps);
@@ -115,7 +139,9 @@ impl Progress<'_> {
 
     /// A call by single steps, which is then told beside.
     #[inline(never)]
-    pub(crate) fn by_steps<'n>(&mut self, asked: &Request, texts: Texts<'n>) -> Said<'n> {
+    pub(crate) fn by_steps<'n>(&mut self, asked: &Request, texts: Texts<'n>) -> Said<'n>
+        ensures { self.new.behind ≡ self.old.behind }
+    {
         let second = if asked.what == RENAME {
             texts.second.text()
         } else {
@@ -136,7 +162,16 @@ impl Progress<'_> {
 
     /// Makes a call on paths: by the kernel's walk, or by single steps where the kernel doesn't make it.
     #[inline(never)]
-    pub(crate) fn carry_out<'n>(&mut self, asked: &Request, texts: Texts<'n>) -> Said<'n> {
+    pub(crate) fn carry_out<'n>(&mut self, asked: &Request, texts: Texts<'n>) -> Said<'n>
+        ensures ran { IsWalked asked.now.flags asked.now.root → closed_by self.old.behind.closes ≡ []
+            → (s : CallDialogue) → IsByKernel asked.now self.old.known (at_in asked.now texts.entry)
+            (besides texts.entry) self.old.ends s
+            → Follows (ran s self.old.answers.now) (closed_by self.new.behind.closes) result }
+        ensures next { IsWalked asked.now.flags asked.now.root → IsBare (wanted_of asked.now)
+            → self.old.behind.changes ≡ false → self.new.behind.changes ≡ true → (s : CallDialogue)
+            → IsByKernel asked.now self.old.known (at_in asked.now texts.entry) (besides texts.entry) self.old.ends s
+            → EndsNext s self.old.answers.now (closed_by self.new.behind.closes) }
+    {
         let fault = fault_of(asked.flags, asked.root);
         if fault != 0 {
             return Ok(refused(fault));

@@ -9,6 +9,7 @@ mod attributes;
 mod by_steps;
 mod calls;
 mod due;
+mod first;
 mod inner;
 mod kept;
 mod make_all;

@@ -1,18 +1,27 @@
 //! Calls on paths that the kernel walks, as `kernel_calls` makes them; and all directories of a path.
+ghost use Rattle.std.specs.Prelude.{◌≡◌, ◌||◌, if◌then◌else◌, [], false, true};
+ghost use Rattle.dialogue.specs.Dialogue.{asked_of, ran, ran_by};
+ghost use Rattle.kernel_calls.specs.Calls.{EndsNext, IsBare, ended};
+ghost use Rattle.kernel_calls.specs.Entry.{EntryAt, IsDivision, closed_by, named_of};
+ghost use Rattle.kernel_calls.specs.Path.{at_of};
+ghost use Rattle.linux_call.specs.Whole.{Besides, besides, changed_by, opened_by, outcome_of, renamed_by, step_of, takes_slash, wanted_of};
+
 use crate::path::{PathOf, Texts};
 use crate::progress::{Number, Progress, Said};
 use crate::request::{MKDIR, MKFILE, RESOLVE, RMDIR, Reply, Request, SYMLINK, UNLINK, value};
 use crate::steps;
 use crate::walk::{Below, O_PATH};
 use dialogue::{Asked, Question};
-use kernel_calls::{Change, Wanted, named};
+use kernel_calls::{Change, LastName, Wanted, named};
 use system_calls::errors::{EEXIST, ENOENT};
 
 // So many directories that are missing one in the other are made by look-ups from the root.
 const MISSING_MAX: u32 = 16;
 
 #[inline(always)]
-fn step_of(what: u8) -> u8 {
+fn step_of(what: u8) -> u8
+    ensures { result ≡ step_of what }
+{
     match what {
         MKFILE => steps::MAKE_FILE,
         MKDIR => steps::MAKE_DIR,
@@ -23,7 +32,9 @@ fn step_of(what: u8) -> u8 {
 }
 
 #[inline(always)]
-fn wanted_of(request: &Request) -> Wanted {
+fn wanted_of(request: &Request) -> Wanted
+    ensures { result ≡ wanted_of request.now }
+{
     Wanted {
         device: request.device,
         flags: request.flags,
@@ -33,6 +44,26 @@ fn wanted_of(request: &Request) -> Wanted {
         linked: request.linked,
         opens: request.opens,
         gives: request.gives,
+    }
+}
+
+/// The name of a directory may end with slashes.
+#[inline(always)]
+pub(crate) fn takes_slash(what: u8) -> bool
+    ensures { result ≡ takes_slash what }
+{
+    what == MKDIR || what == RMDIR
+}
+
+// What was read last, if the call looks at that.
+#[inline(always)]
+fn text_read<'n>(request: &Request, read: &'n [u8]) -> &'n [u8]
+    ensures { result.now ≡ (if request.now.gives || request.now.linked then read.now else []) }
+{
+    if request.gives || request.linked {
+        read
+    } else {
+        b""
     }
 }
 
@@ -46,8 +77,13 @@ fn levels_above(path: PathOf<'_>, levels: u32) -> Option<Option<PathOf<'_>>> {
 }
 
 impl Progress<'_> {
+    #[tactic(auto, using(dialogue::proofs::TalkLemmas::ran_then, dialogue::proofs::TalkLemmas::ran_ends))]
     #[inline(always)]
-    pub(crate) fn resolve<'n>(&mut self, request: &Request, at: &Below<'n>) -> Said<'n> {
+    pub(crate) fn resolve<'n>(&mut self, request: &Request, at: &Below<'n>) -> Said<'n>
+        ensures ran { ran_by (λ r. ended self.new.known [] (outcome_of r)) asked_of result self.new.answers.now
+            ≡ ran (opened_by request.now self.old.known (at_of at.now)) self.old.answers.now }
+        ensures rest { (self.new.behind ≡ self.old.behind) × (self.new.ends ≡ self.old.ends) }
+    {
         let (answers, known) = (&mut self.answers, &mut self.known);
         let follows = request.what == RESOLVE;
         let asks = request.asks_kind;
@@ -71,19 +107,24 @@ impl Progress<'_> {
         Ok(Reply::of(outcome, change.name))
     }
 
-    /// Makes or removes an entry.
+    // Makes or removes the entry of that name.
+    #[tactic(auto, using(dialogue::proofs::TalkLemmas::ran_then, dialogue::proofs::TalkLemmas::ran_ends))]
     #[inline(always)]
-    pub(crate) fn change_entry<'n>(
+    fn change_named<'n>(
         &mut self,
         request: &Request,
         at: &Below<'n>,
+        entry: LastName<'n>,
         texts: Texts<'n>,
-    ) -> Said<'n> {
-        let takes_slash = request.what == MKDIR || request.what == RMDIR;
-        let entry = match named(at.path, takes_slash) {
-            Some(entry) => entry,
-            None => return Ok(Reply::Steps),
-        };
+    ) -> Said<'n>
+        ensures ran { ran_by (λ r. ended self.new.known (closed_by self.new.behind.closes) (outcome_of r)) asked_of
+            result self.new.answers.now ≡ ran (changed_by request.now self.old.known (at_of at.now)
+            (named_of entry.entry) (besides texts.entry) self.old.ends) self.old.answers.now }
+        ensures next { self.new.behind.changes ≡ true → IsBare (wanted_of request.now) → EndsNext (changed_by
+            request.now self.old.known (at_of at.now) (named_of entry.entry) (besides texts.entry) self.old.ends)
+            self.old.answers.now (closed_by self.new.behind.closes) }
+        ensures rest { self.new.ends ≡ self.old.ends }
+    {
         let outcome = kernel_calls::change_entry(
             &mut self.answers,
             &mut self.known,
@@ -92,25 +133,56 @@ impl Progress<'_> {
             &wanted_of(request),
             step_of(request.what),
             texts.target,
-            texts.read,
+            text_read(request, texts.read),
             self.ends,
             &mut self.behind,
         )?;
         Ok(Reply::of(outcome, entry.name))
     }
 
-    /// Renames an entry. What both paths end in comes first. With a slash there the steps look whether a directory is
-    /// there.
-    pub(crate) fn rename<'n>(
+    /// Makes or removes an entry.
+    #[inline(always)]
+    pub(crate) fn change_entry<'n>(
         &mut self,
         request: &Request,
         at: &Below<'n>,
+        texts: Texts<'n>,
+    ) -> Said<'n>
+        ensures ran { (n : EntryAt) → IsDivision at.now.path.slashed.now (takes_slash request.now.what) n
+            → ran_by (λ r. ended self.new.known (closed_by self.new.behind.closes) (outcome_of r)) asked_of
+            result self.new.answers.now ≡ ran (changed_by request.now self.old.known (at_of at.now) n
+            (besides texts.entry) self.old.ends) self.old.answers.now }
+        ensures next { (n : EntryAt) → IsDivision at.now.path.slashed.now (takes_slash request.now.what) n
+            → self.new.behind.changes ≡ true → IsBare (wanted_of request.now) → EndsNext (changed_by request.now
+            self.old.known (at_of at.now) n (besides texts.entry) self.old.ends) self.old.answers.now
+            (closed_by self.new.behind.closes) }
+        ensures rest { self.new.ends ≡ self.old.ends }
+    {
+        match named(at.path, takes_slash(request.what)) {
+            Some(entry) => self.change_named(request, at, entry, texts),
+            None => Ok(Reply::Steps),
+        }
+    }
+
+    #[tactic(auto, using(dialogue::proofs::TalkLemmas::ran_then, dialogue::proofs::TalkLemmas::ran_ends))]
+    fn rename_named<'n>(
+        &mut self,
+        request: &Request,
+        at: &Below<'n>,
+        from: LastName<'n>,
         to: PathOf<'n>,
-    ) -> Said<'n> {
-        let (from, new) = match (named(at.path, false), named(to, false)) {
-            (Some(from), Some(new)) => (from, new),
-            _ => return Ok(Reply::Steps),
-        };
+        new: LastName<'n>,
+    ) -> Said<'n>
+        ensures ran { (b : Besides) → b.second ≡ to.entry.slashed.now
+            → ran_by (λ r. ended self.new.known (closed_by self.new.behind.closes) (outcome_of r)) asked_of
+            result self.new.answers.now ≡ ran (renamed_by request.now self.old.known (at_of at.now)
+            (named_of from.entry) b (named_of new.entry) self.old.ends) self.old.answers.now }
+        ensures next { (b : Besides) → b.second ≡ to.entry.slashed.now → self.new.behind.changes ≡ true
+            → IsBare (wanted_of request.now) → EndsNext (renamed_by request.now self.old.known (at_of at.now)
+            (named_of from.entry) b (named_of new.entry) self.old.ends) self.old.answers.now
+            (closed_by self.new.behind.closes) }
+        ensures rest { self.new.ends ≡ self.old.ends }
+    {
         let other = Below {
             path: to,
             looked: false,
@@ -128,6 +200,36 @@ impl Progress<'_> {
             &mut self.behind,
         )?;
         Ok(Reply::of(outcome, from.name))
+    }
+
+    /// Renames an entry. What both paths end in comes first. With a slash there the steps look whether a directory is
+    /// there.
+    pub(crate) fn rename<'n>(
+        &mut self,
+        request: &Request,
+        at: &Below<'n>,
+        to: PathOf<'n>,
+    ) -> Said<'n>
+        ensures ran { (n m : EntryAt) (b : Besides) → b.second ≡ to.entry.slashed.now
+            → IsDivision at.now.path.slashed.now false n → IsDivision b.second false m
+            → ran_by (λ r. ended self.new.known (closed_by self.new.behind.closes) (outcome_of r)) asked_of
+            result self.new.answers.now ≡ ran (renamed_by request.now self.old.known (at_of at.now) n b m
+            self.old.ends) self.old.answers.now }
+        ensures next { (n m : EntryAt) (b : Besides) → b.second ≡ to.entry.slashed.now
+            → IsDivision at.now.path.slashed.now false n → IsDivision b.second false m
+            → self.new.behind.changes ≡ true → IsBare (wanted_of request.now) → EndsNext (renamed_by request.now
+            self.old.known (at_of at.now) n b m self.old.ends) self.old.answers.now
+            (closed_by self.new.behind.closes) }
+        ensures rest { self.new.ends ≡ self.old.ends }
+    {
+        let from = match named(at.path, false) {
+            Some(from) => from,
+            None => return Ok(Reply::Steps),
+        };
+        match named(to, false) {
+            Some(new) => self.rename_named(request, at, from, to, new),
+            None => Ok(Reply::Steps),
+        }
     }
 
     // ---- all directories of a path

@@ -1,4 +1,7 @@
 //! How far a call has come.
+ghost use Rattle.std.specs.Prelude.{◌≡◌, [], false};
+ghost use Rattle.kernel_calls.specs.Entry.{closed_by};
+
 use crate::request::{Reply, Request};
 use dialogue::{Answer, Asked, Question, ask};
 use find_proc::Known;
@@ -25,7 +28,10 @@ pub(crate) struct Progress<'a> {
 
 impl<'a> Progress<'a> {
     #[inline(always)]
-    pub(crate) fn new(answers: &'a [Answer], known: Known, ends: bool) -> Progress<'a> {
+    pub(crate) fn new(answers: &'a [Answer], known: Known, ends: bool) -> Progress<'a>
+        ensures { (result.answers.now ≡ answers.now) × (result.known ≡ known) × (result.ends ≡ ends)
+            × (closed_by result.behind.closes ≡ []) × (result.behind.changes ≡ false) }
+    {
         Progress {
             answers,
             known,
@@ -36,7 +42,9 @@ impl<'a> Progress<'a> {
     }
 
     #[inline(always)]
-    pub(crate) fn ask<'n>(&mut self, question: Question<'n>) -> Asked<'n, Answer> {
+    pub(crate) fn ask<'n>(&mut self, question: Question<'n>) -> Asked<'n, Answer>
+        ensures { self.new.behind ≡ self.old.behind }
+    {
         ask(&mut self.answers, question)
     }
 

@@ -1,4 +1,8 @@
 //! What a call is asked for, and what it replies.
+ghost use Rattle.std.specs.Prelude.{◌≡◌};
+ghost use Rattle.kernel_calls.specs.declared.look.Outcome.TheVariants as outcomes;
+ghost use Rattle.linux_call.specs.Whole.{outcome_of, plain};
+
 use crate::steps;
 use find_proc::Known;
 use kernel_calls::Outcome;
@@ -142,7 +146,9 @@ pub(crate) enum Reply<'n> {
 impl<'n> Reply<'n> {
     /// What a call by the kernel's walk came to, on an entry of this name.
     #[inline(always)]
-    pub(crate) fn of(outcome: Outcome, name: &'n [u8]) -> Reply<'n> {
+    pub(crate) fn of(outcome: Outcome, name: &'n [u8]) -> Reply<'n>
+        ensures { outcome_of result ≡ plain outcome }
+    {
         match outcome {
             Outcome::Value(number) => Reply::Value(number, b""),
             Outcome::Fails(error, step) => Reply::Fails(error, step, b""),
@@ -161,7 +167,9 @@ impl<'n> Reply<'n> {
     }
 }
 
-pub(crate) fn value<'n>(number: u32) -> Reply<'n> {
+pub(crate) fn value<'n>(number: u32) -> Reply<'n>
+    ensures { outcome_of result ≡ outcomes.Value number }
+{
     Reply::Value(number as u64, b"")
 }
 

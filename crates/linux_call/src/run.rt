@@ -1,4 +1,10 @@
 //! Which code a request is for.
+ghost use Rattle.std.specs.Prelude.{◌≡◌, [], true, false};
+ghost use Rattle.dialogue.specs.Dialogue.{ran};
+ghost use Rattle.kernel_calls.specs.Calls.{EndsNext, IsBare};
+ghost use Rattle.kernel_calls.specs.Entry.{closed_by};
+ghost use Rattle.linux_call.specs.Whole.{CallDialogue, Follows, IsByKernel, IsWalked, at_in, besides, inner, is_whole, is_wrong, wanted_of};
+
 use crate::path::Texts;
 use crate::progress::{Progress, Said};
 use crate::request::*;
@@ -41,7 +47,19 @@ impl Progress<'_> {
 
     /// A call whose reply comes without another course.
     #[inline(always)]
-    pub(crate) fn run<'n>(&mut self, request: &Request, texts: Texts<'n>) -> Said<'n> {
+    pub(crate) fn run<'n>(&mut self, request: &Request, texts: Texts<'n>) -> Said<'n>
+        ensures ran { is_whole request.now.what ≡ true → is_wrong request.now ≡ false
+            → IsWalked (inner request.now).flags request.now.root
+            → closed_by self.old.behind.closes ≡ [] → (s : CallDialogue) → IsByKernel (inner request.now)
+            self.old.known (at_in (inner request.now) texts.entry) (besides texts.entry) self.old.ends s
+            → Follows (ran s self.old.answers.now) (closed_by self.new.behind.closes) result }
+        ensures next { is_whole request.now.what ≡ true → is_wrong request.now ≡ false
+            → IsWalked (inner request.now).flags request.now.root → IsBare (wanted_of (inner request.now))
+            → self.old.behind.changes ≡ false → self.new.behind.changes ≡ true → (s : CallDialogue)
+            → IsByKernel (inner request.now) self.old.known (at_in (inner request.now) texts.entry)
+            (besides texts.entry) self.old.ends s
+            → EndsNext s self.old.answers.now (closed_by self.new.behind.closes) }
+    {
         match request.what {
             RESOLVE => self.open(request, texts),
             MKDIR | SYMLINK | MAKE_NODE => self.make_entry(request, texts),

@@ -1,4 +1,7 @@
 //! Calls that are made up of several: what each gave, which one comes next, and the end.
+ghost use Rattle.std.specs.Prelude.{◌≡◌, true};
+ghost use Rattle.linux_call.specs.Whole.{is_whole};
+
 use crate::due::{NAME, lay};
 use crate::inner::fault_of;
 use crate::kept::State;
@@ -169,7 +172,10 @@ pub(crate) fn keep_gave(state: &mut State, gave: &Gave<'_>, room: &mut [u8]) -> 
 }
 
 // What is wrong with a call before its first system call, or 0.
-pub(crate) fn begin(request: &mut Request, state: &mut State) -> u32 {
+pub(crate) fn begin(request: &mut Request, state: &mut State) -> u32
+    ensures { is_whole request.old.what ≡ true → (result ≡ 0) × (request.new ≡ request.old)
+        × (state.new ≡ record state.old { begun = true }) }
+{
     state.begun = true;
     if request.what != MAKE_DIRECTORIES && request.what != MAKE_FILE {
         return 0;

@@ -2,25 +2,29 @@
 //!
 //! A call is run anew over its answers, and asks for the next one. Where a part of the call is over, its answers are
 //! dropped: that is so at the end of each single step, and of each call of several.
-ghost use Rattle.std.specs.Prelude.{◌≡◌, true, IsSome};
+ghost use Rattle.std.specs.Prelude.{◌≡◌, ◌≤◌, ◌<◌, ◌∷◌, ◌++◌, ◌+◌, ◌==◌, ◌&&◌, [], not, false, true, length, take, IsSome, MatchOption, None, Ok, Some};
+ghost use Rattle.dialogue.specs.Dialogue.{asked_of, ran};
+ghost use Rattle.dialogue.specs.declared.calls.Answer.{Answer};
+ghost use Rattle.kernel_calls.specs.Calls.{EndsNext, IsBare};
+ghost use Rattle.kernel_calls.specs.Entry.{closed_by};
+ghost use Rattle.linux_call.specs.Turns.{HasRoom, IsEnd, IsKept, IsLooked, IsPlain, IsWhole, Stands, Tells, Turned, closes_in, ends_behind, is_told, next_count, texts_beside, told, whole_at};
+ghost use Rattle.linux_call.specs.Whole.{CallDialogue, FollowsPart, IsByKernel, IsWalked, at_in, besides, inner, is_whole, is_wrong, outcome_of, wanted_of};
+ghost use Rattle.linux_call.specs.declared.turns.Came.TheVariants as cames;
 
 use crate::by_steps::{Ended, Steps};
-use crate::calls::is_wrong;
 use crate::due::{Due, NAME, decimal, digits, due_of, end_of, lay};
-use crate::inner::{answer_of, fault_of};
+use crate::first::look_up_first;
+use crate::inner::answer_of;
 use crate::kept::{Kept, State};
 use crate::path::{PathOf, Texts};
 use crate::progress::Progress;
 use crate::request::*;
 use crate::several::{Part, Then, begin, keep_gave, next_call};
-use crate::walk::{Below, EXACT, NOFOLLOW, O_PATH, has};
 use crate::{open_at, steps};
 use dialogue::{Answer, Question};
-use kernel_calls::{Closes, named};
-use path_text::TEXT_MAX;
+use kernel_calls::{Behind, Closes};
 use std::alloc::Global;
 use std::mem;
-use system_calls::Opening;
 use system_calls::errors::{EIO, ENOMEM};
 
 // More parts than come one after another without a system call.
@@ -28,7 +32,9 @@ const PARTS: u32 = 64;
 
 // ---- single steps
 
-fn between(answers: &[Answer], from: u32, to: u32) -> &[Answer] {
+fn between(answers: &[Answer], from: u32, to: u32) -> &[Answer]
+    ensures { from ≡ 0 → to ≤ length answers.now → result.now ≡ take to answers.now }
+{
     let (from, to) = (from as usize, to as usize);
     if from <= to && to <= answers.len() {
         &answers[from..to]
@@ -97,12 +103,19 @@ enum Came {
 }
 
 #[inline(always)]
-fn part<'n>(
-    now: &mut Progress<'_>,
-    request: &Request,
-    state: &State,
-    texts: Texts<'n>,
-) -> Part<'n> {
+fn part<'n>(now: &mut Progress<'_>, request: &Request, state: &State, texts: Texts<'n>) -> Part<'n>
+    ensures ran { is_whole request.now.what ≡ true → is_wrong request.now ≡ false
+        → IsWalked (inner request.now).flags request.now.root
+        → closed_by now.old.behind.closes ≡ [] → (s : CallDialogue) → IsByKernel (inner request.now) now.old.known
+        (at_in (inner request.now) texts.entry) (besides texts.entry) now.old.ends s
+        → FollowsPart (ran s now.old.answers.now) (closed_by now.new.behind.closes) result }
+    ensures next { is_whole request.now.what ≡ true → is_wrong request.now ≡ false
+        → IsWalked (inner request.now).flags request.now.root → IsBare (wanted_of (inner request.now))
+        → now.old.behind.changes ≡ false → now.new.behind.changes ≡ true → (s : CallDialogue)
+        → IsByKernel (inner request.now) now.old.known (at_in (inner request.now) texts.entry)
+        (besides texts.entry) now.old.ends s
+        → EndsNext s now.old.answers.now (closed_by now.new.behind.closes) }
+{
     match request.what {
         OPEN_AT => now.open_at_part(request, state, texts),
         MAKE_DIRECTORIES | MAKE_FILE => now.make_all_part(request, state, texts),
@@ -118,16 +131,21 @@ fn is_look_up(request: &Request, question: &Question<'_>) -> bool {
 }
 
 // What the look-up opens is the reply.
-fn is_reply(request: &Request, state: &State) -> bool {
+fn is_reply(request: &Request, state: &State) -> bool
+    ensures { is_whole request.now.what ≡ true
+        → result ≡ (request.now.what == 1) && not request.now.asks_kind }
+{
     match request.what {
-        RESOLVE => true,
+        RESOLVE => !request.asks_kind,
         OPEN_AT => !state.opening.asks_kind || state.opening.directory,
         _ => false,
     }
 }
 
 // The reply of such a call comes right behind the change of an entry.
-fn ends_behind(what: u8) -> bool {
+fn ends_behind(what: u8) -> bool
+    ensures { result ≡ ends_behind what }
+{
     match what {
         MKDIR | SYMLINK | UNLINK | RMDIR | RENAME | MAKE_NODE => true,
         _ => false,
@@ -157,6 +175,30 @@ fn begin_steps(
     }
 }
 
+// How long the first text is.
+#[inline(always)]
+fn first_length(request: &Request, state: &State) -> usize
+    ensures { is_whole request.now.what ≡ true → result ≡ request.now.length }
+{
+    match request.what {
+        OPEN_AT => state.course.length,
+        MAKE_DIRECTORIES | MAKE_FILE => state.making.length,
+        _ => request.length as usize,
+    }
+}
+
+// A link's text; or the number of a process, in decimal.
+#[inline(always)]
+fn target_of<'n>(request: &Request, second: &'n [u8], number: &'n [u8]) -> &'n [u8]
+    ensures { is_whole request.now.what ≡ true → result.now ≡ second.now }
+{
+    match request.what {
+        PROC_OPEN | PROC_READ_LINK => number,
+        _ => second,
+    }
+}
+
+#[inline(always)]
 fn texts_of<'n>(
     request: &Request,
     state: &State,
@@ -164,33 +206,60 @@ fn texts_of<'n>(
     second: &'n [u8],
     read: &'n [u8],
     number: &'n [u8],
-) -> Texts<'n> {
-    let length = match request.what {
-        OPEN_AT => state.course.length,
-        MAKE_DIRECTORIES | MAKE_FILE => state.making.length,
-        _ => request.length as usize,
-    };
+) -> Texts<'n>
+    ensures { is_whole request.now.what ≡ true
+        → (result.first.slashed.now ≡ take (1 + request.now.length) first.now)
+        × (besides result ≡ texts_beside second.now read.now) × (result.looked ≡ state.now.looked) }
+{
     let second = PathOf::new(second);
     Texts {
-        first: PathOf::new(first).front(length),
+        first: PathOf::new(first).front(first_length(request, state)),
         second,
-        target: if is_of_proc(request) {
-            number
-        } else {
-            second.text()
-        },
+        target: target_of(request, second.text(), number),
         read,
         looked: state.looked,
     }
 }
 
-fn end_and_close(reply: &Reply<'_>, closes: &Closes, room: &mut [u8]) -> Due {
+#[inline(always)]
+fn end_and_close(reply: Reply<'_>, closes: &Closes, room: &mut [u8]) -> Due
+    ensures { IsEnd (outcome_of reply.entry) result × (closes_in result ≡ closed_by closes.now) }
+{
     Due {
         closes: closes.count,
         first_closed: closes.first,
         second_closed: closes.second,
-        ..end_of(reply, room)
+        ..end_of(&reply, room)
     }
+}
+
+// A call on a path within which the kernel walks.
+fn is_whole(what: u8) -> bool
+    ensures { result ≡ is_whole what }
+{
+    match what {
+        RESOLVE | MKDIR | SYMLINK | UNLINK | RMDIR | RENAME | MAKE_NODE => true,
+        _ => false,
+    }
+}
+
+// What is asked is kept: if that is a look-up of the path whose answer is the reply, or a change whose answer may end
+// the call. The first look-up of a whole call comes before (`look_up_first`).
+#[inline(always)]
+fn keep_asked(request: &Request, state: &mut State, question: &Question<'_>, behind: &Behind)
+    ensures same { (state.new.count ≡ state.old.count) × (state.new.begun ≡ state.old.begun)
+        × (state.new.changes ≡ behind.now.changes) × (state.new.closes ≡ behind.now.closes) }
+    ensures first { is_whole request.now.what ≡ true → state.old.count ≡ 0
+        → (state.new.looked ≡ false) × (state.new.opens ≡ false) }
+    ensures later { (state.old.count ≡ 0 → ⊥)
+        → (state.new.looked ≡ state.old.looked) × (state.new.opens ≡ state.old.opens) }
+{
+    if state.count == 0 {
+        state.looked = !is_whole(request.what) && is_look_up(request, question);
+        state.opens = state.looked && is_reply(request, state);
+    }
+    state.changes = behind.changes;
+    state.closes = behind.closes;
 }
 
 #[inline(never)]
@@ -204,7 +273,16 @@ fn go(
     number: &[u8],
     answers: &[Answer],
     room: &mut [u8],
-) -> Came {
+) -> Came
+    ensures { IsPlain request.old → state.old.count ≤ length answers.now → state.old.opens ≡ false
+        → (state.old.count ≡ 0 → state.old.looked ≡ false)
+        → (state.old.looked ≡ true → IsLooked (inner request.old) (whole_at request.old first.now false))
+        → (s : CallDialogue) → IsWhole request.old first.now second.now s
+        → is_told (ran s (take state.old.count answers.now)) ≡ true
+        → (d : Due) × (result ≡ cames.Due d) × (state.new.count ≡ state.old.count)
+        × (state.new.begun ≡ state.old.begun) × (request.new ≡ request.old)
+        × Tells request.old first.now s (ran s (take state.old.count answers.now)) state.new answers.now d room.new }
+{
     let texts = texts_of(request, state, first, second, read, number);
     let left = between(answers, 0, state.count);
     let mut now = Progress::new(left, request.known, ends_behind(request.what));
@@ -213,22 +291,19 @@ fn go(
             begin_steps(alloc, state, &now.inner, first, second)
         }
         Err(question) => {
-            if state.count == 0 {
-                state.looked = is_look_up(request, &question);
-                state.opens = state.looked && is_reply(request, state);
-            }
-            state.changes = now.behind.changes;
-            state.closes = now.behind.closes;
+            keep_asked(request, state, &question, &now.behind);
             Came::Due(due_of(&question, request, room))
         }
-        Ok(Ok(reply)) => Came::Due(end_and_close(&reply, &now.behind.closes, room)),
-        Ok(Err(gave)) => {
-            let then = keep_gave(state, &gave, room);
-            request.known = now.known;
-            state.count = 0;
-            state.looked = false;
-            Came::Gave(then)
-        }
+        Ok(given) => match given {
+            Ok(reply) => Came::Due(end_and_close(reply, &now.behind.closes, room)),
+            Err(gave) => {
+                let then = keep_gave(state, &gave, room);
+                request.known = now.known;
+                state.count = 0;
+                state.looked = false;
+                Came::Gave(then)
+            }
+        },
     }
 }
 
@@ -244,7 +319,10 @@ fn follow(
     read: &[u8],
     answers: &mut [Answer],
     room: &mut [u8],
-) -> Option<Due> {
+) -> Option<Due>
+    ensures { (d : Due) → came ≡ cames.Due d → (result ≡ Some d) × (state.new ≡ state.old)
+        × (room.new ≡ room.old) × (steps.new ≡ steps.old) × (answers.new ≡ answers.old) }
+{
     match came {
         Came::Due(due) => return Some(due),
         Came::BySteps(begun) => *steps = Some(begun),
@@ -310,7 +388,17 @@ fn next_due(
     read: &mut [u8],
     answers: &mut [Answer],
     room: &mut [u8],
-) -> Due {
+) -> Due
+    ensures { steps.old ≡ None → IsPlain request.old → state.old.count ≤ length answers.old → state.old.opens ≡ false
+        → (state.old.count ≡ 0 → state.old.looked ≡ false)
+        → (state.old.looked ≡ true → IsLooked (inner request.old) (whole_at request.old first.old false))
+        → (s : CallDialogue) → IsWhole request.old first.old second.now s
+        → is_told (ran s (take state.old.count answers.old)) ≡ true
+        → (state.new.count ≡ state.old.count) × (state.new.begun ≡ state.old.begun) × (request.new ≡ request.old)
+        × (steps.new ≡ None)
+        × Tells request.old first.old s (ran s (take state.old.count answers.old)) state.new answers.old result
+        room.new }
+{
     let mut decimals = [0u8; 10];
     let count = if is_of_proc(request) {
         decimal(request.fd, &mut decimals)
@@ -331,7 +419,19 @@ fn next_due(
     )
 }
 
-// The call begins, or takes an answer.
+// The call begins, or takes an answer: what is wrong with it, or 0.
+#[inline(always)]
+fn count_answer(request: &mut Request, state: &mut State) -> u32
+    ensures { is_whole request.old.what ≡ true → next_count state.old < 4294967296 → (result ≡ 0)
+        × (request.new ≡ request.old) × (state.new ≡ record state.old { begun = true; count = next_count state.old }) }
+{
+    if !state.begun {
+        return begin(request, state);
+    }
+    state.count = state.count.saturating_add(1);
+    0
+}
+
 #[inline(always)]
 fn take(
     alloc: Global,
@@ -343,14 +443,19 @@ fn take(
     read: &mut [u8],
     answers: &mut [Answer],
     room: &mut [u8],
-) -> Due {
-    if !state.begun {
-        let fault = begin(request, state);
-        if fault != 0 {
-            return end_of(&refused(fault), room);
-        }
-    } else {
-        state.count = state.count.saturating_add(1);
+) -> Due
+    ensures { steps.old ≡ None → IsPlain request.old → HasRoom state.old answers.old → state.old.opens ≡ false
+        → IsKept state.old
+        → (state.old.looked ≡ true → IsLooked (inner request.old) (whole_at request.old first.old false))
+        → (s : CallDialogue) → IsWhole request.old first.old second.now s
+        → is_told (ran s (told state.old answers.old)) ≡ true
+        → (request.new ≡ request.old) × (steps.new ≡ None) × ((st : State) → st ≡ record state.new { by_steps = false }
+        → Turned request.old first.old s (ran s (told state.old answers.old)) (next_count state.old) st answers.old
+        result room.new) }
+{
+    let fault = count_answer(request, state);
+    if fault != 0 {
+        return end_of(&refused(fault), room);
     }
     let due = next_due(
         alloc, request, state, steps, first, second, read, answers, room,
@@ -367,7 +472,10 @@ fn take(
 
 // What a call opens by its first look-up is its reply, of most calls: nothing else is looked at again.
 #[inline(always)]
-fn at_once(state: &State, answers: &[Answer]) -> Option<u32> {
+fn at_once(state: &State, answers: &[Answer]) -> Option<u32>
+    ensures { MatchOption result (Unit {0}) (λ fd. (state.now.opens ≡ true) × (a : Answer)
+        × (take 1 answers.now ≡ a ∷ []) × (a.error ≡ 0) × (a.value ≡ fd)) }
+{
     if !state.opens {
         return None;
     }
@@ -379,74 +487,12 @@ fn at_once(state: &State, answers: &[Answer]) -> Option<u32> {
 
 // Where the change of an entry fails by no error, the call is over, and its reply is 0.
 #[inline(always)]
-fn is_changed(state: &State, answers: &[Answer]) -> bool {
+fn is_changed(state: &State, answers: &[Answer]) -> bool
+    ensures { result ≡ true → (state.now.changes ≡ true) × (a : Answer)
+        × (take (state.now.count + 1) answers.now ≡ take state.now.count answers.now ++ a ∷ []) × (a.error ≡ 0) }
+{
     let at = state.count as usize;
     state.changes && at < answers.len() && answers[at].error == 0
-}
-
-// The path of the directory that has the entry which a call changes, unless something is wrong with the call.
-#[inline(always)]
-fn entry_above<'n>(request: &Request, path: PathOf<'n>, second: PathOf<'_>) -> Option<PathOf<'n>> {
-    let is_other = match request.what {
-        SYMLINK => !second.text().is_empty() && second.text().len() <= TEXT_MAX,
-        RENAME => named(second, false).is_some(),
-        _ => true,
-    };
-    if !is_other || is_wrong(request) {
-        return None;
-    }
-    named(path, request.what == MKDIR || request.what == RMDIR)?.above
-}
-
-// Most calls begin with the look-up that `run` would ask for: that takes no more than this.
-#[inline(always)]
-fn look_up_first(
-    request: &Request,
-    opening: &Opening,
-    first: &[u8],
-    second: &[u8],
-    room: &mut [u8],
-) -> Option<Due> {
-    let machine = &request.known.machine;
-    let whole = PathOf::new(first).front(request.length as usize);
-    let (flags, path, how, mode) = match request.what {
-        RESOLVE if has(request.flags, NOFOLLOW) => {
-            (
-                request.flags & !NOFOLLOW,
-                whole,
-                O_PATH | machine.nofollow,
-                0,
-            )
-        }
-        RESOLVE => (request.flags, whole, O_PATH, 0),
-        OPEN_AT if opening.error == 0 && opening.finds => {
-            let how = open_at::how_of(machine, opening);
-            (
-                request.flags,
-                whole,
-                how,
-                open_at::mode_of(request, opening),
-            )
-        }
-        MKDIR | SYMLINK | MAKE_NODE | UNLINK | RMDIR | RENAME => {
-            let above = entry_above(request, whole, PathOf::new(second))?;
-            (request.flags, above, O_PATH | machine.directory, 0)
-        }
-        _ => return None,
-    };
-    if fault_of(flags, request.root) != 0 || has(flags, EXACT) {
-        return None;
-    }
-    let at = Below {
-        root: request.root,
-        flags,
-        path,
-        looked: false,
-    };
-    match Progress::new(&[], request.known, false).look_up(&at, how, mode) {
-        Err(question) => Some(due_of(&question, request, room)),
-        Ok(_) => None,
-    }
 }
 
 /// What is due by the answers so far, of which the last one lies where the last turn said: a system call, whose texts
@@ -465,14 +511,19 @@ pub fn turn(
     room: &mut [u8],
 )
     requires { state.old.by_steps ≡ true → IsSome state.old.steps.held }
-    ensures { state.new.by_steps ≡ true → IsSome state.new.steps.held }
+    ensures held { state.new.by_steps ≡ true → IsSome state.new.steps.held }
+    ensures whole { IsPlain request.old → HasRoom state.old answers.old → IsKept state.old → (s : CallDialogue)
+        → IsWhole request.old first.old second.now s → Stands request.old first.old s state.old answers.old
+        → is_told (ran s (told state.old answers.old)) ≡ true
+        → (request.new ≡ request.old) × Turned request.old first.old s (ran s (told state.old answers.old))
+        (next_count state.old) state.new answers.old due.new room.new }
 {
     if let Some(fd) = at_once(state, answers) {
         *due = end_of(&value(fd), room);
         return;
     }
     if is_changed(state, answers) {
-        *due = end_and_close(&value(0), &state.closes, room);
+        *due = end_and_close(value(0), &state.closes, room);
         return;
     }
     if !state.begun {
@@ -484,7 +535,7 @@ pub fn turn(
             state.begun = true;
             state.looked = true;
             state.opens = is_reply(request, state);
-            *due = first_due;
+            *due = Due { at: 0, ..first_due };
             return;
         }
     }

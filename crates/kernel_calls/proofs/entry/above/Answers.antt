@@ -3,8 +3,8 @@ use Rattle.std.proofs.lemmas.List.{drop-take}
 use Rattle.kernel_calls.proofs.NamedLemmas.{IsFront, IsSomeDirectory, front_text}
 use Rattle.kernel_calls.proofs.entry.above.Goals as goal
 
-pub returns-else-end-eq0 : goal.returns-else-end-eq0
-returns-else-end-eq0 c = λ split path at.
+pub returns-else-end-eq0-clause-above : goal.returns-else-end-eq0-clause-above
+returns-else-end-eq0-clause-above c = λ split path at.
     let end = c.unslashed-end.result in
     let is = c.unslashed-end.ensures in
     let front = subst (λ t. IsFront t c.args.parted.now.name end) c.text.ensures
